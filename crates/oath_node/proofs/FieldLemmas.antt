@@ -1,0 +1,39 @@
+-- Fields between single spaces.
+use Rattle.std.proofs.Common.{◌≡◌, ℕ, ◌+◌, ◌<◌, ◌≤◌, false, eqb, List, [], ◌∷◌, ◌++◌, length, get_or, take, drop, sym, ap, subst, ◌∙◌, arith}
+use Rattle.std.specs.Prelude.{All, ◌==◌}
+use Rattle.std.proofs.lemmas.Bool.{eq-eqb}
+use Rattle.std.proofs.lemmas.List.{take-append-drop, drop_more, take_more, take_all}
+use Rattle.std.proofs.lemmas.List.Elements.{All-push}
+use Rattle.std.proofs.lemmas.List.Splits.{slice_split_at, slice_split_none, length-slice_split}
+use Rattle.oath_node.specs.Request.{Request, IsRequest, fields_of}
+
+-- no space stands in the text
+abbrev pub IsUnspaced : List ℕ → Type 0
+IsUnspaced text = All (λ b. (b == 32) ≡ false) text
+
+pub unspaced_more : (text : List ℕ) (i : ℕ) → i < length text → eqb (get_or text i 0) 32 ≡ false → IsUnspaced (take i text) → IsUnspaced (take (i + 1) text)
+unspaced_more text i lt here before = rw (take_more text i 0 lt) (All-push (λ b. (b == 32) ≡ false) (take i text) (get_or text i 0) before here)
+
+pub fields_cut : (text : List ℕ) (i : ℕ) → i < length text → get_or text i 0 ≡ 32 → IsUnspaced (take i text) → fields_of text ≡ take i text ∷ fields_of (drop (i + 1) text)
+fields_cut text i lt here before =
+    let parts : text ≡ take i text ++ (get_or text i 0 ∷ drop (i + 1) text) = sym (take-append-drop i text) ∙ ap (λ (r : List ℕ). take i text ++ r) (drop_more text i 0 lt) in
+    ap fields_of parts ∙ slice_split_at (λ b. b == 32) (take i text) (get_or text i 0) (drop (i + 1) text) before (eq-eqb _ _ here)
+
+pub fields_whole : (text : List ℕ) (i : ℕ) → length text ≤ i → IsUnspaced (take i text) → fields_of text ≡ text ∷ []
+fields_whole text i le before = slice_split_none (λ b. b == 32) text (subst IsUnspaced (take_all i text le) before)
+
+no_sixth : (a b c d e : List ℕ) (rest : List (List ℕ)) → 0 < length rest → (r : Request) → IsRequest (a ∷ b ∷ c ∷ d ∷ e ∷ rest) r → ⊥
+no_sixth a b c d e [] more r h = absurd (omega arith)
+no_sixth a b c d e (x ∷ rest) more r h = h
+
+-- six fields or more are no line
+pub too_many : (text rest_1 rest_2 rest_3 rest_4 rest_5 a b c d e : List ℕ)
+    → fields_of text ≡ a ∷ fields_of rest_1 → fields_of rest_1 ≡ b ∷ fields_of rest_2 → fields_of rest_2 ≡ c ∷ fields_of rest_3
+    → fields_of rest_3 ≡ d ∷ fields_of rest_4 → fields_of rest_4 ≡ e ∷ fields_of rest_5
+    → (r : Request) → IsRequest (fields_of text) r → ⊥
+too_many text rest_1 rest_2 rest_3 rest_4 rest_5 a b c d e e1 e2 e3 e4 e5 r h =
+    let whole : fields_of text ≡ a ∷ b ∷ c ∷ d ∷ e ∷ fields_of rest_5 =
+    e1 ∙ ap (λ (l : List (List ℕ)). a ∷ l) (e2 ∙ ap (λ (l : List (List ℕ)). b ∷ l) (e3 ∙ ap (λ (l : List (List ℕ)). c ∷ l)
+    (e4 ∙ ap (λ (l : List (List ℕ)). d ∷ l) e5))) in
+    let more : 0 < length (fields_of rest_5) = omega (arith, length-slice_split (λ b. b == 32) rest_5) in
+    no_sixth a b c d e (fields_of rest_5) more r (subst (λ (l : List (List ℕ)). IsRequest l r) whole h)

@@ -1,0 +1,6 @@
+pub mod FieldLemmas
+pub mod FitLemmas
+pub mod RequestLemmas
+pub mod RunLemmas
+pub mod SafetyLemmas
+pub mod VerdictLemmas

@@ -1,0 +1,19 @@
+-- What a client is answered.
+use Rattle.std.specs.Prelude.{ℕ, List, ◌++◌, codes}
+use Rattle.std.specs.Fmt.{decimal}
+use Rattle.oath_node.specs.declared.answer.Answer.{Answer}
+use Rattle.oath_node.specs.declared.answer.Answer.TheVariants.{BadLine, Reply}
+use Rattle.oath_node.specs.declared.answer.Outcome.{Outcome}
+use Rattle.oath_node.specs.declared.answer.Outcome.TheVariants.{Accepted, Unknown, Invalid, Clock, Exhausted}
+
+-- numbers are decimal, without leading zeros
+abbrev pub reply_bytes : List ℕ → Outcome → List ℕ
+reply_bytes nonce (Accepted factor) = codes "OK " ++ nonce ++ codes " " ++ decimal factor
+reply_bytes nonce Unknown = codes "NO " ++ nonce ++ codes " UNKNOWN"
+reply_bytes nonce Invalid = codes "NO " ++ nonce ++ codes " INVALID"
+reply_bytes nonce Clock = codes "NO " ++ nonce ++ codes " CLOCK"
+reply_bytes nonce Exhausted = codes "NO " ++ nonce ++ codes " EXHAUSTED"
+
+abbrev pub answer_bytes : Answer → List ℕ
+answer_bytes BadLine = codes "NO - BADLINE"
+answer_bytes (Reply nonce outcome) = reply_bytes nonce outcome

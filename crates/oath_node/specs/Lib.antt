@@ -1,0 +1,9 @@
+pub mod Answer
+pub mod Credential
+pub mod Field
+pub mod Fit
+pub mod ReferenceServer
+pub mod Report
+pub mod Request
+pub mod Rules
+pub mod Window

@@ -1,0 +1,71 @@
+-- A client's line: its fields between single spaces, and what they say.
+use Rattle.std.specs.Prelude.{◌≡◌, ℕ, ◌-◌, ◌≤◌, ◌==◌, ◌&&◌, not, nat_le, Bool, if◌then◌else◌, List, [], ◌∷◌, length, take, slice_index, Option, Some, None, codes}
+use Rattle.std.specs.Char.{is_ascii_alphanumeric, is_ascii_digit}
+use Rattle.std.specs.List.{slice_split, list_all}
+use Rattle.std.specs.Str.{bytes_eq}
+use Rattle.otp_core.specs.Code.{IsCode}
+use Rattle.oath_node.specs.Field.{IsNonce, IsWord}
+
+pub record Request : Type 0 where
+  pub nonce : List ℕ
+  pub user : List ℕ
+  pub code : List ℕ
+
+-- without one LF at the end
+abbrev pub without_lf : List ℕ → List ℕ
+without_lf bytes = if slice_index bytes (length bytes - 1) == 10 then take (length bytes - 1) bytes else bytes
+
+-- the fields between single spaces
+abbrev pub fields_of : List ℕ → List (List ℕ)
+fields_of text = slice_split (λ b. b == 32) text
+
+-- the request that a CHECK with these fields makes; a password of `-` says that none is given
+pub record IsCheck (word nonce user code password : List ℕ) (r : Request) : Type 0 where
+  pub is_check : word ≡ codes "CHECK"
+  pub is_nonce : IsNonce nonce
+  pub is_user : IsWord user
+  pub is_code : IsCode code
+  pub is_no_password : password ≡ codes "-"
+  pub value : r ≡ record { nonce = nonce; user = user; code = code }
+
+-- by cases on the fields
+abbrev pub IsRequest : List (List ℕ) → Request → Type 0
+IsRequest (word ∷ nonce ∷ user ∷ code ∷ password ∷ []) r = IsCheck word nonce user code password r
+IsRequest _ r = ⊥
+
+-- the line grammar: at most 256 bytes, the LF with them
+abbrev pub IsLine : List ℕ → Request → Type 0
+IsLine bytes r = (length bytes ≤ 256) × IsRequest (fields_of (without_lf bytes)) r
+
+-- ---- The same, computed
+
+abbrev pub has_length : ℕ → ℕ → List ℕ → Bool
+has_length least most text = nat_le least (length text) && nat_le (length text) most
+
+abbrev pub is_nonce : List ℕ → Bool
+is_nonce text = has_length 1 20 text && list_all is_ascii_alphanumeric text
+
+abbrev pub is_word_byte : ℕ → Bool
+is_word_byte b = (not (b == 32) && not (b == 9)) && (not (b == 13) && not (b == 10))
+
+abbrev pub is_word : List ℕ → Bool
+is_word text = has_length 1 64 text && list_all is_word_byte text
+
+abbrev pub is_code : List ℕ → Bool
+is_code text = has_length 6 8 text && list_all is_ascii_digit text
+
+abbrev pub request_of : List (List ℕ) → Option Request
+request_of (word ∷ nonce ∷ user ∷ code ∷ password ∷ []) =
+    if (bytes_eq word (codes "CHECK") && bytes_eq password (codes "-")) && (is_nonce nonce && (is_word user && is_code code))
+    then Some (record { nonce = nonce; user = user; code = code })
+    else None
+request_of _ = None
+
+-- what a line says, if it is in the grammar
+abbrev pub request_at : List ℕ → Option Request
+request_at bytes = if nat_le (length bytes) 256 then request_of (fields_of (without_lf bytes)) else None
+
+-- what a reader of fields answers
+abbrev pub Reads : List (List ℕ) → Option Request → Type 0
+Reads fields (Some r) = IsRequest fields r
+Reads fields None = (r : Request) → IsRequest fields r → ⊥

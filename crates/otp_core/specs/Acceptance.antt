@@ -1,0 +1,58 @@
+-- Accepted submissions, and what must hold of them (RFC 4226, section 7.2; RFC 6238, section 5.2).
+-- Nothing here says how a submission comes to be accepted.
+use Rattle.std.specs.Prelude.{◌≡◌, ◌≢◌, ℕ, zero, suc, ◌+◌, ◌/◌, ◌<◌, ◌≤◌, Bool, true, List, Some, slice_get, if◌then◌else◌}
+
+-- A submission that was accepted: the event in which it began and the one in which it was accepted,
+-- both by their places in the list of all events, the node, the token, and the factors lo to hi that
+-- it uses up.
+pub record Acceptance : Type 0 where
+  pub began : ℕ
+  pub ended : ℕ
+  pub node : ℕ
+  pub token : ℕ
+  pub lo : ℕ
+  pub hi : ℕ
+
+-- a factor that an acceptance uses up
+abbrev pub Uses : Acceptance → ℕ → Type 0
+Uses a factor = (a.lo ≤ factor) × (factor ≤ a.hi)
+
+-- two acceptances that share no factor of one token
+abbrev pub ShareNoFactor : Acceptance → Acceptance → Type 0
+ShareNoFactor a b = a.token ≡ b.token → (factor : ℕ) → Uses a factor → Uses b factor → ⊥
+
+-- Single use: acceptances at two places of the list began in different events, and share no factor of
+-- one token.
+pub record HaveSingleUse (accepted : List Acceptance) : Type 0 where
+  pub began : (i j : ℕ) (a b : Acceptance) → i ≢ j → slice_get accepted i ≡ Some a → slice_get accepted j ≡ Some b
+      → a.began ≢ b.began
+  pub factors : (i j : ℕ) (a b : Acceptance) → i ≢ j → slice_get accepted i ≡ Some a → slice_get accepted j ≡ Some b
+      → ShareNoFactor a b
+
+-- Real-time order: what begins after an acceptance for its token lies above it.
+abbrev pub KeepRealTimeOrder : List Acceptance → Type 0
+KeepRealTimeOrder accepted = (i j : ℕ) (a b : Acceptance) → slice_get accepted i ≡ Some a → slice_get accepted j ≡ Some b
+    → a.token ≡ b.token → a.ended < b.began → a.hi < b.lo
+
+-- more than half of so many nodes
+abbrev pub majority_of : ℕ → ℕ
+majority_of nodes = nodes / 2 + 1
+
+-- how many of the nodes 1 to n are in a set, which is given by its test
+abbrev pub size : ℕ → (ℕ → Bool) → ℕ
+size zero set = 0
+size (suc n) set = (if set (suc n) then 1 else 0) + size n set
+
+-- A node let the factors of an acceptance go in this event, and for good. The first free factor of a
+-- node for a token before an event is floor node token event.
+pub record LetsGo (floor : ℕ → ℕ → ℕ → ℕ) (a : Acceptance) (node event : ℕ) : Type 0 where
+  pub after_it_began : a.began ≤ event
+  pub before_it_ended : event ≤ a.ended
+  pub free : floor node a.token event ≤ a.lo
+  pub used : (later : ℕ) → event < later → a.hi < floor node a.token later
+
+-- Witnesses: a majority of the nodes 1 to n, each of which let the factors go.
+pub record HasMajority (n : ℕ) (floor : ℕ → ℕ → ℕ → ℕ) (a : Acceptance) : Type 0 where
+  pub nodes : ℕ → Bool
+  pub many : majority_of n ≤ size n nodes
+  pub each : (node : ℕ) → nodes node ≡ true → (event : ℕ) × LetsGo floor a node event

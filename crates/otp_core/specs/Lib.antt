@@ -1,0 +1,7 @@
+pub mod Acceptance
+pub mod Code
+pub mod Digits
+pub mod Hotp
+pub mod Limits
+pub mod Range
+pub mod Totp

@@ -1,0 +1,87 @@
+ghost use Rattle.std.specs.Prelude.{◌≡◌, ◌↔◌, IsSome, IfSome};
+ghost use Rattle.otp_core.specs.Range.{IsFactor, IsNext};
+
+use std::marker::Model;
+
+/// A moving factor: the counter of an event token, or the step of a time token. It is at most
+/// 2^62 - 1.
+#[derive(Clone, Copy, Debug, PartialEq, Eq, PartialOrd, Ord, Hash)]
+pub struct Factor {
+    value: u64,
+}
+
+impl Model for Factor {
+    ghost use Rattle.std.specs.Prelude.{ℕ};
+    ghost use Rattle.otp_core.specs.Range.{IsFactor};
+
+    ghost Value = { ℕ };
+
+    ghost view = { λ factor. factor.value };
+
+    ghost invariant = { λ factor. IsFactor factor.value };
+
+    ghost inverse = { λ n. record { value = n } };
+}
+
+impl Factor {
+    /// The factor with this number, or `None` above 2^62 - 1.
+    pub fn new(value: u64) -> Option<Self>
+        ensures valid { IsSome result ↔ IsFactor value }
+        ensures value { IfSome result (λ factor. factor ≡ value) }
+    {
+        if value < 1 << 62 {
+            Some(Factor { value })
+        } else {
+            None
+        }
+    }
+
+    /// The number of the factor.
+    pub fn value(self) -> u64
+        ensures value { result ≡ self }
+        ensures range { IsFactor result }
+    {
+        self.value
+    }
+}
+
+/// The first factor of a token that is free. 2^62 means that none is left.
+#[derive(Clone, Copy, Debug, PartialEq, Eq, PartialOrd, Ord, Hash)]
+pub struct Next {
+    value: u64,
+}
+
+impl Model for Next {
+    ghost use Rattle.std.specs.Prelude.{ℕ};
+    ghost use Rattle.otp_core.specs.Range.{IsNext};
+
+    ghost Value = { ℕ };
+
+    ghost view = { λ next. next.value };
+
+    ghost invariant = { λ next. IsNext next.value };
+
+    ghost inverse = { λ n. record { value = n } };
+}
+
+impl Next {
+    /// The first free factor with this number, or `None` above 2^62.
+    pub fn new(value: u64) -> Option<Self>
+        ensures valid { IsSome result ↔ IsNext value }
+        ensures value { IfSome result (λ next. next ≡ value) }
+    {
+        if value <= 1 << 62 {
+            Some(Next { value })
+        } else {
+            None
+        }
+    }
+
+    /// The number of the first free factor.
+    pub fn value(self) -> u64
+        ensures value { result ≡ self }
+        ensures range { IsNext result }
+    {
+        self.value
+    }
+}

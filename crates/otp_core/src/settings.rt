@@ -1,0 +1,100 @@
+ghost use Rattle.std.specs.Prelude.{◌≡◌, ◌↔◌, ◌≤◌, IsSome, IfSome};
+ghost use Rattle.otp_core.specs.Limits.{Limits, AreLimits, default_limits};
+
+use std::marker::Model;
+
+/// The farthest that a check looks past the first free counter.
+const MAX_LOOK_AHEAD: u64 = 100;
+
+/// The most time steps before and after the present one.
+const MAX_SKEW: u64 = 10;
+
+/// The farthest that a resynchronisation looks past the first free counter.
+const MAX_RANGE: u64 = 1000;
+
+/// How far a server looks for a code.
+#[derive(Clone, Copy, Debug, PartialEq, Eq)]
+pub struct Settings {
+    look_ahead: u64,
+    skew: u64,
+    range: u64,
+}
+
+impl Model for Settings {
+    ghost use Rattle.otp_core.specs.Limits.{Limits, AreLimits};
+
+    ghost Value = { Limits };
+
+    ghost view = { λ settings. record {
+      look_ahead = settings.look_ahead;
+      skew = settings.skew;
+      range = settings.range;
+    } };
+
+    ghost invariant = { λ settings. AreLimits settings.look_ahead settings.skew settings.range };
+
+    ghost inverse = { λ limits. record {
+      look_ahead = limits.look_ahead;
+      skew = limits.skew;
+      range = limits.range;
+    } };
+}
+
+impl Settings {
+    /// These settings, or `None` where the look-ahead is above 100, the skew above 10 or the range
+    /// above 1,000.
+    pub fn new(look_ahead: u64, skew: u64, range: u64) -> Option<Self>
+        ensures valid { IsSome result ↔ AreLimits look_ahead skew range }
+        ensures value { IfSome result
+            (λ settings. settings ≡ record { look_ahead = look_ahead; skew = skew; range = range }) }
+    {
+        if look_ahead > MAX_LOOK_AHEAD || skew > MAX_SKEW || range > MAX_RANGE {
+            return None;
+        }
+        Some(Settings {
+            look_ahead,
+            skew,
+            range,
+        })
+    }
+
+    /// How many factors past the first free one a check of an event token may take (RFC 4226,
+    /// section 7.2): 0 to 100.
+    pub fn look_ahead(self) -> u64
+        ensures value { result ≡ self.look_ahead }
+        ensures range { result ≤ 100 }
+    {
+        self.look_ahead
+    }
+
+    /// How many time steps before and after the present one a time token may take (RFC 6238,
+    /// section 5.2): 0 to 10.
+    pub fn skew(self) -> u64
+        ensures value { result ≡ self.skew }
+        ensures range { result ≤ 10 }
+    {
+        self.skew
+    }
+
+    /// How many factors past the first free one a resynchronisation of an event token may take
+    /// (RFC 4226, section 7.4): 0 to 1,000.
+    pub fn range(self) -> u64
+        ensures value { result ≡ self.range }
+        ensures range { result ≤ 1000 }
+    {
+        self.range
+    }
+}
+
+impl Default for Settings {
+    ghost is_default = { λ settings. settings ≡ default_limits };
+
+    /// A look-ahead of 10, a skew of 1 and a range of 100.
+    fn default() -> Self {
+        Settings {
+            look_ahead: 10,
+            skew: 1,
+            range: 100,
+        }
+    }
+}
