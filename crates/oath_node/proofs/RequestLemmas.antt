@@ -60,7 +60,7 @@ decides_text least most p P each text =
 decides_nonce : (text : List ℕ) → Decides (is_nonce text) (IsNonce text)
 decides_nonce text = decides_text 1 20 is_ascii_alphanumeric IsAsciiAlphanumeric decides_alphanumeric text
 
-decides_word : (text : List ℕ) → Decides (is_word text) (IsWord text)
+pub decides_word : (text : List ℕ) → Decides (is_word text) (IsWord text)
 decides_word text = decides_text 1 64 is_word_byte IsWordByte decides_word_byte text
 
 decides_code : (text : List ℕ) → Decides (is_code text) (IsCode text)

@@ -1,4 +1,4 @@
--- The rules by which a line is answered, in order: the first that applies decides.
+-- The rules by which a line is answered. The first that applies decides: read upwards from `verdict`.
 use Rattle.std.specs.Prelude.{ℕ, ◌<◌, ◌^◌, ◌==◌, nat_lt, List, Option, Some, None, if◌then◌else◌, slice_get}
 use Rattle.otp_core.specs.Limits.{Limits}
 use Rattle.oath_node.specs.Credential.{Credential, place_of}

@@ -30,8 +30,8 @@ impl<'a> Model for ClientLine<'a> {
     ghost view = { λ line. record { client = line.client; moment = line.moment; text = line.line.now } };
 }
 
-/// Answers the lines in order, from the first free factors of the book's tokens on. The only refusal is
-/// want of memory.
+/// Answers the lines in order, one answer for each, from these first free factors on, of which there is
+/// one for each token of the book. The only refusal is want of memory, and then there is no report.
 pub fn run_lines(
     alloc: Global,
     book: &Book,

@@ -6,7 +6,7 @@ pub record Limits : Type 0 where
   pub look_ahead : ℕ
   -- time steps before and after the present one (RFC 6238, section 5.2)
   pub skew : ℕ
-  -- factors past the first free one, for a resynchronisation of an event token (RFC 4226, section 7.4)
+  -- factors past the first free one, for a resynchronization of an event token (RFC 4226, section 7.4)
   pub range : ℕ
 
 -- the ranges of these three numbers

@@ -9,7 +9,7 @@ const MAX_LOOK_AHEAD: u64 = 100;
 /// The most time steps before and after the present one.
 const MAX_SKEW: u64 = 10;
 
-/// The farthest that a resynchronisation looks past the first free counter.
+/// The farthest that a resynchronization looks past the first free counter.
 const MAX_RANGE: u64 = 1000;
 
 /// How far a server looks for a code.
@@ -76,7 +76,7 @@ impl Settings {
         self.skew
     }
 
-    /// How many factors past the first free one a resynchronisation of an event token may take
+    /// How many factors past the first free one a resynchronization of an event token may take
     /// (RFC 4226, section 7.4): 0 to 1,000.
     pub fn range(self) -> u64
         ensures value { result ≡ self.range }

@@ -1,0 +1,50 @@
+-- The lines of clients.
+use Rattle.std.specs.Prelude.{ℕ, ◌+◌, ◌^◌, ◌&&◌, nat_lt, if◌then◌else◌, List, [], ◌∷◌, length, Option, Some, None}
+use Rattle.std.specs.Char.{is_ascii_digit}
+use Rattle.std.specs.List.{list_all}
+use Rattle.std.specs.Str.Parse.{digits_value}
+use Rattle.oath_node.specs.ReferenceServer.{Line}
+use Rattle.oathd.specs.Cut.{Halves, halves_of}
+use Rattle.oathd.specs.Input.{TextLine}
+
+-- a number in decimal digits, below 2 ^ 64
+abbrev pub number_of : List ℕ → Option ℕ
+number_of text =
+    if list_all is_ascii_digit text && (nat_lt 0 (length text) && nat_lt (digits_value 10 text) (2 ^ 64))
+    then Some (digits_value 10 text)
+    else None
+
+abbrev pub line_of_numbers : Option ℕ → Option ℕ → List ℕ → Option Line
+line_of_numbers (Some client) (Some moment) text = Some (record { client = client; moment = moment; text = text })
+line_of_numbers _ _ text = None
+
+abbrev pub moment_and_text : List ℕ → Option Halves → Option Line
+moment_and_text client None = None
+moment_and_text client (Some halves) = line_of_numbers (number_of client) (number_of halves.before) halves.behind
+
+abbrev pub client_and_rest : Option Halves → Option Line
+client_and_rest None = None
+client_and_rest (Some halves) = moment_and_text halves.before (halves_of 32 halves.behind)
+
+-- a client's number, a space, a moment, a space, and the client's line
+abbrev pub client_line_of : List ℕ → Option Line
+client_line_of line = client_and_rest (halves_of 32 line)
+
+-- a line that goes on past the limit is a bad one
+abbrev pub client_line_at : TextLine → Option Line
+client_line_at None = None
+client_line_at (Some line) = client_line_of line
+
+-- the lines of clients before the first bad line, and the number of that one
+pub record LinesRead : Type 0 where
+  pub good : List Line
+  pub bad : Option ℕ
+
+abbrev pub with_line : ℕ → Option Line → LinesRead → LinesRead
+with_line number None rest = record { good = []; bad = Some number }
+with_line number (Some line) rest = record { good = line ∷ rest.good; bad = rest.bad }
+
+-- of lines that are numbered from a number on
+abbrev pub client_lines : ℕ → List TextLine → LinesRead
+client_lines number [] = record { good = []; bad = None }
+client_lines number (line ∷ rest) = with_line number (client_line_at line) (client_lines (number + 1) rest)

@@ -1,0 +1,47 @@
+-- The lines of an input that is read up to a limit, and its two parts.
+use Rattle.std.specs.Prelude.{◌≡◌, ℕ, ◌+◌, ◌==◌, nat_lt, not, Bool, false, if◌then◌else◌, List, [], ◌∷◌, length, take, drop, take_while, Option, Some, None, codes}
+use Rattle.std.specs.List.{slice_split}
+use Rattle.std.specs.Str.{bytes_eq}
+use Rattle.oathd.specs.declared.input.NextLine.{NextLine}
+use Rattle.oathd.specs.declared.input.NextLine.TheVariants.{Whole, Cut, End}
+
+-- a line that is whole is its bytes without the LF; a line that goes on past the limit is None
+abbrev pub TextLine : Type 0
+TextLine = Option (List ℕ)
+
+-- the pieces of a text between its LFs
+abbrev pub pieces_of : List ℕ → List (List ℕ)
+pieces_of text = slice_split (λ b. b == 10) text
+
+-- What stands behind the last LF is a line unless it is empty. Where the text was cut off, it is the line
+-- that goes on.
+abbrev pub last_line : Bool → List ℕ → List TextLine
+last_line is_cut last = if is_cut then None ∷ [] else if length last == 0 then [] else Some last ∷ []
+
+abbrev pub lines_between : Bool → List (List ℕ) → List TextLine
+lines_between is_cut [] = []
+lines_between is_cut (last ∷ []) = last_line is_cut last
+lines_between is_cut (line ∷ next ∷ more) = Some line ∷ lines_between is_cut (next ∷ more)
+
+-- the lines of a text of which so many bytes are read
+abbrev pub lines_of : ℕ → List ℕ → List TextLine
+lines_of limit text = lines_between (nat_lt limit (length text)) (pieces_of (take limit text))
+
+-- the line `%%`
+abbrev pub is_marker : TextLine → Bool
+is_marker None = false
+is_marker (Some line) = bytes_eq line (codes "%%")
+
+-- the lines before the first `%%`
+abbrev pub users_part : List TextLine → List TextLine
+users_part lines = take_while (λ line. not (is_marker line)) lines
+
+-- the lines behind it
+abbrev pub clients_part : List TextLine → List TextLine
+clients_part lines = drop (length (users_part lines) + 1) lines
+
+-- what stands next in an input is taken off the lines that are left
+abbrev pub IsNext : NextLine → List TextLine → List TextLine → Type 0
+IsNext (Whole line) old new = old ≡ Some line.now ∷ new
+IsNext Cut old new = old ≡ None ∷ new
+IsNext End old new = (old ≡ []) × (new ≡ [])

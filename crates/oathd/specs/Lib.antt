@@ -1,0 +1,7 @@
+pub mod Client
+pub mod Cut
+pub mod Fault
+pub mod Input
+pub mod Run
+pub mod Users
+pub mod Words

@@ -1,0 +1,30 @@
+-- What the words of the command line ask for, by the values that clap found.
+use Rattle.std.specs.Prelude.{◌≡◌, ℕ, List, Option, Some, codes}
+use Rattle.std.specs.Option.{option_and_then}
+use Rattle.clap.specs.Matches.{first_value}
+use Rattle.clap.specs.declared.parser.matches.Found.{Found}
+use Rattle.otp_core.specs.Limits.{Limits, AreLimits}
+use Rattle.otp_core.specs.Range.{IsMoment}
+use Rattle.oathd.specs.Client.{number_of}
+use Rattle.oathd.specs.declared.words.Request.{Request}
+use Rattle.oathd.specs.declared.words.Request.TheVariants.{Lines}
+
+-- the number of an option, in decimal digits
+abbrev pub number_at : Found → List ℕ → Option ℕ
+number_at found name = option_and_then number_of (first_value found name)
+
+-- these numbers are given, and in their ranges
+pub record AsksForLines (found : Found) (limits : Limits) (moment : ℕ) : Type 0 where
+  pub look_ahead_given : number_at found (codes "look-ahead") ≡ Some limits.look_ahead
+  pub skew_given : number_at found (codes "skew") ≡ Some limits.skew
+  pub range_given : number_at found (codes "range") ≡ Some limits.range
+  pub moment_given : number_at found (codes "moment") ≡ Some moment
+  pub limits_in_range : AreLimits limits.look_ahead limits.skew limits.range
+  pub moment_in_range : IsMoment moment
+
+abbrev pub AsksFor : Found → Request → Type 0
+AsksFor found (Lines settings moment) = AsksForLines found settings moment
+
+-- its moment is in range
+abbrev pub HasMoment : Request → Type 0
+HasMoment (Lines settings moment) = IsMoment moment
