@@ -10,8 +10,8 @@ use std::marker::Model;
 /// The most bytes of a client's line, its LF with them.
 const MAX_LINE_LEN: usize = 256;
 
-/// The most bytes of a user's name.
-const MAX_WORD_LEN: usize = 64;
+/// The longest name of a user, in bytes.
+pub(crate) const MAX_NAME_LEN: usize = 64;
 
 /// What a client's line asks for.
 #[derive(Debug, Drop)]
@@ -65,7 +65,7 @@ fn is_word_byte(byte: u8) -> bool
 pub(crate) fn is_word(text: &[u8]) -> bool
     ensures { IsTrue result ↔ IsWord text.now }
 {
-    1 <= text.len() && text.len() <= MAX_WORD_LEN && text.iter().all(|&byte| is_word_byte(byte))
+    1 <= text.len() && text.len() <= MAX_NAME_LEN && text.iter().all(|&byte| is_word_byte(byte))
 }
 
 /// The text without one LF at its end.

@@ -7,10 +7,7 @@ use crate::answer::{Nonce, Outcome};
 use crate::line::{CheckLine, read_line};
 use crate::search::find_check;
 use crate::token::{Book, Token, TokenId};
-use otp_core::{Factor, Next, Settings};
-
-/// The moments end here: 2^40 seconds after 1970-01-01 00:00:00 UTC.
-const MOMENTS_END: u64 = 1 << 40;
+use otp_core::{Factor, MOMENTS_END, Next, Settings};
 
 /// What the rules make of a line.
 #[derive(Debug, Drop)]

@@ -25,8 +25,8 @@ fn compare<R: Abort + AllocGlobal>(rt: &R, next: u64, rows: &[Row]) -> Result<Ve
     }
     let report = run_lines(alloc, &book, settings, &floors, &lines)?;
     assert_eq!(rt; report.answers().len(), rows.len());
-    for (answer, &(_, line, want)) in report.answers().iter().zip(rows) {
-        assert_eq!(rt; answer.client, 7);
+    for ((number, answer), &(_, line, want)) in (0..).zip(report.answers()).zip(rows) {
+        assert_eq!(rt; (answer.line, answer.client), (number, 7));
         assert_eq!(rt; answer.bytes.as_slice(), want, "to {line:?}");
     }
     Ok(report.passes().to_vec(alloc)?)

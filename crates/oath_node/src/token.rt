@@ -4,15 +4,12 @@ ghost use Rattle.oath_node.specs.Credential.{event_token, place_of};
 ghost use Rattle.oath_node.specs.Field.{IsWord};
 
 use crate::fault::OpenFault;
-use crate::line::is_word;
+use crate::line::{MAX_NAME_LEN, is_word};
 use arrayvec::ArrayVec;
 use hmac_core::Hash;
 use otp_core::{Digits, Secret};
 use std::alloc::Global;
 use std::marker::Model;
-
-/// The longest name of a user, in bytes.
-const MAX_NAME_LEN: usize = 64;
 
 /// The most tokens of a book.
 const MAX_TOKENS: u32 = 10_000;

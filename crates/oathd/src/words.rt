@@ -6,11 +6,8 @@ ghost use Rattle.oathd.specs.Words.{AsksFor, AsksForLines, HasMoment, number_at}
 use crate::client::read_number;
 use clap::error::ErrorKind;
 use clap::{Arg, ArgAction, ArgMatches, Command, Error, value_parser};
-use otp_core::Settings;
+use otp_core::{MOMENTS_END, Settings};
 use std::alloc::{AllocError, Global};
-
-/// The moments end here: 2^40 seconds after 1970-01-01 00:00:00 UTC.
-const MOMENTS_END: u64 = 1 << 40;
 
 /// What the words ask for.
 #[derive(Clone, Copy, Debug, PartialEq, Eq)]
