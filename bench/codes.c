@@ -1,10 +1,10 @@
 /* HOTP codes (RFC 4226) of the windows of wrong passwords, for comparison with oathd: for each of N lines
- * the eleven codes from counter 0 on, six digits, a key of 20 bytes. Each code sets up its key anew, as
- * oathd does, so a code costs four compressions of SHA-1.
+ * the eleven codes from counter 0 on, six digits, a key of 20 bytes. The key is set up once for each line,
+ * as oathd does, so a line costs 24 compressions of SHA-1.
  *
  *   codes N plain       by the SHA-1 below
  *   codes N sha1        by OpenSSL's SHA-1, with HMAC around it as below
- *   codes N hmac        by OpenSSL's HMAC(), one call a code
+ *   codes N hmac        by OpenSSL's HMAC(), one call a code, which sets the key up anew: 44 compressions
  */
 #include <stdint.h>
 #include <stdio.h>
@@ -40,53 +40,85 @@ static void compress(uint32_t state[5], const uint8_t block[64])
     state[0] += a; state[1] += b; state[2] += c; state[3] += d; state[4] += e;
 }
 
-/* the digest of one block and at most 55 bytes behind it */
-static void digest(enum kind kind, const uint8_t block[64], const uint8_t *rest, size_t len, uint8_t out[20])
+/* SHA-1 when it has taken one block */
+struct state {
+    uint32_t words[5];
+#ifdef WITH_OPENSSL
+    SHA_CTX context;
+#endif
+};
+
+static void take_block(enum kind kind, struct state *state, const uint8_t block[64])
 {
 #ifdef WITH_OPENSSL
     if (kind == SHA1_CALLS) {
-        SHA_CTX hash;
-        SHA1_Init(&hash);
-        SHA1_Update(&hash, block, 64);
-        SHA1_Update(&hash, rest, len);
-        SHA1_Final(out, &hash);
+        SHA1_Init(&state->context);
+        SHA1_Update(&state->context, block, 64);
         return;
     }
 #else
     (void)kind;
 #endif
-    uint32_t state[5] = { 0x67452301, 0xefcdab89, 0x98badcfe, 0x10325476, 0xc3d2e1f0 };
+    static const uint32_t initial[5] = { 0x67452301, 0xefcdab89, 0x98badcfe, 0x10325476, 0xc3d2e1f0 };
+    memcpy(state->words, initial, sizeof initial);
+    compress(state->words, block);
+}
+
+/* the digest of that block and at most 55 bytes behind it */
+static void digest(enum kind kind, const struct state *state, const uint8_t *rest, size_t len, uint8_t out[20])
+{
+#ifdef WITH_OPENSSL
+    if (kind == SHA1_CALLS) {
+        SHA_CTX context = state->context;
+        SHA1_Update(&context, rest, len);
+        SHA1_Final(out, &context);
+        return;
+    }
+#else
+    (void)kind;
+#endif
+    uint32_t words[5];
     uint8_t last[64] = { 0 };
     uint64_t bits = (64 + len) * 8;
-    compress(state, block);
+    memcpy(words, state->words, sizeof words);
     memcpy(last, rest, len);
     last[len] = 0x80;
     for (int i = 0; i < 8; i++) last[56 + i] = (uint8_t)(bits >> (56 - 8 * i));
-    compress(state, last);
-    for (int i = 0; i < 20; i++) out[i] = (uint8_t)(state[i / 4] >> (24 - 8 * (i % 4)));
+    compress(words, last);
+    for (int i = 0; i < 20; i++) out[i] = (uint8_t)(words[i / 4] >> (24 - 8 * (i % 4)));
 }
 
-static void written_mac(enum kind kind, const uint8_t *key, size_t key_len, const uint8_t msg[8], uint8_t mac[20])
+struct keyed {
+    struct state inner, outer;
+    const uint8_t *key;
+    size_t len;
+};
+
+static struct keyed key_of(const uint8_t *key, size_t len, enum kind kind)
 {
-    uint8_t inner[64], outer[64], hash[20];
+    struct keyed keyed = { .key = key, .len = len };
+    uint8_t inner[64], outer[64];
+    if (kind == HMAC_CALL) return keyed;
     memset(inner, 0x36, 64);
     memset(outer, 0x5c, 64);
-    for (size_t i = 0; i < key_len; i++) { inner[i] ^= key[i]; outer[i] ^= key[i]; }
-    digest(kind, inner, msg, 8, hash);
-    digest(kind, outer, hash, 20, mac);
+    for (size_t i = 0; i < len; i++) { inner[i] ^= key[i]; outer[i] ^= key[i]; }
+    take_block(kind, &keyed.inner, inner);
+    take_block(kind, &keyed.outer, outer);
+    return keyed;
 }
 
-static unsigned code_of(const uint8_t *key, size_t key_len, uint64_t counter, enum kind kind)
+static unsigned code_of(const struct keyed *key, uint64_t counter, enum kind kind)
 {
-    uint8_t msg[8], mac[20];
+    uint8_t msg[8], mac[20], hash[20];
     for (int i = 0; i < 8; i++) msg[i] = (uint8_t)(counter >> (56 - 8 * i));
     if (kind == HMAC_CALL) {
 #ifdef WITH_OPENSSL
         unsigned len = 20;
-        HMAC(EVP_sha1(), key, (int)key_len, msg, 8, mac, &len);
+        HMAC(EVP_sha1(), key->key, (int)key->len, msg, 8, mac, &len);
 #endif
     } else {
-        written_mac(kind, key, key_len, msg, mac);
+        digest(kind, &key->inner, msg, 8, hash);
+        digest(kind, &key->outer, hash, 20, mac);
     }
     int o = mac[19] & 15;
     uint32_t word = (uint32_t)mac[o] << 24 | (uint32_t)mac[o + 1] << 16 | (uint32_t)mac[o + 2] << 8 | mac[o + 3];
@@ -104,11 +136,14 @@ int main(int argc, char **argv)
 #endif
     else { fprintf(stderr, "codes N plain|sha1|hmac (the last two where it is built with OpenSSL)\n"); return 2; }
     long lines = atol(argv[1]);
-    if (code_of(key, 20, 1, kind) != 287082) { fprintf(stderr, "codes: wrong code\n"); return 1; }
+    struct keyed keyed = key_of(key, 20, kind);
+    if (code_of(&keyed, 1, kind) != 287082) { fprintf(stderr, "codes: wrong code\n"); return 1; }
     unsigned long sum = 0;
-    for (long line = 0; line < lines; line++)
+    for (long line = 0; line < lines; line++) {
+        keyed = key_of(key, 20, kind);
         for (uint64_t counter = 0; counter <= 10; counter++)
-            sum += code_of(key, 20, counter, kind);
+            sum += code_of(&keyed, counter, kind);
+    }
     printf("%lu\n", sum);
     return 0;
 }

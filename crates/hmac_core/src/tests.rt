@@ -1,4 +1,4 @@
-use crate::{Hash, Mac, hmac};
+use crate::{Hash, Keyed, Mac, hmac};
 use std::alloc::{AllocError, Global};
 use std::fmt::Write;
 use std::test::Fail;
@@ -93,6 +93,11 @@ fn macs_of_the_standards(rt: HostRuntime) -> Result<(), Fail> {
         let text = text(rt.alloc(), &mac)?;
         assert_eq!(rt; text.as_str(), want, "{hash:?}, key of {} bytes", key.len());
         assert_eq!(rt; Mac::new(mac.as_slice()), Some(mac));
+
+        // one key for two messages
+        let keyed = Keyed::new(hash, key);
+        assert_eq!(rt; keyed.mac(b"") == mac, false);
+        assert_eq!(rt; keyed.mac(msg), mac);
     }
     Ok(())
 }

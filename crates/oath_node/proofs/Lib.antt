@@ -1,5 +1,7 @@
+pub mod BookLemmas
+pub mod ColumnLemmas
 pub mod FieldLemmas
-pub mod FitLemmas
+pub mod GateLemmas
 pub mod RequestLemmas
 pub mod RunLemmas
 pub mod SafetyLemmas

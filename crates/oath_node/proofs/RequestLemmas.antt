@@ -10,8 +10,9 @@ use Rattle.std.proofs.lemmas.Bool.{leb-true, le-leb, lt-leb, eqb-false, ne_eqb, 
 use Rattle.std.proofs.lemmas.Bool.Decides.{Decides-and, Decides-by_and}
 use Rattle.std.proofs.lemmas.Slice.Eq.{bytes_eq-Decides}
 use Rattle.otp_core.specs.Code.{IsCode}
+use Rattle.admit_core.specs.Fit.{Submission, Check, Resync}
 use Rattle.oath_node.specs.Field.{IsNonce, IsWord, IsWordByte}
-use Rattle.oath_node.specs.Request.{Request, IsRequest, IsLine, Reads, has_length, is_nonce, is_word, is_word_byte, is_code, request_of, request_at, fields_of, without_lf}
+use Rattle.oath_node.specs.Request.{Request, IsRequest, IsLine, Reads, has_length, is_nonce, is_word, is_word_byte, is_code, are_common, given_in, request_of, request_at, fields_of, without_lf}
 
 decides_le : (a b : ℕ) → Decides (nat_le a b) (a ≤ b)
 decides_le a b = (leb-true a b, le-leb a b)
@@ -66,12 +67,21 @@ decides_word text = decides_text 1 64 is_word_byte IsWordByte decides_word_byte 
 decides_code : (text : List ℕ) → Decides (is_code text) (IsCode text)
 decides_code text = decides_text 6 8 is_ascii_digit IsAsciiDigit (decides_range 48 57) text
 
+decides_common : (nonce user password : List ℕ) → Decides (are_common nonce user password) (IsNonce nonce × (IsWord user × IsWord password))
+decides_common nonce user password = Decides-and _ _ (decides_nonce nonce) (Decides-and _ _ (decides_word user) (decides_word password))
+
 decides_check : (word nonce user code password : List ℕ)
-    → Decides ((bytes_eq word (codes "CHECK") && bytes_eq password (codes "-")) && (is_nonce nonce && (is_word user && is_code code)))
-    (((word ≡ codes "CHECK") × (password ≡ codes "-")) × (IsNonce nonce × (IsWord user × IsCode code)))
+    → Decides (bytes_eq word (codes "CHECK") && (are_common nonce user password && is_code code))
+    ((word ≡ codes "CHECK") × ((IsNonce nonce × (IsWord user × IsWord password)) × IsCode code))
 decides_check word nonce user code password =
-    Decides-and _ _ (Decides-and _ _ (bytes_eq-Decides word (codes "CHECK")) (bytes_eq-Decides password (codes "-")))
-    (Decides-and _ _ (decides_nonce nonce) (Decides-and _ _ (decides_word user) (decides_code code)))
+    Decides-and _ _ (bytes_eq-Decides word (codes "CHECK")) (Decides-and _ _ (decides_common nonce user password) (decides_code code))
+
+decides_resync : (word nonce user first second password : List ℕ)
+    → Decides (bytes_eq word (codes "RESYNC") && (are_common nonce user password && (is_code first && is_code second)))
+    ((word ≡ codes "RESYNC") × ((IsNonce nonce × (IsWord user × IsWord password)) × (IsCode first × IsCode second)))
+decides_resync word nonce user first second password =
+    Decides-and _ _ (bytes_eq-Decides word (codes "RESYNC"))
+    (Decides-and _ _ (decides_common nonce user password) (Decides-and _ _ (decides_code first) (decides_code second)))
 
 -- a test that was passed
 some_if : {A : Type 0} (b : Bool) (x y : A) → cond b (Some x) None ≡ Some y → (b ≡ true) × (x ≡ y)
@@ -82,9 +92,8 @@ some_at : {A : Type 0} (b : Bool) (x y : A) → b ≡ true → y ≡ x → cond 
 some_at true x y e h = cc
 some_at false x y e h = absurd cc
 
--- the request of a CHECK
-abbrev request : List ℕ → List ℕ → List ℕ → Request
-request nonce user code = record { nonce = nonce; user = user; code = code }
+abbrev request : List ℕ → List ℕ → Submission → List ℕ → Request
+request nonce user submission password = record { nonce = nonce; user = user; submission = submission; password = given_in password }
 
 -- what is read is in the grammar
 pub request_takes : (fields : List (List ℕ)) (r : Request) → request_of fields ≡ Some r → IsRequest fields r
@@ -94,10 +103,22 @@ request_takes (a ∷ b ∷ []) r e = absurd cc
 request_takes (a ∷ b ∷ c ∷ []) r e = absurd cc
 request_takes (a ∷ b ∷ c ∷ d ∷ []) r e = absurd cc
 request_takes (word ∷ nonce ∷ user ∷ code ∷ password ∷ []) r e =
-    let s = some_if _ (request nonce user code) r e in
+    let s = some_if _ (request nonce user (Check code) password) r e in
     let h = (decides_check word nonce user code password).0 s.0 in
-    record { is_check = h.0.0; is_nonce = h.1.0; is_user = h.1.1.0; is_code = h.1.1.1; is_no_password = h.0.1; value = sym s.1 }
-request_takes (a ∷ b ∷ c ∷ d ∷ f ∷ g ∷ more) r e = absurd cc
+    record { is_check = h.0; is_nonce = h.1.0.0; is_user = h.1.0.1.0; is_code = h.1.1; is_password = h.1.0.1.1; value = sym s.1 }
+request_takes (word ∷ nonce ∷ user ∷ first ∷ second ∷ password ∷ []) r e =
+    let s = some_if _ (request nonce user (Resync first second) password) r e in
+    let h = (decides_resync word nonce user first second password).0 s.0 in
+    record {
+      is_resync = h.0;
+      is_nonce = h.1.0.0;
+      is_user = h.1.0.1.0;
+      is_first = h.1.1.0;
+      is_second = h.1.1.1;
+      is_password = h.1.0.1.1;
+      value = sym s.1;
+    }
+request_takes (a ∷ b ∷ c ∷ d ∷ f ∷ g ∷ k ∷ more) r e = absurd cc
 
 -- what is in the grammar is read
 pub request_again : (fields : List (List ℕ)) (r : Request) → IsRequest fields r → request_of fields ≡ Some r
@@ -107,9 +128,13 @@ request_again (a ∷ b ∷ []) r h = absurd h
 request_again (a ∷ b ∷ c ∷ []) r h = absurd h
 request_again (a ∷ b ∷ c ∷ d ∷ []) r h = absurd h
 request_again (word ∷ nonce ∷ user ∷ code ∷ password ∷ []) r h =
-    some_at _ (request nonce user code) r
-    ((decides_check word nonce user code password).1 ((h.is_check, h.is_no_password), (h.is_nonce, (h.is_user, h.is_code)))) h.value
-request_again (a ∷ b ∷ c ∷ d ∷ e ∷ f ∷ more) r h = absurd h
+    some_at _ (request nonce user (Check code) password) r
+    ((decides_check word nonce user code password).1 (h.is_check, ((h.is_nonce, (h.is_user, h.is_password)), h.is_code))) h.value
+request_again (word ∷ nonce ∷ user ∷ first ∷ second ∷ password ∷ []) r h =
+    some_at _ (request nonce user (Resync first second) password) r
+    ((decides_resync word nonce user first second password).1
+    (h.is_resync, ((h.is_nonce, (h.is_user, h.is_password)), (h.is_first, h.is_second)))) h.value
+request_again (a ∷ b ∷ c ∷ d ∷ f ∷ g ∷ k ∷ more) r h = absurd h
 
 pub reads_exactly : (fields : List (List ℕ)) (result : Option Request) → Reads fields result → result ≡ request_of fields
 reads_exactly fields (Some r) h = sym (request_again fields r h)

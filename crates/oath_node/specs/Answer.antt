@@ -4,12 +4,14 @@ use Rattle.std.specs.Fmt.{decimal}
 use Rattle.oath_node.specs.declared.answer.Answer.{Answer}
 use Rattle.oath_node.specs.declared.answer.Answer.TheVariants.{BadLine, Reply}
 use Rattle.oath_node.specs.declared.answer.Outcome.{Outcome}
-use Rattle.oath_node.specs.declared.answer.Outcome.TheVariants.{Accepted, Unknown, Invalid, Clock, Exhausted}
+use Rattle.oath_node.specs.declared.answer.Outcome.TheVariants.{Accepted, Unknown, Password, Throttled, Invalid, Clock, Exhausted}
 
 -- numbers are decimal, without leading zeros
 abbrev pub reply_bytes : List ℕ → Outcome → List ℕ
 reply_bytes nonce (Accepted factor) = codes "OK " ++ nonce ++ codes " " ++ decimal factor
 reply_bytes nonce Unknown = codes "NO " ++ nonce ++ codes " UNKNOWN"
+reply_bytes nonce Password = codes "NO " ++ nonce ++ codes " PASSWORD"
+reply_bytes nonce (Throttled seconds) = codes "NO " ++ nonce ++ codes " THROTTLED " ++ decimal seconds
 reply_bytes nonce Invalid = codes "NO " ++ nonce ++ codes " INVALID"
 reply_bytes nonce Clock = codes "NO " ++ nonce ++ codes " CLOCK"
 reply_bytes nonce Exhausted = codes "NO " ++ nonce ++ codes " EXHAUSTED"

@@ -1,9 +1,9 @@
 pub mod Answer
-pub mod Credential
+pub mod Codes
+pub mod Column
 pub mod Field
-pub mod Fit
+pub mod Gates
 pub mod ReferenceServer
 pub mod Report
 pub mod Request
 pub mod Rules
-pub mod Window

@@ -1,21 +1,29 @@
--- One server with one first free factor for each token, which answers each line at once. Nothing is
--- voted on, sent or waited for.
-use Rattle.std.specs.Prelude.{ℕ, ◌+◌, List, [], ◌∷◌, Option, Some, None, slice_index, slice_set}
+-- One server with one first free factor for each token, which answers each line at once at a front end.
+-- Nothing is voted on, sent or waited for.
+use Rattle.std.specs.Prelude.{ℕ, ◌+◌, List, [], ◌∷◌, length, replicate, Option, Some, None, slice_index, slice_index_or, slice_set}
 use Rattle.otp_core.specs.Limits.{Limits}
-use Rattle.oath_node.specs.Credential.{Credential}
+use Rattle.token_file.specs.Credential.{Credential}
+use Rattle.admit_core.specs.Throttle.{Result, Failed, Accepted as Passed, wait_after}
 use Rattle.oath_node.specs.Rules.{Standing, verdict}
 use Rattle.oath_node.specs.declared.rules.Verdict.{Verdict}
-use Rattle.oath_node.specs.declared.rules.Verdict.TheVariants.{BadLine, Refused, Proposes}
+use Rattle.oath_node.specs.declared.rules.Verdict.TheVariants.{BadLine, Refused, Fails, Proposes}
 use Rattle.oath_node.specs.declared.answer.Answer.{Answer}
 use Rattle.oath_node.specs.declared.answer.Answer.TheVariants.{BadLine as BadLineAnswer, Reply}
 use Rattle.oath_node.specs.declared.answer.Outcome.TheVariants.{Accepted}
 
--- the first free factor of each token, by the tokens' places in the book
+-- a front end: the results of each token there, the newest first
+pub record Front : Type 0 where
+  pub results : List (List Result)
+
+-- the first free factor of each token, which all front ends share, and the front end that answers;
+-- tokens go by their places in the book
 pub record Server : Type 0 where
   pub floors : List ℕ
+  pub front : Front
 
+-- no token has a result yet
 abbrev pub server_at : List ℕ → Server
-server_at floors = record { floors = floors }
+server_at floors = record { floors = floors; front = record { results = replicate (length floors) [] } }
 
 -- a client's line, and the moment at which it came
 pub record Line : Type 0 where
@@ -29,31 +37,66 @@ pub record Span : Type 0 where
   pub lo : ℕ
   pub hi : ℕ
 
--- what a line leads to: the server after it, the answer, and what was accepted
-pub record Served : Type 0 where
-  pub server : Server
+-- what a line is told, and what was accepted with it
+pub record Told : Type 0 where
   pub answer : Answer
   pub accepted : Option Span
+
+-- what a line leads to: the server after it, and what is told
+pub record Served : Type 0 where
+  pub server : Server
+  pub told : Told
 
 -- the first free factor of a token
 abbrev pub floor_of : Server → ℕ → ℕ
 floor_of s token = slice_index s.floors token
 
-abbrev pub standing_of : Server → Standing
-standing_of s = record { next = floor_of s }
+-- the results of a token
+abbrev pub results_of : Server → ℕ → List Result
+results_of s token = slice_index_or s.front.results token []
 
--- an acceptance uses the factors up, and nothing else changes a floor
-abbrev pub ruled : Server → Verdict → Served
-ruled s BadLine = record { server = s; answer = BadLineAnswer; accepted = None }
-ruled s (Refused nonce outcome) = record { server = s; answer = Reply nonce outcome; accepted = None }
-ruled s (Proposes nonce token lo hi) = record {
-  server = record { floors = slice_set s.floors token (hi + 1) };
+-- the wait is that of the results, by the throttle's definition
+abbrev pub standing_of : Server → ℕ → Standing
+standing_of s moment = record { next = floor_of s; wait = λ token. wait_after (results_of s token) moment }
+
+abbrev pub told_by : Verdict → Told
+told_by BadLine = record { answer = BadLineAnswer; accepted = None }
+told_by (Refused nonce outcome) = record { answer = Reply nonce outcome; accepted = None }
+told_by (Fails nonce outcome token) = record { answer = Reply nonce outcome; accepted = None }
+told_by (Proposes nonce token lo hi) = record {
   answer = Reply nonce (Accepted hi);
   accepted = Some (record { token = token; lo = lo; hi = hi });
 }
 
+-- an acceptance uses the factors up, and nothing else changes a floor
+abbrev pub floors_after : List ℕ → Verdict → List ℕ
+floors_after floors BadLine = floors
+floors_after floors (Refused nonce outcome) = floors
+floors_after floors (Fails nonce outcome token) = floors
+floors_after floors (Proposes nonce token lo hi) = slice_set floors token (hi + 1)
+
+-- with one result more for a token
+abbrev pub with_result : List (List Result) → ℕ → Result → List (List Result)
+with_result results token r = slice_set results token (r ∷ slice_index_or results token [])
+
+-- a failure and an acceptance are results, and nothing else is
+abbrev pub results_after : List (List Result) → ℕ → Verdict → List (List Result)
+results_after results moment BadLine = results
+results_after results moment (Refused nonce outcome) = results
+results_after results moment (Fails nonce outcome token) = with_result results token (Failed moment)
+results_after results moment (Proposes nonce token lo hi) = with_result results token Passed
+
+abbrev pub ruled : Server → ℕ → Verdict → Served
+ruled s moment v = record {
+  server = record {
+    floors = floors_after s.floors v;
+    front = record { results = results_after s.front.results moment v };
+  };
+  told = told_by v;
+}
+
 abbrev pub served : List Credential → Limits → Server → Line → Served
-served book limits s l = ruled s (verdict book limits (standing_of s) l.moment l.text)
+served book limits s l = ruled s l.moment (verdict book limits (standing_of s l.moment) l.moment l.text)
 
 -- the server after these lines
 unfoldable pub server_after : List Credential → Limits → Server → List Line → Server

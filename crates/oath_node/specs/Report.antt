@@ -2,11 +2,11 @@
 use Rattle.std.specs.Prelude.{◌≡◌, ℕ, ◌+◌, List, [], ◌∷◌, ◌++◌, map, take, Option, Some, None, slice_get}
 use Rattle.otp_core.specs.Acceptance.{Acceptance}
 use Rattle.otp_core.specs.Limits.{Limits}
-use Rattle.otp_core.specs.Range.{IsMoment}
+use Rattle.token_file.specs.Credential.{Credential}
+use Rattle.admit_core.specs.Entitled.{IsEntitled}
+use Rattle.admit_core.specs.Throttle.{Result}
 use Rattle.oath_node.specs.Answer.{answer_bytes}
-use Rattle.oath_node.specs.Credential.{Credential}
-use Rattle.oath_node.specs.Fit.{IsLeastFit}
-use Rattle.oath_node.specs.ReferenceServer.{Server, Line, Span, Served, floor_of, served, server_after, server_at}
+use Rattle.oath_node.specs.ReferenceServer.{Server, Line, Span, Told, Served, floor_of, results_of, served, server_after, server_at}
 use Rattle.oath_node.specs.Request.{Request, IsLine}
 use Rattle.oath_node.specs.declared.answer.Answer.{Answer}
 use Rattle.oath_node.specs.declared.report.LinePass.{LinePass}
@@ -30,18 +30,22 @@ passes_at number (Some span) = record { began = number; token = span.token; lo =
 abbrev pub answer_at : ℕ → ℕ → Answer → LineAnswer
 answer_at number client answer = record { line = number; client = client; bytes = record { items = answer_bytes answer } }
 
--- with what the line of this number led to
-abbrev pub extended : Report → ℕ → ℕ → Served → Report
-extended r number client s = record {
-  passes = r.passes ++ passes_at number s.accepted;
-  answers = r.answers ++ answer_at number client s.answer ∷ [];
+-- with what was accepted with the line of this number
+abbrev pub with_passes : Report → ℕ → Option Span → Report
+with_passes r number accepted = record { passes = r.passes ++ passes_at number accepted; answers = r.answers }
+
+-- with what the line of this number was told
+abbrev pub extended : Report → ℕ → ℕ → Told → Report
+extended r number client told = record {
+  passes = r.passes ++ passes_at number told.accepted;
+  answers = r.answers ++ answer_at number client told.answer ∷ [];
 }
 
--- what the line of this number led to comes before the rest
-abbrev pub before : ℕ → Line → Served → Report → Report
-before number l s rest = record {
-  passes = passes_at number s.accepted ++ rest.passes;
-  answers = answer_at number l.client s.answer ∷ rest.answers;
+-- what the line of this number was told comes before the rest
+abbrev pub before : ℕ → Line → Told → Report → Report
+before number l told rest = record {
+  passes = passes_at number told.accepted ++ rest.passes;
+  answers = answer_at number l.client told.answer ∷ rest.answers;
 }
 
 -- the report of lines that are numbered from a number on
@@ -49,7 +53,7 @@ unfoldable pub report_from : List Credential → Limits → ℕ → Server → L
 report_from book limits number s [] = record { passes = []; answers = [] }
 report_from book limits number s (l ∷ ls) =
     let this : Served = served book limits s l in
-    before number l this (report_from book limits (number + 1) this.server ls)
+    before number l this.told (report_from book limits (number + 1) this.server ls)
 
 -- the report of lines that are numbered from 0
 abbrev pub report_of : List Credential → Limits → List ℕ → List Line → Report
@@ -62,27 +66,38 @@ acceptance_of p = record { began = p.began; ended = p.began; node = 1; token = p
 abbrev pub acceptances_of : List LinePass → List Acceptance
 acceptances_of passes = map acceptance_of passes
 
+-- the server before the line of a number
+abbrev pub server_before : List Credential → Limits → List ℕ → List Line → ℕ → Server
+server_before book limits floors lines number = server_after book limits (server_at floors) (take number lines)
+
 -- the first free factor of a token before the line of a number
 abbrev pub floor_before : List Credential → Limits → List ℕ → List Line → ℕ → ℕ → ℕ
-floor_before book limits floors lines token number =
-    floor_of (server_after book limits (server_at floors) (take number lines)) token
+floor_before book limits floors lines token number = floor_of (server_before book limits floors lines number) token
 
--- The line with which a pass began is in the line grammar, at a moment in range, for the user of the
--- pass's token, and the pass has the least factor that fits in the window from that token's first free
--- factor on.
-pub record IsEntitled (book : List Credential) (limits : Limits) (floors : List ℕ) (lines : List Line) (p : LinePass) : Type 0 where
+-- the results of a token before the line of a number, the newest first
+abbrev pub results_before : List Credential → Limits → List ℕ → List Line → ℕ → ℕ → List Result
+results_before book limits floors lines token number = results_of (server_before book limits floors lines number) token
+
+-- all results of a token in a run
+abbrev pub results_in : List Credential → Limits → List ℕ → List Line → ℕ → List Result
+results_in book limits floors lines token = results_of (server_after book limits (server_at floors) lines) token
+
+-- The line with which a pass began is in the line grammar, for the user of the pass's token, and what it
+-- submits is entitled to the pass's factors: its moment is in range, its password is as the token's
+-- column says, the token is open at that moment by its results before that line, and the factors are the
+-- least in the window that fit, for the token's first free factor before that line.
+pub record IsJustified (book : List Credential) (limits : Limits) (floors : List ℕ) (lines : List Line) (p : LinePass) : Type 0 where
   pub line : Line
   pub began : slice_get lines p.began ≡ Some line
-  pub in_range : IsMoment line.moment
   pub request : Request
   pub grammar : IsLine line.text request
   pub credential : Credential
   pub token : slice_get book p.token ≡ Some credential
   pub user : credential.name ≡ request.user
-  pub one_factor : p.hi ≡ p.lo
-  pub least : IsLeastFit credential limits (floor_before book limits floors lines p.token p.began) request.code p.lo
+  pub entitled : IsEntitled credential limits line.moment request.submission request.password
+      (floor_before book limits floors lines p.token p.began) (results_before book limits floors lines p.token p.began) p.lo p.hi
 
 -- each pass of a list is
-abbrev pub AreEntitled : List Credential → Limits → List ℕ → List Line → List LinePass → Type 0
-AreEntitled book limits floors lines passes =
-    (k : ℕ) (p : LinePass) → slice_get passes k ≡ Some p → IsEntitled book limits floors lines p
+abbrev pub AreJustified : List Credential → Limits → List ℕ → List Line → List LinePass → Type 0
+AreJustified book limits floors lines passes =
+    (k : ℕ) (p : LinePass) → slice_get passes k ≡ Some p → IsJustified book limits floors lines p

@@ -4,12 +4,14 @@ use Rattle.std.specs.Char.{is_ascii_alphanumeric, is_ascii_digit}
 use Rattle.std.specs.List.{slice_split, list_all}
 use Rattle.std.specs.Str.{bytes_eq}
 use Rattle.otp_core.specs.Code.{IsCode}
+use Rattle.admit_core.specs.Fit.{Submission, Check, Resync}
 use Rattle.oath_node.specs.Field.{IsNonce, IsWord}
 
 pub record Request : Type 0 where
   pub nonce : List ℕ
   pub user : List ℕ
-  pub code : List ℕ
+  pub submission : Submission
+  pub password : Option (List ℕ)
 
 -- without one LF at the end
 abbrev pub without_lf : List ℕ → List ℕ
@@ -19,18 +21,33 @@ without_lf bytes = if slice_index bytes (length bytes - 1) == 10 then take (leng
 abbrev pub fields_of : List ℕ → List (List ℕ)
 fields_of text = slice_split (λ b. b == 32) text
 
--- the request that a CHECK with these fields makes; a password of `-` says that none is given
+-- the password that a field gives: `-` alone says that none is given
+abbrev pub given_in : List ℕ → Option (List ℕ)
+given_in text = if bytes_eq text (codes "-") then None else Some text
+
+-- the request that a CHECK with these fields makes
 pub record IsCheck (word nonce user code password : List ℕ) (r : Request) : Type 0 where
   pub is_check : word ≡ codes "CHECK"
   pub is_nonce : IsNonce nonce
   pub is_user : IsWord user
   pub is_code : IsCode code
-  pub is_no_password : password ≡ codes "-"
-  pub value : r ≡ record { nonce = nonce; user = user; code = code }
+  pub is_password : IsWord password
+  pub value : r ≡ record { nonce = nonce; user = user; submission = Check code; password = given_in password }
+
+-- the request that a RESYNC with these fields makes
+pub record IsResync (word nonce user first second password : List ℕ) (r : Request) : Type 0 where
+  pub is_resync : word ≡ codes "RESYNC"
+  pub is_nonce : IsNonce nonce
+  pub is_user : IsWord user
+  pub is_first : IsCode first
+  pub is_second : IsCode second
+  pub is_password : IsWord password
+  pub value : r ≡ record { nonce = nonce; user = user; submission = Resync first second; password = given_in password }
 
 -- by cases on the fields
 abbrev pub IsRequest : List (List ℕ) → Request → Type 0
 IsRequest (word ∷ nonce ∷ user ∷ code ∷ password ∷ []) r = IsCheck word nonce user code password r
+IsRequest (word ∷ nonce ∷ user ∷ first ∷ second ∷ password ∷ []) r = IsResync word nonce user first second password r
 IsRequest _ r = ⊥
 
 -- the line grammar: at most 256 bytes, the LF with them
@@ -54,10 +71,18 @@ is_word text = has_length 1 64 text && list_all is_word_byte text
 abbrev pub is_code : List ℕ → Bool
 is_code text = has_length 6 8 text && list_all is_ascii_digit text
 
+-- the fields that both kinds of lines have
+abbrev pub are_common : List ℕ → List ℕ → List ℕ → Bool
+are_common nonce user password = is_nonce nonce && (is_word user && is_word password)
+
 abbrev pub request_of : List (List ℕ) → Option Request
 request_of (word ∷ nonce ∷ user ∷ code ∷ password ∷ []) =
-    if (bytes_eq word (codes "CHECK") && bytes_eq password (codes "-")) && (is_nonce nonce && (is_word user && is_code code))
-    then Some (record { nonce = nonce; user = user; code = code })
+    if bytes_eq word (codes "CHECK") && (are_common nonce user password && is_code code)
+    then Some (record { nonce = nonce; user = user; submission = Check code; password = given_in password })
+    else None
+request_of (word ∷ nonce ∷ user ∷ first ∷ second ∷ password ∷ []) =
+    if bytes_eq word (codes "RESYNC") && (are_common nonce user password && (is_code first && is_code second))
+    then Some (record { nonce = nonce; user = user; submission = Resync first second; password = given_in password })
     else None
 request_of _ = None
 

@@ -63,6 +63,10 @@ pub(crate) enum Outcome {
     Accepted(Factor),
     /// No such user.
     Unknown,
+    /// The password is not as the token's column says.
+    Password,
+    /// The token is closed for so many seconds more.
+    Throttled(u64),
     /// The code fits no factor of the window.
     Invalid,
     /// The moment is outside the range.
@@ -123,6 +127,8 @@ pub(crate) fn write_answer(answer: &Answer) -> ArrayVec<u8, MAX_ANSWER_LEN>
         Answer::Reply(nonce, outcome) => match *outcome {
             Outcome::Accepted(factor) => numbered(b"OK ", nonce, b" ", factor.value()),
             Outcome::Unknown => around(b"NO ", nonce, b" UNKNOWN"),
+            Outcome::Password => around(b"NO ", nonce, b" PASSWORD"),
+            Outcome::Throttled(seconds) => numbered(b"NO ", nonce, b" THROTTLED ", seconds),
             Outcome::Invalid => around(b"NO ", nonce, b" INVALID"),
             Outcome::Clock => around(b"NO ", nonce, b" CLOCK"),
             Outcome::Exhausted => around(b"NO ", nonce, b" EXHAUSTED"),

@@ -2,14 +2,15 @@
 //! accepts no code twice.
 //!
 //! ```rust
-//! use oath_node::{ClientLine, one_token, run_lines};
-//! use otp_core::{Next, Secret, Settings};
+//! use oath_node::{ClientLine, run_lines};
+//! use otp_core::Settings;
+//! use token_file::{FromRead, read_book};
 //!
-//! let secret = Secret::new(b"12345678901234567890").ok_or("a secret")?;
-//! let book = one_token(alloc, b"silver", secret)?;
-//! let floors = [Next::new(0).ok_or("a first free factor")?];
+//! let users = b"HOTP silver - 3132333435363738393031323334353637383930".as_slice();
+//! let settings = Settings::default();
+//! let (book, floors) = read_book(alloc, &mut FromRead::new(users), settings, 0)?;
 //! let lines = [ClientLine { client: 7, moment: 100, line: b"CHECK 1 silver 755224 -" }];
-//! let report = run_lines(alloc, &book, Settings::default(), &floors, &lines)?;
+//! let report = run_lines(alloc, &book, settings, &floors, &lines)?;
 //! for answer in report.answers() {
 //!     assert_eq!(rt; answer.bytes.as_slice(), b"OK 1 0".as_slice());
 //! }
@@ -22,12 +23,9 @@ mod line;
 mod report;
 mod rules;
 mod run;
-mod search;
 #[cfg(test)]
 mod tests;
-mod token;
 
 pub use fault::OpenFault;
 pub use report::{LineAnswer, LinePass, LineReport};
 pub use run::{ClientLine, run_lines};
-pub use token::{Book, TokenId, is_user_name, one_token};

@@ -1,7 +1,9 @@
 ghost use Rattle.std.specs.Prelude.{◌≡◌, ◌↔◌, [], ◌∷◌, IsTrue, IfSome, IfNone};
+ghost use Rattle.std.specs.Option.{option_copied};
+ghost use Rattle.oath_node.specs.Codes.{submission_of};
 ghost use Rattle.oath_node.specs.Field.{IsNonce, IsWord, IsWordByte};
 ghost use Rattle.oath_node.specs.Request as spec;
-ghost use Rattle.oath_node.specs.Request.{Request, IsLine, Reads, fields_of};
+ghost use Rattle.oath_node.specs.Request.{Request, IsLine, Reads, fields_of, given_in};
 
 use crate::answer::Nonce;
 use otp_core::Code;
@@ -10,40 +12,64 @@ use std::marker::Model;
 /// The most bytes of a client's line, its LF with them.
 const MAX_LINE_LEN: usize = 256;
 
-/// The longest name of a user, in bytes.
-pub(crate) const MAX_NAME_LEN: usize = 64;
+/// The longest user name and the longest password, in bytes.
+const MAX_WORD_LEN: usize = 64;
+
+/// What a line submits: the code of one factor, or the codes of two factors in a row.
+#[derive(Debug, Drop)]
+pub(crate) enum Codes {
+    One(Code),
+    Two(Code, Code),
+}
 
 /// What a client's line asks for.
 #[derive(Debug, Drop)]
-pub(crate) struct CheckLine<'a> {
+pub(crate) struct RequestLine<'a> {
     nonce: Nonce,
     user: &'a [u8],
-    code: Code,
+    codes: Codes,
+    password: Option<&'a [u8]>,
 }
 
-impl<'a> Model for CheckLine<'a> {
+impl<'a> Model for RequestLine<'a> {
+    ghost use Rattle.std.specs.Option.{option_copied};
+    ghost use Rattle.oath_node.specs.Codes.{submission_of};
     ghost use Rattle.oath_node.specs.Request.{Request};
 
     ghost Value = { Request };
 
-    ghost view = { λ line. record { nonce = line.nonce; user = line.user.now; code = line.code } };
+    ghost view = { λ line. record {
+      nonce = line.nonce;
+      user = line.user.now;
+      submission = submission_of line.codes;
+      password = option_copied line.password;
+    } };
 }
 
-impl<'a> CheckLine<'a> {
+impl<'a> RequestLine<'a> {
     ghost use Rattle.std.specs.Prelude.{◌≡◌};
+    ghost use Rattle.std.specs.Option.{option_copied};
+    ghost use Rattle.oath_node.specs.Codes.{submission_of};
 
-    /// For whom the code is.
+    /// For whom the codes are.
     pub(crate) fn user(&self) -> &'a [u8]
         ensures { result.now ≡ self.now.user }
     {
         self.user
     }
 
-    /// The code.
-    pub(crate) fn code(&self) -> &Code
-        ensures { result.now ≡ self.now.code }
+    /// The codes.
+    pub(crate) fn codes(&self) -> &Codes
+        ensures { submission_of result.now ≡ self.now.submission }
     {
-        &self.code
+        &self.codes
+    }
+
+    /// The password, where one is given.
+    pub(crate) fn password(&self) -> Option<&'a [u8]>
+        ensures { option_copied result ≡ self.now.password }
+    {
+        self.password
     }
 
     /// By what the client tells the answer to this line from another.
@@ -54,7 +80,7 @@ impl<'a> CheckLine<'a> {
     }
 }
 
-/// Whether a byte may stand in a user's name.
+/// Whether a byte may stand in a user's name or a password.
 fn is_word_byte(byte: u8) -> bool
     ensures { IsTrue result ↔ IsWordByte byte }
 {
@@ -62,10 +88,10 @@ fn is_word_byte(byte: u8) -> bool
 }
 
 /// Whether a text is 1 to 64 bytes, none of them a space, TAB, CR or LF.
-pub(crate) fn is_word(text: &[u8]) -> bool
+fn is_word(text: &[u8]) -> bool
     ensures { IsTrue result ↔ IsWord text.now }
 {
-    1 <= text.len() && text.len() <= MAX_NAME_LEN && text.iter().all(|&byte| is_word_byte(byte))
+    1 <= text.len() && text.len() <= MAX_WORD_LEN && text.iter().all(|&byte| is_word_byte(byte))
 }
 
 /// The text without one LF at its end.
@@ -92,6 +118,17 @@ fn cut(text: &[u8]) -> Option<(&[u8], &[u8])>
     None
 }
 
+/// The password that a field gives: none where it is `-`.
+fn given(field: &[u8]) -> Option<&[u8]>
+    ensures { option_copied result ≡ given_in field.now }
+{
+    if field == b"-".as_slice() {
+        None
+    } else {
+        Some(field)
+    }
+}
+
 /// The line of these fields, or `None` where one of them is outside the grammar.
 fn check_line<'a>(
     word: &'a [u8],
@@ -99,19 +136,50 @@ fn check_line<'a>(
     user: &'a [u8],
     code: &'a [u8],
     password: &'a [u8],
-) -> Option<CheckLine<'a>>
+) -> Option<RequestLine<'a>>
     ensures { Reads (word.now ∷ nonce.now ∷ user.now ∷ code.now ∷ password.now ∷ []) result }
 {
-    if word != b"CHECK".as_slice() || password != b"-".as_slice() || !is_word(user) {
+    if word != b"CHECK".as_slice() || !is_word(user) || !is_word(password) {
         return None;
     }
     let nonce = Nonce::new(nonce)?;
-    let code = Code::new(code)?;
-    Some(CheckLine { nonce, user, code })
+    let codes = Codes::One(Code::new(code)?);
+    let password = given(password);
+    Some(RequestLine {
+        nonce,
+        user,
+        codes,
+        password,
+    })
+}
+
+/// The line of these fields, or `None` where one of them is outside the grammar.
+fn resync_line<'a>(
+    word: &'a [u8],
+    nonce: &'a [u8],
+    user: &'a [u8],
+    first: &'a [u8],
+    second: &'a [u8],
+    password: &'a [u8],
+) -> Option<RequestLine<'a>>
+    ensures { Reads (word.now ∷ nonce.now ∷ user.now ∷ first.now ∷ second.now ∷ password.now ∷ []) result }
+{
+    if word != b"RESYNC".as_slice() || !is_word(user) || !is_word(password) {
+        return None;
+    }
+    let nonce = Nonce::new(nonce)?;
+    let codes = Codes::Two(Code::new(first)?, Code::new(second)?);
+    let password = given(password);
+    Some(RequestLine {
+        nonce,
+        user,
+        codes,
+        password,
+    })
 }
 
 /// The line of the fields that stand between single spaces.
-fn read_fields(text: &[u8]) -> Option<CheckLine<'_>>
+fn read_fields(text: &[u8]) -> Option<RequestLine<'_>>
     ensures { Reads (fields_of text.now) result }
 {
     let (word, rest) = cut(text)?;
@@ -120,14 +188,18 @@ fn read_fields(text: &[u8]) -> Option<CheckLine<'_>>
     let (code, rest) = cut(rest)?;
     match cut(rest) {
         None => check_line(word, nonce, user, code, rest),
-        Some(_) => None,
+        Some((second, password)) => match cut(password) {
+            None => resync_line(word, nonce, user, code, second, password),
+            Some(_) => None,
+        },
     }
 }
 
 /// What a client's line says, or `None` where it is outside the line grammar: `CHECK`, a nonce, a user,
-/// a code and `-`, with single spaces between, and at most one LF behind.
+/// a code and a password, or `RESYNC`, a nonce, a user, two codes and a password, with single spaces
+/// between, and at most one LF behind.
 #[tactic(auto, using(crate::proofs::RequestLemmas::line_read, crate::proofs::RequestLemmas::line_too_long))]
-pub(crate) fn read_line(bytes: &[u8]) -> Option<CheckLine<'_>>
+pub(crate) fn read_line(bytes: &[u8]) -> Option<RequestLine<'_>>
     // What is read is in the grammar.
     ensures some { IfSome result (IsLine bytes.now) }
     // What is in the grammar is read.

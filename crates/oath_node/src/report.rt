@@ -2,11 +2,11 @@ ghost use Rattle.std.specs.Prelude.{◌≡◌, [], ◌∷◌, ◌++◌, OnOk};
 ghost use Rattle.oath_node.specs.Report.{Report, with_answer, with_pass};
 
 use crate::answer::MAX_ANSWER_LEN;
-use crate::token::TokenId;
 use arrayvec::ArrayVec;
 use otp_core::Factor;
 use std::alloc::{AllocError, Global};
 use std::marker::Model;
+use token_file::TokenId;
 
 /// An accepted line: its number from 0, the token, and the factors that it used up.
 #[derive(Clone, Copy, Debug, PartialEq, Eq)]

@@ -1,13 +1,18 @@
-ghost use Rattle.std.specs.Prelude.{◌≡◌, ◌<◌, ℕ, length};
-ghost use Rattle.oath_node.specs.ReferenceServer.{server_at, standing_of};
+ghost use Rattle.std.specs.Prelude.{◌≡◌, ◌<◌, ◌+◌, ◌-◌, ℕ, length};
+ghost use Rattle.admit_core.specs.Fit.{least_fit};
+ghost use Rattle.otp_core.specs.Range.{IsFactor, IsMoment};
+ghost use Rattle.oath_node.specs.Codes.{submission_of};
+ghost use Rattle.oath_node.specs.Gates.{gate_of, standing_by};
 ghost use Rattle.oath_node.specs.Rules as spec;
-ghost use Rattle.oath_node.specs.Rules.{HasToken};
+ghost use Rattle.oath_node.specs.Rules.{IsRecordable};
 
 use crate::answer::{Nonce, Outcome};
-use crate::line::{CheckLine, read_line};
-use crate::search::find_check;
-use crate::token::{Book, Token, TokenId};
+use crate::line::{Codes, RequestLine, read_line};
+use admit_core::{
+    Gate, find_check, find_resync, least_fit_is_least, password_fits, resync_window, window,
+};
 use otp_core::{Factor, MOMENTS_END, Next, Settings};
+use token_file::{Book, Token, TokenId};
 
 /// What the rules make of a line.
 #[derive(Debug, Drop)]
@@ -16,6 +21,8 @@ pub(crate) enum Verdict {
     BadLine,
     /// It is answered so, and nothing changes.
     Refused(Nonce, Outcome),
+    /// It is answered so, and a failure of the token.
+    Fails(Nonce, Outcome, TokenId),
     /// The factors `lo` to `hi` of the token fit.
     Proposes {
         nonce: Nonce,
@@ -25,75 +32,124 @@ pub(crate) enum Verdict {
     },
 }
 
-/// What the rules make of a line, by the first free factors of the tokens.
+/// What the rules make of a line, by the first free factors and the gates of the tokens.
 pub(crate) fn judge(
     book: &Book,
     settings: Settings,
     floors: &[Next],
+    gates: &[Gate],
     moment: u64,
     line: &[u8],
 ) -> Verdict
-    requires { length floors.now ≡ length book.now }
+    requires floors { length floors.now ≡ length book.now }
+    requires gates { length gates.now ≡ length book.now }
     ensures value { result
-        ≡ spec.verdict book.now settings (standing_of (server_at floors.now)) moment line.now }
-    ensures token { HasToken result (length book.now) }
+        ≡ spec.verdict book.now settings (standing_by floors.now gates.now moment) moment line.now }
+    ensures recordable { IsRecordable (length book.now) moment result }
 {
     match read_line(line) {
-        Some(line) => examined(book, settings, floors, moment, line),
+        Some(request) => examined(book, settings, floors, gates, moment, request),
         None => Verdict::BadLine,
     }
 }
 
-/// The moment, and the user.
+/// The moment, the user, and whether the token is open.
 fn examined(
     book: &Book,
     settings: Settings,
     floors: &[Next],
+    gates: &[Gate],
     moment: u64,
-    line: CheckLine<'_>,
+    request: RequestLine<'_>,
 ) -> Verdict
-    requires { length floors.now ≡ length book.now }
+    requires floors { length floors.now ≡ length book.now }
+    requires gates { length gates.now ≡ length book.now }
     ensures value { result
-        ≡ spec.examined book.now settings (standing_of (server_at floors.now)) moment line.entry }
-    ensures token { HasToken result (length book.now) }
+        ≡ spec.examined book.now settings (standing_by floors.now gates.now moment) moment request.entry }
+    ensures recordable { IsRecordable (length book.now) moment result }
 {
     if moment >= MOMENTS_END {
-        return Verdict::Refused(line.into_nonce(), Outcome::Clock);
+        return Verdict::Refused(request.into_nonce(), Outcome::Clock);
     }
-    match book.find(line.user()) {
-        Some(id) => at_token(
-            book.token(id),
-            id,
-            floors[id.value() as usize],
-            settings,
-            line,
-        ),
-        None => Verdict::Refused(line.into_nonce(), Outcome::Unknown),
+    let Some(id) = book.find(request.user()) else {
+        return Verdict::Refused(request.into_nonce(), Outcome::Unknown);
+    };
+    let wait = wait_at(gates, id, moment);
+    if wait > 0 {
+        return Verdict::Refused(request.into_nonce(), Outcome::Throttled(wait));
     }
+    let next = floors[id.value() as usize];
+    when_open(book.token(id), id, next, settings, moment, request)
 }
 
-/// The factors that are left, and the window.
-#[tactic(auto, using(crate::proofs::FitLemmas::least_is_found, crate::proofs::FitLemmas::none_is_found))]
-fn at_token(
+/// How many seconds are left until a token is open.
+fn wait_at(gates: &[Gate], id: TokenId, moment: u64) -> u64
+    requires { id < length gates.now }
+    ensures { result ≡ (gate_of gates.now id).until - moment }
+{
+    gates[id.value() as usize].wait(moment)
+}
+
+/// The password, the factors that are left, and the window, at a token that is open.
+fn when_open(
     token: &Token,
     id: TokenId,
     next: Next,
     settings: Settings,
-    line: CheckLine<'_>,
+    moment: u64,
+    request: RequestLine<'_>,
 ) -> Verdict
-    ensures value { result ≡ spec.at_token settings next line.entry id token.now }
-    ensures token { (tokens : ℕ) → id < tokens → HasToken result tokens }
+    requires { IsMoment moment }
+    ensures value { result ≡ spec.when_open settings next moment request.entry id token.now }
+    ensures recordable { (tokens : ℕ) → id < tokens → IsRecordable tokens moment result }
 {
+    if !password_fits(token, request.password()) {
+        return Verdict::Fails(request.into_nonce(), Outcome::Password, id);
+    }
     if next.value() == 1 << 62 {
-        return Verdict::Refused(line.into_nonce(), Outcome::Exhausted);
+        return Verdict::Refused(request.into_nonce(), Outcome::Exhausted);
     }
-    match find_check(token, next, settings, line.code()) {
-        Some(factor) => Verdict::Proposes {
-            nonce: line.into_nonce(),
+    match find_fit(token, next, settings, moment, request.codes()) {
+        Some((lo, hi)) => Verdict::Proposes {
+            nonce: request.into_nonce(),
             token: id,
-            lo: factor,
-            hi: factor,
+            lo,
+            hi,
         },
-        None => Verdict::Refused(line.into_nonce(), Outcome::Invalid),
+        None => Verdict::Fails(request.into_nonce(), Outcome::Invalid, id),
     }
+}
+
+/// The first and the last of the least factors in the window that the codes fit.
+fn find_fit(
+    token: &Token,
+    next: Next,
+    settings: Settings,
+    moment: u64,
+    codes: &Codes,
+) -> Option<(Factor, Factor)>
+    requires { IsMoment moment }
+    ensures { result ≡ least_fit token.now settings next moment (submission_of codes.now) }
+{
+    least_fit_is_least();
+    match codes {
+        Codes::One(code) => {
+            let window = window(token, next, moment, &settings)?;
+            let factor = find_check(token, window, code)?;
+            Some((factor, factor))
+        }
+        Codes::Two(first, second) => {
+            let window = resync_window(token, next, moment, &settings)?;
+            let lo = find_resync(token, window, first, second)?;
+            Some((lo, factor_after(lo)))
+        }
+    }
+}
+
+/// The next factor.
+fn factor_after(factor: Factor) -> Factor
+    requires { IsFactor (factor + 1) }
+    ensures { result ≡ factor + 1 }
+{
+    Factor::new(factor.value() + 1).unwrap()
 }

@@ -1,17 +1,20 @@
-ghost use Rattle.std.specs.Prelude.{◌≡◌, ◌+◌, length, IfOk, OnOk};
+ghost use Rattle.std.specs.Prelude.{◌≡◌, ℕ, length, IfOk, OnOk};
+ghost use Rattle.admit_core.specs.Throttle.{SpacesFailures};
 ghost use Rattle.otp_core.specs.Acceptance.{HaveSingleUse, KeepRealTimeOrder};
-ghost use Rattle.oath_node.specs.ReferenceServer.{ruled, served, server_at};
-ghost use Rattle.oath_node.specs.Report.{AreEntitled, acceptances_of, extended, report_of};
-ghost use Rattle.oath_node.specs.Rules.{HasToken};
+ghost use Rattle.oath_node.specs.Gates.{gates_after, gates_of, standing_by};
+ghost use Rattle.oath_node.specs.ReferenceServer.{floors_after, server_at, told_by};
+ghost use Rattle.oath_node.specs.Report.{AreJustified, acceptances_of, extended, report_of, results_in, with_passes};
+ghost use Rattle.oath_node.specs.Rules.{IsRecordable, verdict};
 
 use crate::answer::{Answer, Outcome, write_answer};
 use crate::fault::OpenFault;
 use crate::report::{LineAnswer, LinePass, LineReport};
 use crate::rules::{Verdict, judge};
-use crate::token::Book;
-use otp_core::{Factor, Next, Settings};
+use admit_core::{Gate, failures_are_spaced, gate_keeps_throttle, least_fit_is_least};
+use otp_core::{Next, Settings};
 use std::alloc::Global;
 use std::marker::Model;
+use token_file::Book;
 
 /// A client's line: the client's number, the moment at which it came, in seconds since 1970-01-01
 /// 00:00:00 UTC, and its bytes.
@@ -31,7 +34,8 @@ impl<'a> Model for ClientLine<'a> {
 }
 
 /// Answers the lines in order, one answer for each, from these first free factors on, of which there is
-/// one for each token of the book. The only refusal is want of memory, and then there is no report.
+/// one for each token of the book, and with no failures before. The only refusal is want of memory, and
+/// then there is no report.
 pub fn run_lines(
     alloc: Global,
     book: &Book,
@@ -47,69 +51,108 @@ pub fn run_lines(
     ensures passes { IfOk result
         (λ report. report.passes ≡ (report_of book.now settings floors.now lines.now).passes) }
 
-    // No password is accepted twice, and each that is accepted is entitled to be.
+    // No factor is used up twice, and each acceptance is entitled to be one.
     ensures single_use { IfOk result (λ report. HaveSingleUse (acceptances_of report.passes)) }
     ensures in_order { IfOk result (λ report. KeepRealTimeOrder (acceptances_of report.passes)) }
     ensures entitled { IfOk result
-        (λ report. AreEntitled book.now settings floors.now lines.now report.passes) }
+        (λ report. AreJustified book.now settings floors.now lines.now report.passes) }
+
+    // The failures of a token are far apart.
+    ensures spaced { (token : ℕ) →
+        SpacesFailures (results_in book.now settings floors.now lines.now token) }
 {
-    let mut current = Vec::from_slice(alloc, floors)?;
-    take_lines(alloc, book, settings, &mut current, lines)
+    failures_are_spaced();
+    least_fit_is_least();
+    let mut next = Vec::from_slice(alloc, floors)?;
+    let mut gates = vec![in alloc; Gate::default(); floors.len()]?;
+    take_lines(alloc, book, settings, &mut next, &mut gates, lines)
 }
 
-/// Takes the lines in order, and what they lead to, into the floors and a report.
+/// Takes the lines in order, and what they lead to, into the floors, the gates and a report.
 fn take_lines(
     alloc: Global,
     book: &Book,
     settings: Settings,
     floors: &mut [Next],
+    gates: &mut [Gate],
     lines: &[ClientLine<'_>],
 ) -> Result<LineReport, OpenFault>
-    requires { length floors.old ≡ length book.now }
+    requires floors { length floors.old ≡ length book.now }
+    requires gates { gates.old ≡ gates_of (server_at floors.old).front.results }
     ensures { IfOk result (λ report. report ≡ report_of book.now settings floors.old lines.now) }
 {
+    gate_keeps_throttle();
     let mut report = LineReport::new(alloc);
     for (number, line) in lines.iter().enumerate() {
-        take_line(book, settings, number as u64, line, floors, &mut report)?;
+        take_line(
+            book,
+            settings,
+            number as u64,
+            line,
+            floors,
+            gates,
+            &mut report,
+        )?;
     }
     Ok(report)
 }
 
-/// Takes the line of a number, and what it leads to, into the floors and the report.
+/// Takes the line of a number, and what it leads to, into the floors, the gates and the report.
 fn take_line(
     book: &Book,
     settings: Settings,
     number: u64,
     line: &ClientLine<'_>,
     floors: &mut [Next],
+    gates: &mut [Gate],
     report: &mut LineReport,
 ) -> Result<(), OpenFault>
-    requires { length floors.old ≡ length book.now }
-    ensures floors { let this = served book.now settings (server_at floors.old) line.now in
-        OnOk result (floors.new ≡ this.server.floors) }
-    ensures report { let this = served book.now settings (server_at floors.old) line.now in
-        OnOk result (report.new ≡ extended report.old number line.now.client this) }
+    requires floors { length floors.old ≡ length book.now }
+    requires gates { length gates.old ≡ length book.now }
+    ensures floors { let moment = line.now.moment in
+        let v = verdict book.now settings (standing_by floors.old gates.old moment) moment line.now.text in
+        OnOk result (floors.new ≡ floors_after floors.old v) }
+    ensures gates { let moment = line.now.moment in
+        let v = verdict book.now settings (standing_by floors.old gates.old moment) moment line.now.text in
+        OnOk result (gates.new ≡ gates_after gates.old moment v) }
+    ensures report { let moment = line.now.moment in
+        let v = verdict book.now settings (standing_by floors.old gates.old moment) moment line.now.text in
+        OnOk result (report.new ≡ extended report.old number line.now.client (told_by v)) }
 {
-    let verdict = judge(book, settings, floors, line.moment, line.line);
-    record_line(number, line.client, verdict, floors, report)
+    let verdict = judge(book, settings, floors, gates, line.moment, line.line);
+    let answer = record_verdict(number, line.moment, verdict, floors, gates, report)?;
+    report.push_answer(LineAnswer {
+        line: number,
+        client: line.client,
+        bytes: write_answer(&answer),
+    })?;
+    Ok(())
 }
 
-/// Takes what the rules made of the line of a number into the floors and the report.
-fn record_line(
+/// Takes what the rules made of the line of a number into the floors, the gates and the passes, and
+/// gives the answer.
+fn record_verdict(
     number: u64,
-    client: u64,
+    moment: u64,
     verdict: Verdict,
     floors: &mut [Next],
+    gates: &mut [Gate],
     report: &mut LineReport,
-) -> Result<(), OpenFault>
-    requires { HasToken verdict (length floors.old) }
-    ensures floors { OnOk result (floors.new ≡ (ruled (server_at floors.old) verdict).server.floors) }
-    ensures report { OnOk result
-        (report.new ≡ extended report.old number client (ruled (server_at floors.old) verdict)) }
+) -> Result<Answer, OpenFault>
+    requires recordable { IsRecordable (length floors.old) moment verdict }
+    requires gates { length gates.old ≡ length floors.old }
+    ensures floors { OnOk result (floors.new ≡ floors_after floors.old verdict) }
+    ensures gates { OnOk result (gates.new ≡ gates_after gates.old moment verdict) }
+    ensures report { OnOk result (report.new ≡ with_passes report.old number (told_by verdict).accepted) }
+    ensures answer { IfOk result (λ answer. answer ≡ (told_by verdict).answer) }
 {
-    let answer = match verdict {
-        Verdict::BadLine => Answer::BadLine,
-        Verdict::Refused(nonce, outcome) => Answer::Reply(nonce, outcome),
+    match verdict {
+        Verdict::BadLine => Ok(Answer::BadLine),
+        Verdict::Refused(nonce, outcome) => Ok(Answer::Reply(nonce, outcome)),
+        Verdict::Fails(nonce, outcome, token) => {
+            gates[token.value() as usize].fail(moment);
+            Ok(Answer::Reply(nonce, outcome))
+        }
         Verdict::Proposes {
             nonce,
             token,
@@ -122,21 +165,10 @@ fn record_line(
                 lo,
                 hi,
             })?;
-            floors[token.value() as usize] = next_after(hi);
-            Answer::Reply(nonce, Outcome::Accepted(hi))
+            let place = token.value() as usize;
+            floors[place] = Next::after(hi);
+            gates[place].clear();
+            Ok(Answer::Reply(nonce, Outcome::Accepted(hi)))
         }
-    };
-    report.push_answer(LineAnswer {
-        line: number,
-        client,
-        bytes: write_answer(&answer),
-    })?;
-    Ok(())
-}
-
-/// The first factor that is free once this one is used up.
-fn next_after(factor: Factor) -> Next
-    ensures { result ≡ factor + 1 }
-{
-    Next::new(factor.value() + 1).unwrap()
+    }
 }

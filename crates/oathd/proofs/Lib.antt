@@ -1,4 +1,5 @@
 pub mod Cuts
 pub mod LineLemmas
 pub mod Numbers
-pub mod UserLemmas
+pub mod PartLemmas
+pub mod RunLemmas

@@ -6,7 +6,7 @@ use Rattle.oath_node.specs.ReferenceServer.{Line}
 use Rattle.oathd.specs.Client.{LinesRead}
 use Rattle.oathd.specs.Input.{lines_between, pieces_of}
 
-before_more : (is_cut : Bool) (line : List ℕ) (pieces : List (List ℕ)) → 0 < length pieces
+pub before_more : (is_cut : Bool) (line : List ℕ) (pieces : List (List ℕ)) → 0 < length pieces
     → lines_between is_cut (line ∷ pieces) ≡ Some line ∷ lines_between is_cut pieces
 before_more is_cut line [] more = absurd (omega arith)
 before_more is_cut line (piece ∷ pieces) more = refl

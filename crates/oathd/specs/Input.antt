@@ -1,6 +1,6 @@
 -- The lines of an input that is read up to a limit, and its two parts.
-use Rattle.std.specs.Prelude.{◌≡◌, ℕ, ◌+◌, ◌==◌, nat_lt, not, Bool, false, if◌then◌else◌, List, [], ◌∷◌, length, take, drop, take_while, Option, Some, None, codes}
-use Rattle.std.specs.List.{slice_split}
+use Rattle.std.specs.Prelude.{◌≡◌, ℕ, ◌+◌, ◌==◌, nat_lt, not, Bool, true, false, if◌then◌else◌, List, [], ◌∷◌, length, take, drop, take_while, ◌++◌, Option, Some, None, codes}
+use Rattle.std.specs.List.{flat_map, list_any, slice_split}
 use Rattle.std.specs.Str.{bytes_eq}
 use Rattle.oathd.specs.declared.input.NextLine.{NextLine}
 use Rattle.oathd.specs.declared.input.NextLine.TheVariants.{Whole, Cut, End}
@@ -32,6 +32,10 @@ abbrev pub is_marker : TextLine → Bool
 is_marker None = false
 is_marker (Some line) = bytes_eq line (codes "%%")
 
+-- whether one of the lines is
+abbrev pub has_marker : List TextLine → Bool
+has_marker lines = list_any is_marker lines
+
 -- the lines before the first `%%`
 abbrev pub users_part : List TextLine → List TextLine
 users_part lines = take_while (λ line. not (is_marker line)) lines
@@ -39,6 +43,28 @@ users_part lines = take_while (λ line. not (is_marker line)) lines
 -- the lines behind it
 abbrev pub clients_part : List TextLine → List TextLine
 clients_part lines = drop (length (users_part lines) + 1) lines
+
+-- the bytes of a whole line, with the LF that ends it
+abbrev pub line_bytes : TextLine → List ℕ
+line_bytes None = []
+line_bytes (Some line) = line ++ 10 ∷ []
+
+-- the users file of what is read of an input: the lines before the first `%%`, or all where there is none
+abbrev pub users_file : List TextLine → List ℕ → List ℕ
+users_file lines read = if has_marker lines then flat_map line_bytes (users_part lines) else read
+
+-- lines with a `%%` among them are cut in two there: the bytes before it, how many lines these are, and
+-- the lines behind it
+pub record AreSplit (lines : List TextLine) (users : List ℕ) (count : ℕ) (clients : List TextLine) : Type 0 where
+  pub marked : has_marker lines ≡ true
+  pub before : users ≡ flat_map line_bytes (users_part lines)
+  pub counted : count ≡ length (users_part lines)
+  pub behind : clients ≡ clients_part lines
+
+-- what is read of an input: at most one byte more than the limit, which tells that there is more
+pub record InputRead : Type 0 where
+  pub bytes : List ℕ
+  pub limit : ℕ
 
 -- what stands next in an input is taken off the lines that are left
 abbrev pub IsNext : NextLine → List TextLine → List TextLine → Type 0

@@ -3,5 +3,5 @@ pub mod Cut
 pub mod Fault
 pub mod Input
 pub mod Run
-pub mod Users
+pub mod Secret
 pub mod Words

@@ -1,46 +1,56 @@
 -- What a run over one input answers, and how it ends.
-use Rattle.std.specs.Prelude.{◌≡◌, ℕ, ◌+◌, List, [], ◌∷◌, ◌++◌, map, length, flat_map, Option, Some, None, Result, Ok, Err}
+use Rattle.std.specs.Prelude.{◌≡◌, ℕ, ◌+◌, List, [], ◌∷◌, ◌++◌, map, length, take, flat_map, Option, Some, None, Result, Ok, Err, IsTrue}
 use Rattle.std.specs.Io.KnownBytes.{Appends}
 use Rattle.otp_core.specs.Limits.{Limits}
-use Rattle.oath_node.specs.Credential.{event_token}
 use Rattle.oath_node.specs.ReferenceServer.{Line}
 use Rattle.oath_node.specs.Report.{report_of}
 use Rattle.oath_node.specs.declared.report.LineAnswer.{LineAnswer}
 use Rattle.oathd.specs.Client.{LinesRead, client_lines}
-use Rattle.oathd.specs.Input.{TextLine, lines_of, users_part, clients_part}
-use Rattle.oathd.specs.Users.{UserEntry, users_of}
+use Rattle.oathd.specs.Input.{TextLine, lines_of, users_file, users_part, clients_part}
 use Rattle.oathd.specs.declared.fault.Fault.{Fault}
 use Rattle.oathd.specs.declared.fault.Fault.TheVariants.{Memory, CannotRead, CannotWrite, Users, InputLine as BadLine}
-use Rattle.oathd.specs.declared.fault.UsersFault.{UsersFault}
+use Rattle.token_file.specs.UsersFile.{Import, book_of, instant_of, is_of_text}
+use Rattle.token_file.specs.declared.fault.FileFault.{FileFault}
+use Rattle.token_file.specs.declared.fault.LineFault.{LineFault}
 
 pub data Run : Type 0 where
-  -- the users part has a fault, and no line is answered
-  Refused : UsersFault → Run
+  -- the users file has a fault, and no line is answered
+  Refused : FileFault → Run
   -- the bytes of the answers to the lines before the first bad one, and the number of that one
   Answered : List (List ℕ) → Option ℕ → Run
 
 abbrev pub bytes_of : LineAnswer → List ℕ
 bytes_of answer = answer.bytes.items
 
--- the answers of one node to lines, from the first counter of the user's token on
-abbrev pub answers_of : Limits → UserEntry → List Line → List (List ℕ)
-answers_of limits user lines = map bytes_of (report_of (event_token user.name user.secret ∷ []) limits (0 ∷ []) lines).answers
+-- the answers of one node to lines, from the first free factors of the import on
+abbrev pub answers_of : Limits → Import → List Line → List (List ℕ)
+answers_of limits import lines = map bytes_of (report_of import.book limits import.floors lines).answers
 
-abbrev pub answered : Limits → UserEntry → LinesRead → Run
-answered limits user lines = Answered (answers_of limits user lines.good) lines.bad
+abbrev pub answered : Limits → Import → LinesRead → Run
+answered limits import lines = Answered (answers_of limits import lines.good) lines.bad
 
-abbrev pub opened : Limits → Result UserEntry UsersFault → LinesRead → Run
-opened limits (Err fault) lines = Refused fault
-opened limits (Ok user) lines = answered limits user lines
+abbrev pub opened : Limits → Result Import (ℕ × LineFault) → LinesRead → Run
+opened limits (Err fault) lines = Refused (record { line = fault.0; kind = fault.1 })
+opened limits (Ok import) lines = answered limits import lines
 
--- lines are numbered from 1, and the first of the clients stands behind the users part and `%%`
-abbrev pub run_at : Limits → List TextLine → Run
-run_at limits lines =
-    opened limits (users_of (users_part lines)) (client_lines (length (users_part lines) + 2) (clients_part lines))
+-- lines are numbered from 1, and the first of the clients stands behind the users file and `%%`
+abbrev pub clients_of : List TextLine → LinesRead
+clients_of lines = client_lines (length (users_part lines) + 2) (clients_part lines)
 
--- what a run with these limits, that reads so many bytes, makes of a text
-abbrev pub run_of : Limits → ℕ → List ℕ → Run
-run_of limits limit text = run_at limits (lines_of limit text)
+-- what a server is run with: its limits, and the moment at which the users are imported
+pub record Setup : Type 0 where
+  pub limits : Limits
+  pub moment : ℕ
+
+-- what a run makes of what it has read of an input
+abbrev pub run_read : Setup → ℕ → ℕ → List ℕ → Run
+run_read setup longest limit read =
+    opened setup.limits (book_of longest (instant_of setup.limits setup.moment) (users_file (lines_of limit read) read)) (clients_of (lines_of limit read))
+
+-- what a run makes of a text, where a users file has at most so many bytes, and the limit of bytes for
+-- the whole input is given. One byte more is read, to see whether the input goes on.
+abbrev pub run_of : Setup → ℕ → ℕ → List ℕ → Run
+run_of setup longest limit text = run_read setup longest limit (take (limit + 1) text)
 
 -- an answer on a line of its own
 abbrev pub answer_line : List ℕ → List ℕ
@@ -64,9 +74,16 @@ end_of (Refused fault) = Err (Users fault)
 end_of (Answered answers bad) = ended_at bad
 
 -- The call ends as the run does, and has written what the run prints, no more and no less. Where
--- the memory or the input failed, nothing is written; where the output failed, no more is said.
+-- the memory or the input failed, in the midst of the users file too, nothing is written; where the
+-- output failed, no more is said.
 abbrev pub EndsSo : Run → Result Unit Fault → Option (List ℕ) → Option (List ℕ) → Type 0
 EndsSo run (Err Memory) old new = Appends old new []
 EndsSo run (Err CannotRead) old new = Appends old new []
 EndsSo run (Err CannotWrite) old new = Unit {0}
+EndsSo run (Err (Users fault)) old new = (IsTrue (is_of_text fault.kind) → Err (Users fault) ≡ end_of run) × Appends old new []
 EndsSo run result old new = (result ≡ end_of run) × Appends old new (printed_by run)
+
+-- what the users file is refused for: its first fault, or one that the memory or the reader made
+abbrev pub RefusesUsers : Result Import (ℕ × LineFault) → Fault → Type 0
+RefusesUsers import (Users fault) = IsTrue (is_of_text fault.kind) → import ≡ Err (fault.line, fault.kind)
+RefusesUsers import _ = ⊥

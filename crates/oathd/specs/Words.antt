@@ -7,7 +7,7 @@ use Rattle.otp_core.specs.Limits.{Limits, AreLimits}
 use Rattle.otp_core.specs.Range.{IsMoment}
 use Rattle.oathd.specs.Client.{number_of}
 use Rattle.oathd.specs.declared.words.Request.{Request}
-use Rattle.oathd.specs.declared.words.Request.TheVariants.{Lines}
+use Rattle.oathd.specs.declared.words.Request.TheVariants.{Lines, Secret}
 
 -- the number of an option, in decimal digits
 abbrev pub number_at : Found → List ℕ → Option ℕ
@@ -22,9 +22,15 @@ pub record AsksForLines (found : Found) (limits : Limits) (moment : ℕ) : Type 
   pub limits_in_range : AreLimits limits.look_ahead limits.skew limits.range
   pub moment_in_range : IsMoment moment
 
-abbrev pub AsksFor : Found → Request → Type 0
-AsksFor found (Lines settings moment) = AsksForLines found settings moment
+-- the command with this name, and these values
+abbrev pub AsksFor : List ℕ → Found → Request → Type 0
+AsksFor name found (Lines settings moment) = (name ≡ codes "lines") × AsksForLines found settings moment
+AsksFor name found (Secret hex) = (name ≡ codes "secret") × (first_value found (codes "HEX") ≡ Some hex.now)
 
--- its moment is in range
+abbrev pub AsksForNothing : List ℕ → Found → Type 0
+AsksForNothing name found = (request : Request) → AsksFor name found request → ⊥
+
+-- the moment of a request that has one is in range
 abbrev pub HasMoment : Request → Type 0
 HasMoment (Lines settings moment) = IsMoment moment
+HasMoment (Secret hex) = Unit {0}

@@ -1,28 +1,11 @@
 ghost use Rattle.std.specs.Prelude.{◌≡◌};
-ghost use Rattle.oathd.specs.declared.fault.Fault.TheVariants.{Memory, Users};
+ghost use Rattle.oathd.specs.declared.fault.Fault.TheVariants.{BadKey, Memory, Users};
 
 use oath_node::OpenFault;
+use secret_text::SecretFault;
 use std::alloc::AllocFailed;
 use thiserror::Error;
-
-/// What is wrong with a users line.
-#[derive(Clone, Copy, Debug, PartialEq, Eq, Error)]
-pub(crate) enum UserFault {
-    /// It is not `HOTP`, a user's name, `-` and one more field; or it is one line too many.
-    #[error("MissingField")]
-    MissingField,
-    /// The secret is not 1 to 128 bytes in hex.
-    #[error("BadSecret")]
-    BadSecret,
-}
-
-/// The first faulty line of a users part, by its number from 1.
-#[derive(Clone, Copy, Debug, PartialEq, Eq, Error)]
-#[error("users line {line}: {fault}")]
-pub(crate) struct UsersFault {
-    pub line: u64,
-    pub fault: UserFault,
-}
+use token_file::FileFault;
 
 /// What ends a run before its time. The text lacks the program's name.
 #[derive(Clone, Copy, Debug, PartialEq, Eq, Error)]
@@ -36,12 +19,15 @@ pub(crate) enum Fault {
     /// Standard output failed.
     #[error("cannot write")]
     CannotWrite,
-    /// The users part of the input has a fault.
-    #[error("{0}")]
-    Users(UsersFault),
+    /// The users file has a fault.
+    #[error("users {0}")]
+    Users(FileFault),
     /// The line of the input with this number, from 1, is no client's.
     #[error("input line {0}")]
     InputLine(u64),
+    /// The secret among the words has a fault.
+    #[error("bad key: {0}")]
+    BadKey(SecretFault),
 }
 
 impl Fault {
@@ -54,16 +40,25 @@ impl Fault {
             | Fault::CannotRead
             | Fault::CannotWrite
             | Fault::Users(_)
-            | Fault::InputLine(_) => 1,
+            | Fault::InputLine(_)
+            | Fault::BadKey(_) => 1,
         }
     }
 }
 
-impl From<UsersFault> for Fault {
+impl From<FileFault> for Fault {
     ghost from_gives = { λ users fault. fault ≡ Users users };
 
-    fn from(fault: UsersFault) -> Self {
+    fn from(fault: FileFault) -> Self {
         Fault::Users(fault)
+    }
+}
+
+impl From<SecretFault> for Fault {
+    ghost from_gives = { λ key fault. fault ≡ BadKey key };
+
+    fn from(fault: SecretFault) -> Self {
+        Fault::BadKey(fault)
     }
 }
 

@@ -1,6 +1,9 @@
-ghost use Rattle.std.specs.Prelude.{◌≡◌, IfSome, IfOk, IfErr};
+ghost use Rattle.std.specs.Prelude.{◌≡◌, ◌+◌, ◌-◌, ◌≤◌, nat_lt, take, length, codes, IfSome, IfNone, IfOk, IfErr, false};
+ghost use Rattle.std.specs.Str.{bytes_eq};
+ghost use Rattle.oathd.specs.Client.{client_lines};
 ghost use Rattle.oathd.specs.Fault.{IsOutside};
-ghost use Rattle.oathd.specs.Input.{lines_of, IsNext};
+ghost use Rattle.oathd.specs.Input.{AreSplit, IsNext, has_marker, lines_between, lines_of, pieces_of, users_file};
+ghost use Rattle.oathd.specs.Run.{clients_of};
 
 use crate::cut::cut_at;
 use crate::fault::Fault;
@@ -12,47 +15,121 @@ use std::mem;
 /// What is read of an input.
 #[derive(Debug, Drop)]
 pub(crate) struct Input {
+    /// At most one byte more than the limit, which tells that the input has more.
     bytes: Vec<u8>,
-    /// Whether the input has more.
-    is_cut: bool,
+    limit: u32,
 }
 
 impl Model for Input {
-    ghost use Rattle.std.specs.Prelude.{List};
-    ghost use Rattle.oathd.specs.Input.{TextLine, lines_between, pieces_of};
+    ghost use Rattle.oathd.specs.Input.{InputRead};
 
-    ghost Value = { List TextLine };
+    ghost Value = { InputRead };
 
-    ghost view = { λ input. lines_between input.is_cut (pieces_of input.bytes.items) };
+    ghost view = { λ input. record { bytes = input.bytes.items; limit = input.limit } };
+}
+
+/// An input in its two parts.
+#[derive(Debug, Drop)]
+pub(crate) struct Parts<'a> {
+    /// The users file.
+    pub users: &'a [u8],
+    /// The lines of clients.
+    pub clients: Lines<'a>,
+    /// The number of the first of these, from 1.
+    pub first: u64,
 }
 
 impl Input {
-    /// Reads at most `limit` bytes.
+    /// Reads at most `limit` bytes, and one more.
     pub(crate) fn read<R: Read>(alloc: Global, reader: &mut R, limit: u32) -> Result<Self, Fault>
-        ensures lines { IfOk result (λ input. IfSome (R.remaining reader.old) (λ text. input ≡ lines_of limit text)) }
+        ensures bytes { IfOk result (λ input. IfSome (R.remaining reader.old)
+            (λ text. input ≡ record { bytes = take (limit + 1) text; limit = limit })) }
         ensures outside { IfErr result IsOutside }
     {
         let mut bytes = Vec::new(alloc);
         let mut part = reader.take(u64::from(limit) + 1);
         match part.read_to_end(&mut bytes) {
-            Ok(_) => {
-                let is_cut = bytes.len() > limit as usize;
-                bytes.truncate(limit as usize);
-                Ok(Input { bytes, is_cut })
-            }
+            Ok(_) => Ok(Input { bytes, limit }),
             Err(error) if error.kind() == ErrorKind::OutOfMemory => Err(Fault::Memory),
             Err(_) => Err(Fault::CannotRead),
         }
     }
 
-    /// The lines, from the first on.
-    pub(crate) fn lines(&self) -> Lines<'_>
-        ensures { result ≡ self.now }
+    /// What is read within the limit, and whether the input goes on.
+    fn within_limit(&self) -> (&[u8], bool)
+        ensures bytes { result.0.now ≡ take self.now.limit self.now.bytes }
+        ensures is_cut { result.1 ≡ nat_lt self.now.limit (length self.now.bytes) }
     {
-        Lines {
-            rest: &self.bytes,
-            is_cut: self.is_cut,
+        let limit = self.limit as usize;
+        if self.bytes.len() > limit {
+            (&self.bytes[..limit], true)
+        } else {
+            (&self.bytes, false)
         }
+    }
+
+    /// The users file, and the lines of clients behind the first `%%`.
+    pub(crate) fn parts(&self) -> Parts<'_>
+        ensures users { result.users.now ≡ users_file (lines_of self.now.limit self.now.bytes) self.now.bytes }
+        ensures clients { client_lines result.first result.clients ≡ clients_of (lines_of self.now.limit self.now.bytes) }
+    {
+        let (read, is_cut) = self.within_limit();
+        match split_users(read, is_cut) {
+            Some((users, count, rest)) => Parts {
+                users,
+                clients: Lines { rest, is_cut },
+                first: count + 2,
+            },
+            None => Parts {
+                users: &self.bytes,
+                clients: Lines {
+                    rest: &[],
+                    is_cut: false,
+                },
+                first: 1,
+            },
+        }
+    }
+}
+
+/// Whether this is the line between the users and the clients' lines.
+fn is_marker(line: &[u8]) -> bool
+    ensures { result ≡ bytes_eq line.now (codes "%%") }
+{
+    line == b"%%".as_slice()
+}
+
+/// What stands before the rest of a text.
+fn front_of<'a>(text: &'a [u8], rest: &[u8]) -> &'a [u8]
+    requires { length rest.now ≤ length text.now }
+    ensures { result.now ≡ take (length text.now - length rest.now) text.now }
+{
+    &text[..text.len() - rest.len()]
+}
+
+/// The bytes before the first line that is `%%`, the number of these lines, and the bytes behind it.
+fn split_users(text: &[u8], is_cut: bool) -> Option<(&[u8], u64, &[u8])>
+    ensures some { IfSome result (λ parts. AreSplit (lines_between is_cut (pieces_of text.now)) parts.0.now parts.1
+        (lines_between is_cut (pieces_of parts.2.now))) }
+    ensures few { IfSome result (λ parts. parts.1 ≤ length text.now) }
+    ensures none { IfNone result (has_marker (lines_between is_cut (pieces_of text.now)) ≡ false) }
+{
+    let mut rest = text;
+    let mut count = 0;
+    while let Some((line, behind)) = cut_at(rest, b'\n') {
+        if is_marker(line) {
+            return Some((front_of(text, rest), count, behind));
+        }
+        rest = behind;
+        count += 1;
+    }
+    if is_cut {
+        return None;
+    }
+    if is_marker(rest) {
+        Some((front_of(text, rest), count, &[]))
+    } else {
+        None
     }
 }
 

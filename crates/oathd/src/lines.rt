@@ -1,21 +1,20 @@
-ghost use Rattle.std.specs.Prelude.{◌≡◌, ◌++◌, ◌∷◌, [], map, IfSome, IfErr, OnOk};
+ghost use Rattle.std.specs.Prelude.{◌≡◌, ◌++◌, ◌∷◌, [], map, length, IfSome, IfOk, IfErr, OnOk, Ok};
 ghost use Rattle.std.specs.Io.KnownBytes.{Appends};
-ghost use Rattle.oathd.specs.Run.{EndsSo, answer_line, bytes_of, printed, run_of};
+ghost use Rattle.otp_core.specs.Range.{IsMoment};
+ghost use Rattle.oathd.specs.Run.{EndsSo, RefusesUsers, answer_line, bytes_of, printed, run_of, run_read};
+ghost use Rattle.token_file.specs.UsersFile.{book_of, import_of, instant_of};
 
 use crate::client::read_client_lines;
 use crate::fault::Fault;
 use crate::input::Input;
-use crate::users::read_users;
-use oath_node::{LineAnswer, one_token, run_lines};
+use oath_node::{LineAnswer, run_lines};
 use otp_core::{Next, Settings};
 use std::alloc::Global;
 use std::io::{Read, Write};
-
-/// The number of the first line behind one users line and `%%`.
-const FIRST_CLIENT_LINE: u64 = 3;
+use token_file::{Book, FromRead, MAX_FILE_LEN, read_book};
 
 /// Writes an answer, and the LF that ends it.
-fn write_line<W: Write>(writer: &mut W, answer: &[u8]) -> Result<(), Fault>
+pub(crate) fn write_line<W: Write>(writer: &mut W, answer: &[u8]) -> Result<(), Fault>
     ensures written { OnOk result
         (Appends (W.contents writer.old) (W.contents writer.new) (answer_line answer.now)) }
     ensures fault { IfErr result (λ fault. fault ≡ Fault.CannotWrite) }
@@ -36,29 +35,70 @@ fn write_answers<W: Write>(writer: &mut W, answers: &[LineAnswer]) -> Result<(),
     Ok(())
 }
 
-/// Reads a users part, `%%` and lines of clients, answers the lines by one node, and writes each answer
-/// on a line of its own. At most `limit` bytes are read. Where a line is bad, the answers to the lines
-/// before it are written.
-pub(crate) fn serve_lines<R: Read, W: Write>(
+/// The book of a users file, and the first free factor of each token.
+fn read_users(
+    alloc: Global,
+    file: &[u8],
+    settings: Settings,
+    moment: u64,
+) -> Result<(Book, Vec<Next>), Fault>
+    requires { IsMoment moment }
+    ensures book { IfOk result (λ read. book_of MAX_FILE_LEN (instant_of settings moment) file.now
+        ≡ Ok (import_of read.0 read.1.items)) }
+    ensures floors { IfOk result (λ read. length read.1.items ≡ length read.0) }
+    ensures fault { IfErr result (RefusesUsers (book_of MAX_FILE_LEN (instant_of settings moment) file.now)) }
+{
+    let mut source = FromRead::new(file);
+    match read_book(alloc, &mut source, settings, moment) {
+        Ok(read) => Ok(read),
+        Err(fault) => Err(Fault::Users(fault)),
+    }
+}
+
+/// Answers the lines of an input by one node over its users file, and writes each answer on a line of its
+/// own. Where a line is bad, the answers to the lines before it are written.
+#[tactic(auto, using(crate::proofs::RunLemmas::refused_ends))]
+fn serve_input<W: Write>(
     alloc: Global,
     settings: Settings,
-    limit: u32,
-    reader: &mut R,
+    moment: u64,
+    input: &Input,
     writer: &mut W,
 ) -> Result<(), Fault>
-    ensures ends { IfSome (R.remaining reader.old)
-        (λ text. EndsSo (run_of settings limit text) result (W.contents writer.old) (W.contents writer.new)) }
+    requires { IsMoment moment }
+    ensures ends { EndsSo (run_read (record { limits = settings; moment = moment }) MAX_FILE_LEN input.now.limit input.now.bytes)
+        result (W.contents writer.old) (W.contents writer.new) }
 {
-    let input = Input::read(alloc, reader, limit)?;
-    let mut lines = input.lines();
-    let user = read_users(&mut lines)?;
-    let clients = read_client_lines(alloc, lines, FIRST_CLIENT_LINE)?;
-    let book = one_token(alloc, user.name, user.secret)?;
-    let floors = [Next::new(0).unwrap()];
+    let parts = input.parts();
+    let (book, floors) = match read_users(alloc, parts.users, settings, moment) {
+        Ok(read) => read,
+        Err(fault) => return Err(fault),
+    };
+    let clients = read_client_lines(alloc, parts.clients, parts.first)?;
     let report = run_lines(alloc, &book, settings, &floors, &clients.good)?;
     write_answers(writer, report.answers())?;
     match clients.bad {
         None => Ok(()),
         Some(number) => Err(Fault::InputLine(number)),
     }
+}
+
+/// Reads a users file, `%%` and lines of clients, answers the lines by one node, and writes each answer
+/// on a line of its own. At most `limit` bytes are read, and one more. The users are imported at the moment
+/// given. Where a line is bad, the answers to the lines before it are written.
+pub(crate) fn serve_lines<R: Read, W: Write>(
+    alloc: Global,
+    settings: Settings,
+    moment: u64,
+    limit: u32,
+    reader: &mut R,
+    writer: &mut W,
+) -> Result<(), Fault>
+    requires { IsMoment moment }
+    ensures ends { IfSome (R.remaining reader.old) (λ text.
+        EndsSo (run_of (record { limits = settings; moment = moment }) MAX_FILE_LEN limit text)
+        result (W.contents writer.old) (W.contents writer.new)) }
+{
+    let input = Input::read(alloc, reader, limit)?;
+    serve_input(alloc, settings, moment, &input, writer)
 }

@@ -3,47 +3,49 @@
 
 ghost use Rattle.std.specs.Prelude.{◌≡◌, ◌≢◌, IfOk};
 ghost use Rattle.clap.specs.Values.{kind_of};
+ghost use Rattle.oathd.specs.Words.{HasMoment};
 
 mod client;
 mod cut;
 mod fault;
 mod input;
 mod lines;
+mod secret;
 #[cfg(test)]
 mod tests;
-mod users;
 mod words;
 
 use clap::error::ErrorKind;
 use fault::Fault;
 use lines::serve_lines;
+use secret::print_secret;
 use std::io::{BufWriter, Write};
 use std::process::ExitCode;
 use std::{env, io};
+use token_file::MAX_FILE_LEN;
 use words::{Request, read_words};
-
-/// The most bytes that a run reads.
-const MAX_INPUT_LEN: u32 = 16_777_216;
 
 /// The exit status of words that ask for nothing that the program does.
 const USAGE: u8 = 2;
 
 /// Does what the words ask for, between standard input and standard output.
-fn run(rt: &HostRuntime, request: Request) -> Result<(), Fault> {
-    match request {
-        Request::Lines { settings, .. } => {
-            let mut out = BufWriter::new(rt.alloc(), io::writer(rt)).map_err(|_| Fault::Memory)?;
-            let end = serve_lines(
-                rt.alloc(),
-                settings,
-                MAX_INPUT_LEN,
-                &mut rt.reader(),
-                &mut out,
-            );
-            out.flush().map_err(|_| Fault::CannotWrite)?;
-            end
-        }
-    }
+fn run(rt: &HostRuntime, request: Request<'_>) -> Result<(), Fault>
+    requires { HasMoment request }
+{
+    let mut out = BufWriter::new(rt.alloc(), io::writer(rt)).map_err(|_| Fault::Memory)?;
+    let end = match request {
+        Request::Lines { settings, moment } => serve_lines(
+            rt.alloc(),
+            settings,
+            moment,
+            MAX_FILE_LEN,
+            &mut rt.reader(),
+            &mut out,
+        ),
+        Request::Secret { hex } => print_secret(&mut out, hex.as_bytes()),
+    };
+    out.flush().map_err(|_| Fault::CannotWrite)?;
+    end
 }
 
 /// Prints what clap has to say of the words, and gives the exit status.

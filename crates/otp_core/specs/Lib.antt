@@ -1,5 +1,6 @@
 pub mod Acceptance
 pub mod Code
+pub mod Codes
 pub mod Digits
 pub mod Hotp
 pub mod Limits

@@ -1,4 +1,4 @@
-ghost use Rattle.std.specs.Prelude.{◌≡◌, ◌↔◌, IsSome, IfSome};
+ghost use Rattle.std.specs.Prelude.{◌≡◌, ◌+◌, ◌↔◌, IsSome, IfSome};
 ghost use Rattle.otp_core.specs.Range.{IsFactor, IsNext};
 
 use std::marker::Model;
@@ -74,6 +74,15 @@ impl Next {
             Some(Next { value })
         } else {
             None
+        }
+    }
+
+    /// The first free factor once all up to this one are used up.
+    pub fn after(last: Factor) -> Self
+        ensures { result ≡ last + 1 }
+    {
+        Next {
+            value: last.value + 1,
         }
     }
 

@@ -1,4 +1,4 @@
-use crate::{Code, Digits, Factor, Next, Secret, Settings, code, step, truncate};
+use crate::{Code, Codes, Digits, Factor, Next, Secret, Settings, code, step, truncate};
 use hmac_core::{Hash, Mac};
 use std::test::Fail;
 
@@ -12,9 +12,11 @@ fn hotp_table(rt: HostRuntime) -> Result<(), Fail> {
         b"755224", b"287082", b"359152", b"969429", b"338314", b"254676", b"287922", b"162583",
         b"399871", b"520489",
     ];
+    let keyed = Codes::new(Hash::Sha1, &SECRET[..20], Digits::Six);
     for (counter, want) in (0..10).zip(codes) {
         let factor = Factor::new(counter).ok_or("a factor")?;
         let code = code(Hash::Sha1, &SECRET[..20], factor, Digits::Six);
+        assert_eq!(rt; keyed.at(factor), code, "at counter {counter}");
         assert_eq!(rt; Some(code), Code::new(want), "at counter {counter}");
     }
     Ok(())

@@ -1,0 +1,53 @@
+-- When a token is open at one node, by the list of its results there: the delay scheme of RFC 4226,
+-- section 7.3, with T = 5 seconds. The A-th failure since the last acceptance closes it for T * A seconds.
+use Rattle.std.specs.Prelude.{ℕ, ◌+◌, ◌-◌, ◌*◌, ◌≤◌, ◌≡◌, ◌⊎◌, min, List, [], ◌∷◌, ◌++◌, map, length}
+use Rattle.admit_core.specs.Gate.{GateRecord}
+
+-- what became of a line whose token was open; an acceptance has no moment, since nothing asks for one
+pub data Result : Type 0 where
+  Failed : (moment : ℕ) → Result
+  Accepted : Result
+
+-- all lists of results have the newest first
+
+-- how many failures there are after the last acceptance
+abbrev pub recent_failures : List Result → ℕ
+recent_failures [] = 0
+recent_failures (Accepted ∷ results) = 0
+recent_failures (Failed moment ∷ results) = recent_failures results + 1
+
+-- those that count
+abbrev pub counted_failures : List Result → ℕ
+counted_failures results = min (recent_failures results) 10000
+
+-- when the last of them was, 0 where there is none
+abbrev pub last_failure : List Result → ℕ
+last_failure [] = 0
+last_failure (Accepted ∷ results) = 0
+last_failure (Failed moment ∷ results) = moment
+
+-- no failure counts, or 5 seconds for each that counts are over since the last one
+abbrev pub IsOpenAfter : List Result → ℕ → Type 0
+IsOpenAfter results moment = (counted_failures results ≡ 0) ⊎ (last_failure results + 5 * counted_failures results ≤ moment)
+
+-- how many seconds are left until the token is open
+abbrev pub wait_after : List Result → ℕ → ℕ
+wait_after results moment = last_failure results + 5 * counted_failures results - moment
+
+-- the two numbers that tell it
+abbrev pub gate_after : List Result → GateRecord
+gate_after results = record { fails = counted_failures results; until = last_failure results + 5 * counted_failures results }
+
+-- each failure came at a moment at which the token was open
+abbrev pub AreGated : List Result → Type 0
+AreGated [] = Unit {0}
+AreGated (Accepted ∷ results) = AreGated results
+AreGated (Failed moment ∷ results) = IsOpenAfter results moment × AreGated results
+
+-- from one failure to a later one with only failures between, any k failures span at least
+-- 5 * k * (k - 1) / 2 seconds, for k up to 10,000
+abbrev pub SpacesFailures : List Result → Type 0
+SpacesFailures results =
+    (newer older : List Result) (first last : ℕ) (between : List ℕ) (k : ℕ) →
+    results ≡ newer ++ (Failed last ∷ (map Failed between ++ (Failed first ∷ older))) →
+    k ≤ length between + 2 → k ≤ 10000 → 2 * first + 5 * (k * (k - 1)) ≤ 2 * last

@@ -1,0 +1,18 @@
+//! What decides whether a submission is admitted: the window of factors, the search for the least
+//! one that fits, the password column, and the gate that slows down guessing (RFC 4226, sections 7.2 to
+//! 7.4; RFC 6238, sections 5.2 and 6). Nothing here takes memory.
+#![tactic(auto)]
+
+mod gate;
+mod laws;
+mod password;
+mod search;
+#[cfg(test)]
+mod tests;
+mod windows;
+
+pub use gate::Gate;
+pub use laws::{failures_are_spaced, gate_keeps_throttle, least_fit_is_least};
+pub use password::password_fits;
+pub use search::{find_check, find_resync};
+pub use windows::{resync_window, window};

@@ -1,0 +1,72 @@
+ghost use Rattle.std.specs.Prelude.{◌≡◌, ◌+◌, IfSome, IfNone};
+ghost use Rattle.admit_core.specs.Fit.{Check, Resync, code_at, IsLeastBetween, NoneBetween};
+ghost use Rattle.otp_core.specs.Codes.{AreCodesOf};
+ghost use Rattle.otp_core.specs.Digits.{count_of};
+ghost use Rattle.token_file.specs.Credential.{Credential};
+
+use otp_core::{Code, Codes, Factor};
+use token_file::Token;
+
+/// The least factor of the window whose code is the one given. The window is its first and its last
+/// factor.
+pub fn find_check(token: &Token, window: (Factor, Factor), given: &Code) -> Option<Factor>
+    ensures least { IfSome result
+        (λ factor. IsLeastBetween token.now window.0 window.1 (Check given.now) factor factor) }
+    ensures none { IfNone result (NoneBetween token.now window.0 window.1 (Check given.now)) }
+{
+    let (first, last) = window;
+    let codes = codes_of(token);
+    for number in first.value()..last.value() + 1 {
+        let factor = Factor::new(number)?;
+        if code_of(&codes, factor) == *given {
+            return Some(factor);
+        }
+    }
+    None
+}
+
+/// The least factor of the window whose code is the first one given, where the next factor is in
+/// the window too and its code is the second one (RFC 4226, section 7.4). Each code is computed once.
+pub fn find_resync(
+    token: &Token,
+    window: (Factor, Factor),
+    given: &Code,
+    given_next: &Code,
+) -> Option<Factor>
+    ensures least { IfSome result
+        (λ factor. IsLeastBetween token.now window.0 window.1
+        (Resync given.now given_next.now) factor (factor + 1)) }
+    ensures none { IfNone result
+        (NoneBetween token.now window.0 window.1 (Resync given.now given_next.now)) }
+{
+    let (low, high) = window;
+    let codes = codes_of(token);
+    let mut before = low;
+    let mut is_first = false;
+    for number in low.value()..high.value() + 1 {
+        let factor = Factor::new(number)?;
+        let code = code_of(&codes, factor);
+        if is_first && code == *given_next {
+            return Some(before);
+        }
+        is_first = code == *given;
+        before = factor;
+    }
+    None
+}
+
+/// The codes of a token, whose key is set up once.
+fn codes_of(token: &Token) -> Codes
+    ensures { AreCodesOf result token.now.hash token.now.secret (count_of token.now.digits) }
+{
+    Codes::new(token.hash(), token.secret().as_slice(), token.digits())
+}
+
+/// The code of a token at a factor.
+#[tactic(auto, unfolding(crate::specs::Fit::code_at))]
+fn code_of(codes: &Codes, factor: Factor) -> Code
+    ensures { (c : Credential) → AreCodesOf codes.now c.hash c.secret (count_of c.digits) →
+        result ≡ code_at c factor }
+{
+    codes.at(factor)
+}

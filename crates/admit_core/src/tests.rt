@@ -1,0 +1,181 @@
+use crate::{Gate, find_check, find_resync, password_fits, resync_window, window};
+use arrayvec::ArrayVec;
+use hmac_core::Hash;
+use otp_core::{Code, Digits, Factor, Next, Secret, Settings};
+use std::test::Fail;
+use token_file::{Kind, Password, Token};
+
+/// The secret of RFC 4226, Appendix D.
+const SECRET: &[u8] = b"12345678901234567890";
+
+/// A secret whose codes at the factors 0 and 1 are equal: 132707.
+const EQUAL_CODES: &[u8] = b"k40154";
+
+/// A token of six digits.
+fn token(secret: &[u8], kind: Kind, password: Password) -> Option<Token> {
+    let name = ArrayVec::try_from(b"silver".as_slice()).ok()?;
+    let secret = Secret::new(secret)?;
+    Token::new(name, password, secret, kind, Digits::Six, Hash::Sha1)
+}
+
+/// The first and the last number of a window.
+fn numbers(ends: Option<(Factor, Factor)>) -> Option<(u64, u64)> {
+    let (first, last) = ends?;
+    Some((first.value(), last.value()))
+}
+
+/// Both windows of event tokens and of time tokens, with a look-ahead of 10, a skew of 1 and a range of
+/// 9, up to the end of all factors.
+#[test]
+fn windows(rt: HostRuntime) -> Result<(), Fail> {
+    let settings = Settings::new(10, 1, 9).ok_or("settings")?;
+    let last = (1 << 62) - 1;
+    let rows = [
+        (Kind::Event, 7, 0, Some((7, 17)), Some((7, 16))),
+        (
+            Kind::Event,
+            last - 1,
+            0,
+            Some((last - 1, last)),
+            Some((last - 1, last)),
+        ),
+        (Kind::Event, last + 1, 0, None, None),
+        (Kind::Time30, 0, 0, Some((0, 1)), Some((0, 1))),
+        (Kind::Time30, 0, 59, Some((0, 2)), Some((0, 2))),
+        (Kind::Time30, 3, 30, None, None),
+        (Kind::Time60, 0, 59, Some((0, 1)), Some((0, 1))),
+        (Kind::Time60, 2, 60, Some((2, 2)), Some((2, 2))),
+    ];
+    for (kind, next, moment, check, resync) in rows {
+        let token = token(SECRET, kind, Password::NoneAllowed).ok_or("a token")?;
+        let next = Next::new(next).ok_or("a first free factor")?;
+        assert_eq!(rt; numbers(window(&token, next, moment, &settings)), check);
+        assert_eq!(rt;
+            numbers(resync_window(&token, next, moment, &settings)),
+            resync
+        );
+    }
+    Ok(())
+}
+
+/// One code in a window. Where two factors fit, it is the least.
+#[test]
+fn checks(rt: HostRuntime) -> Result<(), Fail> {
+    let rows = [
+        (SECRET, 1, 5, b"755224", None),
+        (SECRET, 1, 5, b"287082", Some(1)),
+        (SECRET, 1, 5, b"254676", Some(5)),
+        (SECRET, 1, 5, b"287922", None),
+        (EQUAL_CODES, 0, 2, b"132707", Some(0)),
+        (EQUAL_CODES, 1, 2, b"132707", Some(1)),
+    ];
+    for (secret, first, last, given, want) in rows {
+        let token = token(secret, Kind::Event, Password::NoneAllowed).ok_or("a token")?;
+        let first = Factor::new(first).ok_or("a factor")?;
+        let last = Factor::new(last).ok_or("a factor")?;
+        let given = Code::new(given).ok_or("a code")?;
+        let found = find_check(&token, (first, last), &given);
+        assert_eq!(rt; found.map(Factor::value), want);
+    }
+    Ok(())
+}
+
+/// Two codes in a row: at once, apart, swapped, and with the second one past the window.
+#[test]
+fn resynchronization(rt: HostRuntime) -> Result<(), Fail> {
+    let rows = [
+        (SECRET, 0, 9, b"162583", b"399871", Some(7)),
+        (SECRET, 0, 9, b"287922", b"399871", None),
+        (SECRET, 0, 9, b"399871", b"162583", None),
+        (SECRET, 0, 0, b"755224", b"287082", None),
+        (SECRET, 1, 5, b"755224", b"287082", None),
+        (SECRET, 1, 5, b"338314", b"254676", Some(4)),
+        (SECRET, 1, 5, b"254676", b"287922", None),
+        (SECRET, 1, 5, b"359152", b"359152", None),
+        (EQUAL_CODES, 0, 2, b"132707", b"132707", Some(0)),
+    ];
+    for (secret, first, last, given, given_next, want) in rows {
+        let token = token(secret, Kind::Event, Password::NoneAllowed).ok_or("a token")?;
+        let first = Factor::new(first).ok_or("a factor")?;
+        let last = Factor::new(last).ok_or("a factor")?;
+        let given = Code::new(given).ok_or("a code")?;
+        let given_next = Code::new(given_next).ok_or("a code")?;
+        let found = find_resync(&token, (first, last), &given, &given_next);
+        assert_eq!(rt; found.map(Factor::value), want);
+    }
+    Ok(())
+}
+
+/// Each password column, with no password and with two.
+#[test]
+fn passwords(rt: HostRuntime) -> Result<(), Fail> {
+    let right: &[u8] = b"pw";
+    let wrong: &[u8] = b"PW";
+    let equal = ArrayVec::try_from(right).ok().ok_or("a password")?;
+    let none = token(SECRET, Kind::Event, Password::NoneAllowed).ok_or("a token")?;
+    let any = token(SECRET, Kind::Event, Password::NotChecked).ok_or("a token")?;
+    let one = token(SECRET, Kind::Event, Password::Equal(equal)).ok_or("a token")?;
+    assert_eq!(rt; password_fits(&none, None), true);
+    assert_eq!(rt; password_fits(&none, Some(right)), false);
+    assert_eq!(rt; password_fits(&any, None), true);
+    assert_eq!(rt; password_fits(&any, Some(wrong)), true);
+    assert_eq!(rt; password_fits(&one, None), false);
+    assert_eq!(rt; password_fits(&one, Some(right)), true);
+    assert_eq!(rt; password_fits(&one, Some(wrong)), false);
+    Ok(())
+}
+
+/// What a line is, where its token is open.
+#[derive(Clone, Copy)]
+enum Line {
+    Bad,
+    Good,
+}
+
+/// Lines at one token: how many seconds each has to wait, and what becomes of it where it has none.
+#[test]
+fn throttle(rt: HostRuntime) {
+    let lines = [
+        (100, Line::Bad, 0),
+        (104, Line::Good, 1),
+        (105, Line::Bad, 0),
+        (114, Line::Good, 1),
+        (115, Line::Good, 0),
+        (115, Line::Bad, 0),
+        (119, Line::Good, 1),
+        (120, Line::Good, 0),
+    ];
+    let mut gate = Gate::default();
+    for (moment, line, wait) in lines {
+        assert_eq!(rt; gate.wait(moment), wait, "at {moment}");
+        assert_eq!(rt; gate.is_open(moment), wait == 0, "at {moment}");
+        if gate.is_open(moment) {
+            match line {
+                Line::Bad => gate.fail(moment),
+                Line::Good => gate.clear(),
+            }
+        }
+    }
+    assert_eq!(rt; gate, Gate::default());
+}
+
+/// Failures as fast as the gate lets them: so many, and then no more count. Then the ends of its ranges.
+#[test]
+fn ten_thousand_failures(rt: HostRuntime) -> Result<(), Fail> {
+    let mut gate = Gate::default();
+    for _ in 0..10_000 {
+        let moment = gate.until().min((1 << 40) - 1);
+        gate.fail(moment);
+    }
+    // the last failure came 5 * 10,000 * 9,999 / 2 seconds after the first
+    assert_eq!(rt;
+        (gate.fails(), gate.until()),
+        (10_000, 249_975_000 + 50_000)
+    );
+    gate.fail((1 << 40) - 1);
+    assert_eq!(rt; (gate.fails(), gate.until()), (10_000, (1 << 40) + 49_999));
+    assert_eq!(rt; Gate::new(10_000, (1 << 40) + 50_000).is_some(), true);
+    assert_eq!(rt; Gate::new(10_001, 0), None);
+    assert_eq!(rt; Gate::new(0, (1 << 40) + 50_001), None);
+    Ok(())
+}

@@ -1,0 +1,101 @@
+ghost use Rattle.std.specs.Prelude.{ℕ, ◌<◌, ◌≤◌, IfSome, IfNone};
+ghost use Rattle.admit_core.specs.Window.{InCheckWindow, InResyncWindow, InWindow, IsWithinReach, IsWithinSkew, IsFactorBetween, AreEnds};
+ghost use Rattle.otp_core.specs.Range.{IsMoment};
+ghost use Rattle.otp_core.specs.Totp.{step_of};
+
+use otp_core::{Factor, Next, Settings, step};
+use token_file::{Kind, Token};
+
+/// The greatest factor.
+const LAST_FACTOR: u64 = (1 << 62) - 1;
+
+/// The first and the last factor that a check may take (RFC 4226, sections 7.2 and 7.4; RFC 6238,
+/// sections 5.2 and 6), or `None` where there is none. The moment is in seconds since 1970-01-01
+/// 00:00:00 UTC.
+pub fn window(
+    token: &Token,
+    next: Next,
+    moment: u64,
+    settings: &Settings,
+) -> Option<(Factor, Factor)>
+    requires { IsMoment moment }
+    ensures ends { IfSome result
+        (λ ends. AreEnds (InCheckWindow token.now.kind settings.now next moment) ends.0 ends.1) }
+    ensures none { IfNone result
+        ((m : ℕ) → InCheckWindow token.now.kind settings.now next moment m → ⊥) }
+{
+    window_of(token.kind(), settings.look_ahead(), settings, next, moment)
+}
+
+/// The first and the last factor that a resynchronization may take (RFC 4226, section 7.4; RFC 6238,
+/// sections 5.2 and 6), or `None` where there is none. A time token has the window of a check.
+pub fn resync_window(
+    token: &Token,
+    next: Next,
+    moment: u64,
+    settings: &Settings,
+) -> Option<(Factor, Factor)>
+    requires { IsMoment moment }
+    ensures ends { IfSome result
+        (λ ends. AreEnds (InResyncWindow token.now.kind settings.now next moment) ends.0 ends.1) }
+    ensures none { IfNone result
+        ((m : ℕ) → InResyncWindow token.now.kind settings.now next moment m → ⊥) }
+{
+    window_of(token.kind(), settings.range(), settings, next, moment)
+}
+
+/// The ends of a window by the kind of its token, and the reach of an event token.
+fn window_of(
+    kind: Kind,
+    reach: u64,
+    settings: &Settings,
+    next: Next,
+    moment: u64,
+) -> Option<(Factor, Factor)>
+    requires reach { reach ≤ 1000 }
+    requires moment { IsMoment moment }
+    ensures ends { IfSome result
+        (λ ends. AreEnds (InWindow kind reach settings.now next moment) ends.0 ends.1) }
+    ensures none { IfNone result ((m : ℕ) → InWindow kind reach settings.now next moment m → ⊥) }
+{
+    match kind {
+        Kind::Event => reach_from(next, reach),
+        Kind::Time30 => steps_around(next, moment, 30, settings.skew()),
+        Kind::Time60 => steps_around(next, moment, 60, settings.skew()),
+    }
+}
+
+/// The first free factor, and the last of so many more.
+fn reach_from(next: Next, reach: u64) -> Option<(Factor, Factor)>
+    requires { reach ≤ 1000 }
+    ensures ends { IfSome result (λ ends. AreEnds (IsWithinReach next reach) ends.0 ends.1) }
+    ensures none { IfNone result ((m : ℕ) → IsWithinReach next reach m → ⊥) }
+{
+    let first = next.value();
+    ends(first, first + reach)
+}
+
+/// The first and the last free step that is at most so many before or after the present one.
+fn steps_around(next: Next, moment: u64, period: u64, skew: u64) -> Option<(Factor, Factor)>
+    requires moment { IsMoment moment }
+    requires period { 0 < period }
+    requires skew { skew ≤ 10 }
+    ensures ends { IfSome result
+        (λ ends. AreEnds (IsWithinSkew next (step_of moment 0 period) skew) ends.0 ends.1) }
+    ensures none { IfNone result ((m : ℕ) → IsWithinSkew next (step_of moment 0 period) skew m → ⊥) }
+{
+    let now = step(moment, 0, period)?.value();
+    ends(next.value().max(now.saturating_sub(skew)), now + skew)
+}
+
+/// The first and the last factor between two numbers.
+fn ends(first: u64, last: u64) -> Option<(Factor, Factor)>
+    ensures ends { IfSome result (λ ends. AreEnds (IsFactorBetween first last) ends.0 ends.1) }
+    ensures none { IfNone result ((m : ℕ) → IsFactorBetween first last m → ⊥) }
+{
+    let last = last.min(LAST_FACTOR);
+    if first > last {
+        return None;
+    }
+    Some((Factor::new(first)?, Factor::new(last)?))
+}

@@ -1,0 +1,8 @@
+-- The codes of a line, as the program holds them.
+use Rattle.admit_core.specs.Fit.{Submission, Check, Resync}
+use Rattle.oath_node.specs.declared.line.Codes.{Codes}
+use Rattle.oath_node.specs.declared.line.Codes.TheVariants.{One, Two}
+
+abbrev pub submission_of : Codes → Submission
+submission_of (One code) = Check code
+submission_of (Two first second) = Resync first second

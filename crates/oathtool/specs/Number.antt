@@ -1,0 +1,28 @@
+-- Numbers among the words.
+use Rattle.std.specs.Prelude.{ℕ, ◌-◌, ◌^◌, ◌==◌, ◌&&◌, nat_lt, nat_le, if◌then◌else◌, List, length, take, slice_index, Option, Some, None}
+use Rattle.std.specs.Char.{is_ascii_digit}
+use Rattle.std.specs.List.{list_all}
+use Rattle.std.specs.Option.{option_and_then}
+use Rattle.std.specs.Str.Parse.{digits_value}
+
+-- a number in decimal digits alone, below 2 ^ 64
+abbrev pub number_of : List ℕ → Option ℕ
+number_of text =
+    if list_all is_ascii_digit text && (nat_lt 0 (length text) && nat_lt (digits_value 10 text) (2 ^ 64))
+    then Some (digits_value 10 text)
+    else None
+
+-- the text without its last byte, where that is an `s`
+abbrev pub without_unit : List ℕ → List ℕ
+without_unit text =
+    if nat_lt 0 (length text) && (slice_index text (length text - 1) == 115)
+    then take (length text - 1) text
+    else text
+
+-- the seconds, where they can be those of a time step
+abbrev pub step_size_in_range : ℕ → Option ℕ
+step_size_in_range seconds = if nat_le 1 seconds && nat_le seconds 1_000_000 then Some seconds else None
+
+-- the length of a time step in seconds
+abbrev pub step_size_of : List ℕ → Option ℕ
+step_size_of text = option_and_then step_size_in_range (number_of (without_unit text))

@@ -1,0 +1,9 @@
+-- What a fault of a time is for a run.
+use Rattle.oathtool.specs.declared.fault.Fault.{Fault}
+use Rattle.oathtool.specs.declared.fault.Fault.TheVariants.{BadTime as BadTimeOption, Memory as NoMemory}
+use Rattle.oathtool.specs.declared.time.TimeFault.{TimeFault}
+use Rattle.oathtool.specs.declared.time.TimeFault.TheVariants.{BadTime, Memory}
+
+abbrev pub fault_of : TimeFault → Fault
+fault_of BadTime = BadTimeOption
+fault_of Memory = NoMemory

@@ -1,0 +1,67 @@
+-- What the words of the command line ask for, by the values that clap found.
+use Rattle.std.specs.Prelude.{◌≡◌, ℕ, ◌≤◌, Bool, true, false, List, map, Option, Some, None, codes}
+use Rattle.std.specs.Char.{to_ascii_lowercase}
+use Rattle.std.specs.Option.{option_and_then}
+use Rattle.std.specs.Prelude.{option_map}
+use Rattle.clap.specs.Matches.{first_value, one_text}
+use Rattle.clap.specs.declared.parser.matches.Found.{Found}
+use Rattle.hmac_core.specs.declared.hash.Hash.{Hash}
+use Rattle.hmac_core.specs.declared.hash.Hash.TheVariants.{Sha1, Sha256, Sha512}
+use Rattle.otp_core.specs.Digits.{count_of}
+use Rattle.otp_core.specs.Range.{IsFactor}
+use Rattle.oathtool.specs.Number.{number_of}
+use Rattle.oathtool.specs.declared.words.Mode.{Mode}
+use Rattle.oathtool.specs.declared.words.Mode.TheVariants.{Hotp, Totp}
+use Rattle.oathtool.specs.declared.words.Words.{Words}
+
+-- the number of an option, in decimal digits alone
+abbrev pub number_at : Found → List ℕ → Option ℕ
+number_at found name = option_and_then number_of (first_value found name)
+
+abbrev pub lower : List ℕ → List ℕ
+lower text = map to_ascii_lowercase text
+
+abbrev pub hash_name : Hash → List ℕ
+hash_name Sha1 = codes "SHA1"
+hash_name Sha256 = codes "SHA256"
+hash_name Sha512 = codes "SHA512"
+
+-- the text is the hash's name, in any case
+abbrev pub IsNameOf : List ℕ → Hash → Type 0
+IsNameOf text hash = lower text ≡ lower (hash_name hash)
+
+-- the value of `--totp` asks for the mode
+abbrev pub IsMode : Option (List ℕ) → Mode → Type 0
+IsMode None Hotp = Unit {0}
+IsMode None (Totp hash) = ⊥
+IsMode (Some text) Hotp = ⊥
+IsMode (Some text) (Totp hash) = IsNameOf text hash
+
+-- a flag as clap reads it
+pub record IsFlag (found : Found) (name : List ℕ) (flag : Bool) : Type 0 where
+  pub absent : one_text found name ≡ None → flag ≡ false
+  pub given : one_text found name ≡ Some (codes "true") → flag ≡ true
+  pub not_given : one_text found name ≡ Some (codes "false") → flag ≡ false
+
+-- the values that were found are these, and in their ranges
+pub record AsksFor (found : Found) (words : Words) : Type 0 where
+  pub mode : IsMode (first_value found (codes "totp")) words.mode
+  pub is_base32 : IsFlag found (codes "base32") words.is_base32
+  pub counter : number_at found (codes "counter") ≡ Some words.counter
+  pub counter_in : IsFactor words.counter
+  pub digits : number_at found (codes "digits") ≡ Some (count_of words.digits)
+  pub window : number_at found (codes "window") ≡ Some words.window
+  pub window_in : words.window ≤ 1000
+  pub step_size : first_value found (codes "time-step-size") ≡ Some words.step_size.now
+  pub start : first_value found (codes "start-time") ≡ Some words.start.now
+  pub time : first_value found (codes "now") ≡ option_map (λ s. s.now) words.time
+  pub key : first_value found (codes "KEY") ≡ Some words.key.now
+  pub otp : first_value found (codes "OTP") ≡ option_map (λ s. s.now) words.otp
+
+-- the window is at most 1,000
+abbrev pub HasWindow : Words → Type 0
+HasWindow words = words.window ≤ 1000
+
+-- codes are based on time, and no time is given
+abbrev pub NeedsClock : Words → Type 0
+NeedsClock words = (words.mode ≡ Hotp → ⊥) × (words.time ≡ None)

@@ -1,0 +1,70 @@
+ghost use Rattle.std.specs.Prelude.{◌≡◌, ◌+◌, ◌↔◌, ◌++◌, ◌∷◌, [], IsTrue, OnOk, IfErr};
+ghost use Rattle.std.specs.Io.KnownBytes.{Appends};
+ghost use Rattle.otp_core.specs.Range.{IsFactor};
+ghost use Rattle.oathtool.specs.Codes.{Matches, code_at, code_lines};
+
+use crate::fault::Fault;
+use hmac_core::Hash;
+use otp_core::{Code, Digits, Factor, code};
+use std::io::Write;
+
+/// What the codes of a key are made with.
+#[derive(Clone, Copy)]
+pub(crate) struct Generator<'a> {
+    pub hash: Hash,
+    pub key: &'a [u8],
+    pub digits: Digits,
+}
+
+impl<'a> Generator<'a> {
+    /// The code of a factor.
+    fn code(self, factor: Factor) -> Code
+        ensures { result ≡ code_at self.entry factor }
+    {
+        code(self.hash, self.key, factor, self.digits)
+    }
+
+    /// Whether the code of a factor is this one.
+    pub(crate) fn matches(self, factor: Factor, otp: &[u8]) -> bool
+        ensures { IsTrue result ↔ Matches self.entry otp.now factor }
+    {
+        self.code(factor).as_slice() == otp
+    }
+}
+
+/// The factor so far after another.
+pub(crate) fn factor_after(first: Factor, distance: u64) -> Factor
+    requires { IsFactor (first + distance) }
+    ensures { result ≡ first + distance }
+{
+    Factor::new(first.value() + distance).unwrap()
+}
+
+/// Writes a line, and the LF that ends it.
+pub(crate) fn write_line<W: Write>(writer: &mut W, line: &[u8]) -> Result<(), Fault>
+    ensures written { OnOk result
+        (Appends (W.contents writer.old) (W.contents writer.new) (line.now ++ 10 ∷ [])) }
+    ensures fault { IfErr result (λ fault. fault ≡ Fault.CannotWrite) }
+{
+    writer.write_all(line).map_err(|_| Fault::CannotWrite)?;
+    writer.write_all(b"\n").map_err(|_| Fault::CannotWrite)
+}
+
+/// Writes the codes of a factor and of so many after it, each on a line of its own.
+pub(crate) fn codes_from<W: Write>(
+    generator: Generator<'_>,
+    first: Factor,
+    window: u64,
+    writer: &mut W,
+) -> Result<(), Fault>
+    requires { IsFactor (first + window) }
+    ensures lines { OnOk result
+        (Appends (W.contents writer.old) (W.contents writer.new) (code_lines generator.entry first (window + 1))) }
+    ensures fault { IfErr result (λ fault. fault ≡ Fault.CannotWrite) }
+{
+    for distance in 0..window + 1 {
+        let code = generator.code(factor_after(first, distance));
+        write_line(writer, code.as_slice())?;
+    }
+    Ok(())
+}

@@ -1,0 +1,258 @@
+ghost use Rattle.std.specs.Prelude.{◌≡◌, ◌↔◌, IfSome, IfNone, IfOk, IsTrue, option_map};
+ghost use Rattle.clap.specs.Matches.{found_of};
+ghost use Rattle.hmac_core.specs.declared.hash.Hash.{Hash as AnyHash};
+ghost use Rattle.oathtool.specs.Words.{AsksFor, HasWindow, IsMode, IsNameOf, NeedsClock, number_at};
+ghost use Rattle.oathtool.specs.declared.words.Mode.{Mode as AnyMode};
+ghost use Rattle.oathtool.specs.declared.words.Words.{Words as AnyWords};
+
+use crate::number::read_number;
+use clap::error::ErrorKind;
+use clap::{Arg, ArgAction, ArgMatches, Command, Error, value_parser};
+use hmac_core::Hash;
+use otp_core::{Digits, Factor};
+use std::alloc::{AllocError, Global};
+
+/// The widest window.
+const MAX_WINDOW: u64 = 1000;
+
+/// The names of the hashes that a time-based code is made with.
+const HASH_NAMES: [&str; 3] = ["SHA1", "SHA256", "SHA512"];
+
+/// Which kind of code.
+#[derive(Clone, Copy, Debug, PartialEq, Eq)]
+pub(crate) enum Mode {
+    /// Based on a counter, with SHA-1.
+    Hotp,
+    /// Based on time, with this hash.
+    Totp(Hash),
+}
+
+/// What the words ask for. The texts are as they were given.
+#[derive(Clone, Copy)]
+pub(crate) struct Words<'a> {
+    pub mode: Mode,
+    pub is_base32: bool,
+    pub counter: Factor,
+    pub digits: Digits,
+    pub window: u64,
+    pub step_size: &'a str,
+    pub start: &'a str,
+    pub time: Option<&'a str>,
+    pub key: &'a str,
+    pub otp: Option<&'a str>,
+}
+
+impl<'a> Words<'a> {
+    /// Whether the time is the clock's.
+    pub(crate) fn asks_clock(&self) -> bool
+        ensures { IsTrue result ↔ NeedsClock self.now }
+    {
+        self.mode != Mode::Hotp && self.time.is_none()
+    }
+}
+
+/// An option that takes a text.
+fn text<'a>(alloc: Global, name: &'a str, short: char, value: &'a str, help: &'a str) -> Arg<'a> {
+    Arg::new(alloc, name)
+        .long(name)
+        .short(short)
+        .value_name(value)
+        .action(ArgAction::Set)
+        .help(help)
+}
+
+/// An option without a value.
+fn flag<'a>(alloc: Global, name: &'a str, help: &'a str) -> Arg<'a> {
+    Arg::new(alloc, name)
+        .long(name)
+        .action(ArgAction::SetTrue)
+        .help(help)
+}
+
+/// Adds the options that say which kind of code.
+fn with_modes<'a>(alloc: Global, command: Command<'a>) -> Result<Command<'a>, AllocError> {
+    let hotp = flag(
+        alloc,
+        "hotp",
+        "Codes based on a counter (HOTP, RFC 4226), with SHA-1. This is the default",
+    )
+    .conflicts_with("totp")?;
+    let totp = Arg::new(alloc, "totp")
+        .long("totp")
+        .value_name("MODE")
+        .action(ArgAction::Set)
+        .num_args(0..=1)
+        .require_equals(true)
+        .default_missing_value("SHA1")
+        .value_parser(HASH_NAMES.as_slice())
+        .ignore_case(true)
+        .help(
+            "Codes based on time (TOTP, RFC 6238), with this hash, in any case. SHA1 where none is named",
+        );
+    command.arg(hotp)?.arg(totp)
+}
+
+/// Adds the options that take a number.
+fn with_numbers<'a>(alloc: Global, command: Command<'a>) -> Result<Command<'a>, AllocError> {
+    let counter = text(
+        alloc,
+        "counter",
+        'c',
+        "COUNTER",
+        "The counter at which the codes begin, 0 to 4611686018427387903 (HOTP)",
+    )
+    .value_parser(value_parser!(u64).range(0..=4_611_686_018_427_387_903))
+    .default_value("0");
+    let digits = text(
+        alloc,
+        "digits",
+        'd',
+        "DIGITS",
+        "How many digits a code has, 6, 7 or 8",
+    )
+    .value_parser(value_parser!(u8).range(6..=8))
+    .default_value("6");
+    let window = text(
+        alloc,
+        "window",
+        'w',
+        "WIDTH",
+        "How many more codes to print, or how far to look for OTP, 0 to 1000",
+    )
+    .value_parser(value_parser!(u16).range(0..=1000))
+    .default_value("0");
+    command.arg(counter)?.arg(digits)?.arg(window)
+}
+
+/// Adds the options of time-based codes.
+fn with_times<'a>(alloc: Global, command: Command<'a>) -> Result<Command<'a>, AllocError> {
+    let step_size = text(
+        alloc,
+        "time-step-size",
+        's',
+        "SECONDS",
+        "How long a time step is, 1 to 1000000 seconds, with or without a final s (TOTP)",
+    )
+    .default_value("30s");
+    let start = text(
+        alloc,
+        "start-time",
+        'S',
+        "TIME",
+        "The time from which time steps are counted, @SECONDS or 'YYYY-MM-DD hh:mm:ss UTC' (TOTP)",
+    )
+    .default_value("1970-01-01 00:00:00 UTC");
+    let now = text(
+        alloc,
+        "now",
+        'N',
+        "TIME",
+        "The time of the codes, in the same two forms [default: the clock] (TOTP)",
+    );
+    command.arg(step_size)?.arg(start)?.arg(now)
+}
+
+/// The whole command line.
+fn command<'a>(alloc: Global) -> Result<Command<'a>, AllocError> {
+    let base32 = flag(
+        alloc,
+        "base32",
+        "KEY is in base32, in any case, with or without spaces and a final padding, and not in hexadecimal",
+    )
+    .short('b');
+    let key = Arg::new(alloc, "KEY")
+        .required(true)
+        .action(ArgAction::Set)
+        .help("The secret, 1 to 128 bytes in hexadecimal, or in base32 with -b");
+    let otp = Arg::new(alloc, "OTP").action(ArgAction::Set).help(
+        "A code to look for. Its offset is printed: from the counter on, or the nearest to the time step, -w to w",
+    );
+    let command = Command::new(alloc, "oathtool")
+        .about("Makes one-time passwords, or finds how far one is from the counter or time step")
+        .after_help(
+            "Examples:\n  \
+             oathtool -w 9 3132333435363738393031323334353637383930\n    \
+             prints the first ten codes of that key\n  \
+             oathtool --totp -b \"gezd gnbv gy3t qojq gezd gnbv gy3t qojq\"\n    \
+             prints its code of this moment\n\n\
+             The status is 0, or 1 where OTP isn't found, KEY is bad, or memory, clock or output fail,\n\
+             or 2 where the words are wrong or a value is out of range.",
+        );
+    let command = with_modes(alloc, command)?.arg(base32)?;
+    let command = with_times(alloc, with_numbers(alloc, command)?)?;
+    command.arg(key)?.arg(otp)
+}
+
+/// The hash with this name, in any case.
+fn hash_named(name: &str) -> Option<Hash>
+    ensures some { IfSome result (IsNameOf name.now) }
+    ensures none { IfNone result ((hash : AnyHash) → IsNameOf name.now hash → ⊥) }
+{
+    if name.eq_ignore_ascii_case("SHA1") {
+        Some(Hash::Sha1)
+    } else if name.eq_ignore_ascii_case("SHA256") {
+        Some(Hash::Sha256)
+    } else if name.eq_ignore_ascii_case("SHA512") {
+        Some(Hash::Sha512)
+    } else {
+        None
+    }
+}
+
+/// The mode that the value of `--totp` asks for, which is not there for HOTP.
+fn mode_of(totp: Option<&str>) -> Option<Mode>
+    ensures some { IfSome result (IsMode (option_map (λ s. s.now) totp.entry)) }
+    ensures none { IfNone result ((mode : AnyMode) → IsMode (option_map (λ s. s.now) totp.entry) mode → ⊥) }
+{
+    match totp {
+        None => Some(Mode::Hotp),
+        Some(name) => Some(Mode::Totp(hash_named(name)?)),
+    }
+}
+
+/// The number of an option, or `None` where it is written with anything but digits.
+fn number_of(matches: &ArgMatches<'_>, name: &str) -> Option<u64>
+    ensures { result ≡ number_at (found_of matches.now) name.now }
+{
+    read_number(matches.get_str(name)?.as_bytes())
+}
+
+/// What the values of the words ask for, or `None` where one is out of its range or a number is written
+/// with anything but digits.
+fn words_of<'a>(matches: &ArgMatches<'a>) -> Option<Words<'a>>
+    ensures some { IfSome result (AsksFor (found_of matches.now)) }
+    ensures none { IfNone result ((words : AnyWords) → AsksFor (found_of matches.now) words → ⊥) }
+{
+    let window = number_of(matches, "window")?;
+    if window > MAX_WINDOW {
+        return None;
+    }
+    Some(Words {
+        mode: mode_of(matches.get_str("totp"))?,
+        is_base32: matches.get_flag("base32"),
+        counter: Factor::new(number_of(matches, "counter")?)?,
+        digits: Digits::new(usize::try_from(number_of(matches, "digits")?).ok()?)?,
+        window,
+        step_size: matches.get_str("time-step-size")?,
+        start: matches.get_str("start-time")?,
+        time: matches.get_str("now"),
+        key: matches.get_str("KEY")?,
+        otp: matches.get_str("OTP"),
+    })
+}
+
+/// What the words ask for. The first of them is the program's name. The error has clap's text, which
+/// goes to standard output where help was asked for.
+pub(crate) fn read_words<'a>(alloc: Global, words: &'a [String]) -> Result<Words<'a>, Error>
+    ensures { IfOk result HasWindow }
+{
+    let mut command = command(alloc)?;
+    let matches = command.try_get_matches_from_mut(words)?;
+    match words_of(&matches) {
+        Some(words) => Ok(words),
+        None => Err(command.error(
+            ErrorKind::ValueValidation,
+            "a number is written in decimal digits alone",
+        )?),
+    }
+}

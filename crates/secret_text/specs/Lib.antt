@@ -1,0 +1,3 @@
+pub mod Base32
+pub mod Bits
+pub mod Hexadecimal

@@ -1,0 +1,8 @@
+pub mod FieldLemmas
+pub mod NumberLemmas
+pub mod SourceLemmas
+pub mod BookLemmas
+pub mod LinesLemmas
+pub mod ReadingLemmas
+pub mod WritingLemmas
+pub mod WrittenFileLemmas

@@ -1,0 +1,12 @@
+pub mod Credential
+pub mod Fields
+pub mod TypeWord
+pub mod Row
+pub mod Entry
+pub mod Number
+pub mod Source
+pub mod Book
+pub mod UsersFile
+pub mod Reading
+pub mod Writing
+pub mod WrittenFile

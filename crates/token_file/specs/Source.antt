@@ -1,0 +1,20 @@
+-- What a pull does to the bytes that a source has left.
+use Rattle.std.specs.Prelude.{◌≡◌, ℕ, ◌≤◌, Bool, true, false, List, length, take, Option, Some, None}
+use Rattle.std.specs.Io.KnownBytes.{Consumes, IsAtEnd}
+use Rattle.token_file.specs.declared.source.Pulled.{Pulled}
+use Rattle.token_file.specs.declared.source.Pulled.TheVariants.{Bytes, Failed}
+
+-- the bytes at the front of the buffer were the first ones left, and there are none only at the end. A pull that
+-- fails may lose some.
+abbrev pub Pulls : Option (List ℕ) → Option (List ℕ) → Pulled → List ℕ → Type 0
+Pulls old new (Bytes n) buffer = (n ≤ length buffer) × Consumes old new (take n buffer) × (n ≡ 0 → IsAtEnd new)
+Pulls old new Failed buffer = (lost : List ℕ) × Consumes old new lost
+
+abbrev pub is_failure : Pulled → Bool
+is_failure (Bytes n) = false
+is_failure Failed = true
+
+-- a fact of the bytes that a source has left, and of some bytes where it doesn't tell them
+abbrev pub OfText : Option (List ℕ) → (List ℕ → Type 0) → Type 0
+OfText None P = (text : List ℕ) × P text
+OfText (Some text) P = P text

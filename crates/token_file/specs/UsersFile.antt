@@ -1,0 +1,92 @@
+-- The book of a users file: its rows in order. The first fault of the first faulty line decides.
+use Rattle.std.specs.Prelude.{◌≡◌, ℕ, ◌+◌, Bool, true, false, nat_lt, nat_le, is_some, List, [], ◌∷◌, ◌++◌, length, take, Option, Some, None, Result, Ok, Err, if◌then◌else◌}
+use Rattle.otp_core.specs.Limits.{Limits}
+use Rattle.token_file.specs.declared.fault.LineFault.{LineFault}
+use Rattle.token_file.specs.declared.fault.LineFault.TheVariants.{MissingField, BadSecret, BadCounter, DuplicateUser, NameTooLong, TooMany, LineTooLong, Read, Memory, FileTooLong}
+use Rattle.token_file.specs.Credential.{Credential, place_of}
+use Rattle.token_file.specs.Fields.{lines_of, fields_of}
+use Rattle.token_file.specs.Row.{Row, Ignored, Faulty, Holds, row_of, first_free}
+
+-- the tokens of some rows, and the first free factor of each
+pub record Import : Type 0 where
+  pub book : List Credential
+  pub floors : List ℕ
+
+abbrev pub import_of : List Credential → List ℕ → Import
+import_of book floors = record { book = book; floors = floors }
+
+abbrev pub nothing_read : Import
+nothing_read = record { book = []; floors = [] }
+
+-- when an import is made, and the skew of the server
+pub record Instant : Type 0 where
+  pub skew : ℕ
+  pub moment : ℕ
+
+abbrev pub instant_of : Limits → ℕ → Instant
+instant_of settings moment = record { skew = settings.skew; moment = moment }
+
+abbrev pub after_token : Instant → Import → Credential → ℕ → Option (List ℕ) → Result Import LineFault
+after_token at so_far credential counter last =
+    if is_some (place_of credential.name so_far.book) then Err DuplicateUser
+    else if nat_le 10000 (length so_far.book) then Err TooMany
+    else Ok (record { book = so_far.book ++ credential ∷ []; floors = so_far.floors ++ first_free at.skew at.moment credential counter last ∷ [] })
+
+abbrev pub after_row : Instant → Import → Row → Result Import LineFault
+after_row at so_far Ignored = Ok so_far
+after_row at so_far (Faulty fault) = Err fault
+after_row at so_far (Holds credential counter last) = after_token at so_far credential counter last
+
+abbrev pub after_line : Instant → Import → List ℕ → Result Import LineFault
+after_line at so_far line = if nat_lt 4096 (length line) then Err LineTooLong else after_row at so_far (row_of (fields_of line))
+
+-- the last line, which the end of the text or a fault cuts off
+abbrev pub after_last : Option LineFault → Instant → Import → List ℕ → Result Import LineFault
+after_last None at so_far line = after_line at so_far line
+after_last (Some fault) at so_far line = if nat_lt 4096 (length line) then Err LineTooLong else Err fault
+
+abbrev pub numbered : ℕ → Result Import LineFault → Result Import (ℕ × LineFault)
+numbered number (Ok import) = Ok import
+numbered number (Err fault) = Err (number, fault)
+
+abbrev pub then_read : Result Import (ℕ × LineFault) → (Import → Result Import (ℕ × LineFault)) → Result Import (ℕ × LineFault)
+then_read (Ok import) next = next import
+then_read (Err fault) next = Err fault
+
+-- the lines from a number on, after what was read before
+abbrev pub after_lines : Option LineFault → Instant → ℕ → Import → List (List ℕ) → Result Import (ℕ × LineFault)
+after_lines cut at number so_far [] = Ok so_far
+after_lines cut at number so_far (line ∷ []) = numbered number (after_last cut at so_far line)
+after_lines cut at number so_far (line ∷ next ∷ lines) =
+    then_read (numbered number (after_line at so_far line)) (λ import. after_lines cut at (number + 1) import (next ∷ lines))
+
+-- what a text of at most so many bytes gives, where a fault cuts it off or, with None, it ends
+abbrev pub outcome_of : Option LineFault → ℕ → Instant → List ℕ → Result Import (ℕ × LineFault)
+outcome_of cut limit at text =
+    if nat_le (length text) limit then after_lines cut at 1 nothing_read (lines_of text)
+    else after_lines (Some FileTooLong) at 1 nothing_read (lines_of (take limit text))
+
+-- the book and the floors of a whole text, or the line of its first fault and the fault
+abbrev pub book_of : ℕ → Instant → List ℕ → Result Import (ℕ × LineFault)
+book_of limit at text = outcome_of None limit at text
+
+-- whether a fault is one of the text, and not of a pull or of the memory
+abbrev pub is_of_text : LineFault → Bool
+is_of_text MissingField = true
+is_of_text BadSecret = true
+is_of_text BadCounter = true
+is_of_text DuplicateUser = true
+is_of_text NameTooLong = true
+is_of_text TooMany = true
+is_of_text LineTooLong = true
+is_of_text FileTooLong = true
+is_of_text Read = false
+is_of_text Memory = false
+
+-- a fault cuts a text off in the line with a number, after some of its bytes: none of the lines before it is
+-- faulty, and what was taken of it is not too long
+pub record IsCutOff (cut : LineFault) (limit : ℕ) (at : Instant) (text : List ℕ) (number : ℕ) : Type 0 where
+  pub taken : List ℕ
+  pub left : List ℕ
+  pub parts : text ≡ taken ++ left
+  pub outcome : outcome_of (Some cut) limit at taken ≡ Err (number, cut)

@@ -1,0 +1,25 @@
+//! The users file: the tokens of a server, and the first free factor of each.
+#![tactic(auto)]
+
+mod book;
+mod entry;
+mod fault;
+mod fields;
+mod floor;
+mod reading;
+mod row;
+mod source;
+#[cfg(test)]
+mod tests;
+mod token;
+mod type_word;
+mod write;
+mod written_file;
+
+pub use book::{Book, MAX_TOKENS, TokenId};
+pub use fault::{FileFault, LineFault};
+pub use reading::{MAX_FILE_LEN, MAX_LINE_LEN, read_book};
+pub use source::{FromRead, Pulled, Source};
+pub use token::{Kind, MAX_NAME_LEN, Password, Token};
+pub use write::{rows_read_back, tokens_are_credentials, write_row};
+pub use written_file::files_read_back;

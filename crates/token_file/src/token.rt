@@ -1,0 +1,211 @@
+ghost use Rattle.std.specs.Prelude.{◌≡◌, ◌≤◌, ◌↔◌, IsSome, IfSome, IsTrue, length};
+ghost use Rattle.std.specs.List.{list_all};
+ghost use Rattle.token_file.specs.Credential.{is_blank, is_credential, is_hash_of, is_mark, is_password, is_visible, is_word};
+
+use arrayvec::ArrayVec;
+use hmac_core::Hash;
+use otp_core::{Digits, Secret};
+use std::marker::Model;
+
+/// The longest user name and the longest password, in bytes.
+pub const MAX_NAME_LEN: usize = 64;
+
+/// What the codes of a token count.
+#[derive(Clone, Copy, Debug, PartialEq, Eq)]
+pub enum Kind {
+    /// Events: the factor is a counter.
+    Event,
+    /// Time steps of 30 seconds.
+    Time30,
+    /// Time steps of 60 seconds.
+    Time60,
+}
+
+/// What a line has to give as the password of a token.
+#[derive(Debug, Drop, PartialEq, Eq)]
+pub enum Password {
+    /// None.
+    NoneAllowed,
+    /// Anything: it is not checked here.
+    NotChecked,
+    /// These bytes.
+    Equal(ArrayVec<u8, MAX_NAME_LEN>),
+}
+
+/// A user's token.
+#[derive(Debug, Drop, PartialEq, Eq)]
+pub struct Token {
+    name: ArrayVec<u8, MAX_NAME_LEN>,
+    password: Password,
+    secret: Secret,
+    kind: Kind,
+    digits: Digits,
+    hash: Hash,
+}
+
+impl Model for Token {
+    ghost use Rattle.std.specs.Prelude.{IsTrue};
+    ghost use Rattle.token_file.specs.Credential.{Credential, is_credential};
+
+    ghost Value = { Credential };
+
+    ghost view = { λ token. record {
+      name = token.name.items;
+      password = token.password;
+      secret = token.secret;
+      kind = token.kind;
+      digits = token.digits;
+      hash = token.hash;
+    } };
+
+    ghost invariant = { λ token. IsTrue (is_credential token.name.items token.password token.kind token.hash) };
+
+    ghost inverse = { λ c. record {
+      name = record { items = c.name };
+      password = c.password;
+      secret = c.secret;
+      kind = c.kind;
+      digits = c.digits;
+      hash = c.hash;
+    } };
+}
+
+impl Token {
+    /// The token of these parts. There is none where the name or the password is empty or has a
+    /// blank or an LF, the password is one of the marks `-` and `+`, or the hash of an event token is
+    /// not SHA-1.
+    pub fn new(
+        name: ArrayVec<u8, MAX_NAME_LEN>,
+        password: Password,
+        secret: Secret,
+        kind: Kind,
+        digits: Digits,
+        hash: Hash,
+    ) -> Option<Self>
+        ensures valid { IsSome result ↔ IsTrue (is_credential name.items password kind hash) }
+        ensures value { IfSome result (λ token. token ≡ record {
+          name = name.items;
+          password = password;
+          secret = secret;
+          kind = kind;
+          digits = digits;
+          hash = hash;
+        }) }
+    {
+        if is_word_text(&name) && is_password_text(&password) && fits_hash(kind, hash) {
+            Some(Token {
+                name,
+                password,
+                secret,
+                kind,
+                digits,
+                hash,
+            })
+        } else {
+            None
+        }
+    }
+
+    /// The parts of every token fit together.
+    pub(crate) fn parts_fit(&self)
+        ensures { IsTrue (is_credential self.now.name self.now.password self.now.kind self.now.hash) }
+    {
+        let _kind = self.kind;
+    }
+
+    /// The user's name.
+    pub fn name(&self) -> &[u8]
+        ensures value { result.now ≡ self.now.name }
+        ensures word { IsTrue (is_word result.now) }
+    {
+        &self.name
+    }
+
+    /// What a line has to give as the password.
+    pub fn password(&self) -> &Password
+        ensures { result.now ≡ self.now.password }
+    {
+        &self.password
+    }
+
+    /// The secret that its codes are made with.
+    pub fn secret(&self) -> &Secret
+        ensures { result.now ≡ self.now.secret }
+    {
+        &self.secret
+    }
+
+    /// What its codes count.
+    pub fn kind(&self) -> Kind
+        ensures { result ≡ self.now.kind }
+    {
+        self.kind
+    }
+
+    /// How many digits its codes have.
+    pub fn digits(&self) -> Digits
+        ensures { result ≡ self.now.digits }
+    {
+        self.digits
+    }
+
+    /// The hash that its codes are made with.
+    pub fn hash(&self) -> Hash
+        ensures { result ≡ self.now.hash }
+    {
+        self.hash
+    }
+}
+
+/// A name or a password as a value.
+pub(crate) fn array_of(text: &[u8]) -> ArrayVec<u8, MAX_NAME_LEN>
+    requires { length text.now ≤ MAX_NAME_LEN }
+    ensures { result.items ≡ text.now }
+{
+    ArrayVec::try_from(text).unwrap()
+}
+
+/// Whether a byte divides fields or ends a line.
+pub(crate) fn is_blank_byte(byte: u8) -> bool
+    ensures { result ≡ is_blank byte }
+{
+    byte == b'\t' || byte == b'\n' || byte == b'\r' || byte == b' '
+}
+
+/// Whether no byte of a text is a blank.
+fn has_no_blank(text: &[u8]) -> bool
+    ensures { result ≡ list_all is_visible text.now }
+{
+    text.iter().all(|&byte| !is_blank_byte(byte))
+}
+
+/// Whether a text has 1 to 64 bytes, and no blank among them.
+fn is_word_text(text: &[u8]) -> bool
+    ensures { result ≡ is_word text.now }
+{
+    1 <= text.len() && text.len() <= MAX_NAME_LEN && has_no_blank(text)
+}
+
+/// Whether a column is one of the marks `-` and `+`.
+fn is_mark_text(column: &[u8]) -> bool
+    ensures { result ≡ is_mark column.now }
+{
+    column == b"-".as_slice() || column == b"+".as_slice()
+}
+
+/// Whether a line can give this password.
+fn is_password_text(password: &Password) -> bool
+    ensures { result ≡ is_password password.now }
+{
+    match password {
+        Password::NoneAllowed | Password::NotChecked => true,
+        Password::Equal(text) => is_word_text(text) && !is_mark_text(text),
+    }
+}
+
+/// Whether tokens of this kind may have this hash.
+fn fits_hash(kind: Kind, hash: Hash) -> bool
+    ensures { result ≡ is_hash_of kind hash }
+{
+    kind != Kind::Event || hash == Hash::Sha1
+}

@@ -1,0 +1,138 @@
+ghost use Rattle.std.specs.Prelude.{◌≡◌, ℕ, ◌≤◌, ◌++◌, ◌∷◌, [], List, length, None, OnOk};
+ghost use Rattle.std.specs.Fmt.{decimal};
+ghost use Rattle.std.specs.Io.KnownBytes.{Appends};
+ghost use Rattle.hex.specs.Hex.{IsBytes, encode_lower};
+ghost use Rattle.otp_core.specs.Range.{IsNext};
+ghost use Rattle.token_file.specs.Credential.{Credential};
+ghost use Rattle.token_file.specs.Fields.{fields_of, lines_of};
+ghost use Rattle.token_file.specs.Row.{Holds, first_free, row_of};
+ghost use Rattle.token_file.specs.UsersFile.{Import, Instant, after_line, after_token};
+ghost use Rattle.token_file.specs.Writing.{IsCredential, digits_word, hash_word, kind_word, password_column, row_line, row_text, type_word, written_counter};
+
+use crate::token::{Kind, Password, Token};
+use hmac_core::Hash;
+use otp_core::{Digits, MAX_SECRET_LEN, Next, Secret};
+use std::io::{self, Write};
+
+/// The word of a kind.
+fn kind_text(kind: Kind) -> &'static [u8]
+    ensures { result.now ≡ kind_word kind }
+{
+    match kind {
+        Kind::Event => b"HOTP/E",
+        Kind::Time30 => b"HOTP/T30",
+        Kind::Time60 => b"HOTP/T60",
+    }
+}
+
+/// What a type adds to the word of its kind for the digits.
+fn digits_text(digits: Digits) -> &'static [u8]
+    ensures { result.now ≡ digits_word digits }
+{
+    match digits {
+        Digits::Six => b"/6",
+        Digits::Seven => b"/7",
+        Digits::Eight => b"/8",
+    }
+}
+
+/// What a type adds for the hash.
+fn hash_text(hash: Hash) -> &'static [u8]
+    ensures { result.now ≡ hash_word hash }
+{
+    match hash {
+        Hash::Sha1 => b"",
+        Hash::Sha256 => b"/SHA256",
+        Hash::Sha512 => b"/SHA512",
+    }
+}
+
+/// The column of a password.
+fn column_of(password: &Password) -> &[u8]
+    ensures { result.now ≡ password_column password.now }
+{
+    match password {
+        Password::NoneAllowed => b"-",
+        Password::NotChecked => b"+",
+        Password::Equal(text) => text,
+    }
+}
+
+/// Writes the type of a token, with its digits.
+fn write_type<W: Write>(writer: &mut W, kind: Kind, digits: Digits, hash: Hash) -> io::Result<()>
+    ensures { OnOk result (Appends (W.contents writer.old) (W.contents writer.new) (type_word kind digits hash)) }
+{
+    writer.write_all(kind_text(kind))?;
+    writer.write_all(digits_text(digits))?;
+    writer.write_all(hash_text(hash))
+}
+
+/// Writes a TAB and a field.
+fn write_field<W: Write>(writer: &mut W, field: &[u8]) -> io::Result<()>
+    ensures { OnOk result (Appends (W.contents writer.old) (W.contents writer.new) (9 ∷ field.now)) }
+{
+    writer.write_all(b"\t")?;
+    writer.write_all(field)
+}
+
+/// Writes a TAB and a secret in lower case hexadecimal.
+fn write_secret<W: Write>(writer: &mut W, secret: &Secret) -> io::Result<()>
+    ensures { OnOk result (Appends (W.contents writer.old) (W.contents writer.new) (9 ∷ encode_lower secret.now)) }
+{
+    let bytes = secret.as_slice();
+    let mut buffer = [0; 2 * MAX_SECRET_LEN];
+    let text = &mut buffer[..2 * bytes.len()];
+    hex::encode_to_slice(bytes, text).unwrap();
+    write_field(writer, text)
+}
+
+/// Writes a TAB and a first free factor.
+fn write_factor<W: Write>(writer: &mut W, next: Next) -> io::Result<()>
+    ensures { OnOk result (Appends (W.contents writer.old) (W.contents writer.new) (9 ∷ decimal next)) }
+{
+    write!(writer, "\t{}", next.value())
+}
+
+/// Writes the row of a token and its first free factor. A time token has no factor in its row.
+///
+/// # Errors
+///
+/// Those of the writer. A front of the row may have been written then.
+pub fn write_row<W: Write>(writer: &mut W, token: &Token, next: Next) -> io::Result<()>
+    ensures text { OnOk result (Appends (W.contents writer.old) (W.contents writer.new) (row_text token.now next)) }
+{
+    write_type(writer, token.kind(), token.digits(), token.hash())?;
+    write_field(writer, token.name())?;
+    write_field(writer, column_of(token.password()))?;
+    write_secret(writer, token.secret())?;
+    if token.kind() == Kind::Event {
+        write_factor(writer, next)?;
+    }
+    writer.write_all(b"\n")
+}
+
+/// Each element of a slice of bytes is a byte.
+fn are_bytes(bytes: &[u8])
+    ensures { IsBytes bytes.now }
+{}
+
+/// Every token is one of which `rows_read_back` speaks.
+pub fn tokens_are_credentials(token: &Token)
+    ensures { IsCredential token.now }
+{
+    token.parts_fit();
+    are_bytes(token.secret().as_slice());
+}
+
+/// A row that was written is one line, and is read as the same token with the same first free factor.
+pub fn rows_read_back()
+    ensures row { (c : Credential) (next : ℕ) → IsCredential c → IsNext next →
+        row_of (fields_of (row_line c next)) ≡ Holds c (written_counter c.kind next) None }
+    ensures floor { (c : Credential) (next skew moment : ℕ) → c.kind ≡ Kind.Event →
+        first_free skew moment c (written_counter c.kind next) None ≡ next }
+    ensures lines { (c : Credential) (next : ℕ) (rest : List ℕ) → IsCredential c → IsNext next →
+        lines_of (row_text c next ++ rest) ≡ row_line c next ∷ lines_of rest }
+    ensures short { (c : Credential) (next : ℕ) → IsCredential c → IsNext next → length (row_text c next) ≤ 425 }
+    ensures import { (at : Instant) (so_far : Import) (c : Credential) (next : ℕ) → IsCredential c → IsNext next →
+        after_line at so_far (row_line c next) ≡ after_token at so_far c (written_counter c.kind next) None }
+{}
