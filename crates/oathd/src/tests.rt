@@ -12,12 +12,13 @@ use std::test::Fail;
 fn served(
     alloc: Global,
     settings: Settings,
-    moment: u64,
+    moment: u32,
     limit: u32,
     input: &[u8],
 ) -> Result<(Vec<u8>, String), Fail> {
     let mut reader = input;
     let mut written = Vec::new(alloc);
+    let moment = u64::from(moment);
     let text = match serve_lines(alloc, settings, moment, limit, &mut reader, &mut written) {
         Ok(()) => String::new(alloc),
         Err(fault) => format!(in alloc; "{fault}")?,

@@ -1,4 +1,4 @@
-use Rattle.std.proofs.Common.{◌≡◌, ℕ, ◌+◌, ◌*◌, arith}
+use Rattle.std.proofs.Common.{◌≡◌, ℕ, ◌+◌, ◌*◌, arith, rules}
 use Rattle.oathtool.proofs.TimeLemmas.{with_clock}
 use Rattle.oathtool.proofs.time.time_of.Goals as goal
 
@@ -8,7 +8,7 @@ returns-clause-some c = record {
   named = c.in_ok-day.ensures.day;
   hours = c.if-fields-gt23.false;
   minutes = c.if-fields-gt59.false;
-  within_minute = c.if-fields-gt59-2.false;
+  within_minute = search rules;
   value = with_clock c.in-Some.start
       (c.args.fields.now.hour * 3600 + c.args.fields.now.minute * 60 + c.args.fields.now.second)
       (c.in-Some.start + c.args.fields.now.hour * 3600 + c.args.fields.now.minute * 60 + c.args.fields.now.second)
