@@ -171,8 +171,10 @@ impl Reading {
         ensures unread { IfErr result (λ fault. is_read fault.kind ≡ false) }
         ensures len { length self.begun ≤ 4096 }
     {
-        self.end_line(settings, moment)?;
-        Ok((self.book, self.floors))
+        match self.end_line(settings, moment) {
+            Ok(()) => Ok((self.book, self.floors)),
+            Err(fault) => Err(fault),
+        }
     }
 }
 
