@@ -1,7 +1,7 @@
 //! The validation server's program.
 #![tactic(auto)]
 
-ghost use Rattle.std.specs.Prelude.{◌≡◌, ◌≢◌, IfOk};
+ghost use Rattle.std.specs.Prelude.{◌≡◌, ◌≢◌, IfErr, IfOk};
 ghost use Rattle.clap.specs.Values.{kind_of};
 ghost use Rattle.oathd.specs.Words.{HasMoment};
 
@@ -51,6 +51,7 @@ fn run(rt: &HostRuntime, request: Request<'_>) -> Result<(), Fault>
 /// Prints what clap has to say of the words, and gives the exit status.
 fn explain(rt: &HostRuntime, error: &clap::Error) -> Result<u8, Fault>
     ensures memory { kind_of error.now ≡ ErrorKind.OutOfMemory → result ≡ Err Fault.Memory }
+    ensures output { kind_of error.now ≢ ErrorKind.OutOfMemory → IfErr result (λ fault. fault ≡ Fault.CannotWrite) }
     ensures help { kind_of error.now ≡ ErrorKind.DisplayHelp → IfOk result (λ status. status ≡ 0) }
     ensures usage { (kind_of error.now ≢ ErrorKind.DisplayHelp) → (kind_of error.now ≢ ErrorKind.DisplayVersion)
         → (kind_of error.now ≢ ErrorKind.OutOfMemory) → result ≡ Ok 2 }

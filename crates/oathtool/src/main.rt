@@ -1,7 +1,7 @@
 //! Makes and finds one-time passwords, as OATH Toolkit's `oathtool` does.
 #![tactic(auto)]
 
-ghost use Rattle.std.specs.Prelude.{◌≡◌, ◌≢◌, IfOk};
+ghost use Rattle.std.specs.Prelude.{◌≡◌, ◌≢◌, IfErr, IfOk};
 ghost use Rattle.clap.specs.Values.{kind_of};
 
 mod codes;
@@ -42,6 +42,7 @@ fn print(rt: &HostRuntime, words: &Words) -> Result<(), Fault> {
 /// Prints what clap has to say of the words, and gives the exit status.
 fn explain(rt: &HostRuntime, error: &clap::Error) -> Result<u8, Fault>
     ensures memory { kind_of error.now ≡ ErrorKind.OutOfMemory → result ≡ Err Fault.Memory }
+    ensures output { kind_of error.now ≢ ErrorKind.OutOfMemory → IfErr result (λ fault. fault ≡ Fault.CannotWrite) }
     ensures help { kind_of error.now ≡ ErrorKind.DisplayHelp → IfOk result (λ status. status ≡ 0) }
     ensures usage { (kind_of error.now ≢ ErrorKind.DisplayHelp) → (kind_of error.now ≢ ErrorKind.DisplayVersion)
         → (kind_of error.now ≢ ErrorKind.OutOfMemory) → result ≡ Ok 2 }

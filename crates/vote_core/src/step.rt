@@ -1,4 +1,5 @@
 ghost use Rattle.std.specs.Prelude.{◌≡◌, [], ◌∷◌};
+ghost use Rattle.vote_core.specs.State.{sent_by};
 
 use crate::message::Message;
 use arrayvec::ArrayVec;
@@ -16,11 +17,33 @@ pub enum Decision {
     Timeout,
 }
 
+/// A message and the members that it goes to, ascending.
+#[derive(Debug, Default, Drop)]
+pub struct Sending {
+    pub to: ArrayVec<u8, 8>,
+    pub message: Message,
+}
+
+impl Sending {
+    /// A message to one member.
+    fn one(to: u8, message: Message) -> Self
+        ensures to { result.to.items ≡ to ∷ [] }
+        ensures message { result.message ≡ message }
+    {
+        let mut receivers = ArrayVec::new();
+        receivers.push(to);
+        Sending {
+            to: receivers,
+            message,
+        }
+    }
+}
+
 /// What a call sends and decides, once what it writes is kept.
 #[derive(Debug, Drop)]
 pub struct Step {
-    /// The messages, each after its receiver.
-    pub sends: ArrayVec<(u8, Message), 264>,
+    /// What it sends: at most 264 messages, with as many receivers.
+    pub sends: ArrayVec<Sending, 33>,
     /// The proposal that the call began.
     pub begun: Option<Proposal>,
     /// What became of proposals of this boot, each after its number.
@@ -47,19 +70,19 @@ impl Step {
 
     /// Sends one message.
     pub(crate) fn reply(to: u8, message: Message) -> Self
-        ensures sends { result.sends.items ≡ (to, message) ∷ [] }
+        ensures sends { sent_by result.sends.items ≡ (to, message) ∷ [] }
         ensures begun { result.begun ≡ None }
         ensures decisions { result.decisions.items ≡ [] }
         ensures pass { result.pass ≡ None }
     {
         let mut step = Step::quiet();
-        step.sends.push((to, message));
+        step.sends.push(Sending::one(to, message));
         step
     }
 
     /// Decides one proposal.
     pub(crate) fn decided(seq: u64, decision: Decision, pass: Option<Pass>) -> Self
-        ensures sends { result.sends.items ≡ [] }
+        ensures sends { sent_by result.sends.items ≡ [] }
         ensures begun { result.begun ≡ None }
         ensures decisions { result.decisions.items ≡ (seq, decision) ∷ [] }
         ensures pass { result.pass ≡ pass }
