@@ -1,5 +1,4 @@
 pub mod Cuts
 pub mod LineLemmas
-pub mod Numbers
 pub mod PartLemmas
 pub mod RunLemmas

@@ -1,18 +1,9 @@
 -- The lines of clients.
-use Rattle.std.specs.Prelude.{ℕ, ◌+◌, ◌^◌, ◌&&◌, nat_lt, if◌then◌else◌, List, [], ◌∷◌, length, Option, Some, None}
-use Rattle.std.specs.Char.{is_ascii_digit}
-use Rattle.std.specs.List.{list_all}
-use Rattle.std.specs.Str.Parse.{digits_value}
+use Rattle.std.specs.Prelude.{ℕ, ◌+◌, List, [], ◌∷◌, Option, Some, None}
+use Rattle.decimal_text.specs.Number.{number_of}
 use Rattle.oath_node.specs.ReferenceServer.{Line}
 use Rattle.oathd.specs.Cut.{Halves, halves_of}
 use Rattle.oathd.specs.Input.{TextLine}
-
--- a number in decimal digits, below 2 ^ 64
-abbrev pub number_of : List ℕ → Option ℕ
-number_of text =
-    if list_all is_ascii_digit text && (nat_lt 0 (length text) && nat_lt (digits_value 10 text) (2 ^ 64))
-    then Some (digits_value 10 text)
-    else None
 
 abbrev pub line_of_numbers : Option ℕ → Option ℕ → List ℕ → Option Line
 line_of_numbers (Some client) (Some moment) text = Some (record { client = client; moment = moment; text = text })

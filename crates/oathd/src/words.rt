@@ -3,9 +3,9 @@ ghost use Rattle.clap.specs.Matches.{first_value, found_of};
 ghost use Rattle.otp_core.specs.Limits.{Limits};
 ghost use Rattle.oathd.specs.Words.{AsksFor, AsksForLines, AsksForNothing, HasMoment, number_at};
 
-use crate::client::read_number;
 use clap::error::ErrorKind;
 use clap::{Arg, ArgAction, ArgMatches, Command, Error, value_parser};
+use decimal_text::read_number;
 use otp_core::{MOMENTS_END, Settings};
 use std::alloc::{AllocError, Global};
 

@@ -6,7 +6,7 @@ use Rattle.otp_core.specs.Range.{IsFactor}
 use Rattle.otp_core.specs.Totp.{step_of}
 use Rattle.secret_text.specs.declared.fault.SecretFault.{SecretFault}
 use Rattle.oathtool.specs.Key.{IsKeyOf, key_refusal}
-use Rattle.oathtool.specs.Number.{step_size_of}
+use Rattle.oathtool.specs.StepSize.{step_size_of}
 use Rattle.oathtool.specs.Time.{IsTimeText}
 use Rattle.oathtool.specs.declared.codes.Generator.{Generator}
 use Rattle.oathtool.specs.declared.fault.Fault.{Fault}

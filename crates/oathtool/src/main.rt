@@ -6,10 +6,10 @@ ghost use Rattle.clap.specs.Values.{kind_of};
 
 mod codes;
 mod fault;
-mod number;
 mod offset;
 mod plan;
 mod run;
+mod step_size;
 #[cfg(test)]
 mod tests;
 mod time;

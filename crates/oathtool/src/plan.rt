@@ -6,7 +6,7 @@ ghost use Rattle.oathtool.specs.Plan.{HasTimes, IsGenerator, IsNoTimeGiven, IsRe
 
 use crate::codes::Generator;
 use crate::fault::Fault;
-use crate::number::read_step_size;
+use crate::step_size::read_step_size;
 use crate::time::{TimeFault, read_time};
 use crate::words::{Mode, Words};
 use hmac_core::Hash;

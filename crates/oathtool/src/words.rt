@@ -5,9 +5,9 @@ ghost use Rattle.oathtool.specs.Words.{AsksFor, HasWindow, IsMode, IsNameOf, Nee
 ghost use Rattle.oathtool.specs.declared.words.Mode.{Mode as AnyMode};
 ghost use Rattle.oathtool.specs.declared.words.Words.{Words as AnyWords};
 
-use crate::number::read_number;
 use clap::error::ErrorKind;
 use clap::{Arg, ArgAction, ArgMatches, Command, Error, value_parser};
+use decimal_text::read_number;
 use hmac_core::Hash;
 use otp_core::{Digits, Factor};
 use std::alloc::{AllocError, Global};

@@ -1,6 +1,6 @@
 use Rattle.std.proofs.Common.{◌≡◌, inl, subst, sym, ap, ◌∙◌}
 use Rattle.std.specs.Prelude.{Result, Ok, Err}
-use Rattle.oathtool.specs.Number.{step_size_of}
+use Rattle.oathtool.specs.StepSize.{step_size_of}
 use Rattle.oathtool.specs.Plan.{IsNoTime}
 use Rattle.oathtool.specs.declared.time.TimeFault.{TimeFault}
 use Rattle.oathtool.proofs.RunLemmas.{no_bad_time, time_fails}

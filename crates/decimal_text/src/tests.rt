@@ -1,0 +1,25 @@
+use super::*;
+
+#[test]
+fn numbers(rt: HostRuntime) {
+    assert_eq!(rt; read_number(b"0"), Some(0));
+    assert_eq!(rt; read_number(b"007"), Some(7));
+    assert_eq!(rt; read_number(b"18446744073709551615"), Some(u64::MAX));
+}
+
+#[test]
+fn no_numbers(rt: HostRuntime) {
+    for text in [
+        b"".as_slice(),
+        b"+1",
+        b"-1",
+        b" 1",
+        b"1 ",
+        b"1_000",
+        b"0x1",
+        b"18446744073709551616",
+        b"\xd9\xa1",
+    ] {
+        assert_eq!(rt; read_number(text), None);
+    }
+}
