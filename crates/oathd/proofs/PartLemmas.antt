@@ -1,7 +1,7 @@
 -- An input cut in two at the first `%%`.
-use Rattle.std.proofs.Common.{◌≡◌, ℕ, suc, ◌+◌, ◌-◌, ◌<◌, ◌≤◌, Bool, true, false, nat_lt, cond, List, [], ◌∷◌, ◌++◌, length, map, take, drop, Option, Some, None, refl, sym, ap, subst, ◌∙◌, arith}
-use Rattle.std.specs.Prelude.{◌==◌, ◌||◌, not, codes, take_while}
-use Rattle.std.specs.List.{flat_map, join_with_byte, list_any, slice_split}
+use Rattle.std.proofs.Common.{◌≡◌, ℕ, suc, ◌+◌, ◌-◌, ◌<◌, ◌≤◌, Bool, true, false, cond, List, [], ◌∷◌, ◌++◌, length, map, take, drop, Some, None, refl, sym, ap, subst, ◌∙◌, arith}
+use Rattle.std.specs.Prelude.{◌==◌, ◌||◌, not, codes}
+use Rattle.std.specs.List.{flat_map, join_with_byte, list_any}
 use Rattle.std.specs.Str.{bytes_eq}
 use Rattle.std.proofs.Math.Seq.{take-append_seam}
 use Rattle.std.proofs.lemmas.Bool.Decides.{nat_tests}
@@ -11,7 +11,7 @@ use Rattle.std.proofs.lemmas.List.Splits.{length-slice_split, join_with_byte-sli
 use Rattle.std.proofs.lemmas.List.Sums.{count_by-le-length, take_while-cons}
 use Rattle.std.proofs.lemmas.List.{append_assoc, length-append}
 use Rattle.oathd.specs.Client.{client_lines}
-use Rattle.oathd.specs.Input.{AreSplit, TextLine, clients_part, has_marker, is_marker, line_bytes, lines_between, pieces_of, users_file, users_part}
+use Rattle.oathd.specs.Input.{AreSplit, TextLine, clients_part, has_marker, is_marker, line_bytes, lines_between, pieces_of, users_part}
 use Rattle.oathd.specs.Run.{clients_of}
 use Rattle.oathd.proofs.LineLemmas.{before_more}
 

@@ -1,11 +1,11 @@
 -- How a run ends.
-use Rattle.std.proofs.Common.{◌≡◌, ℕ, ◌+◌, ◌^◌, ◌<◌, ◌≤◌, Bool, true, false, List, [], ◌++◌, Option, Some, None, inl, inr, refl, sym, ap, ◌∙◌, subst, append-nil, arith}
+use Rattle.std.proofs.Common.{◌≡◌, ℕ, ◌+◌, ◌^◌, ◌<◌, ◌≤◌, Bool, true, false, List, [], Option, Some, None, inl, inr, refl, sym, ap, ◌∙◌, subst, append-nil, arith}
 use Rattle.std.specs.Prelude.{Result, Ok, Err, IfErr, OnErr, IsErrAnd}
 use Rattle.std.specs.Io.KnownBytes.{Appends}
 use Rattle.secret_text.specs.declared.fault.SecretFault.{SecretFault}
 use Rattle.oathtool.specs.Key.{IsKeyOf, key_refusal}
 use Rattle.oathtool.specs.Offset.{HasNoOffset}
-use Rattle.oathtool.specs.Plan.{HasBadTime, HasKey, HasTimes, IsGenerator, IsNoTime, IsNoTimeGiven, IsReady, IsTimeGiven, IsTimesFault, Stops, AtKey, AtFirst, AtRange, first_of, time_text}
+use Rattle.oathtool.specs.Plan.{HasBadTime, HasKey, HasTimes, IsGenerator, IsNoTimeGiven, IsReady, IsTimeGiven, IsTimesFault, Stops, AtKey, AtFirst, AtRange, first_of, time_text}
 use Rattle.oathtool.specs.Run.{EndsSo, Fails, IsUnmatched, Stopped, Unmatched, otp_text}
 use Rattle.oathtool.specs.Time.{IsTimeText}
 use Rattle.oathtool.specs.TimeFault.{fault_of}

@@ -10,7 +10,7 @@ use Rattle.oathtool.specs.StepSize.{step_size_of}
 use Rattle.oathtool.specs.Time.{IsTimeText}
 use Rattle.oathtool.specs.declared.codes.Generator.{Generator}
 use Rattle.oathtool.specs.declared.fault.Fault.{Fault}
-use Rattle.oathtool.specs.declared.fault.Fault.TheVariants.{BadTime, BadStepSize, BadKey, NoClock, BeforeStart, FactorTooLarge, NoMatch, Memory, CannotWrite}
+use Rattle.oathtool.specs.declared.fault.Fault.TheVariants.{BadTime, BadStepSize, BadKey, NoClock, BeforeStart, FactorTooLarge, Memory}
 use Rattle.oathtool.specs.declared.plan.Plan.{Plan}
 use Rattle.oathtool.specs.declared.plan.Times.{Times}
 use Rattle.oathtool.specs.declared.words.Mode.{Mode}

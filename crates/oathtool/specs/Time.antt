@@ -1,5 +1,5 @@
 -- A time as text. 45 is `-`, 32 is the space, 58 is `:`, 64 is `@`, 85, 84 and 67 are `UTC`.
-use Rattle.std.specs.Prelude.{◌≡◌, ℕ, ◌+◌, ◌*◌, ◌≤◌, ◌==◌, ◌&&◌, ◌⊎◌, ℤ, pos, ◌+ℤ◌, ◌*ℤ◌, Bool, if◌then◌else◌, List, ◌∷◌, length, slice_index, slice_range, Option, Some, None}
+use Rattle.std.specs.Prelude.{◌≡◌, ℕ, ◌+◌, ◌*◌, ◌≤◌, ◌==◌, ◌&&◌, ◌⊎◌, pos, ◌+ℤ◌, ◌*ℤ◌, Bool, if◌then◌else◌, List, ◌∷◌, length, slice_index, slice_range, Option, Some, None}
 use Rattle.jiff.specs.Words.{epoch_day, IsYmd}
 use Rattle.jiff.specs.Types.{Date}
 use Rattle.otp_core.specs.Range.{IsMoment}

@@ -1,11 +1,11 @@
 ghost use Rattle.std.specs.Prelude.{◌≡◌, ◌+◌, ◌↔◌, ◌++◌, ◌∷◌, [], IsTrue, OnOk, IfErr};
 ghost use Rattle.std.specs.Io.KnownBytes.{Appends};
 ghost use Rattle.otp_core.specs.Range.{IsFactor};
-ghost use Rattle.oathtool.specs.Codes.{Matches, code_at, code_lines};
+ghost use Rattle.oathtool.specs.Codes.{IsSetUp, Matches, code_at, code_lines};
 
 use crate::fault::Fault;
 use hmac_core::Hash;
-use otp_core::{Code, Digits, Factor, code};
+use otp_core::{Code, Codes, Digits, Factor};
 use std::io::Write;
 
 /// What the codes of a key are made with.
@@ -17,18 +17,27 @@ pub(crate) struct Generator<'a> {
 }
 
 impl<'a> Generator<'a> {
+    /// Its codes, with the key set up once for all of them.
+    pub(crate) fn codes(self) -> Codes
+        ensures { IsSetUp result self.entry }
+    {
+        Codes::new(self.hash, self.key, self.digits)
+    }
+
     /// The code of a factor.
-    fn code(self, factor: Factor) -> Code
+    fn code(self, codes: &Codes, factor: Factor) -> Code
+        requires { IsSetUp codes.now self }
         ensures { result ≡ code_at self.entry factor }
     {
-        code(self.hash, self.key, factor, self.digits)
+        codes.at(factor)
     }
 
     /// Whether the code of a factor is this one.
-    pub(crate) fn matches(self, factor: Factor, otp: &[u8]) -> bool
+    pub(crate) fn matches(self, codes: &Codes, factor: Factor, otp: &[u8]) -> bool
+        requires { IsSetUp codes.now self }
         ensures { IsTrue result ↔ Matches self.entry otp.now factor }
     {
-        self.code(factor).as_slice() == otp
+        self.code(codes, factor).as_slice() == otp
     }
 }
 
@@ -62,8 +71,9 @@ pub(crate) fn codes_from<W: Write>(
         (Appends (W.contents writer.old) (W.contents writer.new) (code_lines generator.entry first (window + 1))) }
     ensures fault { IfErr result (λ fault. fault ≡ Fault.CannotWrite) }
 {
+    let codes = generator.codes();
     for distance in 0..window + 1 {
-        let code = generator.code(factor_after(first, distance));
+        let code = generator.code(&codes, factor_after(first, distance));
         write_line(writer, code.as_slice())?;
     }
     Ok(())

@@ -20,8 +20,9 @@ pub(crate) fn find_offset_hotp(
     ensures some { IfSome result (IsLeastOffset generator.entry otp.now first window) }
     ensures none { IfNone result (HasNoOffset generator.entry otp.now first window) }
 {
+    let codes = generator.codes();
     for offset in 0..window + 1 {
-        if generator.matches(factor_after(first, offset), otp) {
+        if generator.matches(&codes, factor_after(first, offset), otp) {
             return Some(offset);
         }
     }
@@ -48,13 +49,14 @@ pub(crate) fn find_offset_totp(
     ensures some { IfSome result (IsNearestOffset generator.entry otp.now step window) }
     ensures none { IfNone result (HasNoNearest generator.entry otp.now step window) }
 {
+    let codes = generator.codes();
     for distance in 0..window + 1 {
         if let Some(before) = factor_before(step, distance) {
-            if generator.matches(before, otp) {
+            if generator.matches(&codes, before, otp) {
                 return Some(-(distance as i64));
             }
         }
-        if generator.matches(factor_after(step, distance), otp) {
+        if generator.matches(&codes, factor_after(step, distance), otp) {
             return Some(distance as i64);
         }
     }

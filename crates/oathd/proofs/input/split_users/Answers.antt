@@ -1,4 +1,4 @@
-use Rattle.std.proofs.Common.{◌≡◌, ℕ, ◌+◌, ◌≤◌, ◌<◌, List, [], length, sym, ap, subst, ◌∙◌, false, arith}
+use Rattle.std.proofs.Common.{ℕ, List, [], sym, ap, subst, ◌∙◌, arith}
 use Rattle.oathd.specs.Input.{AreSplit, lines_between, pieces_of}
 use Rattle.oathd.proofs.LineLemmas.{lines_between-cons}
 use Rattle.oathd.proofs.PartLemmas.{last_cut, last_marked, last_unmarked, past_few, past_more, past_short, split_at, unmarked_to_end}

@@ -1,4 +1,4 @@
-use Rattle.std.proofs.Common.{length, ℕ}
+use Rattle.std.proofs.Common.{length}
 use Rattle.oathd.proofs.PartLemmas.{IsPast}
 use Rattle.oathd.proofs.input.split_users.Given as goal
 

@@ -1,4 +1,4 @@
-use Rattle.std.proofs.Common.{◌≡◌, ℕ, List, [], Option, subst}
+use Rattle.std.proofs.Common.{ℕ, List, subst}
 use Rattle.token_file.specs.UsersFile.{book_of, instant_of}
 use Rattle.oathd.specs.Run.{RefusesUsers}
 use Rattle.oathd.proofs.RunLemmas.{appends_nothing, refused_ends}

@@ -1,4 +1,4 @@
-use Rattle.std.proofs.Common.{ℕ, subst}
+use Rattle.std.proofs.Common.{subst}
 use Rattle.std.proofs.lemmas.Option.{IfSome_then}
 use Rattle.token_file.specs.declared.reading.TheConstants.{MAX_FILE_LEN}
 use Rattle.oathd.specs.Input.{InputRead}

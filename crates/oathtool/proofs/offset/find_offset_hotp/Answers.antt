@@ -1,4 +1,4 @@
-use Rattle.std.proofs.Common.{◌≡◌, ℕ, ◌+◌, ◌<◌, arith, below_more, ap, subst, sym}
+use Rattle.std.proofs.Common.{ℕ, ◌+◌, arith, below_more, subst, sym}
 use Rattle.oathtool.specs.Codes.{Matches}
 use Rattle.oathtool.proofs.offset.find_offset_hotp.Goals as goal
 

@@ -1,4 +1,4 @@
-use Rattle.std.proofs.Common.{◌≡◌, ℕ, ◌+◌, ◌-◌, ◌<◌, ◌≤◌, arith, ℤ, pos, neg_ℤ, refl, subst, sym, to_z, w64}
+use Rattle.std.proofs.Common.{◌≡◌, ℕ, ◌-◌, ◌<◌, ◌≤◌, arith, ℤ, pos, neg_ℤ, refl, subst, sym, to_z, w64}
 use Rattle.std.proofs.lemmas.Int.{ints}
 use Rattle.oathtool.specs.Codes.{Matches}
 use Rattle.oathtool.specs.Offset.{IsNearestOffset}

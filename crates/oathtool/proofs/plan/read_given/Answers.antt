@@ -1,5 +1,5 @@
 use Rattle.std.proofs.Common.{◌≡◌, ap, subst}
-use Rattle.std.specs.Prelude.{Result, Ok, Err}
+use Rattle.std.specs.Prelude.{Err}
 use Rattle.oathtool.specs.Plan.{IsNoTime}
 use Rattle.oathtool.specs.declared.time.TimeFault.{TimeFault}
 use Rattle.oathtool.specs.declared.time.TimeFault.TheVariants.{BadTime}

@@ -1,5 +1,5 @@
-use Rattle.std.proofs.Common.{◌≡◌, inl, subst, sym, ap, ◌∙◌}
-use Rattle.std.specs.Prelude.{Result, Ok, Err}
+use Rattle.std.proofs.Common.{inl, subst, sym, ap, ◌∙◌}
+use Rattle.std.specs.Prelude.{Err}
 use Rattle.oathtool.specs.StepSize.{step_size_of}
 use Rattle.oathtool.specs.Plan.{IsNoTime}
 use Rattle.oathtool.specs.declared.time.TimeFault.{TimeFault}

@@ -1,5 +1,5 @@
-use Rattle.std.proofs.Common.{◌≡◌, ℕ, refl, ap, ◌∙◌, arith}
-use Rattle.std.specs.Prelude.{Result, Ok, Err}
+use Rattle.std.proofs.Common.{◌≡◌, refl, ap, ◌∙◌, arith}
+use Rattle.std.specs.Prelude.{Err}
 use Rattle.oathtool.specs.declared.time.TimeFault.{TimeFault}
 use Rattle.oathtool.proofs.RunLemmas.{same_error}
 use Rattle.oathtool.proofs.TimeLemmas.{one_either}

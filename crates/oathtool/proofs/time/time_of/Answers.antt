@@ -1,4 +1,4 @@
-use Rattle.std.proofs.Common.{◌≡◌, ℕ, ◌+◌, ◌*◌, arith, rules}
+use Rattle.std.proofs.Common.{◌+◌, ◌*◌, arith, rules}
 use Rattle.oathtool.proofs.TimeLemmas.{with_clock}
 use Rattle.oathtool.proofs.time.time_of.Goals as goal
 

@@ -1,4 +1,4 @@
-use Rattle.std.proofs.Common.{◌≡◌, Bool, nat_lt, List, length, take, sym, ap, ◌∙◌, ℕ}
+use Rattle.std.proofs.Common.{◌≡◌, Bool, nat_lt, List, length, sym, ap, ◌∙◌, ℕ}
 use Rattle.oathd.specs.Input.{has_marker, lines_between, lines_of, pieces_of}
 use Rattle.oathd.proofs.PartLemmas.{no_clients}
 use Rattle.oathd.proofs.input.Input.parts.Goals as goal

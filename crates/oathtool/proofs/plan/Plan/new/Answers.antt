@@ -1,4 +1,4 @@
-use Rattle.std.proofs.Common.{◌≡◌, ap, sym, ◌∙◌}
+use Rattle.std.proofs.Common.{ap, ◌∙◌}
 use Rattle.oathtool.specs.Key.{key_refusal}
 use Rattle.oathtool.proofs.RunLemmas.{first_stops, has_key, key_stops, range_stops}
 use Rattle.oathtool.proofs.plan.Plan.new.Goals as goal
