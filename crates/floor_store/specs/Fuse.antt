@@ -1,10 +1,12 @@
 -- A store behind a fuse, by what it holds.
-use Rattle.std.specs.Prelude.{◌≡◌, ℕ, ◌+◌, ◌<◌, Bool, true, false, Option, Some, None, if◌then◌else◌, refl}
+use Rattle.std.specs.Prelude.{◌≡◌, ℕ, ◌+◌, ◌<◌, Bool, true, false, Some, None, IsErr, IsErrOf, OnOk, OnErr, Result, if◌then◌else◌, refl}
 use Rattle.std.specs.Coded.{Coded, code_by, coded×, coded_ℕ, coded_bool}
+use Rattle.floor_store.specs.Content.{Content}
+use Rattle.floor_store.specs.Held.{Held}
 use Rattle.floor_store.specs.declared.fault.StoreFault.{StoreFault}
 use Rattle.floor_store.specs.declared.fault.StoreFault.TheVariants.{Disk}
 
-pub record FuseHeld (S : Type 0) : Type 0 where
+pub record FuseRecord (S : Type 0) : Type 0 where
   pub inner : S
   -- how many writes it lets pass, and how many have passed
   pub writes : ℕ
@@ -13,31 +15,45 @@ pub record FuseHeld (S : Type 0) : Type 0 where
   pub after : Bool
   pub is_blown : Bool
 
-abbrev pub fuse_code : {S : Type 0} → Coded S → Coded (FuseHeld S)
+abbrev pub fuse_code : {S : Type 0} → Coded S → Coded (FuseRecord S)
 fuse_code {S} inner =
-    code_by (S × (ℕ × (ℕ × (Bool × Bool)))) (coded× inner (coded× coded_ℕ (coded× coded_ℕ (coded× coded_bool coded_bool))))
+    code_by (S × (ℕ × (ℕ × (Bool × Bool))))
+    (coded× inner (coded× coded_ℕ (coded× coded_ℕ (coded× coded_bool coded_bool))))
     (λ f. (f.inner, (f.writes, (f.passed, (f.after, f.is_blown)))))
     (λ p. record { inner = p.0; writes = p.1.0; passed = p.1.1.0; after = p.1.1.1.0; is_blown = p.1.1.1.1 }) (λ _. refl)
 
--- a blown fuse answers Disk, any other what the store behind it answers
-abbrev pub fault_of : {S : Type 0} → (S → Option StoreFault) → FuseHeld S → Option StoreFault
-fault_of inner f = if f.is_blown then Some Disk else inner f.inner
-
--- that it blew is one failure more
-abbrev pub failures_of : {S : Type 0} → (S → ℕ) → FuseHeld S → ℕ
-failures_of inner f = (if f.is_blown then 1 else 0) + inner f.inner
+-- What is seen of the store behind it, but that a blown fuse answers Disk, and that it blew is one failure more.
+abbrev pub fuse_held : {S : Type 0} → (S → Held) → FuseRecord S → Held
+fuse_held inner f = record (inner f.inner) {
+  fault = if f.is_blown then Some Disk else (inner f.inner).fault;
+  failures = (if f.is_blown then 1 else 0) + (inner f.inner).failures;
+}
 
 -- it works, and lets no write pass any more
-pub record IsAtEnd {S : Type 0} (fault : S → Option StoreFault) (f : FuseHeld S) : Type 0 where
-  pub works : fault_of fault f ≡ None
+pub record IsAtEnd {S : Type 0} (held : FuseRecord S → Held) (f : FuseRecord S) : Type 0 where
+  pub works : (held f).fault ≡ None
   pub none_left : f.passed ≡ f.writes
 
 -- the write was one of those that it lets pass
-pub record Passes {S : Type 0} (old new : FuseHeld S) : Type 0 where
+pub record Passes {S : Type 0} (old new : FuseRecord S) : Type 0 where
   pub left : old.passed < old.writes
   pub counted : new.passed ≡ old.passed + 1
 
 -- the write blew it
-pub record Blows {S : Type 0} (old new : FuseHeld S) : Type 0 where
+pub record Blows {S : Type 0} (old new : FuseRecord S) : Type 0 where
   pub whole : old.is_blown ≡ false
   pub blown : new.is_blown ≡ true
+
+-- A write, which is to make this of the content, blows the fuse if it is the one after those that it lets pass, and not
+-- before.
+pub record Burns {S A : Type 0} (held : FuseRecord S → Held) (old new : FuseRecord S) (made : Content)
+    (result : Result A StoreFault) : Type 0 where
+  pub passes : OnOk result (Passes old new)
+  pub fails : OnErr result (new.passed ≡ old.passed)
+  pub holds : old.passed < old.writes → new.is_blown ≡ old.is_blown
+  pub ends : old.passed ≡ old.writes → IsErr result
+  pub blown : Blows old new → IsErrOf result Disk
+  -- the change is lost or kept, as the fuse was made
+  pub lost : IsAtEnd held old → old.after ≡ false → new ≡ record old { is_blown = true }
+  pub kept : Blows old new → old.after ≡ true → (held new).is_clean → (held new).content ≡ made
+  pub limits : (new.writes ≡ old.writes) × (new.after ≡ old.after)

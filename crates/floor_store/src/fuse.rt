@@ -1,10 +1,10 @@
-ghost use Rattle.std.specs.Prelude.{◌≡◌, ◌≢◌, ◌⊎◌, ◌+◌, ◌^◌, ◌<◌, ◌≤◌, ◌↔◌, length, IsTrue, true, false, Option, None, Some, Err, IsSome, IsErr, IsErrOf, IfOk, IfErr, OnOk, OnErr};
-ghost use Rattle.floor_store.specs.Content.{Content, with_row, with_next_boot};
-ghost use Rattle.floor_store.specs.Fault.{IsBrokenBy, IsCounted};
-ghost use Rattle.floor_store.specs.Fuse.{fault_of, failures_of, IsAtEnd, Passes, Blows};
+ghost use Rattle.std.specs.Prelude.{◌≡◌, ◌⊎◌, ◌+◌, ◌<◌, ◌≤◌, ◌↔◌, length, IsTrue, true, false, IsSome, IfOk, IfErr, OnOk};
+ghost use Rattle.floor_store.specs.Content.{with_row, with_next_boot};
+ghost use Rattle.floor_store.specs.Held.{Breaks, RaisesBoot, Writes};
+ghost use Rattle.floor_store.specs.Fuse.{fuse_held, Burns};
 ghost use Rattle.floor_store.specs.Range.{IsCount};
 ghost use Rattle.floor_store.specs.declared.fault.StoreFault.{StoreFault};
-ghost use Rattle.floor_store.specs.declared.fault.StoreFault.TheVariants.{Disk, Spent};
+ghost use Rattle.floor_store.specs.declared.fault.StoreFault.TheVariants.{Disk};
 
 use crate::fault::StoreFault;
 use crate::row::{Pass, Row};
@@ -24,13 +24,19 @@ pub struct FuseStore<S> {
 
 impl<S> Model for FuseStore<S> {
     ghost use Rattle.std.specs.Prelude.{◌≤◌};
-    ghost use Rattle.floor_store.specs.Fuse.{FuseHeld, fuse_code};
+    ghost use Rattle.floor_store.specs.Fuse.{FuseRecord, fuse_code};
 
-    ghost Value = { FuseHeld S };
+    ghost Value = { FuseRecord S };
 
     ghost coded = { fuse_code S.code };
 
-    ghost view = { λ f. record { inner = f.inner; writes = f.writes; passed = f.passed; after = f.after; is_blown = f.is_blown } };
+    ghost view = { λ f. record {
+      inner = f.inner;
+      writes = f.writes;
+      passed = f.passed;
+      after = f.after;
+      is_blown = f.is_blown;
+    } };
 
     ghost invariant = { λ f. f.passed ≤ f.writes };
 }
@@ -61,15 +67,18 @@ impl<S: FloorStore> FuseStore<S> {
     /// Whether the next write reaches the store behind it, which answers for itself where it is
     /// broken.
     fn reaches(&self) -> bool
-        ensures { IsTrue result ↔ ((self.now.passed < self.now.writes) ⊎ (self.now.after ≡ true) ⊎ IsSome (S.fault self.now.inner)) }
+        ensures { IsTrue result ↔ ((self.now.passed < self.now.writes) ⊎ (self.now.after ≡ true)
+            ⊎ IsSome (S.held self.now.inner).fault) }
     {
         self.passed < self.writes || self.after || self.inner.is_broken()
     }
 
     /// Counts a write that passes, or blows.
     fn burn(&mut self) -> Result<(), StoreFault>
-        ensures passes { OnOk result ((self.old.passed < self.old.writes) × (self.new ≡ record self.old { passed = self.old.passed + 1 })) }
-        ensures blows { IfErr result (λ e. (e ≡ StoreFault.Disk) × (self.old.passed ≡ self.old.writes) × (self.new ≡ record self.old { is_blown = true })) }
+        ensures passes { OnOk result ((self.old.passed < self.old.writes)
+            × (self.new ≡ record self.old { passed = self.old.passed + 1 })) }
+        ensures blows { IfErr result (λ e. (e ≡ StoreFault.Disk) × (self.old.passed ≡ self.old.writes)
+            × (self.new ≡ record self.old { is_blown = true })) }
     {
         if self.passed < self.writes {
             self.passed += 1;
@@ -96,15 +105,7 @@ impl<S: FloorStore> FuseStore<S> {
 }
 
 impl<S: FloorStore> FloorStore for FuseStore<S> {
-    ghost content = { λ s. S.content s.inner };
-
-    ghost fault = { fault_of S.fault };
-
-    ghost failures = { failures_of S.failures };
-
-    ghost is_clean = { λ s. S.is_clean s.inner };
-
-    ghost leaves = { λ s c. S.leaves s.inner c };
+    ghost held = { fuse_held S.held };
 
     fn tokens(&self) -> u32 {
         self.inner.tokens()
@@ -129,30 +130,12 @@ impl<S: FloorStore> FloorStore for FuseStore<S> {
     }
 
     fn put(&mut self, token: u32, row: Row, pass: Option<Pass>) -> Result<(), StoreFault>
-        requires { token < length (S.content self.old.inner).rows }
-
-        // As of any store.
-        ensures ok { S.is_clean self.new.inner → OnOk result (S.content self.new.inner ≡ with_row (S.content self.old.inner) token row pass) }
-        ensures err { S.is_clean self.new.inner → OnErr result ((S.content self.new.inner ≡ S.content self.old.inner) ⊎ (S.content self.new.inner ≡ with_row (S.content self.old.inner) token row pass)) }
-        ensures settled { S.is_clean self.new.inner → OnOk result ((c : Content) → S.leaves self.new.inner c → c ≡ S.content self.new.inner) }
-        ensures left { (c : Content) → S.leaves self.new.inner c → S.leaves self.old.inner c ⊎ (c ≡ with_row (S.content self.old.inner) token row pass) }
-        ensures intact { OnOk result ((fault_of S.fault self.old ≡ None) × (fault_of S.fault self.new ≡ None)) }
-        ensures breaks { IfErr result (IsBrokenBy (fault_of S.fault self.new)) }
-        ensures counted { IfErr result (IsCounted (fault_of S.fault self.old) (failures_of S.failures self.old) (failures_of S.failures self.new)) }
-        ensures stays { IsSome (fault_of S.fault self.old) → self.new ≡ self.old }
-        ensures clean { S.is_clean self.new.inner → S.is_clean self.old.inner }
-        ensures tokens { length (S.content self.new.inner).rows ≡ length (S.content self.old.inner).rows }
-        ensures count { failures_of S.failures self.old ≤ failures_of S.failures self.new }
-
-        // It blows at the write after those that it lets pass, and not before.
-        ensures passes { OnOk result (Passes self.old self.new) }
-        ensures fails { OnErr result (self.new.passed ≡ self.old.passed) }
-        ensures holds { self.old.passed < self.old.writes → self.new.is_blown ≡ self.old.is_blown }
-        ensures ends { self.old.passed ≡ self.old.writes → IsErr result }
-        ensures blown { Blows self.old self.new → IsErrOf result StoreFault.Disk }
-        ensures lost { IsAtEnd S.fault self.old → self.old.after ≡ false → self.new ≡ record self.old { is_blown = true } }
-        ensures kept { Blows self.old self.new → self.old.after ≡ true → S.is_clean self.new.inner → S.content self.new.inner ≡ with_row (S.content self.old.inner) token row pass }
-        ensures limits { (self.new.writes ≡ self.old.writes) × (self.new.after ≡ self.old.after) }
+        requires { token < length (S.held self.old.inner).content.rows }
+        ensures writes { Writes (fuse_held S.held) self.old self.new
+            (with_row (S.held self.old.inner).content token row pass) result }
+        ensures breaks { IfErr result (Breaks (fuse_held S.held) self.old self.new) }
+        ensures burns { Burns (fuse_held S.held) self.old self.new
+            (with_row (S.held self.old.inner).content token row pass) result }
     {
         if self.is_blown {
             return Err(StoreFault::Disk);
@@ -164,32 +147,12 @@ impl<S: FloorStore> FloorStore for FuseStore<S> {
     }
 
     fn raise_boot(&mut self) -> Result<u64, StoreFault>
-        // As of any store.
-        ensures ok { S.is_clean self.new.inner → OnOk result (S.content self.new.inner ≡ with_next_boot (S.content self.old.inner)) }
-        ensures value { IfOk result (λ boot. S.is_clean self.new.inner → boot ≡ (S.content self.new.inner).boot) }
+        ensures raises { RaisesBoot (fuse_held S.held) self.old self.new result }
+        ensures value { IfOk result (λ boot. (S.held self.new.inner).is_clean
+            → boot ≡ (S.held self.new.inner).content.boot) }
         ensures range { IfOk result IsCount }
-        ensures err { S.is_clean self.new.inner → OnErr result ((S.content self.new.inner ≡ S.content self.old.inner) ⊎ (S.content self.new.inner ≡ with_next_boot (S.content self.old.inner))) }
-        ensures settled { S.is_clean self.new.inner → OnOk result ((c : Content) → S.leaves self.new.inner c → c ≡ S.content self.new.inner) }
-        ensures left { (c : Content) → S.leaves self.new.inner c → S.leaves self.old.inner c ⊎ (c ≡ with_next_boot (S.content self.old.inner)) }
-        ensures intact { OnOk result ((fault_of S.fault self.old ≡ None) × (fault_of S.fault self.new ≡ None)) }
-        ensures breaks { IfErr result (λ e. e ≢ Spent → IsBrokenBy (fault_of S.fault self.new) e) }
-        ensures counted { IfErr result (λ e. e ≢ Spent → IsCounted (fault_of S.fault self.old) (failures_of S.failures self.old) (failures_of S.failures self.new) e) }
-        ensures spent { result ≡ Err StoreFault.Spent → (self.new ≡ self.old) × (fault_of S.fault self.old ≡ None) }
-        ensures last { result ≡ Err StoreFault.Spent → S.is_clean self.new.inner → (S.content self.old.inner).boot + 1 ≡ 2 ^ 62 }
-        ensures stays { IsSome (fault_of S.fault self.old) → self.new ≡ self.old }
-        ensures clean { S.is_clean self.new.inner → S.is_clean self.old.inner }
-        ensures tokens { length (S.content self.new.inner).rows ≡ length (S.content self.old.inner).rows }
-        ensures count { failures_of S.failures self.old ≤ failures_of S.failures self.new }
-
-        // It blows at the write after those that it lets pass, and not before.
-        ensures passes { OnOk result (Passes self.old self.new) }
-        ensures fails { OnErr result (self.new.passed ≡ self.old.passed) }
-        ensures holds { self.old.passed < self.old.writes → self.new.is_blown ≡ self.old.is_blown }
-        ensures ends { self.old.passed ≡ self.old.writes → IsErr result }
-        ensures blown { Blows self.old self.new → IsErrOf result StoreFault.Disk }
-        ensures lost { IsAtEnd S.fault self.old → self.old.after ≡ false → self.new ≡ record self.old { is_blown = true } }
-        ensures kept { Blows self.old self.new → self.old.after ≡ true → S.is_clean self.new.inner → S.content self.new.inner ≡ with_next_boot (S.content self.old.inner) }
-        ensures limits { (self.new.writes ≡ self.old.writes) × (self.new.after ≡ self.old.after) }
+        ensures burns { Burns (fuse_held S.held) self.old self.new
+            (with_next_boot (S.held self.old.inner).content) result }
     {
         if self.is_blown {
             return Err(StoreFault::Disk);

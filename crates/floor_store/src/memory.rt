@@ -4,14 +4,11 @@ ghost use Rattle.floor_store.specs.Range.{IsCount};
 ghost use Rattle.floor_store.specs.declared.fault.StoreFault.TheVariants.{Memory, Spent};
 
 use crate::fault::StoreFault;
-use crate::row::{Pass, Row};
+use crate::row::{COUNTS_END, Pass, Row};
 use crate::store::FloorStore;
 use otp_core::Next;
 use std::alloc::Global;
 use std::marker::Model;
-
-/// The first number that is no boot.
-const BOOTS_END: u64 = 1 << 62;
 
 /// A store in memory. Once it is made it takes no more memory, and no call of it fails, the last
 /// boot aside.
@@ -62,7 +59,7 @@ impl MemStore {
     /// This store at the last boot.
     pub(crate) fn at_last_boot(self) -> Self {
         MemStore {
-            boot: BOOTS_END - 1,
+            boot: COUNTS_END - 1,
             ..self
         }
     }
@@ -71,15 +68,7 @@ impl MemStore {
 impl FloorStore for MemStore {
     ghost use Rattle.std.specs.Prelude.{◌≡◌, None};
 
-    ghost content = { λ s. s };
-
-    ghost fault = { λ _. None };
-
-    ghost failures = { λ _. 0 };
-
-    ghost is_clean = { λ _. Unit {0} };
-
-    ghost leaves = { λ s c. c ≡ s };
+    ghost held = { λ s. record { content = s; fault = None; failures = 0; is_clean = Unit {0}; leaves = λ c. c ≡ s } };
 
     fn tokens(&self) -> u32 {
         self.rows.len() as u32
@@ -123,7 +112,7 @@ impl FloorStore for MemStore {
         ensures same { OnErr result (self.new ≡ self.old) }
         ensures last { IsErr result ↔ (self.old.boot + 1 ≡ 2 ^ 62) }
     {
-        if self.boot + 1 == BOOTS_END {
+        if self.boot + 1 == COUNTS_END {
             return Err(StoreFault::Spent);
         }
         self.boot += 1;

@@ -1,15 +1,12 @@
 //! A voter: what the messages of the others and its own proposals make of its store.
 
-ghost use Rattle.std.specs.Prelude.{◌≡◌, ◌≢◌, ◌⊎◌, ◌+◌, ◌<◌, ◌≤◌, ◌^◌, ◌↔◌, Err, Ok, length, IfErr, IfOk, IsFalse, IsTrue, OnErr, OnOk};
-ghost use Rattle.floor_store.specs.Content.{Content, with_next_boot};
-ghost use Rattle.floor_store.specs.Fault.{IsBrokenBy, IsCounted};
+ghost use Rattle.std.specs.Prelude.{◌≡◌, ◌≢◌, ◌<◌, ◌≤◌, ◌^◌, ◌↔◌, Err, length, IfErr, IfOk, IsFalse, IsTrue};
+ghost use Rattle.floor_store.specs.Held.{RaisesBoot};
 ghost use Rattle.floor_store.specs.Range.{IsCount, IsSpan};
-ghost use Rattle.floor_store.specs.declared.fault.StoreFault.{StoreFault};
-ghost use Rattle.floor_store.specs.declared.fault.StoreFault.TheVariants.{Spent};
 ghost use Rattle.vote_core.specs.declared.fault.VoteFault.{VoteFault};
-ghost use Rattle.vote_core.specs.Calls.{FitsVoter, IfStore, IsOther, OldOrNew};
+ghost use Rattle.vote_core.specs.Calls.{FitsVoter, IsOther, IsStoreOf, UnlessSpent, Votes};
 ghost use Rattle.vote_core.specs.Rows.{row as row_in};
-ghost use Rattle.vote_core.specs.State.{IsSameVoter, VoterRecord, voted_of, voter_of};
+ghost use Rattle.vote_core.specs.State.{VoterRecord, voter_of};
 ghost use Rattle.vote_core.specs.Voting.{fresh, on_message as spec_on_message, propose as spec_propose, tick as spec_tick};
 
 use crate::ballot::Ballot;
@@ -18,7 +15,7 @@ use crate::message::Message;
 use crate::place::Place;
 use crate::step::Step;
 use arrayvec::ArrayVec;
-use floor_store::{FloorStore, StoreFault, is_span};
+use floor_store::{COUNTS_END, FloorStore, StoreFault, is_span};
 use otp_core::Factor;
 use std::marker::Model;
 
@@ -26,9 +23,6 @@ mod hearing;
 mod proposing;
 mod rows;
 mod ticking;
-
-/// How many numbers of proposals a boot has.
-const SEQ_END: u64 = 1 << 62;
 
 /// A member's part in the votes, over a store of its own.
 #[derive(Drop)]
@@ -56,17 +50,8 @@ impl Voter {
     pub fn open<S: FloorStore>(store: &mut S, place: Place) -> Result<Voter, StoreFault>
         ensures opened { IfOk result (λ voter. voter_of voter ≡ fresh) }
         ensures place { IfOk result (λ voter. voter.place ≡ place) }
-        ensures known { IfOk result (λ voter. length (S.content store.new).rows ≡ voter.tokens) }
-        ensures boot { IfOk result (λ voter. S.is_clean store.new → (S.content store.new).boot ≡ voter.boot) }
-        ensures raised { S.is_clean store.new → OnOk result (S.content store.new ≡ with_next_boot (S.content store.old)) }
-        ensures store { S.is_clean store.new → OnErr result (OldOrNew (S.content store.old) (with_next_boot (S.content store.old)) (S.content store.new)) }
-        ensures breaks { IfErr result (λ fault. fault ≢ Spent → IsBrokenBy (S.fault store.new) fault) }
-        ensures counted { IfErr result (λ fault. fault ≢ Spent → IsCounted (S.fault store.old) (S.failures store.old) (S.failures store.new) fault) }
-        ensures spent { result ≡ Err StoreFault.Spent → (store.new ≡ store.old) × (S.fault store.old ≡ None) }
-        ensures last { result ≡ Err StoreFault.Spent → S.is_clean store.new → (S.content store.old).boot + 1 ≡ 2 ^ 62 }
-        ensures intact { OnOk result ((S.fault store.old ≡ None) × (S.fault store.new ≡ None)) }
-        ensures clean { S.is_clean store.new → S.is_clean store.old }
-        ensures tokens { length (S.content store.new).rows ≡ length (S.content store.old).rows }
+        ensures store { IfOk result (λ voter. IsStoreOf voter (S.held store.new)) }
+        ensures raises { RaisesBoot S.held store.old store.new result }
     {
         let boot = store.raise_boot()?;
         Ok(Voter {
@@ -137,26 +122,15 @@ impl Voter {
         hi: Factor,
     ) -> Result<Step, VoteFault>
         requires room { length self.old.ballots < 32 }
-        requires known { token < length (S.content store.old).rows }
+        requires known { token < length (S.held store.old).content.rows }
         requires span { IsSpan lo hi }
-        requires free { S.is_clean store.old → (row_in (S.content store.old) token).next ≤ lo }
-        requires tokens { length (S.content store.old).rows ≡ self.old.tokens }
-        requires boot { S.is_clean store.old → (S.content store.old).boot ≡ self.old.boot }
-        ensures step { IfOk result (λ step. S.is_clean store.new → voted_of (S.content store.new) self.new step ≡ spec_propose self.old.place token lo hi (S.content store.old) (voter_of self.old)) }
-        ensures store { S.is_clean store.new → IfStore result (λ _. OldOrNew (S.content store.old) (spec_propose self.old.place token lo hi (S.content store.old) (voter_of self.old)).content (S.content store.new)) }
-        ensures left { S.is_clean store.old → (c : Content) → S.leaves store.new c → S.leaves store.old c ⊎ (c ≡ (spec_propose self.old.place token lo hi (S.content store.old) (voter_of self.old)).content) }
-        ensures settled { S.is_clean store.new → ((c : Content) → S.leaves store.old c → c ≡ S.content store.old) → OnOk result ((c : Content) → S.leaves store.new c → c ≡ S.content store.new) }
+        requires free { (S.held store.old).is_clean → (row_in (S.held store.old).content token).next ≤ lo }
+        requires store { IsStoreOf self.old (S.held store.old) }
+        ensures votes { UnlessSpent result (Votes S.held store.old store.new self.old self.new (spec_propose self.old.place token lo hi)) }
         ensures spent { result ≡ Err VoteFault.Spent ↔ (self.old.seq ≡ 2 ^ 62) }
         ensures unchanged { result ≡ Err VoteFault.Spent → (store.new ≡ store.old) × (self.new ≡ self.old) }
-        ensures breaks { IfStore result (IsBrokenBy (S.fault store.new)) }
-        ensures counted { IfStore result (IsCounted (S.fault store.old) (S.failures store.old) (S.failures store.new)) }
-        ensures intact { S.fault store.old ≡ None → OnOk result (S.fault store.new ≡ None) }
-        ensures clean { S.is_clean store.new → S.is_clean store.old }
-        ensures tokens { length (S.content store.new).rows ≡ length (S.content store.old).rows }
-        ensures boot { S.is_clean store.new → (S.content store.new).boot ≡ (S.content store.old).boot }
-        ensures same { IsSameVoter self.old self.new }
     {
-        if self.seq == SEQ_END {
+        if self.seq == COUNTS_END {
             return Err(VoteFault::Spent);
         }
         match self.propose_next(store, token, lo, hi) {
@@ -174,20 +148,9 @@ impl Voter {
     ) -> Result<Step, VoteFault>
         requires from { IsOther self.old.place from }
         requires fits { FitsVoter self.old.place self.old.tokens from message }
-        requires tokens { length (S.content store.old).rows ≡ self.old.tokens }
-        requires boot { S.is_clean store.old → (S.content store.old).boot ≡ self.old.boot }
-        ensures step { IfOk result (λ step. S.is_clean store.new → voted_of (S.content store.new) self.new step ≡ spec_on_message self.old.place from message (S.content store.old) (voter_of self.old)) }
-        ensures store { S.is_clean store.new → IfStore result (λ _. OldOrNew (S.content store.old) (spec_on_message self.old.place from message (S.content store.old) (voter_of self.old)).content (S.content store.new)) }
-        ensures left { S.is_clean store.old → (c : Content) → S.leaves store.new c → S.leaves store.old c ⊎ (c ≡ (spec_on_message self.old.place from message (S.content store.old) (voter_of self.old)).content) }
-        ensures settled { S.is_clean store.new → ((c : Content) → S.leaves store.old c → c ≡ S.content store.old) → OnOk result ((c : Content) → S.leaves store.new c → c ≡ S.content store.new) }
-        ensures only_store { IfErr result (λ fault. fault ≢ VoteFault.Spent) }
-        ensures breaks { IfStore result (IsBrokenBy (S.fault store.new)) }
-        ensures counted { IfStore result (IsCounted (S.fault store.old) (S.failures store.old) (S.failures store.new)) }
-        ensures intact { S.fault store.old ≡ None → OnOk result (S.fault store.new ≡ None) }
-        ensures clean { S.is_clean store.new → S.is_clean store.old }
-        ensures tokens { length (S.content store.new).rows ≡ length (S.content store.old).rows }
-        ensures boot { S.is_clean store.new → (S.content store.new).boot ≡ (S.content store.old).boot }
-        ensures same { IsSameVoter self.old self.new }
+        requires store { IsStoreOf self.old (S.held store.old) }
+        ensures votes { UnlessSpent result (Votes S.held store.old store.new self.old self.new (spec_on_message self.old.place from message)) }
+        ensures never_spent { IfErr result (λ fault. fault ≢ VoteFault.Spent) }
     {
         // At most nine members: the sender has a bit.
         let _members = self.place.n();
@@ -200,13 +163,10 @@ impl Voter {
     /// A tick: each proposal is a tick older. The others are asked again, and told the floor of one
     /// token.
     pub fn tick<S: FloorStore>(&mut self, store: &mut S) -> Result<Step, VoteFault>
-        requires tokens { length (S.content store.old).rows ≡ self.old.tokens }
-        requires boot { S.is_clean store.old → (S.content store.old).boot ≡ self.old.boot }
-        ensures step { IfOk result (λ step. S.is_clean store.new → voted_of (S.content store.new) self.new step ≡ spec_tick self.old.place (S.content store.old) (voter_of self.old)) }
-        ensures store { store.new ≡ store.old }
-        ensures only_store { IfErr result (λ fault. fault ≢ VoteFault.Spent) }
-        ensures breaks { IfStore result (IsBrokenBy (S.fault store.old)) }
-        ensures same { IsSameVoter self.old self.new }
+        requires { IsStoreOf self.old (S.held store.old) }
+        ensures votes { UnlessSpent result (Votes S.held store.old store.new self.old self.new (spec_tick self.old.place)) }
+        ensures never_spent { IfErr result (λ fault. fault ≢ VoteFault.Spent) }
+        ensures same_store { store.new ≡ store.old }
     {
         match self.grow_older(store) {
             Ok(step) => Ok(step),
