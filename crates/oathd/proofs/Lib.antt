@@ -1,4 +1,3 @@
-pub mod Cuts
 pub mod LineLemmas
 pub mod PartLemmas
 pub mod RunLemmas

@@ -1,8 +1,8 @@
 -- The lines of clients.
 use Rattle.std.specs.Prelude.{ℕ, ◌+◌, List, [], ◌∷◌, Option, Some, None}
-use Rattle.decimal_text.specs.Number.{number_of}
+use Rattle.field_text.specs.Number.{number_of}
 use Rattle.oath_node.specs.ReferenceServer.{Line}
-use Rattle.oathd.specs.Cut.{Halves, halves_of}
+use Rattle.field_text.specs.Cut.{Halves, halves_of}
 use Rattle.oathd.specs.Input.{TextLine}
 
 abbrev pub line_of_numbers : Option ℕ → Option ℕ → List ℕ → Option Line

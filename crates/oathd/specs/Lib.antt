@@ -1,5 +1,4 @@
 pub mod Client
-pub mod Cut
 pub mod Fault
 pub mod Input
 pub mod Run

@@ -5,7 +5,7 @@ use Rattle.clap.specs.Matches.{first_value}
 use Rattle.clap.specs.declared.parser.matches.Found.{Found}
 use Rattle.otp_core.specs.Limits.{Limits, AreLimits}
 use Rattle.otp_core.specs.Range.{IsMoment}
-use Rattle.decimal_text.specs.Number.{number_of}
+use Rattle.field_text.specs.Number.{number_of}
 use Rattle.oathd.specs.declared.words.Request.{Request}
 use Rattle.oathd.specs.declared.words.Request.TheVariants.{Lines, Secret}
 

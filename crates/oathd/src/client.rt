@@ -2,10 +2,10 @@ ghost use Rattle.std.specs.Prelude.{◌≡◌, IfOk, IfErr};
 ghost use Rattle.oathd.specs.Client as spec;
 ghost use Rattle.oathd.specs.Fault.{IsOutside};
 
-use crate::cut::cut_at;
+use field_text::cut_at;
 use crate::fault::Fault;
 use crate::input::{Lines, NextLine};
-use decimal_text::read_number;
+use field_text::read_number;
 use oath_node::ClientLine;
 use std::alloc::Global;
 

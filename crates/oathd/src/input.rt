@@ -5,7 +5,7 @@ ghost use Rattle.oathd.specs.Fault.{IsOutside};
 ghost use Rattle.oathd.specs.Input.{AreSplit, IsNext, has_marker, lines_between, lines_of, pieces_of, users_file};
 ghost use Rattle.oathd.specs.Run.{clients_of};
 
-use crate::cut::cut_at;
+use field_text::cut_at;
 use crate::fault::Fault;
 use std::alloc::Global;
 use std::io::{ErrorKind, Read};

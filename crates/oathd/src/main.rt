@@ -6,7 +6,6 @@ ghost use Rattle.clap.specs.Values.{kind_of};
 ghost use Rattle.oathd.specs.Words.{HasMoment};
 
 mod client;
-mod cut;
 mod fault;
 mod input;
 mod lines;

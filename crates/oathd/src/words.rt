@@ -5,7 +5,7 @@ ghost use Rattle.oathd.specs.Words.{AsksFor, AsksForLines, AsksForNothing, HasMo
 
 use clap::error::ErrorKind;
 use clap::{Arg, ArgAction, ArgMatches, Command, Error, value_parser};
-use decimal_text::read_number;
+use field_text::read_number;
 use otp_core::{MOMENTS_END, Settings};
 use std::alloc::{AllocError, Global};
 

@@ -4,7 +4,7 @@ use Rattle.std.specs.Prelude.{◌&&◌, ◌==◌, ◌<ℤ◌, length, slice_inde
 use Rattle.std.proofs.lemmas.Int.{ints}
 use Rattle.jiff.specs.Types.{Date}
 use Rattle.jiff.specs.Words.{epoch_day, IsDate, IsYmd}
-use Rattle.decimal_text.specs.Number.{number_of}
+use Rattle.field_text.specs.Number.{number_of}
 use Rattle.oathtool.specs.Time.{IsDateText, IsEitherText, IsNamedDay, IsNoDay, IsSecondsText, IsTimeOf, fields_of, has_marks}
 use Rattle.oathtool.specs.declared.time.Fields.{Fields}
 

@@ -1,7 +1,7 @@
 -- Step sizes among the words.
 use Rattle.std.specs.Prelude.{ℕ, ◌-◌, ◌==◌, ◌&&◌, nat_lt, nat_le, if◌then◌else◌, List, length, take, slice_index, Option, Some, None}
 use Rattle.std.specs.Option.{option_and_then}
-use Rattle.decimal_text.specs.Number.{number_of}
+use Rattle.field_text.specs.Number.{number_of}
 
 -- the text without its last byte, where that is an `s`
 abbrev pub without_unit : List ℕ → List ℕ

@@ -3,7 +3,7 @@ use Rattle.std.specs.Prelude.{◌≡◌, ℕ, ◌+◌, ◌*◌, ◌≤◌, ◌==
 use Rattle.jiff.specs.Words.{epoch_day, IsYmd}
 use Rattle.jiff.specs.Types.{Date}
 use Rattle.otp_core.specs.Range.{IsMoment}
-use Rattle.decimal_text.specs.Number.{number_of}
+use Rattle.field_text.specs.Number.{number_of}
 use Rattle.oathtool.specs.declared.time.Fields.{Fields}
 
 -- ---- `YYYY-MM-DD hh:mm:ss UTC`

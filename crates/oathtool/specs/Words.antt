@@ -9,7 +9,7 @@ use Rattle.hmac_core.specs.declared.hash.Hash.{Hash}
 use Rattle.hmac_core.specs.declared.hash.Hash.TheVariants.{Sha1, Sha256, Sha512}
 use Rattle.otp_core.specs.Digits.{count_of}
 use Rattle.otp_core.specs.Range.{IsFactor}
-use Rattle.decimal_text.specs.Number.{number_of}
+use Rattle.field_text.specs.Number.{number_of}
 use Rattle.oathtool.specs.declared.words.Mode.{Mode}
 use Rattle.oathtool.specs.declared.words.Mode.TheVariants.{Hotp, Totp}
 use Rattle.oathtool.specs.declared.words.Words.{Words}

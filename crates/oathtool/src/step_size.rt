@@ -1,7 +1,7 @@
 ghost use Rattle.std.specs.Prelude.{◌≡◌};
 ghost use Rattle.oathtool.specs.StepSize.{step_size_of};
 
-use decimal_text::read_number;
+use field_text::read_number;
 
 /// The longest time step, in seconds.
 const MAX_STEP_SIZE: u64 = 1_000_000;

@@ -2,7 +2,7 @@ ghost use Rattle.std.specs.Prelude.{◌≡◌, ◌↔◌, ◌∷◌, ◌==◌, �
 ghost use Rattle.jiff.specs.Words.{epoch_day};
 ghost use Rattle.oathtool.specs.Time.{IsDateText, IsEitherText, IsNamedDay, IsNoDay, IsTimeOf, IsTimeText, fields_of, has_marks};
 
-use decimal_text::read_number;
+use field_text::read_number;
 use jiff::Error as DateError;
 use jiff::civil::Date;
 use otp_core::MOMENTS_END;

@@ -7,7 +7,7 @@ ghost use Rattle.oathtool.specs.declared.words.Words.{Words as AnyWords};
 
 use clap::error::ErrorKind;
 use clap::{Arg, ArgAction, ArgMatches, Command, Error, value_parser};
-use decimal_text::read_number;
+use field_text::read_number;
 use hmac_core::Hash;
 use otp_core::{Digits, Factor};
 use std::alloc::{AllocError, Global};

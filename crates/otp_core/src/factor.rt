@@ -3,6 +3,9 @@ ghost use Rattle.otp_core.specs.Range.{IsFactor, IsNext};
 
 use std::marker::Model;
 
+/// The factors end here: no token has factor 2^62, and a first free factor of 2^62 says that none is left.
+pub const FACTORS_END: u64 = 1 << 62;
+
 /// A moving factor: the counter of an event token, or the step of a time token. It is at most
 /// 2^62 - 1.
 #[derive(Clone, Copy, Debug, PartialEq, Eq, PartialOrd, Ord, Hash)]
@@ -29,7 +32,7 @@ impl Factor {
         ensures valid { IsSome result ↔ IsFactor value }
         ensures value { IfSome result (λ factor. factor ≡ value) }
     {
-        if value < 1 << 62 {
+        if value < FACTORS_END {
             Some(Factor { value })
         } else {
             None
@@ -70,7 +73,7 @@ impl Next {
         ensures valid { IsSome result ↔ IsNext value }
         ensures value { IfSome result (λ next. next ≡ value) }
     {
-        if value <= 1 << 62 {
+        if value <= FACTORS_END {
             Some(Next { value })
         } else {
             None

@@ -20,6 +20,6 @@ pub use book::{Book, MAX_TOKENS, TokenId};
 pub use fault::{FileFault, LineFault};
 pub use reading::{MAX_FILE_LEN, MAX_LINE_LEN, read_book};
 pub use source::{FromRead, Pulled, Source};
-pub use token::{Kind, MAX_NAME_LEN, Password, Token};
+pub use token::{Kind, MAX_NAME_LEN, Password, Token, is_word};
 pub use write::{rows_read_back, tokens_are_credentials, write_row};
 pub use written_file::files_read_back;

@@ -1,6 +1,6 @@
 ghost use Rattle.std.specs.Prelude.{◌≡◌, ◌≤◌, ◌↔◌, IsSome, IfSome, IsTrue, length};
 ghost use Rattle.std.specs.List.{list_all};
-ghost use Rattle.token_file.specs.Credential.{is_blank, is_credential, is_hash_of, is_mark, is_password, is_visible, is_word};
+ghost use Rattle.token_file.specs.Credential.{is_blank, is_credential, is_hash_of, is_mark, is_password, is_visible, is_word as spec_is_word};
 
 use arrayvec::ArrayVec;
 use hmac_core::Hash;
@@ -92,7 +92,7 @@ impl Token {
           hash = hash;
         }) }
     {
-        if is_word_text(&name) && is_password_text(&password) && fits_hash(kind, hash) {
+        if is_word(&name) && is_password_text(&password) && fits_hash(kind, hash) {
             Some(Token {
                 name,
                 password,
@@ -116,7 +116,7 @@ impl Token {
     /// The user's name.
     pub fn name(&self) -> &[u8]
         ensures value { result.now ≡ self.now.name }
-        ensures word { IsTrue (is_word result.now) }
+        ensures word { IsTrue (spec_is_word result.now) }
     {
         &self.name
     }
@@ -179,9 +179,9 @@ fn has_no_blank(text: &[u8]) -> bool
     text.iter().all(|&byte| !is_blank_byte(byte))
 }
 
-/// Whether a text has 1 to 64 bytes, and no blank among them.
-fn is_word_text(text: &[u8]) -> bool
-    ensures { result ≡ is_word text.now }
+/// Whether a text can be a user's name or a password: 1 to 64 bytes, none of them a space, TAB, CR or LF.
+pub fn is_word(text: &[u8]) -> bool
+    ensures { result ≡ spec_is_word text.now }
 {
     1 <= text.len() && text.len() <= MAX_NAME_LEN && has_no_blank(text)
 }
@@ -199,7 +199,7 @@ fn is_password_text(password: &Password) -> bool
 {
     match password {
         Password::NoneAllowed | Password::NotChecked => true,
-        Password::Equal(text) => is_word_text(text) && !is_mark_text(text),
+        Password::Equal(text) => is_word(text) && !is_mark_text(text),
     }
 }
 

@@ -1,6 +1,6 @@
 use Rattle.std.proofs.Common.{sym, ◌∙◌}
-use Rattle.decimal_text.proofs.NumberLemmas.{no_digits, digits_are_text, number_parsed}
-use Rattle.decimal_text.proofs.number.read_number.Goals as goal
+use Rattle.field_text.proofs.NumberLemmas.{no_digits, digits_are_text, number_parsed}
+use Rattle.field_text.proofs.number.read_number.Goals as goal
 
 pub returns-then-not-is_all_digits : goal.returns-then-not-is_all_digits
 returns-then-not-is_all_digits c = no_digits c.args.text.now (sym c.is_all_digits.ensures ∙ c.if-not-is_all_digits.true)

@@ -1,7 +1,7 @@
 ghost use Rattle.std.specs.Prelude.{◌≡◌};
 ghost use Rattle.std.specs.Char.{is_ascii_digit};
 ghost use Rattle.std.specs.List.{list_all};
-ghost use Rattle.decimal_text.specs.Number.{number_of};
+ghost use Rattle.field_text.specs.Number.{number_of};
 
 use std::str;
 
@@ -12,8 +12,8 @@ fn is_all_digits(text: &[u8]) -> bool
     text.iter().all(|byte| byte.is_ascii_digit())
 }
 
-/// The number that is written so in decimal digits, or `None` where the text is empty, has anything but
-/// digits, or is 2^64 or more.
+/// The number that is written so in decimal digits, with leading zeros or without, or `None` where the text
+/// is empty, has anything but digits (a sign, a space), or is 2^64 or more.
 pub fn read_number(text: &[u8]) -> Option<u64>
     ensures { result ≡ number_of text.now }
 {

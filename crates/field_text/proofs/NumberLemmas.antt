@@ -11,7 +11,7 @@ use Rattle.std.proofs.lemmas.Bool.Decides.{Decides-and, Decides-ltb}
 use Rattle.std.proofs.lemmas.Fmt.{IsAscii-from_digits}
 use Rattle.std.proofs.lemmas.Str.{IsUtf8-from_ascii}
 use Rattle.std.proofs.lemmas.Str.Parse.{IsNumeralModel, numerals_by_value, parse_digits}
-use Rattle.decimal_text.specs.Number.{number_of}
+use Rattle.field_text.specs.Number.{number_of}
 
 abbrev AreDigits : List ℕ → Type 0
 AreDigits text = list_all is_ascii_digit text ≡ true

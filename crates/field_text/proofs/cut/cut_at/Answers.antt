@@ -1,5 +1,5 @@
-use Rattle.oathd.proofs.Cuts.{whole_piece, first_piece, halves_at_place}
-use Rattle.oathd.proofs.cut.cut_at.Goals as goal
+use Rattle.field_text.proofs.CutLemmas.{whole_piece, first_piece, halves_at_place}
+use Rattle.field_text.proofs.cut.cut_at.Goals as goal
 
 pub returns-in_err-place-clause-none : goal.returns-in_err-place-clause-none
 returns-in_err-place-clause-none c = rw c.from_residual.ensures (whole_piece _ c.args.text.now c.in_err-place.ensures.place)

@@ -23,3 +23,13 @@ fn no_numbers(rt: HostRuntime) {
         assert_eq!(rt; read_number(text), None);
     }
 }
+
+#[test]
+fn texts_are_cut_at_the_first_mark(rt: HostRuntime) {
+    assert_eq!(rt;
+        cut_at(b"a b c", b' '),
+        Some((b"a".as_slice(), b"b c".as_slice()))
+    );
+    assert_eq!(rt; cut_at(b" ", b' '), Some((b"".as_slice(), b"".as_slice())));
+    assert_eq!(rt; cut_at(b"a", b' '), None);
+}
