@@ -14,7 +14,8 @@ fn place_of(text: &[u8], mark: u8) -> Option<usize>
 /// What stands before the first of a mark and what behind it, or `None` where the mark is not there.
 pub fn cut_at(text: &[u8], mark: u8) -> Option<(&[u8], &[u8])>
     ensures halves { option_map (λ x. record { before = x.0.now; behind = x.1.now }) result ≡ halves_of mark text.now }
-    ensures some { IfSome result (λ x. slice_split (λ b. b == mark) text.now ≡ x.0.now ∷ slice_split (λ b. b == mark) x.1.now) }
+    ensures some { IfSome result (λ x. slice_split (λ b. b == mark) text.now
+        ≡ x.0.now ∷ slice_split (λ b. b == mark) x.1.now) }
     ensures shorter { IfSome result (λ x. length x.1.now < length text.now) }
     ensures none { IfNone result (slice_split (λ b. b == mark) text.now ≡ text.now ∷ []) }
 {

@@ -31,8 +31,8 @@ impl Model for MemStore {
 }
 
 impl MemStore {
-    /// A store with a row for each of these first free factors, at boot 0. It refuses for want of
-    /// memory alone.
+    /// A store with a row for each of these first free factors, at boot 0. Its one
+    /// refusal is that memory ran out.
     pub fn new(alloc: Global, floors: &[Next]) -> Result<Self, StoreFault>
         requires { length floors.now ≤ 10000 }
         ensures opening { IfOk result (λ store. store ≡ opening_content floors.now) }

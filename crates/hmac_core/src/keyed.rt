@@ -1,6 +1,6 @@
 ghost use Rattle.std.specs.Prelude.{◌≡◌, ◌≤◌, ℕ, List, length, take};
 ghost use Rattle.hmac_core.specs.Hash.{block_len_of, digest_of, mac_of};
-ghost use Rattle.hmac_core.specs.Hmac.{block_key, xor_each, zero_padded};
+ghost use Rattle.hmac_core.specs.Hmac.{block_key, xor_each, with_zeros};
 ghost use Rattle.hmac_core.specs.Keyed.{IsKeyed};
 ghost use Rattle.hmac_core.specs.declared.hash.Hash.{Hash};
 
@@ -62,7 +62,7 @@ fn block_of(hash: Hash, key: &[u8]) -> [u8; MAX_BLOCK_LEN]
 /// The bytes, and zeros after them.
 fn padded(bytes: &[u8]) -> [u8; MAX_BLOCK_LEN]
     requires { length bytes.now ≤ MAX_BLOCK_LEN }
-    ensures { result ≡ zero_padded MAX_BLOCK_LEN bytes.now }
+    ensures { result ≡ with_zeros MAX_BLOCK_LEN bytes.now }
 {
     let mut block = [0; MAX_BLOCK_LEN];
     block[..bytes.len()].copy_from_slice(bytes);

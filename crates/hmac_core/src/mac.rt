@@ -25,7 +25,8 @@ impl Model for Mac {
     ghost use Rattle.std.proofs.Common.{ap};
     ghost use Rattle.hmac_core.specs.declared.hash.Digest.{Digest};
 
-    ghost inverse_ok = { λ mac h. ap (λ (d : Digest). record { digest = d }) (digest_of_bytes-digest_bytes mac.digest h) };
+    ghost inverse_ok = { λ mac h.
+        ap (λ (d : Digest). record { digest = d }) (digest_of_bytes-digest_bytes mac.digest h) };
 }
 
 impl Mac {

@@ -34,7 +34,8 @@ const CASES: [Case; 11] = [
         Hash::Sha512,
         &[0x0b; 20],
         b"Hi There",
-        "87aa7cdea5ef619d4ff0b4241a1d6cb02379f4e2ce4ec2787ad0b30545e17cdedaa833b7d6b8a702038b274eaea3f4e4be9d914eeb61f1702e696c203a126854",
+        "87aa7cdea5ef619d4ff0b4241a1d6cb02379f4e2ce4ec2787ad0b30545e17cde\
+         daa833b7d6b8a702038b274eaea3f4e4be9d914eeb61f1702e696c203a126854",
     ),
     (
         Hash::Sha1,
@@ -76,13 +77,15 @@ const CASES: [Case; 11] = [
         Hash::Sha512,
         &[0xaa; 128],
         b"Hi There",
-        "17eb09b3d3c0f3ac497c608347e1d5b5df5e4b062bfd56c191c8499f24a3a9d1c3dfb449d01f4c9ca316b6b8d6a6299bad883d0bffe11c88c60d7daed6feeb48",
+        "17eb09b3d3c0f3ac497c608347e1d5b5df5e4b062bfd56c191c8499f24a3a9d1\
+         c3dfb449d01f4c9ca316b6b8d6a6299bad883d0bffe11c88c60d7daed6feeb48",
     ),
     (
         Hash::Sha512,
         &[0xaa; 129],
         b"Hi There",
-        "da329f7dbde1631286451a0404a7cc75656497f5fc8ecc2ed1c384e3a83685243bf1792cc06c745a466f50c04c99cc5a7fbe1a67e4bbdcf922f1ee4108b3e328",
+        "da329f7dbde1631286451a0404a7cc75656497f5fc8ecc2ed1c384e3a8368524\
+         3bf1792cc06c745a466f50c04c99cc5a7fbe1a67e4bbdcf922f1ee4108b3e328",
     ),
 ];
 

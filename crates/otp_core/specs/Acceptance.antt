@@ -31,7 +31,8 @@ pub record HaveSingleUse (accepted : List Acceptance) : Type 0 where
 
 -- Real-time order: what begins after an acceptance for its token lies above it.
 abbrev pub KeepRealTimeOrder : List Acceptance → Type 0
-KeepRealTimeOrder accepted = (i j : ℕ) (a b : Acceptance) → slice_get accepted i ≡ Some a → slice_get accepted j ≡ Some b
+KeepRealTimeOrder accepted = (i j : ℕ) (a b : Acceptance)
+    → slice_get accepted i ≡ Some a → slice_get accepted j ≡ Some b
     → a.token ≡ b.token → a.ended < b.began → a.hi < b.lo
 
 -- more than half of so many nodes

@@ -1,6 +1,7 @@
 -- How far a server looks for a code.
 use Rattle.std.specs.Prelude.{ℕ, ◌≤◌}
 
+-- the settings of a server
 pub record Limits : Type 0 where
   -- factors past the first free one, for a check of an event token (RFC 4226, section 7.2)
   pub look_ahead : ℕ
@@ -13,5 +14,6 @@ pub record Limits : Type 0 where
 abbrev pub AreLimits : ℕ → ℕ → ℕ → Type 0
 AreLimits look_ahead skew range = (look_ahead ≤ 100) × (skew ≤ 10) × (range ≤ 1000)
 
+-- the settings of a server that is given none
 abbrev pub default_limits : Limits
 default_limits = record { look_ahead = 10; skew = 1; range = 100 }
