@@ -7,7 +7,7 @@ use Rattle.std.proofs.lemmas.Nat.{div-add-mod', mod_below, pow_pos, shr_below}
 use Rattle.std.specs.List.{AllByRecursion, cons_option, filter_map, position_from}
 use Rattle.hex.specs.Hex.{IsBytes}
 use Rattle.otp_core.specs.Range.{IsSecret}
-use Rattle.secret_text.specs.Base32.{Spells, base32_text, count_refusal, is_bad, is_padding, padding_len, refusal_at, refusal_of, symbol_of, symbol_value, unpadded, values_of}
+use Rattle.secret_text.specs.Base32.{Spells, base32_text, count_refusal, is_bad, is_padding, padding_len, refusal_at, refusal_of, symbol_of, symbol_value, text_before_padding, values_of}
 use Rattle.secret_text.specs.Bits.{bits_of, bits_of_each}
 use Rattle.secret_text.proofs.BitsLemmas.{bits_of-low, length-bits_of, length-bits_of_each, length_of_pair}
 use Rattle.secret_text.proofs.WriteLemmas.{IsCanonical, canonical}
@@ -89,25 +89,25 @@ symbol_of-not_blank : (v : ℕ) → v < 32 → (symbol_of v == 32 || symbol_of v
 symbol_of-not_blank v below = grind (arith, nat_tests)
 
 -- nothing but `=`, at most six
-unpadded-pads : (k : ℕ) → k ≤ 6 → unpadded (replicate k 61) ≡ []
-unpadded-pads zero h = refl
-unpadded-pads (suc zero) h = refl
-unpadded-pads (suc (suc zero)) h = refl
-unpadded-pads (suc (suc (suc zero))) h = refl
-unpadded-pads (suc (suc (suc (suc zero)))) h = refl
-unpadded-pads (suc (suc (suc (suc (suc zero))))) h = refl
-unpadded-pads (suc (suc (suc (suc (suc (suc zero)))))) h = refl
-unpadded-pads (suc (suc (suc (suc (suc (suc (suc k))))))) h = absurd (omega arith)
+text_before_padding-pads : (k : ℕ) → k ≤ 6 → text_before_padding (replicate k 61) ≡ []
+text_before_padding-pads zero h = refl
+text_before_padding-pads (suc zero) h = refl
+text_before_padding-pads (suc (suc zero)) h = refl
+text_before_padding-pads (suc (suc (suc zero))) h = refl
+text_before_padding-pads (suc (suc (suc (suc zero)))) h = refl
+text_before_padding-pads (suc (suc (suc (suc (suc zero))))) h = refl
+text_before_padding-pads (suc (suc (suc (suc (suc (suc zero)))))) h = refl
+text_before_padding-pads (suc (suc (suc (suc (suc (suc (suc k))))))) h = absurd (omega arith)
 
 -- the characters stay, and the padding goes
-unpadded-written : (values : List ℕ) (k : ℕ) → AllByRecursion (λ v. v < 32) values → k ≤ 6
-    → unpadded (map symbol_of values ++ replicate k 61) ≡ map symbol_of values
-unpadded-written [] k h few = unpadded-pads k few
-unpadded-written (v ∷ values) k h few =
+text_before_padding-written : (values : List ℕ) (k : ℕ) → AllByRecursion (λ v. v < 32) values → k ≤ 6
+    → text_before_padding (map symbol_of values ++ replicate k 61) ≡ map symbol_of values
+text_before_padding-written [] k h few = text_before_padding-pads k few
+text_before_padding-written (v ∷ values) k h few =
     let rest = map symbol_of values ++ replicate k 61 in
     let stays : is_padding (symbol_of v ∷ rest) ≡ false = rw (symbol_of-not_blank v h.0) refl in
-    ap (λ (b : Bool). cond b [] (symbol_of v ∷ unpadded rest)) stays
-    ∙ ap (λ (xs : List ℕ). symbol_of v ∷ xs) (unpadded-written values k h.1 few)
+    ap (λ (b : Bool). cond b [] (symbol_of v ∷ text_before_padding rest)) stays
+    ∙ ap (λ (xs : List ℕ). symbol_of v ∷ xs) (text_before_padding-written values k h.1 few)
 
 -- each value is read again
 filter_map-written : (values : List ℕ) → AllByRecursion (λ v. v < 32) values
@@ -144,10 +144,10 @@ count_refusal-written m n fill low high few e =
 
 -- the values are read again
 values_of-written : (secret text : List ℕ) → (h : IsCanonical secret text)
-    → (unpadded text ≡ map symbol_of h.values) × (values_of text ≡ h.values)
+    → (text_before_padding text ≡ map symbol_of h.values) × (values_of text ≡ h.values)
 values_of-written secret text h =
-    let front : unpadded text ≡ map symbol_of h.values =
-    ap unpadded h.spelled ∙ unpadded-written h.values (padding_len (length secret)) h.below_32 (padding_len-few (length secret)) in
+    let front : text_before_padding text ≡ map symbol_of h.values =
+    ap text_before_padding h.spelled ∙ text_before_padding-written h.values (padding_len (length secret)) h.below_32 (padding_len-few (length secret)) in
     (front, ap (filter_map symbol_value) front ∙ filter_map-written h.values h.below_32)
 
 -- what is written is not refused
@@ -156,7 +156,7 @@ taken secret len =
     let h = canonical secret in
     let text = base32_text secret in
     let read = values_of-written secret text h in
-    let good : position_from is_bad 0 (unpadded text) ≡ None =
+    let good : position_from is_bad 0 (text_before_padding text) ≡ None =
     ap (λ (xs : List ℕ). position_from is_bad 0 xs) read.0 ∙ position_from-written h.values 0 h.below_32 in
     let fives = length-bits_of_each 5 h.values in
     let eights = length-bits_of_each 8 secret in

@@ -2,7 +2,7 @@
 use Rattle.std.proofs.Common.{◌≡◌, ℕ, zero, suc, ◌+◌, ◌-◌, ◌*◌, ◌/◌, ◌%◌, ◌<◌, List, [], ◌∷◌, ◌++◌, length, map, replicate, refl, sym, ap, ◌∙◌, arith}
 use Rattle.std.proofs.lemmas.List.{length-replicate}
 use Rattle.std.specs.List.{AllByRecursion}
-use Rattle.secret_text.specs.Base32.{base32_text, filled, fives_of, padding_len, symbol_of}
+use Rattle.secret_text.specs.Base32.{base32_text, filled_bits, fives_of, padding_len, symbol_of}
 use Rattle.secret_text.specs.Bits.{bits_of, bits_of_each}
 use Rattle.secret_text.proofs.BitsLemmas.{length-bits_of_each, length_of_pair}
 
@@ -44,8 +44,8 @@ text_of_canonical secret text h =
     let fives = length-bits_of_each 5 h.values in
     let zeros = length-replicate {A = ℕ} h.zeros 0 in
     let fill : h.zeros ≡ (5 - length bits % 5) % 5 = fill_len (length h.values) (length bits) h.zeros few (omega arith) in
-    let same : bits_of_each 5 h.values ≡ filled bits = h.same_bits ∙ ap (λ (n : ℕ). bits ++ replicate n 0) fill in
-    let values : h.values ≡ fives_of (filled bits) = sym (fives_of-bits h.values h.below_32) ∙ ap fives_of same in
+    let same : bits_of_each 5 h.values ≡ filled_bits bits = h.same_bits ∙ ap (λ (n : ℕ). bits ++ replicate n 0) fill in
+    let values : h.values ≡ fives_of (filled_bits bits) = sym (fives_of-bits h.values h.below_32) ∙ ap fives_of same in
     h.spelled ∙ ap (λ (ns : List ℕ). map symbol_of ns ++ replicate (padding_len (length secret)) 61) values
 
 -- ---- the bits of numbers of five bits
@@ -117,12 +117,12 @@ canonical secret =
     let zeros = (5 - length bits % 5) % 5 in
     let m = (length bits + zeros) / 5 in
     let fill = length-replicate {A = ℕ} zeros 0 in
-    let both = length_of_pair (filled bits) bits (replicate zeros 0) refl in
-    let len : length (filled bits) ≡ 5 * m = omega arith in
+    let both = length_of_pair (filled_bits bits) bits (replicate zeros 0) refl in
+    let len : length (filled_bits bits) ≡ 5 * m = omega arith in
     let good = AreBits-append bits (replicate zeros 0) (AreBits-bits_of_each 8 secret) (AreBits-zeros zeros) in
-    let groups = fives_of-groups m (filled bits) good len in
+    let groups = fives_of-groups m (filled_bits bits) good len in
     record {
-      values = fives_of (filled bits);
+      values = fives_of (filled_bits bits);
       below_32 = groups.below_32;
       zeros = zeros;
       few = omega arith;

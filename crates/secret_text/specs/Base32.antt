@@ -21,15 +21,15 @@ symbol_of value = if nat_lt value 26 then value + 65 else value + 24
 
 -- ---- reading
 
--- what may end a text: spaces, and at most six `=`
+-- whether a text is padding, as another may end with: spaces, and at most six `=`
 abbrev pub is_padding : List ℕ → Bool
 is_padding text =
     list_all (λ c. c == 32 || c == 61) text && nat_le (count_by (λ c. c == 61) text) 6
 
 -- the text before its padding
-abbrev pub unpadded : List ℕ → List ℕ
-unpadded [] = []
-unpadded (c ∷ rest) = if is_padding (c ∷ rest) then [] else c ∷ unpadded rest
+abbrev pub text_before_padding : List ℕ → List ℕ
+text_before_padding [] = []
+text_before_padding (c ∷ rest) = if is_padding (c ∷ rest) then [] else c ∷ text_before_padding rest
 
 -- whether a byte before the padding is neither a space nor a character of the alphabet
 abbrev pub is_bad : ℕ → Bool
@@ -37,7 +37,7 @@ is_bad c = not (c == 32) && not (is_some (symbol_value c))
 
 -- the values of the characters of a text
 abbrev pub values_of : List ℕ → List ℕ
-values_of text = filter_map symbol_value (unpadded text)
+values_of text = filter_map symbol_value (text_before_padding text)
 
 -- whether so many characters end within a byte, past the bits that belong to none
 abbrev pub is_cut : ℕ → Bool
@@ -51,13 +51,14 @@ count_refusal count =
     else if nat_lt 205 count then Some TooLong
     else None
 
--- why a text is refused: the first bad character, or its number of characters
+-- why a text is refused, by the place of its first bad character and its number of characters
 abbrev pub refusal_at : Option ℕ → ℕ → Option SecretFault
 refusal_at (Some place) count = Some (BadCharacter place)
 refusal_at None count = count_refusal count
 
+-- why a text is refused, if it is
 abbrev pub refusal_of : List ℕ → Option SecretFault
-refusal_of text = refusal_at (position_from is_bad 0 (unpadded text)) (length (values_of text))
+refusal_of text = refusal_at (position_from is_bad 0 (text_before_padding text)) (length (values_of text))
 
 -- The text spells the secret: the bits of its characters, five each, are those of the secret's bytes,
 -- eight each, and fewer than five more.
@@ -79,8 +80,8 @@ padding_len count =
     else 0
 
 -- bits, and the zeros on the right that fill their last group of five
-abbrev pub filled : List ℕ → List ℕ
-filled bits = bits ++ replicate ((5 - length bits % 5) % 5) 0
+abbrev pub filled_bits : List ℕ → List ℕ
+filled_bits bits = bits ++ replicate ((5 - length bits % 5) % 5) 0
 
 -- each group of five bits as a number, the high bit first
 abbrev pub fives_of : List ℕ → List ℕ
@@ -90,7 +91,7 @@ fives_of _ = []
 -- the canonical text of a secret: upper case characters and the padding
 abbrev pub base32_text : List ℕ → List ℕ
 base32_text secret =
-    map symbol_of (fives_of (filled (bits_of_each 8 secret))) ++ replicate (padding_len (length secret)) 61
+    map symbol_of (fives_of (filled_bits (bits_of_each 8 secret))) ++ replicate (padding_len (length secret)) 61
 
 -- A step of writing: the characters of the text, and then the bits that wait, are the bits.
 pub record IsWritten (text waiting bits : List ℕ) : Type 0 where

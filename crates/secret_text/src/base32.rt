@@ -4,7 +4,7 @@ ghost use Rattle.std.specs.List.{filter_map, position_from};
 ghost use Rattle.arrayvec.specs.ArrayVec.{array_vec_len};
 ghost use Rattle.hex.specs.Hex.{IsBytes};
 ghost use Rattle.otp_core.specs.Range.{IsSecret};
-ghost use Rattle.secret_text.specs.Base32.{IsWritten, Spells, base32_text, count_refusal, is_bad, padding_len, refusal_of, symbol_of, symbol_value, unpadded};
+ghost use Rattle.secret_text.specs.Base32.{IsWritten, Spells, base32_text, count_refusal, is_bad, padding_len, refusal_of, symbol_of, symbol_value, text_before_padding};
 ghost use Rattle.secret_text.specs.Bits.{bits_of, bits_of_each};
 
 use crate::bits::Bits;
@@ -47,7 +47,7 @@ fn symbol(value: u8) -> u8
 
 /// The text before its padding: the spaces and up to six `=` that it ends with.
 fn before_padding(text: &[u8]) -> &[u8]
-    ensures { result.now ≡ unpadded text.now }
+    ensures { result.now ≡ text_before_padding text.now }
 {
     let mut front = text;
     let mut padding = 0;
@@ -149,7 +149,8 @@ fn push_value(bytes: &mut ArrayVec<u8, MAX_SECRET_LEN>, bits: &mut Bits, value: 
     requires value { value < 32 }
     requires waiting { length bits.old < 8 }
     requires room { 8 * array_vec_len bytes.old + length bits.old + 5 < 8 * 129 }
-    ensures bits { bits_of_each 8 bytes.new.items ++ bits.new ≡ (bits_of_each 8 bytes.old.items ++ bits.old) ++ bits_of 5 value }
+    ensures bits { bits_of_each 8 bytes.new.items ++ bits.new
+        ≡ (bits_of_each 8 bytes.old.items ++ bits.old) ++ bits_of 5 value }
     ensures waiting { length bits.new < 8 }
 {
     bits.push(value, 5);
@@ -175,7 +176,8 @@ fn padding_of(count: usize) -> usize
 fn push_symbol(text: &mut ArrayVec<u8, MAX_TEXT_LEN>, bits: &mut Bits)
     requires waiting { 5 ≤ length bits.old }
     requires room { array_vec_len text.old < MAX_TEXT_LEN }
-    ensures written { (all : List ℕ) → IsWritten text.old.items bits.old all → IsWritten text.new.items bits.new all }
+    ensures written { (all : List ℕ) → IsWritten text.old.items bits.old all →
+        IsWritten text.new.items bits.new all }
     ensures waiting { length bits.new + 5 ≡ length bits.old }
     ensures len { array_vec_len text.new ≡ array_vec_len text.old + 1 }
 {
@@ -186,7 +188,8 @@ fn push_symbol(text: &mut ArrayVec<u8, MAX_TEXT_LEN>, bits: &mut Bits)
 fn push_byte(text: &mut ArrayVec<u8, MAX_TEXT_LEN>, bits: &mut Bits, byte: u8)
     requires waiting { length bits.old < 5 }
     requires room { array_vec_len text.old + 2 ≤ MAX_TEXT_LEN }
-    ensures written { (all : List ℕ) → IsWritten text.old.items bits.old all → IsWritten text.new.items bits.new (all ++ bits_of 8 byte) }
+    ensures written { (all : List ℕ) → IsWritten text.old.items bits.old all →
+        IsWritten text.new.items bits.new (all ++ bits_of 8 byte) }
     ensures waiting { length bits.new < 5 }
 {
     bits.push(byte, 8);
