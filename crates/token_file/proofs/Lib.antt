@@ -1,5 +1,4 @@
 pub mod FieldLemmas
-pub mod NumberLemmas
 pub mod SourceLemmas
 pub mod BookLemmas
 pub mod LinesLemmas

@@ -3,7 +3,6 @@ pub mod Fields
 pub mod TypeWord
 pub mod Row
 pub mod Entry
-pub mod Number
 pub mod Source
 pub mod Book
 pub mod UsersFile

@@ -1,8 +1,7 @@
-ghost use Rattle.std.specs.Prelude.{◌≡◌, ◌^◌, ◌≤◌, length, true, false, IfErr, IfOk, IfSome, IsTrue};
+ghost use Rattle.std.specs.Prelude.{◌≡◌, ◌^◌, ◌≤◌, true, false, IfErr, IfOk, IfSome, IsTrue};
 ghost use Rattle.token_file.specs.Credential.{Credential, is_hash_of, is_password, is_word};
 ghost use Rattle.token_file.specs.Entry.{counted_row, entry_row, line_row};
 ghost use Rattle.token_file.specs.Fields.{fields_of};
-ghost use Rattle.token_file.specs.Number.{number_of};
 ghost use Rattle.token_file.specs.Reading.{is_read};
 ghost use Rattle.token_file.specs.Row.{counter_of, credential_of, event_row, password_of, row_of, secret_of, typed_row};
 
@@ -11,14 +10,15 @@ use crate::fault::LineFault;
 use crate::fields::first_field;
 use crate::token::{Kind, MAX_NAME_LEN, Password, Token, array_of};
 use crate::type_word::{TokenType, read_type};
-use otp_core::Secret;
+use field_text::read_number;
+use otp_core::{FACTORS_END, Secret};
 use secret_text::read_hex;
 
 /// The most digits of a counter.
 const MAX_COUNTER_LEN: usize = 19;
 
 /// The greatest counter.
-const MAX_COUNTER: u64 = 1 << 62;
+const MAX_COUNTER: u64 = FACTORS_END;
 
 /// The row of a line, or `None` where the line holds none.
 pub(crate) fn read_row(line: &[u8]) -> Result<Option<Entry<'_>>, LineFault>
@@ -135,27 +135,12 @@ fn counter_in(text: &[u8]) -> Option<u64>
     ensures bound { IfSome result (λ counter. counter ≤ 2 ^ 62) }
     ensures value { result ≡ counter_of text.now }
 {
-    if text.is_empty() || text.len() > MAX_COUNTER_LEN {
+    if text.len() > MAX_COUNTER_LEN {
         return None;
     }
-    let counter = number_in(text)?;
+    let counter = read_number(text)?;
     if counter > MAX_COUNTER {
         return None;
     }
     Some(counter)
-}
-
-/// The number that a text of digits writes, or `None` where another byte stands in it.
-fn number_in(text: &[u8]) -> Option<u64>
-    requires { length text.now ≤ MAX_COUNTER_LEN }
-    ensures { result ≡ number_of 0 text.now }
-{
-    let mut number = 0;
-    for &byte in text {
-        if !byte.is_ascii_digit() {
-            return None;
-        }
-        number = number * 10 + u64::from(byte - b'0');
-    }
-    Some(number)
 }
