@@ -1,13 +1,8 @@
-ghost use Rattle.std.specs.Prelude.{◌≡◌, ℕ, ◌≤◌, ◌++◌, ◌∷◌, [], List, length, None, OnOk};
+ghost use Rattle.std.specs.Prelude.{◌≡◌, ◌∷◌, OnOk};
 ghost use Rattle.std.specs.Fmt.{decimal};
 ghost use Rattle.std.specs.Io.KnownBytes.{Appends};
-ghost use Rattle.hex.specs.Hex.{IsBytes, encode_lower};
-ghost use Rattle.otp_core.specs.Range.{IsNext};
-ghost use Rattle.token_file.specs.Credential.{Credential};
-ghost use Rattle.token_file.specs.Fields.{fields_of, lines_of};
-ghost use Rattle.token_file.specs.Row.{Holds, first_free, row_of};
-ghost use Rattle.token_file.specs.UsersFile.{Import, Instant, after_line, after_token};
-ghost use Rattle.token_file.specs.Writing.{IsCredential, digits_word, hash_word, kind_word, password_column, row_line, row_text, type_word, written_counter};
+ghost use Rattle.hex.specs.Hex.{encode_lower};
+ghost use Rattle.token_file.specs.Writing.{digits_word, hash_word, kind_word, password_column, row_text, type_word};
 
 use crate::token::{Kind, Password, Token};
 use hmac_core::Hash;
@@ -110,29 +105,3 @@ pub fn write_row<W: Write>(writer: &mut W, token: &Token, next: Next) -> io::Res
     }
     writer.write_all(b"\n")
 }
-
-/// Each element of a slice of bytes is a byte.
-fn are_bytes(bytes: &[u8])
-    ensures { IsBytes bytes.now }
-{}
-
-/// Every token is one of which `rows_read_back` speaks.
-pub fn tokens_are_credentials(token: &Token)
-    ensures { IsCredential token.now }
-{
-    token.parts_fit();
-    are_bytes(token.secret().as_slice());
-}
-
-/// A row that was written is one line, and is read as the same token with the same first free factor.
-pub fn rows_read_back()
-    ensures row { (c : Credential) (next : ℕ) → IsCredential c → IsNext next →
-        row_of (fields_of (row_line c next)) ≡ Holds c (written_counter c.kind next) None }
-    ensures floor { (c : Credential) (next skew moment : ℕ) → c.kind ≡ Kind.Event →
-        first_free skew moment c (written_counter c.kind next) None ≡ next }
-    ensures lines { (c : Credential) (next : ℕ) (rest : List ℕ) → IsCredential c → IsNext next →
-        lines_of (row_text c next ++ rest) ≡ row_line c next ∷ lines_of rest }
-    ensures short { (c : Credential) (next : ℕ) → IsCredential c → IsNext next → length (row_text c next) ≤ 425 }
-    ensures import { (at : Instant) (so_far : Import) (c : Credential) (next : ℕ) → IsCredential c → IsNext next →
-        after_line at so_far (row_line c next) ≡ after_token at so_far c (written_counter c.kind next) None }
-{}

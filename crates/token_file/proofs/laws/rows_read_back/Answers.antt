@@ -1,5 +1,5 @@
 use Rattle.token_file.proofs.WritingLemmas.{row_is_imported, row_is_line, row_is_read, row_is_short}
-use Rattle.token_file.proofs.write.rows_read_back.Goals as goal
+use Rattle.token_file.proofs.laws.rows_read_back.Goals as goal
 
 pub returns-clause-row : goal.returns-clause-row
 returns-clause-row c = row_is_read

@@ -1,7 +1,7 @@
 use Rattle.std.proofs.Common.{subst, ◌∙◌}
 use Rattle.hex.specs.Hex.{IsBytes}
 use Rattle.otp_core.specs.Range.{IsSecret}
-use Rattle.token_file.proofs.write.tokens_are_credentials.Goals as goal
+use Rattle.token_file.proofs.laws.tokens_are_credentials.Goals as goal
 
 pub returns : goal.returns
 returns c =
