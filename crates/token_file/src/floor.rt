@@ -4,7 +4,7 @@ ghost use Rattle.otp_core.specs.Range.{IsMoment};
 ghost use Rattle.token_file.specs.Row.{first_free, is_taken, step_floor};
 
 use crate::entry::Entry;
-use crate::token::{Kind, Token};
+use crate::token::Token;
 use otp_core::{Factor, Next, Settings, code};
 
 /// Whether the last password that was taken is the code of the counter.
@@ -25,26 +25,26 @@ fn is_last_taken(token: &Token, counter: u64, last: Option<&[u8]>) -> bool
     }
 }
 
-/// The steps of a time token that are used up by an import: those up to the moment and the skew.
-fn step_floor_of(x: u64, settings: Settings, moment: u64) -> u64
+/// The first free factor of a time token: its steps up to the moment and the skew are used up by an import.
+fn step_floor_of(period: u64, settings: Settings, moment: u64) -> u64
     requires moment { IsMoment moment }
-    requires x { 30 ≤ x }
-    ensures value { result ≡ step_floor x settings.skew moment }
+    requires period { 30 ≤ period }
+    ensures value { result ≡ step_floor period settings.skew moment }
     ensures bound { result ≤ 2 ^ 62 }
 {
-    moment / x + settings.skew() + 1
+    moment / period + settings.skew() + 1
 }
 
 /// The first free factor of a row at its import.
 pub(crate) fn first_floor(entry: &Entry<'_>, settings: Settings, moment: u64) -> Next
     requires { IsMoment moment }
-    ensures { result ≡ first_free settings.skew moment entry.now.token entry.now.counter (option_copied entry.now.last) }
+    ensures { result
+        ≡ first_free settings.skew moment entry.now.token entry.now.counter (option_copied entry.now.last) }
 {
-    let value = match entry.token.kind() {
-        Kind::Event if is_last_taken(&entry.token, entry.counter, entry.last) => entry.counter + 1,
-        Kind::Event => entry.counter,
-        Kind::Time30 => step_floor_of(30, settings, moment),
-        Kind::Time60 => step_floor_of(60, settings, moment),
+    let value = match entry.token.kind().period() {
+        Some(period) => step_floor_of(period, settings, moment),
+        None if is_last_taken(&entry.token, entry.counter, entry.last) => entry.counter + 1,
+        None => entry.counter,
     };
     Next::new(value).unwrap()
 }

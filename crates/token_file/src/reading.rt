@@ -24,7 +24,7 @@ pub const MAX_FILE_LEN: u32 = 16_777_216;
 const PIECE_LEN: usize = 4096;
 
 /// What was read so far of a users file.
-#[derive(Debug, Drop)]
+#[derive(Drop)]
 struct Reading {
     book: Book,
     floors: Vec<Next>,

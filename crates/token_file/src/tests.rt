@@ -452,3 +452,24 @@ fn written_rows(rt: HostRuntime) -> Result<(), Fail> {
     }
     Ok(())
 }
+
+/// The text that shows a token has no byte of its password and none of its secret.
+#[test]
+fn shown_token(rt: HostRuntime) -> Result<(), Fail> {
+    let token = token_of(
+        b"silver",
+        Password::Equal(array_of(b"hunter")),
+        b"12345678901234567890",
+        Kind::Event,
+        Digits::Six,
+        Hash::Sha1,
+    );
+    let shown = format!(in rt.alloc(); "{:?}", token.ok_or("a token")?)?;
+    assert_eq!(rt; shown.contains("password: Equal(..)"), true);
+    assert_eq!(rt; shown.contains("secret: Secret(..)"), true);
+    // as a text, and as the numbers of its bytes
+    for hidden in ["hunter", "104, 117, 110", "1234567890", "49, 50, 51"] {
+        assert_eq!(rt; shown.contains(hidden), false, "{hidden}");
+    }
+    Ok(())
+}

@@ -1,10 +1,11 @@
 ghost use Rattle.std.specs.Prelude.{◌≡◌, ◌≤◌, ◌↔◌, IsSome, IfSome, IsTrue, length};
 ghost use Rattle.std.specs.List.{list_all};
-ghost use Rattle.token_file.specs.Credential.{is_blank, is_credential, is_hash_of, is_mark, is_password, is_visible, is_word as spec_is_word};
+ghost use Rattle.token_file.specs.Credential.{is_blank, is_credential, is_hash_of, is_mark, is_password, is_visible, is_word as spec_is_word, period_of};
 
 use arrayvec::ArrayVec;
 use hmac_core::Hash;
 use otp_core::{Digits, Secret};
+use std::fmt;
 use std::marker::Model;
 
 /// The longest user name and the longest password, in bytes.
@@ -21,8 +22,22 @@ pub enum Kind {
     Time60,
 }
 
+impl Kind {
+    /// How many seconds a time step has, or `None` where events are counted.
+    pub fn period(self) -> Option<u64>
+        ensures value { result ≡ period_of self }
+        ensures range { IfSome result (λ seconds. 30 ≤ seconds) }
+    {
+        match self {
+            Kind::Event => None,
+            Kind::Time30 => Some(30),
+            Kind::Time60 => Some(60),
+        }
+    }
+}
+
 /// What a line has to give as the password of a token.
-#[derive(Debug, Drop, PartialEq, Eq)]
+#[derive(Drop, PartialEq, Eq)]
 pub enum Password {
     /// None.
     NoneAllowed,
@@ -30,6 +45,17 @@ pub enum Password {
     NotChecked,
     /// These bytes.
     Equal(ArrayVec<u8, MAX_NAME_LEN>),
+}
+
+/// It shows no byte of the password.
+impl fmt::Debug for Password {
+    fn fmt<W: fmt::Write>(&self, f: &mut fmt::Formatter<W>) -> fmt::Result {
+        f.write_str(match self {
+            Password::NoneAllowed => "NoneAllowed",
+            Password::NotChecked => "NotChecked",
+            Password::Equal(_) => "Equal(..)",
+        })
+    }
 }
 
 /// A user's token.
