@@ -7,17 +7,17 @@ use Rattle.std.proofs.lemmas.List.Splits.{slice_split-cons_yes, slice_split-cons
 use Rattle.token_file.specs.declared.fault.LineFault.{LineFault}
 use Rattle.token_file.specs.declared.fault.LineFault.TheVariants.{LineTooLong}
 use Rattle.token_file.specs.Fields.{is_line_end, lines_of}
-use Rattle.token_file.specs.UsersFile.{Import, Instant, after_line, after_lines, numbered, then_read}
-use Rattle.token_file.specs.Reading.{onto_line, run}
+use Rattle.token_file.specs.UsersFile.{Import, Instant, after_line, after_lines, at_line, outcome_then}
+use Rattle.token_file.specs.Reading.{onto_line, outcome_of_rest}
 
 join_first : (begun : List ℕ) (b : ℕ) (lines : List (List ℕ)) → onto_line begun (onto_first b lines) ≡ onto_line (begun ++ b ∷ []) lines
 join_first begun b [] = refl
 join_first begun b (line ∷ lines) = ap (λ (first : List ℕ). first ∷ lines) (sym (append_assoc begun (b ∷ []) line))
 
 -- a byte of the line
-pub run-byte : (cut : Option LineFault) (at : Instant) (number : ℕ) (so_far : Import) (begun : List ℕ) (b : ℕ) (rest : List ℕ) → is_line_end b ≡ false
-    → run cut at number so_far begun (b ∷ rest) ≡ run cut at number so_far (begun ++ b ∷ []) rest
-run-byte cut at number so_far begun b rest is =
+pub outcome_of_rest-byte : (cut : Option LineFault) (at : Instant) (number : ℕ) (so_far : Import) (begun : List ℕ) (b : ℕ) (rest : List ℕ) → is_line_end b ≡ false
+    → outcome_of_rest cut at number so_far begun (b ∷ rest) ≡ outcome_of_rest cut at number so_far (begun ++ b ∷ []) rest
+outcome_of_rest-byte cut at number so_far begun b rest is =
     ap (after_lines cut at number so_far) (ap (onto_line begun) (slice_split-cons_no is_line_end b rest is) ∙ join_first begun b (lines_of rest))
 
 -- a text has a first line
@@ -40,14 +40,14 @@ has_line (b ∷ rest) = line_at b rest (is_line_end b)
 
 -- the lines after an LF
 after_end : (cut : Option LineFault) (at : Instant) (number : ℕ) (so_far : Import) (begun : List ℕ) (lines : List (List ℕ)) → HasLine lines
-    → after_lines cut at number so_far ((begun ++ []) ∷ lines) ≡ then_read (numbered number (after_line at so_far begun)) (λ import. after_lines cut at (number + 1) import (onto_line [] lines))
+    → after_lines cut at number so_far ((begun ++ []) ∷ lines) ≡ outcome_then (at_line number (after_line at so_far begun)) (λ import. after_lines cut at (number + 1) import (onto_line [] lines))
 after_end cut at number so_far begun lines h =
-    subst (λ (ls : List (List ℕ)). after_lines cut at number so_far ((begun ++ []) ∷ ls) ≡ then_read (numbered number (after_line at so_far begun)) (λ import. after_lines cut at (number + 1) import (onto_line [] ls))) (sym h.parts)
-    (ap (λ (line : List ℕ). then_read (numbered number (after_line at so_far line)) (λ import. after_lines cut at (number + 1) import (h.first ∷ h.others))) (append-nil begun))
+    subst (λ (ls : List (List ℕ)). after_lines cut at number so_far ((begun ++ []) ∷ ls) ≡ outcome_then (at_line number (after_line at so_far begun)) (λ import. after_lines cut at (number + 1) import (onto_line [] ls))) (sym h.parts)
+    (ap (λ (line : List ℕ). outcome_then (at_line number (after_line at so_far line)) (λ import. after_lines cut at (number + 1) import (h.first ∷ h.others))) (append-nil begun))
 
-pub run-end : (cut : Option LineFault) (at : Instant) (number : ℕ) (so_far : Import) (begun : List ℕ) (b : ℕ) (rest : List ℕ) → is_line_end b ≡ true
-    → run cut at number so_far begun (b ∷ rest) ≡ then_read (numbered number (after_line at so_far begun)) (λ import. run cut at (number + 1) import [] rest)
-run-end cut at number so_far begun b rest is =
+pub outcome_of_rest-end : (cut : Option LineFault) (at : Instant) (number : ℕ) (so_far : Import) (begun : List ℕ) (b : ℕ) (rest : List ℕ) → is_line_end b ≡ true
+    → outcome_of_rest cut at number so_far begun (b ∷ rest) ≡ outcome_then (at_line number (after_line at so_far begun)) (λ import. outcome_of_rest cut at (number + 1) import [] rest)
+outcome_of_rest-end cut at number so_far begun b rest is =
     ap (after_lines cut at number so_far) (ap (onto_line begun) (slice_split-cons_yes is_line_end b rest is)) ∙ after_end cut at number so_far begun (lines_of rest) (has_line rest)
 
 -- a line that is too long

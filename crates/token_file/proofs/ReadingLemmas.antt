@@ -10,10 +10,10 @@ use Rattle.token_file.specs.declared.fault.FileFault.{FileFault}
 use Rattle.token_file.specs.Credential.{Credential, place_of}
 use Rattle.token_file.specs.Fields.{fields_of, is_line_end, lines_of}
 use Rattle.token_file.specs.Row.{Row, Ignored, Faulty, Holds, row_of}
-use Rattle.token_file.specs.UsersFile.{Import, Instant, IsCutOff, after_line, after_lines, after_row, book_of, is_of_text, nothing_read, numbered, outcome_of, then_read}
-use Rattle.token_file.specs.Reading.{CutsOff, Fails, Leads, Progress, is_read, is_read_result, nothing_begun, onto_line, outcome_from, run, run_from}
+use Rattle.token_file.specs.UsersFile.{Import, Instant, IsCutOff, after_line, after_lines, after_row, at_line, book_of, empty_import, is_of_text, is_read, is_read_result, outcome_of, outcome_then}
+use Rattle.token_file.specs.Reading.{CutsOff, Fails, Leads, Progress, initial_progress, onto_line, outcome_from, outcome_of_rest, outcome_of_rest_from}
 use Rattle.token_file.specs.Source.{OfText}
-use Rattle.token_file.proofs.LinesLemmas.{HasLine, has_line, run-byte, run-end, too_long}
+use Rattle.token_file.proofs.LinesLemmas.{HasLine, has_line, outcome_of_rest-byte, outcome_of_rest-end, too_long}
 
 -- as many floors as tokens, after a line too
 abbrev pub IsPaired : Import → Type 0
@@ -50,14 +50,14 @@ same_both false x y z f g = g
 
 -- a byte that is read leads from one state to another where each text goes on so
 pub step : (at : Instant) (p q : Progress) (b : ℕ) → q.room + 1 ≡ p.room
-    → ((cut : Option LineFault) (rest : List ℕ) → run_from cut at p (b ∷ rest) ≡ run_from cut at q rest) → (IsPaired p.import → IsPaired q.import) → Leads at p (b ∷ []) q
+    → ((cut : Option LineFault) (rest : List ℕ) → outcome_of_rest_from cut at p (b ∷ rest) ≡ outcome_of_rest_from cut at q rest) → (IsPaired p.import → IsPaired q.import) → Leads at p (b ∷ []) q
 step at p q b room runs paired = record {
   outcomes = λ cut rest.
       let less : nat_le (length (b ∷ rest)) p.room ≡ nat_le (length rest) q.room = grind (arith, nat_tests) in
       let more : p.room ≡ suc q.room = omega (arith, room) in
-      both (nat_le (length (b ∷ rest)) p.room) (nat_le (length rest) q.room) (run_from cut at p (b ∷ rest)) (run_from (Some FileTooLong) at p (take p.room (b ∷ rest)))
-      (run_from cut at q rest) (run_from (Some FileTooLong) at q (take q.room rest)) less (runs cut rest)
-      (ap (λ n. run_from (Some FileTooLong) at p (take n (b ∷ rest))) more ∙ runs (Some FileTooLong) (take q.room rest));
+      both (nat_le (length (b ∷ rest)) p.room) (nat_le (length rest) q.room) (outcome_of_rest_from cut at p (b ∷ rest)) (outcome_of_rest_from (Some FileTooLong) at p (take p.room (b ∷ rest)))
+      (outcome_of_rest_from cut at q rest) (outcome_of_rest_from (Some FileTooLong) at q (take q.room rest)) less (runs cut rest)
+      (ap (λ n. outcome_of_rest_from (Some FileTooLong) at p (take n (b ∷ rest))) more ∙ runs (Some FileTooLong) (take q.room rest));
   room = omega (arith, room);
   paired = paired;
 }
@@ -66,20 +66,20 @@ step at p q b room runs paired = record {
 pub step_byte : (at : Instant) (p q : Progress) (b : ℕ) → is_line_end b ≡ false → q.room + 1 ≡ p.room
     → q.number ≡ p.number → q.import ≡ p.import → q.begun ≡ p.begun ++ b ∷ [] → Leads at p (b ∷ []) q
 step_byte at p q b is room number import begun = step at p q b room
-    (λ cut rest. run-byte cut at p.number p.import p.begun b rest is
-    ∙ ap (λ n. run cut at n p.import (p.begun ++ b ∷ []) rest) (sym number)
-    ∙ ap (λ i. run cut at q.number i (p.begun ++ b ∷ []) rest) (sym import)
-    ∙ ap (λ line. run cut at q.number q.import line rest) (sym begun))
+    (λ cut rest. outcome_of_rest-byte cut at p.number p.import p.begun b rest is
+    ∙ ap (λ n. outcome_of_rest cut at n p.import (p.begun ++ b ∷ []) rest) (sym number)
+    ∙ ap (λ i. outcome_of_rest cut at q.number i (p.begun ++ b ∷ []) rest) (sym import)
+    ∙ ap (λ line. outcome_of_rest cut at q.number q.import line rest) (sym begun))
     (λ h. subst IsPaired (sym import) h)
 
 -- the end of the line
 pub step_end : (at : Instant) (p q : Progress) (b : ℕ) → is_line_end b ≡ true → q.room + 1 ≡ p.room
     → after_line at p.import p.begun ≡ Ok q.import → q.number ≡ p.number + 1 → q.begun ≡ [] → Leads at p (b ∷ []) q
 step_end at p q b is room line number begun = step at p q b room
-    (λ cut rest. run-end cut at p.number p.import p.begun b rest is
-    ∙ ap (λ r. then_read (numbered p.number r) (λ import. run cut at (p.number + 1) import [] rest)) line
-    ∙ ap (λ n. run cut at n q.import [] rest) (sym number)
-    ∙ ap (λ begun. run cut at q.number q.import begun rest) (sym begun))
+    (λ cut rest. outcome_of_rest-end cut at p.number p.import p.begun b rest is
+    ∙ ap (λ r. outcome_then (at_line p.number r) (λ import. outcome_of_rest cut at (p.number + 1) import [] rest)) line
+    ∙ ap (λ n. outcome_of_rest cut at n q.import [] rest) (sym number)
+    ∙ ap (λ begun. outcome_of_rest cut at q.number q.import begun rest) (sym begun))
     (λ h. paired_line at p.import q.import p.begun line h)
 
 short : (line : List ℕ) → length line ≤ 4096 → nat_lt 4096 (length (line ++ [])) ≡ false
@@ -89,34 +89,34 @@ long : (line : List ℕ) → 4096 < length line → nat_lt 4096 (length line) �
 long line h = grind (arith, nat_tests)
 
 -- a fault cuts the text off here
-pub run-here : (fault : LineFault) (at : Instant) (number : ℕ) (so_far : Import) (begun : List ℕ) → length begun ≤ 4096
-    → run (Some fault) at number so_far begun [] ≡ Err (number, fault)
-run-here fault at number so_far begun h = rw (short begun h) refl
+pub outcome_of_rest-here : (fault : LineFault) (at : Instant) (number : ℕ) (so_far : Import) (begun : List ℕ) → length begun ≤ 4096
+    → outcome_of_rest (Some fault) at number so_far begun [] ≡ Err (number, fault)
+outcome_of_rest-here fault at number so_far begun h = rw (short begun h) refl
 
 pub here : (fault : LineFault) (at : Instant) (p : Progress) → length p.begun ≤ 4096 → outcome_from (Some fault) at p [] ≡ Err (p.number, fault)
 here fault at p h = let fits : nat_le (length {A = ℕ} []) p.room ≡ true = grind (arith, nat_tests) in
-    ap (λ t. cond t (run_from (Some fault) at p []) (run_from (Some FileTooLong) at p (take p.room []))) fits ∙ run-here fault at p.number p.import p.begun h
+    ap (λ t. cond t (outcome_of_rest_from (Some fault) at p []) (outcome_of_rest_from (Some FileTooLong) at p (take p.room []))) fits ∙ outcome_of_rest-here fault at p.number p.import p.begun h
 
 -- a fault at the next byte
 at_byte : (at : Instant) (p : Progress) (b number : ℕ) (fault : LineFault) (r : ℕ) → p.room ≡ r + 1
-    → ((cut : Option LineFault) (rest : List ℕ) → run_from cut at p (b ∷ rest) ≡ Err (number, fault)) → (cut : Option LineFault) (rest : List ℕ) → outcome_from cut at p (b ∷ rest) ≡ Err (number, fault)
+    → ((cut : Option LineFault) (rest : List ℕ) → outcome_of_rest_from cut at p (b ∷ rest) ≡ Err (number, fault)) → (cut : Option LineFault) (rest : List ℕ) → outcome_from cut at p (b ∷ rest) ≡ Err (number, fault)
 at_byte at p b number fault r room runs cut rest =
     let more : p.room ≡ suc r = omega (arith, room) in
-    same_both (nat_le (length (b ∷ rest)) p.room) (run_from cut at p (b ∷ rest)) (run_from (Some FileTooLong) at p (take p.room (b ∷ rest))) (Err (number, fault)) (runs cut rest)
-    (ap (λ n. run_from (Some FileTooLong) at p (take n (b ∷ rest))) more ∙ runs (Some FileTooLong) (take r rest))
+    same_both (nat_le (length (b ∷ rest)) p.room) (outcome_of_rest_from cut at p (b ∷ rest)) (outcome_of_rest_from (Some FileTooLong) at p (take p.room (b ∷ rest))) (Err (number, fault)) (runs cut rest)
+    (ap (λ n. outcome_of_rest_from (Some FileTooLong) at p (take n (b ∷ rest))) more ∙ runs (Some FileTooLong) (take r rest))
 
 -- a fault at the end of the line
 pub fails_end : (at : Instant) (p : Progress) (b : ℕ) (fault : FileFault) (r : ℕ) → is_line_end b ≡ true → p.room ≡ r + 1 → length p.begun ≤ 4096 → fault.line ≡ p.number
     → (IsTrue (is_of_text fault.kind) → after_line at p.import p.begun ≡ Err fault.kind) → is_read fault.kind ≡ false → Fails at p (b ∷ []) fault
 fails_end at p b fault r is room len line found unread = record {
-  text = λ t. at_byte at p b fault.line fault.kind r room (λ cut rest. run-end cut at p.number p.import p.begun b rest is
-      ∙ ap (λ o. then_read (numbered p.number o) (λ import. run cut at (p.number + 1) import [] rest)) (found t)
+  text = λ t. at_byte at p b fault.line fault.kind r room (λ cut rest. outcome_of_rest-end cut at p.number p.import p.begun b rest is
+      ∙ ap (λ o. outcome_then (at_line p.number o) (λ import. outcome_of_rest cut at (p.number + 1) import [] rest)) (found t)
       ∙ ap (λ n. Err (n, fault.kind)) (sym line));
   memory = λ e. record { front = []; back = b ∷ []; parts = refl; outcome = here Memory at p len ∙ ap (λ n. Err (n, Memory)) (sym line) };
   unread = unread;
 }
 
-long_run : (cut : Option LineFault) (at : Instant) (number : ℕ) (so_far : Import) (begun rest : List ℕ) → 4096 < length begun → run cut at number so_far begun rest ≡ Err (number, LineTooLong)
+long_run : (cut : Option LineFault) (at : Instant) (number : ℕ) (so_far : Import) (begun rest : List ℕ) → 4096 < length begun → outcome_of_rest cut at number so_far begun rest ≡ Err (number, LineTooLong)
 long_run cut at number so_far begun rest h = let lines = has_line rest in
     ap (λ ls. after_lines cut at number so_far (onto_line begun ls)) lines.parts
     ∙ too_long cut at number so_far (begun ++ lines.first) lines.others (long (begun ++ lines.first) (omega (arith, length-append begun lines.first, h)))
@@ -125,7 +125,7 @@ long_run cut at number so_far begun rest h = let lines = has_line rest in
 pub fails_long : (at : Instant) (p : Progress) (b : ℕ) (fault : FileFault) (r : ℕ) → is_line_end b ≡ false → p.room ≡ r + 1 → length p.begun ≡ 4096 → fault ≡ record { line = p.number; kind = LineTooLong }
     → Fails at p (b ∷ []) fault
 fails_long at p b fault r is room full e = subst (λ (f : FileFault). Fails at p (b ∷ []) f) (sym e) record {
-  text = λ t. at_byte at p b p.number LineTooLong r room (λ cut rest. run-byte cut at p.number p.import p.begun b rest is
+  text = λ t. at_byte at p b p.number LineTooLong r room (λ cut rest. outcome_of_rest-byte cut at p.number p.import p.begun b rest is
       ∙ long_run cut at p.number p.import (p.begun ++ b ∷ []) rest (omega (arith, length-append p.begun (b ∷ []), full)));
   memory = λ e. absurd cc;
   unread = refl;
@@ -167,21 +167,21 @@ fails_more at p xs ys fault f = record {
 onto_nothing : (lines : List (List ℕ)) → HasLine lines → lines ≡ onto_line [] lines
 onto_nothing lines h = h.parts ∙ sym (ap (onto_line []) h.parts)
 
-from_start : (cut : Option LineFault) (at : Instant) (text : List ℕ) → after_lines cut at 1 nothing_read (lines_of text) ≡ run cut at 1 nothing_read [] text
-from_start cut at text = ap (after_lines cut at 1 nothing_read) (onto_nothing (lines_of text) (has_line text))
+from_start : (cut : Option LineFault) (at : Instant) (text : List ℕ) → after_lines cut at 1 empty_import (lines_of text) ≡ outcome_of_rest cut at 1 empty_import [] text
+from_start cut at text = ap (after_lines cut at 1 empty_import) (onto_nothing (lines_of text) (has_line text))
 
 -- a whole text
-pub whole : (cut : Option LineFault) (limit : ℕ) (at : Instant) (text : List ℕ) → outcome_of cut limit at text ≡ outcome_from cut at (nothing_begun limit) text
+pub whole : (cut : Option LineFault) (limit : ℕ) (at : Instant) (text : List ℕ) → outcome_of cut limit at text ≡ outcome_from cut at (initial_progress limit) text
 whole cut limit at text = both (nat_le (length text) limit) (nat_le (length text) limit)
-    (after_lines cut at 1 nothing_read (lines_of text)) (after_lines (Some FileTooLong) at 1 nothing_read (lines_of (take limit text)))
-    (run cut at 1 nothing_read [] text) (run (Some FileTooLong) at 1 nothing_read [] (take limit text))
+    (after_lines cut at 1 empty_import (lines_of text)) (after_lines (Some FileTooLong) at 1 empty_import (lines_of (take limit text)))
+    (outcome_of_rest cut at 1 empty_import [] text) (outcome_of_rest (Some FileTooLong) at 1 empty_import [] (take limit text))
     refl (from_start cut at text) (from_start (Some FileTooLong) at (take limit text))
 
 -- the text ends here
-pub ends : (at : Instant) (p : Progress) → outcome_from None at p [] ≡ numbered p.number (after_line at p.import p.begun)
+pub ends : (at : Instant) (p : Progress) → outcome_from None at p [] ≡ at_line p.number (after_line at p.import p.begun)
 ends at p = let fits : nat_le (length {A = ℕ} []) p.room ≡ true = grind (arith, nat_tests) in
-    ap (λ t. cond t (run_from None at p []) (run_from (Some FileTooLong) at p (take p.room []))) fits
-    ∙ ap (λ line. numbered p.number (after_line at p.import line)) (append-nil p.begun)
+    ap (λ t. cond t (outcome_of_rest_from None at p []) (outcome_of_rest_from (Some FileTooLong) at p (take p.room []))) fits
+    ∙ ap (λ line. at_line p.number (after_line at p.import line)) (append-nil p.begun)
 
 -- the fault that a `?` hands on
 pub handed_on : {A : Type 0} (r : Result A FileFault) (fault : FileFault) (P : FileFault → Type 0) → IsErrAnd r (λ f. f ≡ fault) → P fault → IfErr r P
@@ -242,18 +242,18 @@ nothing_left (Some ys) (Some zs) rest t h e = t ∙ h ∙ e
 pub record SoFar (at : Instant) (limit pulls : ℕ) (before now : Option (List ℕ)) (p : Progress) : Type 0 where
   pub taken : List ℕ
   pub consumed : Consumes before now taken
-  pub leads : Leads at (nothing_begun limit) taken p
+  pub leads : Leads at (initial_progress limit) taken p
   pub enough : pulls ≤ length taken
 
 consumes_none : (a : Option (List ℕ)) → Consumes a a []
 consumes_none None = tt
 consumes_none (Some xs) = refl
 
-pub so_far_none : (at : Instant) (limit : ℕ) (before : Option (List ℕ)) (p : Progress) → p ≡ nothing_begun limit → SoFar at limit 0 before before p
+pub so_far_none : (at : Instant) (limit : ℕ) (before : Option (List ℕ)) (p : Progress) → p ≡ initial_progress limit → SoFar at limit 0 before before p
 so_far_none at limit before p e = record {
   taken = [];
   consumed = consumes_none before;
-  leads = subst (λ (q : Progress). Leads at (nothing_begun limit) [] q) (sym e) (leads_none at (nothing_begun limit));
+  leads = subst (λ (q : Progress). Leads at (initial_progress limit) [] q) (sym e) (leads_none at (initial_progress limit));
   enough = omega arith;
 }
 
@@ -262,7 +262,7 @@ pub so_far_more : (at : Instant) (limit pulls : ℕ) (before now new : Option (L
 so_far_more at limit pulls before now new p q bytes s h l some = record {
   taken = s.taken ++ bytes;
   consumed = consumes_then before now new s.taken bytes s.consumed h;
-  leads = leads_then at (nothing_begun limit) p q s.taken bytes s.leads l;
+  leads = leads_then at (initial_progress limit) p q s.taken bytes s.leads l;
   enough = omega (arith, s.enough, some, length-append s.taken bytes);
 }
 
@@ -276,9 +276,9 @@ so_far_paired at limit pulls before now p import s e = paired_line at p.import i
 
 -- the source is at its end
 pub at_end : (at : Instant) (limit pulls : ℕ) (before now new : Option (List ℕ)) (p : Progress) → SoFar at limit pulls before now p → Consumes now new [] → IsAtEnd new
-    → OfText before (λ text. book_of limit at text ≡ numbered p.number (after_line at p.import p.begun))
+    → OfText before (λ text. book_of limit at text ≡ at_line p.number (after_line at p.import p.begun))
 at_end at limit pulls before now new p s h e =
-    of_taken before now s.taken (λ text. book_of limit at text ≡ numbered p.number (after_line at p.import p.begun)) s.consumed (λ rest told.
+    of_taken before now s.taken (λ text. book_of limit at text ≡ at_line p.number (after_line at p.import p.begun)) s.consumed (λ rest told.
     ap (λ (r : List ℕ). book_of limit at (s.taken ++ r)) (nothing_left now new rest told h e)
     ∙ whole None limit at (s.taken ++ []) ∙ s.leads.outcomes None [] ∙ ends at p)
 
@@ -290,7 +290,7 @@ cut_here cut at limit pulls number before now p s len same =
       taken = s.taken;
       left = rest;
       parts = refl;
-      outcome = whole (Some cut) limit at s.taken ∙ ap (outcome_from (Some cut) at (nothing_begun limit)) (sym (append-nil s.taken))
+      outcome = whole (Some cut) limit at s.taken ∙ ap (outcome_from (Some cut) at (initial_progress limit)) (sym (append-nil s.taken))
           ∙ s.leads.outcomes (Some cut) [] ∙ here cut at p len ∙ ap (λ n. Err (n, cut)) (sym same);
     })
 
@@ -298,14 +298,14 @@ cut_here cut at limit pulls number before now p s len same =
 pub fault_within : (at : Instant) (limit pulls : ℕ) (before now new : Option (List ℕ)) (p : Progress) (bytes : List ℕ) (fault : FileFault)
     → SoFar at limit pulls before now p → Consumes now new bytes → Fails at p bytes fault → IsTrue (is_of_text fault.kind) → OfText before (λ text. book_of limit at text ≡ Err (fault.line, fault.kind))
 fault_within at limit pulls before now new p bytes fault s h f t =
-    let g = fails_then at (nothing_begun limit) p s.taken bytes fault s.leads f in
+    let g = fails_then at (initial_progress limit) p s.taken bytes fault s.leads f in
     of_taken before new (s.taken ++ bytes) (λ text. book_of limit at text ≡ Err (fault.line, fault.kind)) (consumes_then before now new s.taken bytes s.consumed h)
     (λ rest told. whole None limit at ((s.taken ++ bytes) ++ rest) ∙ g.text t None rest)
 
 pub memory_within : (at : Instant) (limit pulls : ℕ) (before now new : Option (List ℕ)) (p : Progress) (bytes : List ℕ) (fault : FileFault)
     → SoFar at limit pulls before now p → Consumes now new bytes → Fails at p bytes fault → fault.kind ≡ Memory → OfText before (λ text. IsCutOff Memory limit at text fault.line)
 memory_within at limit pulls before now new p bytes fault s h f e =
-    let m = cuts_then at (nothing_begun limit) p s.taken bytes fault.line s.leads (f.memory e) in
+    let m = cuts_then at (initial_progress limit) p s.taken bytes fault.line s.leads (f.memory e) in
     of_taken before new (s.taken ++ bytes) (λ text. IsCutOff Memory limit at text fault.line) (consumes_then before now new s.taken bytes s.consumed h) (λ rest told. record {
       taken = m.front;
       left = m.back ++ rest;

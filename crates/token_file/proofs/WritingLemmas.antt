@@ -26,7 +26,7 @@ use Rattle.token_file.specs.declared.token.Password.TheVariants.{NoneAllowed, No
 use Rattle.token_file.specs.declared.type_word.TokenType.{TokenType}
 use Rattle.token_file.specs.Credential.{Credential, is_blank, is_visible, is_word, is_mark, is_password, is_hash_of}
 use Rattle.token_file.specs.Fields.{has_bytes, fields_of, is_line_end, lines_of}
-use Rattle.token_file.specs.Row.{Holds, counted, counter_of, credential_of, is_counter, kind_row, named_row, password_of, row_of, row_with, secret_of}
+use Rattle.token_file.specs.Row.{Holds, counter_row, counter_of, credential_of, is_counter, kind_row, named_row, password_of, row_of, row_with, secret_of}
 use Rattle.token_file.specs.TypeWord.{type_of}
 use Rattle.token_file.specs.UsersFile.{Import, Instant, after_line, after_row, after_token}
 use Rattle.token_file.specs.declared.fault.LineFault.TheVariants.{LineTooLong}
@@ -312,7 +312,7 @@ read_named type name column text secret rest short narrow e =
     rw (name_fits, column_fits, e) refl
 
 read_factors : (kind : Kind) (c : Credential) (next : ℕ) → IsNext next → kind_row kind c (factor_fields kind next) ≡ Holds c (written_counter kind next) None
-read_factors Event c next h = ap (λ (counter : Option ℕ). counted c counter None) (counter_of-decimal next h)
+read_factors Event c next h = ap (λ (counter : Option ℕ). counter_row c counter None) (counter_of-decimal next h)
 read_factors Time30 c next h = refl
 read_factors Time60 c next h = refl
 

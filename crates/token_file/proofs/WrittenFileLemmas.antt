@@ -6,7 +6,7 @@ use Rattle.token_file.specs.declared.fault.LineFault.{LineFault}
 use Rattle.token_file.specs.declared.fault.LineFault.TheVariants.{DuplicateUser, TooMany}
 use Rattle.token_file.specs.Credential.{Credential, place_of}
 use Rattle.token_file.specs.Fields.{lines_of}
-use Rattle.token_file.specs.UsersFile.{Import, Instant, after_line, after_lines, after_token, book_of, nothing_read, numbered, then_read}
+use Rattle.token_file.specs.UsersFile.{Import, Instant, after_line, after_lines, after_token, at_line, book_of, empty_import, outcome_then}
 use Rattle.token_file.specs.Writing.{row_line, row_text, written_counter}
 use Rattle.token_file.specs.WrittenFile.{AreRows, WrittenRow, credentials_of, file_text, read_floor}
 use Rattle.token_file.proofs.LinesLemmas.{HasLine, has_line}
@@ -36,7 +36,7 @@ one_line : (at : Instant) (number : ℕ) (so_far next : Import) (line : List ℕ
     → after_lines None at number so_far (line ∷ lines) ≡ after_lines None at (number + 1) next lines
 one_line at number so_far next line lines h e =
     subst (λ (ls : List (List ℕ)). after_lines None at number so_far (line ∷ ls) ≡ after_lines None at (number + 1) next ls) (sym h.parts)
-    (ap (λ (r : Result Import LineFault). then_read (numbered number r) (λ import. after_lines None at (number + 1) import (h.first ∷ h.others))) e)
+    (ap (λ (r : Result Import LineFault). outcome_then (at_line number r) (λ import. after_lines None at (number + 1) import (h.first ∷ h.others))) e)
 
 -- the rows after what was read before
 abbrev all_read : Instant → Import → List WrittenRow → Import
@@ -83,4 +83,4 @@ file_is_short rows h = file_len [] rows h
 
 pub file_is_read : (limit : ℕ) (at : Instant) (rows : List WrittenRow) → AreRows [] rows → length rows ≤ 10000 → length (file_text rows) ≤ limit
     → book_of limit at (file_text rows) ≡ Ok (record { book = credentials_of rows; floors = map (read_floor at) rows })
-file_is_read limit at rows h few room = rw (le_true (length (file_text rows)) limit room) (rows_are_read at 1 nothing_read rows h (omega (arith, few)))
+file_is_read limit at rows h few room = rw (le_true (length (file_text rows)) limit room) (rows_are_read at 1 empty_import rows h (omega (arith, few)))

@@ -16,6 +16,6 @@ name_cmp a b = slice_cmp nat_cmp a.items b.items
 -- at most 10,000 tokens, each with a name of its own of at most 64 bytes, and the index has the place of each name
 pub record IsIndexed (book : List Credential) (index : BTreeMap (ArrayVec ℕ) ℕ) : Type 0 where
   pub few : length book ≤ 10000
-  pub short : AllByRecursion (λ c. length c.name ≤ 64) book
-  pub own : (n : ℕ) → IfSome (slice_get book n) (λ c. place_of c.name book ≡ Some n)
+  pub short : AllByRecursion (λ token. length token.name ≤ 64) book
+  pub own : (n : ℕ) → IfSome (slice_get book n) (λ token. place_of token.name book ≡ Some n)
   pub places : (name : List ℕ) → tree.get name_cmp index (record { items = name }) ≡ place_of name book

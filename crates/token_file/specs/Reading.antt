@@ -1,53 +1,46 @@
--- What a text gives after what was read before, with some bytes of a line already read.
-use Rattle.std.specs.Prelude.{◌≡◌, ℕ, ◌+◌, nat_le, Bool, true, false, IsTrue, List, [], ◌∷◌, ◌++◌, length, take, Option, Some, Result, Ok, Err, if◌then◌else◌}
+-- What a text gives after what was read before, with some bytes of a line already read. Only private contracts
+-- (src/reading.rt) cite these definitions, as steps of the proof of `read_book`: nothing public rests on them.
+use Rattle.std.specs.Prelude.{◌≡◌, ℕ, ◌+◌, nat_le, false, IsTrue, List, [], ◌∷◌, ◌++◌, length, take, Option, Some, Result, Err, if◌then◌else◌}
 use Rattle.token_file.specs.declared.fault.LineFault.{LineFault}
-use Rattle.token_file.specs.declared.fault.LineFault.TheVariants.{MissingField, BadSecret, BadCounter, DuplicateUser, NameTooLong, TooMany, LineTooLong, Read, Memory, FileTooLong}
+use Rattle.token_file.specs.declared.fault.LineFault.TheVariants.{Memory, FileTooLong}
 use Rattle.token_file.specs.declared.fault.FileFault.{FileFault}
 use Rattle.token_file.specs.Fields.{lines_of}
-use Rattle.token_file.specs.UsersFile.{Import, Instant, after_lines, is_of_text, nothing_read}
+use Rattle.token_file.specs.UsersFile.{Import, Instant, after_lines, empty_import, is_of_text, is_read}
 
 -- the lines, the first of them after what was read of it
 abbrev pub onto_line : List ℕ → List (List ℕ) → List (List ℕ)
 onto_line begun [] = begun ∷ []
 onto_line begun (line ∷ lines) = (begun ++ line) ∷ lines
 
-abbrev pub run : Option LineFault → Instant → ℕ → Import → List ℕ → List ℕ → Result Import (ℕ × LineFault)
-run cut at number so_far begun text = after_lines cut at number so_far (onto_line begun (lines_of text))
+-- what a text gives behind some bytes of the line with a number, after an import so far
+abbrev pub outcome_of_rest : Option LineFault → Instant → ℕ → Import → List ℕ → List ℕ → Result Import (ℕ × LineFault)
+outcome_of_rest cut at number so_far begun text = after_lines cut at number so_far (onto_line begun (lines_of text))
 
--- whether a fault is a failed pull
-abbrev pub is_read : LineFault → Bool
-is_read MissingField = false
-is_read BadSecret = false
-is_read BadCounter = false
-is_read DuplicateUser = false
-is_read NameTooLong = false
-is_read TooMany = false
-is_read LineTooLong = false
-is_read FileTooLong = false
-is_read Memory = false
-is_read Read = true
-
--- what was read before: whole lines, and bytes of the line with a number. So many more bytes may be read.
+-- what was read so far: whole lines, and bytes of the line with a number. So many more bytes may be read.
 pub record Progress : Type 0 where
   pub number : ℕ
   pub import : Import
   pub begun : List ℕ
   pub room : ℕ
 
-abbrev pub nothing_begun : ℕ → Progress
-nothing_begun limit = record { number = 1; import = nothing_read; begun = []; room = limit }
+-- nothing is read yet, and at most so many bytes will be
+abbrev pub initial_progress : ℕ → Progress
+initial_progress limit = record { number = 1; import = empty_import; begun = []; room = limit }
 
-abbrev pub run_from : Option LineFault → Instant → Progress → List ℕ → Result Import (ℕ × LineFault)
-run_from cut at p text = run cut at p.number p.import p.begun text
+-- what a text gives after what was read so far, however long it is
+abbrev pub outcome_of_rest_from : Option LineFault → Instant → Progress → List ℕ → Result Import (ℕ × LineFault)
+outcome_of_rest_from cut at progress text = outcome_of_rest cut at progress.number progress.import progress.begun text
 
--- what a text gives after what was read before
+-- what a text gives after what was read so far, where a longer one than may be read is cut off
 abbrev pub outcome_from : Option LineFault → Instant → Progress → List ℕ → Result Import (ℕ × LineFault)
-outcome_from cut at p text =
-    if nat_le (length text) p.room then run_from cut at p text else run_from (Some FileTooLong) at p (take p.room text)
+outcome_from cut at progress text =
+    if nat_le (length text) progress.room then outcome_of_rest_from cut at progress text
+    else outcome_of_rest_from (Some FileTooLong) at progress (take progress.room text)
 
 -- some bytes lead from what was read before to what was read after, whatever follows them
 pub record Leads (at : Instant) (old : Progress) (bytes : List ℕ) (new : Progress) : Type 0 where
-  pub outcomes : (cut : Option LineFault) (rest : List ℕ) → outcome_from cut at old (bytes ++ rest) ≡ outcome_from cut at new rest
+  pub outcomes : (cut : Option LineFault) (rest : List ℕ) →
+      outcome_from cut at old (bytes ++ rest) ≡ outcome_from cut at new rest
   pub room : length bytes + new.room ≡ old.room
   pub paired : length old.import.floors ≡ length old.import.book → length new.import.floors ≡ length new.import.book
 
@@ -60,10 +53,7 @@ pub record CutsOff (cut : LineFault) (at : Instant) (old : Progress) (bytes : Li
 
 -- a fault comes within some bytes, whatever follows them
 pub record Fails (at : Instant) (old : Progress) (bytes : List ℕ) (fault : FileFault) : Type 0 where
-  pub text : IsTrue (is_of_text fault.kind) → (cut : Option LineFault) (rest : List ℕ) → outcome_from cut at old (bytes ++ rest) ≡ Err (fault.line, fault.kind)
+  pub text : IsTrue (is_of_text fault.kind) → (cut : Option LineFault) (rest : List ℕ) →
+      outcome_from cut at old (bytes ++ rest) ≡ Err (fault.line, fault.kind)
   pub memory : fault.kind ≡ Memory → CutsOff Memory at old bytes fault.line
   pub unread : is_read fault.kind ≡ false
-
-abbrev pub is_read_result : {A : Type 0} → Result A FileFault → Bool
-is_read_result (Ok x) = false
-is_read_result (Err fault) = is_read fault.kind

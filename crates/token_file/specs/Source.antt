@@ -7,11 +7,13 @@ use Rattle.token_file.specs.declared.source.Pulled.TheVariants.{Bytes, Failed}
 -- the bytes at the front of the buffer were the first ones left, and there are none only at the end. A pull that
 -- fails may lose some.
 abbrev pub Pulls : Option (List ℕ) → Option (List ℕ) → Pulled → List ℕ → Type 0
-Pulls old new (Bytes n) buffer = (n ≤ length buffer) × Consumes old new (take n buffer) × (n ≡ 0 → IsAtEnd new)
+Pulls old new (Bytes count) buffer =
+    (count ≤ length buffer) × Consumes old new (take count buffer) × (count ≡ 0 → IsAtEnd new)
 Pulls old new Failed buffer = (lost : List ℕ) × Consumes old new lost
 
+-- whether a pull failed
 abbrev pub is_failure : Pulled → Bool
-is_failure (Bytes n) = false
+is_failure (Bytes count) = false
 is_failure Failed = true
 
 -- a fact of the bytes that a source has left, and of some bytes where it doesn't tell them

@@ -3,6 +3,7 @@ use Rattle.std.specs.Prelude.{◌≡◌, ℕ, ◌+◌, Bool, true, false, nat_lt
 use Rattle.otp_core.specs.Limits.{Limits}
 use Rattle.token_file.specs.declared.fault.LineFault.{LineFault}
 use Rattle.token_file.specs.declared.fault.LineFault.TheVariants.{MissingField, BadSecret, BadCounter, DuplicateUser, NameTooLong, TooMany, LineTooLong, Read, Memory, FileTooLong}
+use Rattle.token_file.specs.declared.fault.FileFault.{FileFault}
 use Rattle.token_file.specs.Credential.{Credential, place_of}
 use Rattle.token_file.specs.Fields.{lines_of, fields_of}
 use Rattle.token_file.specs.Row.{Row, Ignored, Faulty, Holds, row_of, first_free}
@@ -12,59 +13,73 @@ pub record Import : Type 0 where
   pub book : List Credential
   pub floors : List ℕ
 
+-- the import of a book and its first free factors
 abbrev pub import_of : List Credential → List ℕ → Import
 import_of book floors = record { book = book; floors = floors }
 
-abbrev pub nothing_read : Import
-nothing_read = record { book = []; floors = [] }
+-- the import of no rows
+abbrev pub empty_import : Import
+empty_import = record { book = []; floors = [] }
 
 -- when an import is made, and the skew of the server
 pub record Instant : Type 0 where
   pub skew : ℕ
   pub moment : ℕ
 
+-- the instant of a moment under a server's settings
 abbrev pub instant_of : Limits → ℕ → Instant
 instant_of settings moment = record { skew = settings.skew; moment = moment }
 
+-- an import after one more token: its name must be new, and there must be room for it
 abbrev pub after_token : Instant → Import → Credential → ℕ → Option (List ℕ) → Result Import LineFault
 after_token at so_far credential counter last =
     if is_some (place_of credential.name so_far.book) then Err DuplicateUser
     else if nat_le 10000 (length so_far.book) then Err TooMany
-    else Ok (record { book = so_far.book ++ credential ∷ []; floors = so_far.floors ++ first_free at.skew at.moment credential counter last ∷ [] })
+    else Ok (record {
+      book = so_far.book ++ credential ∷ [];
+      floors = so_far.floors ++ first_free at.skew at.moment credential counter last ∷ [];
+    })
 
+-- an import after one more row
 abbrev pub after_row : Instant → Import → Row → Result Import LineFault
 after_row at so_far Ignored = Ok so_far
 after_row at so_far (Faulty fault) = Err fault
 after_row at so_far (Holds credential counter last) = after_token at so_far credential counter last
 
+-- an import after one more line, of at most 4,096 bytes
 abbrev pub after_line : Instant → Import → List ℕ → Result Import LineFault
-after_line at so_far line = if nat_lt 4096 (length line) then Err LineTooLong else after_row at so_far (row_of (fields_of line))
+after_line at so_far line =
+    if nat_lt 4096 (length line) then Err LineTooLong else after_row at so_far (row_of (fields_of line))
 
--- the last line, which the end of the text or a fault cuts off
+-- an import after the last line, which the end of the text or a fault cuts off
 abbrev pub after_last : Option LineFault → Instant → Import → List ℕ → Result Import LineFault
 after_last None at so_far line = after_line at so_far line
 after_last (Some fault) at so_far line = if nat_lt 4096 (length line) then Err LineTooLong else Err fault
 
-abbrev pub numbered : ℕ → Result Import LineFault → Result Import (ℕ × LineFault)
-numbered number (Ok import) = Ok import
-numbered number (Err fault) = Err (number, fault)
+-- an outcome with the number of the line that a fault is at
+abbrev pub at_line : ℕ → Result Import LineFault → Result Import (ℕ × LineFault)
+at_line number (Ok import) = Ok import
+at_line number (Err fault) = Err (number, fault)
 
-abbrev pub then_read : Result Import (ℕ × LineFault) → (Import → Result Import (ℕ × LineFault)) → Result Import (ℕ × LineFault)
-then_read (Ok import) next = next import
-then_read (Err fault) next = Err fault
+-- the outcome of what comes next, or the fault that came before
+abbrev pub outcome_then :
+    Result Import (ℕ × LineFault) → (Import → Result Import (ℕ × LineFault)) → Result Import (ℕ × LineFault)
+outcome_then (Ok import) next = next import
+outcome_then (Err fault) next = Err fault
 
--- the lines from a number on, after what was read before
+-- the outcome of the lines from a number on, after an import so far
 abbrev pub after_lines : Option LineFault → Instant → ℕ → Import → List (List ℕ) → Result Import (ℕ × LineFault)
 after_lines cut at number so_far [] = Ok so_far
-after_lines cut at number so_far (line ∷ []) = numbered number (after_last cut at so_far line)
+after_lines cut at number so_far (line ∷ []) = at_line number (after_last cut at so_far line)
 after_lines cut at number so_far (line ∷ next ∷ lines) =
-    then_read (numbered number (after_line at so_far line)) (λ import. after_lines cut at (number + 1) import (next ∷ lines))
+    outcome_then (at_line number (after_line at so_far line))
+    (λ import. after_lines cut at (number + 1) import (next ∷ lines))
 
 -- what a text of at most so many bytes gives, where a fault cuts it off or, with None, it ends
 abbrev pub outcome_of : Option LineFault → ℕ → Instant → List ℕ → Result Import (ℕ × LineFault)
 outcome_of cut limit at text =
-    if nat_le (length text) limit then after_lines cut at 1 nothing_read (lines_of text)
-    else after_lines (Some FileTooLong) at 1 nothing_read (lines_of (take limit text))
+    if nat_le (length text) limit then after_lines cut at 1 empty_import (lines_of text)
+    else after_lines (Some FileTooLong) at 1 empty_import (lines_of (take limit text))
 
 -- the book and the floors of a whole text, or the line of its first fault and the fault
 abbrev pub book_of : ℕ → Instant → List ℕ → Result Import (ℕ × LineFault)
@@ -82,6 +97,24 @@ is_of_text LineTooLong = true
 is_of_text FileTooLong = true
 is_of_text Read = false
 is_of_text Memory = false
+
+-- whether a fault is a failed pull
+abbrev pub is_read : LineFault → Bool
+is_read MissingField = false
+is_read BadSecret = false
+is_read BadCounter = false
+is_read DuplicateUser = false
+is_read NameTooLong = false
+is_read TooMany = false
+is_read LineTooLong = false
+is_read FileTooLong = false
+is_read Memory = false
+is_read Read = true
+
+-- whether a result tells of a failed pull
+abbrev pub is_read_result : {A : Type 0} → Result A FileFault → Bool
+is_read_result (Ok x) = false
+is_read_result (Err fault) = is_read fault.kind
 
 -- a fault cuts a text off in the line with a number, after some of its bytes: none of the lines before it is
 -- faulty, and what was taken of it is not too long

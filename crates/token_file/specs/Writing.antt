@@ -14,17 +14,19 @@ use Rattle.token_file.specs.declared.token.Password.{Password}
 use Rattle.token_file.specs.declared.token.Password.TheVariants.{NoneAllowed, NotChecked, Equal}
 use Rattle.token_file.specs.Credential.{Credential, is_credential}
 
+-- the word of a kind
 abbrev pub kind_word : Kind → List ℕ
 kind_word Event = codes "HOTP/E"
 kind_word Time30 = codes "HOTP/T30"
 kind_word Time60 = codes "HOTP/T60"
 
+-- what a type adds to the word of its kind for the digits
 abbrev pub digits_word : Digits → List ℕ
 digits_word Six = codes "/6"
 digits_word Seven = codes "/7"
 digits_word Eight = codes "/8"
 
--- SHA-1 isn't named
+-- what a type adds for the hash: SHA-1 isn't named
 abbrev pub hash_word : Hash → List ℕ
 hash_word Sha1 = []
 hash_word Sha256 = codes "/SHA256"
@@ -46,17 +48,20 @@ factor_fields Event next = decimal next ∷ []
 factor_fields Time30 next = []
 factor_fields Time60 next = []
 
+-- the fields of the row of a token and its first free factor
 abbrev pub written_fields : Credential → ℕ → List (List ℕ)
-written_fields c next =
-    type_word c.kind c.digits c.hash ∷ c.name ∷ password_column c.password ∷ encode_lower c.secret ∷ factor_fields c.kind next
+written_fields credential next =
+    type_word credential.kind credential.digits credential.hash
+    ∷ credential.name ∷ password_column credential.password ∷ encode_lower credential.secret
+    ∷ factor_fields credential.kind next
 
 -- the line of a token and its first free factor
 abbrev pub row_line : Credential → ℕ → List ℕ
-row_line c next = join_with_byte 9 (written_fields c next)
+row_line credential next = join_with_byte 9 (written_fields credential next)
 
 -- the line with its LF
 abbrev pub row_text : Credential → ℕ → List ℕ
-row_text c next = row_line c next ++ 10 ∷ []
+row_text credential next = row_line credential next ++ 10 ∷ []
 
 -- the counter that the line of a token has: that of a time token counts nothing
 abbrev pub written_counter : Kind → ℕ → ℕ
@@ -64,8 +69,8 @@ written_counter Event next = next
 written_counter Time30 next = 0
 written_counter Time60 next = 0
 
--- what every token is
-pub record IsCredential (c : Credential) : Type 0 where
-  pub parts : IsTrue (is_credential c.name c.password c.kind c.hash)
-  pub secret : IsSecret c.secret
-  pub bytes : IsBytes c.secret
+-- what every token is: its parts fit together, and its secret is 1 to 128 bytes
+pub record IsCredential (credential : Credential) : Type 0 where
+  pub parts : IsTrue (is_credential credential.name credential.password credential.kind credential.hash)
+  pub secret : IsSecret credential.secret
+  pub bytes : IsBytes credential.secret

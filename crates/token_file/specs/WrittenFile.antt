@@ -11,11 +11,12 @@ pub record WrittenRow : Type 0 where
   pub credential : Credential
   pub next : ℕ
 
--- the rows, one after another
+-- the text of the rows, one after another
 abbrev pub file_text : List WrittenRow → List ℕ
 file_text [] = []
 file_text (row ∷ rows) = row_text row.credential row.next ++ file_text rows
 
+-- the tokens of the rows
 abbrev pub credentials_of : List WrittenRow → List Credential
 credentials_of rows = map (λ row. row.credential) rows
 
@@ -27,4 +28,5 @@ read_floor at row = first_free at.skew at.moment row.credential (written_counter
 abbrev pub AreRows : List Credential → List WrittenRow → Type 0
 AreRows before [] = Unit {0}
 AreRows before (row ∷ rows) =
-    IsCredential row.credential × IsNext row.next × (place_of row.credential.name before ≡ None) × AreRows (before ++ row.credential ∷ []) rows
+    IsCredential row.credential × IsNext row.next × (place_of row.credential.name before ≡ None)
+    × AreRows (before ++ row.credential ∷ []) rows

@@ -1,8 +1,8 @@
 ghost use Rattle.std.specs.Prelude.{◌≡◌, ◌+◌, ◌∷◌, ◌^◌, ◌<◌, ◌≤◌, ◌≢◌, ◌||◌, [], false, length, is_ok, IfErr, IfOk, IsTrue, MatchResult, OnOk, Ok, Err};
 ghost use Rattle.otp_core.specs.Range.{IsMoment};
-ghost use Rattle.token_file.specs.Reading.{Fails, Leads, Progress, is_read, is_read_result, nothing_begun};
+ghost use Rattle.token_file.specs.Reading.{Fails, Leads, Progress, initial_progress};
 ghost use Rattle.token_file.specs.Source.{OfText};
-ghost use Rattle.token_file.specs.UsersFile.{Instant, IsCutOff, after_line, book_of, import_of, instant_of, is_of_text};
+ghost use Rattle.token_file.specs.UsersFile.{Instant, IsCutOff, after_line, book_of, import_of, instant_of, is_of_text, is_read, is_read_result};
 
 use crate::book::{Book, MAX_TOKENS};
 use crate::fault::{FileFault, LineFault};
@@ -56,7 +56,7 @@ impl Reading {
     /// Nothing is read yet.
     fn new(alloc: Global, limit: u32) -> Self
         requires { limit < 2 ^ 30 }
-        ensures { result ≡ nothing_begun limit }
+        ensures { result ≡ initial_progress limit }
     {
         Reading {
             book: Book::new(alloc),

@@ -1,8 +1,8 @@
 ghost use Rattle.std.specs.Prelude.{◌≡◌, ◌^◌, ◌≤◌, true, false, IfErr, IfOk, IfSome, IsTrue};
 ghost use Rattle.token_file.specs.Credential.{Credential, is_hash_of, is_password, is_word};
-ghost use Rattle.token_file.specs.Entry.{counted_row, entry_row, line_row};
+ghost use Rattle.token_file.specs.Entry.{entry_row, event_entry_row, line_row};
 ghost use Rattle.token_file.specs.Fields.{fields_of};
-ghost use Rattle.token_file.specs.Reading.{is_read};
+ghost use Rattle.token_file.specs.UsersFile.{is_read};
 ghost use Rattle.token_file.specs.Row.{counter_of, credential_of, event_row, password_of, row_of, secret_of, typed_row};
 
 use crate::entry::Entry;
@@ -115,7 +115,8 @@ fn read_secret(text: &[u8]) -> Option<Secret>
 /// The counter and the last password of an event token: the fields after its secret.
 fn read_counter(fields: &[u8]) -> Result<(u64, Option<&[u8]>), LineFault>
     ensures bound { IfOk result (λ read. read.0 ≤ 2 ^ 62) }
-    ensures row { (c : Credential) → counted_row c result ≡ event_row c (fields_of fields.now) }
+    ensures row { (credential : Credential) →
+        event_entry_row credential result ≡ event_row credential (fields_of fields.now) }
     ensures unread { IfErr result (λ fault. is_read fault ≡ false) }
 {
     let Some((text, rest)) = first_field(fields) else {

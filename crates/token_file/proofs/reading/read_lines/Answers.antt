@@ -3,9 +3,8 @@ use Rattle.std.specs.Prelude.{IsTrue, false}
 use Rattle.token_file.specs.declared.fault.LineFault.TheVariants.{Read, Memory}
 use Rattle.token_file.specs.declared.fault.FileFault.{FileFault}
 use Rattle.token_file.specs.declared.source.Pulled.TheVariants.{Bytes}
-use Rattle.token_file.specs.Reading.{is_read, is_read_result}
 use Rattle.token_file.specs.Source.{OfText, Pulls}
-use Rattle.token_file.specs.UsersFile.{Instant, IsCutOff, after_line, book_of, is_of_text, numbered}
+use Rattle.token_file.specs.UsersFile.{Instant, IsCutOff, after_line, at_line, book_of, is_of_text, is_read, is_read_result}
 use Rattle.token_file.proofs.ReadingLemmas.{at_end, cut_here, err_both, err_map, fault_within, handed_on, memory_within, not_read, ok_map, or-false, same_failed, so_far_more, so_far_none, so_far_paired, so_far_within, text_map}
 use Rattle.token_file.proofs.reading.read_lines.Goals as goal
 
@@ -26,8 +25,8 @@ returns-in-Bytes-eq0-clause-book g c =
     ok_map c.finish.result (λ read. after_line at p.import p.begun ≡ Ok (record { book = read.0; floors = read.1.items }))
     (λ read. OfText (g.S.Source.left c.args.source.now) (λ text. book_of c.args.limit at text ≡ Ok (record { book = read.0; floors = read.1.items })))
     c.finish.ensures.ok
-    (λ read e. text_map (g.S.Source.left c.args.source.now) (λ text. book_of c.args.limit at text ≡ numbered p.number (after_line at p.import p.begun))
-    (λ text. book_of c.args.limit at text ≡ Ok (record { book = read.0; floors = read.1.items })) end (λ text h. h ∙ ap (numbered p.number) e))
+    (λ read e. text_map (g.S.Source.left c.args.source.now) (λ text. book_of c.args.limit at text ≡ at_line p.number (after_line at p.import p.begun))
+    (λ text. book_of c.args.limit at text ≡ Ok (record { book = read.0; floors = read.1.items })) end (λ text h. h ∙ ap (at_line p.number) e))
 
 pub returns-in-Bytes-eq0-clause-floors : goal.returns-in-Bytes-eq0-clause-floors
 returns-in-Bytes-eq0-clause-floors g c =
@@ -50,9 +49,9 @@ returns-in-Bytes-eq0-clause-fault g c =
     err_map c.finish.result (λ fault. Found fault × Here fault)
     (λ fault. IsTrue (is_of_text fault.kind) → OfText (g.S.Source.left c.args.source.now) (λ text. book_of c.args.limit at text ≡ Err (fault.line, fault.kind)))
     (err_both c.finish.result Found Here c.finish.ensures.fault c.finish.ensures.line)
-    (λ fault e t. text_map (g.S.Source.left c.args.source.now) (λ text. book_of c.args.limit at text ≡ numbered p.number (after_line at p.import p.begun))
+    (λ fault e t. text_map (g.S.Source.left c.args.source.now) (λ text. book_of c.args.limit at text ≡ at_line p.number (after_line at p.import p.begun))
     (λ text. book_of c.args.limit at text ≡ Err (fault.line, fault.kind)) end
-    (λ text h. h ∙ ap (numbered p.number) (e.0 t) ∙ ap (λ n. Err (n, fault.kind)) (sym e.1)))
+    (λ text h. h ∙ ap (at_line p.number) (e.0 t) ∙ ap (λ n. Err (n, fault.kind)) (sym e.1)))
 
 pub returns-in-Bytes-eq0-clause-memory : goal.returns-in-Bytes-eq0-clause-memory
 returns-in-Bytes-eq0-clause-memory g c =
