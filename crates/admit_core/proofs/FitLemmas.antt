@@ -8,12 +8,11 @@ use Rattle.std.proofs.lemmas.Cmp.{nat_eq_equiv}
 use Rattle.std.proofs.lemmas.Map.Views.{Contains-from_any, list_any-from_Contains}
 use Rattle.std.proofs.lemmas.Slice.Eq.{bytes_eq-Decides}
 use Rattle.std.proofs.lemmas.Bool.{cond_both, cases_lt, false≢true, eqb-true, eq-eqb, ltb-true, lt-ltb, and_parts, and_from, or_cases, or_left, or_right}
-use Rattle.token_file.specs.Credential.{Credential}
+use Rattle.token_file.specs.Credential.{Credential, period_of}
 use Rattle.token_file.specs.declared.token.Kind.{Kind}
-use Rattle.token_file.specs.declared.token.Kind.TheVariants.{Event, Time30, Time60}
 use Rattle.otp_core.specs.Totp.{step_of}
 use Rattle.otp_core.specs.Limits.{Limits}
-use Rattle.admit_core.specs.Window.{IsFactorBetween, InWindow, AreEnds, factors_between, window_numbers}
+use Rattle.admit_core.specs.Window.{IsFactorBetween, InPeriodWindow, InWindow, AreEnds, factors_between, period_window_numbers, window_numbers}
 use Rattle.admit_core.specs.Fit.{Submission, Check, Resync, code_at, Fits, IsLeastBetween, NoneBetween, IsLeastIn, NoneIn, fits_from, last_used, first_fit}
 use Rattle.admit_core.proofs.WindowLemmas.{IsWithinReach-between, IsWithinSkew-between}
 
@@ -223,19 +222,25 @@ first_fit-none first last same c s = (
   (λ h. none_missed c s first last (λ m n fits in_m in_n. h m n fits ((same m).0 in_m) ((same n).0 in_n)) _ refl),
 )
 
--- ---- by the kind of the token
+-- ---- by the period of the token
+
+period_window-some : (period : Option ℕ) (reach : ℕ) (limits : Limits) (next moment : ℕ) (c : Credential) (s : Submission) (lo hi : ℕ)
+    → (first_fit c (period_window_numbers period reach limits next moment) s ≡ Some (lo, hi)) ↔ IsLeastIn (InPeriodWindow period reach limits next moment) c s lo hi
+period_window-some None reach limits next moment c s lo hi = first_fit-some _ _ (λ m. IsWithinReach-between _ _ next reach m refl refl) c s lo hi
+period_window-some (Some period) reach limits next moment c s lo hi = first_fit-some _ _ (λ m. IsWithinSkew-between _ _ next (step_of moment 0 period) limits.skew m refl refl) c s lo hi
 
 pub window-some : (kind : Kind) (reach : ℕ) (limits : Limits) (next moment : ℕ) (c : Credential) (s : Submission) (lo hi : ℕ)
     → (first_fit c (window_numbers kind reach limits next moment) s ≡ Some (lo, hi)) ↔ IsLeastIn (InWindow kind reach limits next moment) c s lo hi
-window-some Event reach limits next moment c s lo hi = first_fit-some _ _ (λ m. IsWithinReach-between _ _ next reach m refl refl) c s lo hi
-window-some Time30 reach limits next moment c s lo hi = first_fit-some _ _ (λ m. IsWithinSkew-between _ _ next (step_of moment 0 30) limits.skew m refl refl) c s lo hi
-window-some Time60 reach limits next moment c s lo hi = first_fit-some _ _ (λ m. IsWithinSkew-between _ _ next (step_of moment 0 60) limits.skew m refl refl) c s lo hi
+window-some kind = period_window-some (period_of kind)
+
+period_window-none : (period : Option ℕ) (reach : ℕ) (limits : Limits) (next moment : ℕ) (c : Credential) (s : Submission)
+    → (first_fit c (period_window_numbers period reach limits next moment) s ≡ None) ↔ NoneIn (InPeriodWindow period reach limits next moment) c s
+period_window-none None reach limits next moment c s = first_fit-none _ _ (λ m. IsWithinReach-between _ _ next reach m refl refl) c s
+period_window-none (Some period) reach limits next moment c s = first_fit-none _ _ (λ m. IsWithinSkew-between _ _ next (step_of moment 0 period) limits.skew m refl refl) c s
 
 pub window-none : (kind : Kind) (reach : ℕ) (limits : Limits) (next moment : ℕ) (c : Credential) (s : Submission)
     → (first_fit c (window_numbers kind reach limits next moment) s ≡ None) ↔ NoneIn (InWindow kind reach limits next moment) c s
-window-none Event reach limits next moment c s = first_fit-none _ _ (λ m. IsWithinReach-between _ _ next reach m refl refl) c s
-window-none Time30 reach limits next moment c s = first_fit-none _ _ (λ m. IsWithinSkew-between _ _ next (step_of moment 0 30) limits.skew m refl refl) c s
-window-none Time60 reach limits next moment c s = first_fit-none _ _ (λ m. IsWithinSkew-between _ _ next (step_of moment 0 60) limits.skew m refl refl) c s
+window-none kind = period_window-none (period_of kind)
 
 -- ---- the list has just the numbers of the window
 
@@ -245,11 +250,14 @@ factors_between-contains first last same m = (
   (λ h. Contains-from_any eqb-true m (factors_between first last) ((factors_between-member first last m).1 ((same m).1 h))),
 )
 
+period_window_numbers-contains : (period : Option ℕ) (reach : ℕ) (limits : Limits) (next moment m : ℕ)
+    → Contains (period_window_numbers period reach limits next moment) m ↔ InPeriodWindow period reach limits next moment m
+period_window_numbers-contains None reach limits next moment m = factors_between-contains _ _ (λ m. IsWithinReach-between _ _ next reach m refl refl) m
+period_window_numbers-contains (Some period) reach limits next moment m = factors_between-contains _ _ (λ m. IsWithinSkew-between _ _ next (step_of moment 0 period) limits.skew m refl refl) m
+
 pub window_numbers-contains : (kind : Kind) (reach : ℕ) (limits : Limits) (next moment m : ℕ)
     → Contains (window_numbers kind reach limits next moment) m ↔ InWindow kind reach limits next moment m
-window_numbers-contains Event reach limits next moment m = factors_between-contains _ _ (λ m. IsWithinReach-between _ _ next reach m refl refl) m
-window_numbers-contains Time30 reach limits next moment m = factors_between-contains _ _ (λ m. IsWithinSkew-between _ _ next (step_of moment 0 30) limits.skew m refl refl) m
-window_numbers-contains Time60 reach limits next moment m = factors_between-contains _ _ (λ m. IsWithinSkew-between _ _ next (step_of moment 0 60) limits.skew m refl refl) m
+window_numbers-contains kind = period_window_numbers-contains (period_of kind)
 
 -- ---- what is least, or missing, between the ends of a set is so in the set
 

@@ -9,9 +9,9 @@ use Rattle.admit_core.specs.Throttle.{Result, IsOpenAfter}
 
 -- A submission for a token, with a password or none, may use up the factors lo to hi at a moment,
 -- where next is the first free factor and results are the token's results so far at the node.
-pub record IsEntitled (c : Credential) (limits : Limits) (moment : ℕ) (s : Submission) (given : Option (List ℕ))
-    (next : ℕ) (results : List Result) (lo hi : ℕ) : Type 0 where
+pub record IsEntitled (credential : Credential) (limits : Limits) (moment : ℕ) (submission : Submission)
+    (given : Option (List ℕ)) (next : ℕ) (results : List Result) (lo hi : ℕ) : Type 0 where
   pub in_range : IsMoment moment
-  pub password : PasswordFits c.password given
+  pub password : PasswordFits credential.password given
   pub is_open : IsOpenAfter results moment
-  pub fit : IsLeastFit c limits next moment s lo hi
+  pub fit : IsLeastFit credential limits next moment submission lo hi

@@ -16,4 +16,6 @@ clear_gate = record { fails = 0; until = 0 }
 
 -- the gate after one more failure, at a moment
 abbrev pub with_failure : GateRecord → ℕ → GateRecord
-with_failure gate moment = let fails = min (gate.fails + 1) 10000 in record { fails = fails; until = moment + 5 * fails }
+with_failure gate moment =
+    let fails = min (gate.fails + 1) 10000 in
+    record { fails = fails; until = moment + 5 * fails }

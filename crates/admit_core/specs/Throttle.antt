@@ -26,17 +26,21 @@ last_failure [] = 0
 last_failure (Accepted ∷ results) = 0
 last_failure (Failed moment ∷ results) = moment
 
+-- the second from which the token is open again: 5 seconds after the last failure for each that counts
+abbrev pub opening_second : List Result → ℕ
+opening_second results = last_failure results + 5 * counted_failures results
+
 -- no failure counts, or 5 seconds for each that counts are over since the last one
 abbrev pub IsOpenAfter : List Result → ℕ → Type 0
-IsOpenAfter results moment = (counted_failures results ≡ 0) ⊎ (last_failure results + 5 * counted_failures results ≤ moment)
+IsOpenAfter results moment = (counted_failures results ≡ 0) ⊎ (opening_second results ≤ moment)
 
 -- how many seconds are left until the token is open
 abbrev pub wait_after : List Result → ℕ → ℕ
-wait_after results moment = last_failure results + 5 * counted_failures results - moment
+wait_after results moment = opening_second results - moment
 
 -- the two numbers that tell it
 abbrev pub gate_after : List Result → GateRecord
-gate_after results = record { fails = counted_failures results; until = last_failure results + 5 * counted_failures results }
+gate_after results = record { fails = counted_failures results; until = opening_second results }
 
 -- each failure came at a moment at which the token was open
 abbrev pub AreGated : List Result → Type 0

@@ -30,23 +30,26 @@ pub fn failures_are_spaced()
 /// is none exactly where nothing in the window fits. It is what the searches find between the ends of
 /// the window.
 pub fn least_fit_is_least()
-    ensures some { (c : Credential) (limits : Limits) (next moment : ℕ) (s : Submission) (lo hi : ℕ) →
-        (least_fit c limits next moment s ≡ Some (lo, hi))
-        ↔ IsLeastFit c limits next moment s lo hi }
-    ensures none { (c : Credential) (limits : Limits) (next moment : ℕ) (s : Submission) →
-        (least_fit c limits next moment s ≡ None) ↔ NothingFits c limits next moment s }
-    ensures numbers { (kind : Kind) (reach : ℕ) (limits : Limits) (next moment m : ℕ) →
-        Contains (window_numbers kind reach limits next moment) m
-        ↔ InWindow kind reach limits next moment m }
+    ensures some { (credential : Credential) (limits : Limits) (next moment : ℕ) (submission : Submission)
+        (lo hi : ℕ) → (least_fit credential limits next moment submission ≡ Some (lo, hi))
+        ↔ IsLeastFit credential limits next moment submission lo hi }
+    ensures none { (credential : Credential) (limits : Limits) (next moment : ℕ) (submission : Submission) →
+        (least_fit credential limits next moment submission ≡ None)
+        ↔ NothingFits credential limits next moment submission }
+    ensures numbers { (kind : Kind) (reach : ℕ) (limits : Limits) (next moment number : ℕ) →
+        Contains (window_numbers kind reach limits next moment) number
+        ↔ InWindow kind reach limits next moment number }
 
     // from the contracts of the windows and the searches
-    ensures found { (c : Credential) (limits : Limits) (next moment : ℕ) (s : Submission)
-        (first last lo hi : ℕ) → AreEnds (InWindowOf c limits next moment s) first last →
-        IsLeastBetween c first last s lo hi → least_fit c limits next moment s ≡ Some (lo, hi) }
-    ensures missed { (c : Credential) (limits : Limits) (next moment : ℕ) (s : Submission)
-        (first last : ℕ) → AreEnds (InWindowOf c limits next moment s) first last →
-        NoneBetween c first last s → least_fit c limits next moment s ≡ None }
-    ensures empty { (c : Credential) (limits : Limits) (next moment : ℕ) (s : Submission) →
-        ((m : ℕ) → InWindowOf c limits next moment s m → ⊥) →
-        least_fit c limits next moment s ≡ None }
+    ensures found { (credential : Credential) (limits : Limits) (next moment : ℕ) (submission : Submission)
+        (first last lo hi : ℕ) → AreEnds (InWindowOf credential limits next moment submission) first last →
+        IsLeastBetween credential first last submission lo hi →
+        least_fit credential limits next moment submission ≡ Some (lo, hi) }
+    ensures missed { (credential : Credential) (limits : Limits) (next moment : ℕ) (submission : Submission)
+        (first last : ℕ) → AreEnds (InWindowOf credential limits next moment submission) first last →
+        NoneBetween credential first last submission →
+        least_fit credential limits next moment submission ≡ None }
+    ensures empty { (credential : Credential) (limits : Limits) (next moment : ℕ) (submission : Submission) →
+        ((number : ℕ) → InWindowOf credential limits next moment submission number → ⊥) →
+        least_fit credential limits next moment submission ≡ None }
 {}

@@ -65,8 +65,9 @@ fn codes_of(token: &Token) -> Codes
 /// The code of a token at a factor.
 #[tactic(auto, unfolding(crate::specs::Fit::code_at))]
 fn code_of(codes: &Codes, factor: Factor) -> Code
-    ensures { (c : Credential) → AreCodesOf codes.now c.hash c.secret (count_of c.digits) →
-        result ≡ code_at c factor }
+    ensures { (credential : Credential) →
+        AreCodesOf codes.now credential.hash credential.secret (count_of credential.digits) →
+        result ≡ code_at credential factor }
 {
     codes.at(factor)
 }

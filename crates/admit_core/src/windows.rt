@@ -3,11 +3,11 @@ ghost use Rattle.admit_core.specs.Window.{InCheckWindow, InResyncWindow, InWindo
 ghost use Rattle.otp_core.specs.Range.{IsMoment};
 ghost use Rattle.otp_core.specs.Totp.{step_of};
 
-use otp_core::{Factor, Next, Settings, step};
+use otp_core::{FACTORS_END, Factor, Next, Settings, step};
 use token_file::{Kind, Token};
 
 /// The greatest factor.
-const LAST_FACTOR: u64 = (1 << 62) - 1;
+const LAST_FACTOR: u64 = FACTORS_END - 1;
 
 /// The first and the last factor that a check may take (RFC 4226, sections 7.2 and 7.4; RFC 6238,
 /// sections 5.2 and 6), or `None` where there is none. The moment is in seconds since 1970-01-01
@@ -22,7 +22,7 @@ pub fn window(
     ensures ends { IfSome result
         (λ ends. AreEnds (InCheckWindow token.now.kind settings.now next moment) ends.0 ends.1) }
     ensures none { IfNone result
-        ((m : ℕ) → InCheckWindow token.now.kind settings.now next moment m → ⊥) }
+        ((number : ℕ) → InCheckWindow token.now.kind settings.now next moment number → ⊥) }
 {
     window_of(token.kind(), settings.look_ahead(), settings, next, moment)
 }
@@ -39,7 +39,7 @@ pub fn resync_window(
     ensures ends { IfSome result
         (λ ends. AreEnds (InResyncWindow token.now.kind settings.now next moment) ends.0 ends.1) }
     ensures none { IfNone result
-        ((m : ℕ) → InResyncWindow token.now.kind settings.now next moment m → ⊥) }
+        ((number : ℕ) → InResyncWindow token.now.kind settings.now next moment number → ⊥) }
 {
     window_of(token.kind(), settings.range(), settings, next, moment)
 }
@@ -56,12 +56,11 @@ fn window_of(
     requires moment { IsMoment moment }
     ensures ends { IfSome result
         (λ ends. AreEnds (InWindow kind reach settings.now next moment) ends.0 ends.1) }
-    ensures none { IfNone result ((m : ℕ) → InWindow kind reach settings.now next moment m → ⊥) }
+    ensures none { IfNone result ((number : ℕ) → InWindow kind reach settings.now next moment number → ⊥) }
 {
-    match kind {
-        Kind::Event => reach_from(next, reach),
-        Kind::Time30 => steps_around(next, moment, 30, settings.skew()),
-        Kind::Time60 => steps_around(next, moment, 60, settings.skew()),
+    match kind.period() {
+        Some(period) => steps_around(next, moment, period, settings.skew()),
+        None => reach_from(next, reach),
     }
 }
 
@@ -69,7 +68,7 @@ fn window_of(
 fn reach_from(next: Next, reach: u64) -> Option<(Factor, Factor)>
     requires { reach ≤ 1000 }
     ensures ends { IfSome result (λ ends. AreEnds (IsWithinReach next reach) ends.0 ends.1) }
-    ensures none { IfNone result ((m : ℕ) → IsWithinReach next reach m → ⊥) }
+    ensures none { IfNone result ((number : ℕ) → IsWithinReach next reach number → ⊥) }
 {
     let first = next.value();
     ends(first, first + reach)
@@ -82,7 +81,7 @@ fn steps_around(next: Next, moment: u64, period: u64, skew: u64) -> Option<(Fact
     requires skew { skew ≤ 10 }
     ensures ends { IfSome result
         (λ ends. AreEnds (IsWithinSkew next (step_of moment 0 period) skew) ends.0 ends.1) }
-    ensures none { IfNone result ((m : ℕ) → IsWithinSkew next (step_of moment 0 period) skew m → ⊥) }
+    ensures none { IfNone result ((number : ℕ) → IsWithinSkew next (step_of moment 0 period) skew number → ⊥) }
 {
     let now = step(moment, 0, period)?.value();
     ends(next.value().max(now.saturating_sub(skew)), now + skew)
@@ -91,7 +90,7 @@ fn steps_around(next: Next, moment: u64, period: u64, skew: u64) -> Option<(Fact
 /// The first and the last factor between two numbers.
 fn ends(first: u64, last: u64) -> Option<(Factor, Factor)>
     ensures ends { IfSome result (λ ends. AreEnds (IsFactorBetween first last) ends.0 ends.1) }
-    ensures none { IfNone result ((m : ℕ) → IsFactorBetween first last m → ⊥) }
+    ensures none { IfNone result ((number : ℕ) → IsFactorBetween first last number → ⊥) }
 {
     let last = last.min(LAST_FACTOR);
     if first > last {
