@@ -1,26 +1,8 @@
 -- Fields between single spaces.
-use Rattle.std.proofs.Common.{◌≡◌, ℕ, ◌+◌, ◌<◌, ◌≤◌, false, eqb, List, [], ◌∷◌, ◌++◌, length, get_or, take, drop, sym, ap, subst, ◌∙◌, arith}
-use Rattle.std.specs.Prelude.{All, ◌==◌}
-use Rattle.std.proofs.lemmas.Bool.{eq-eqb}
-use Rattle.std.proofs.lemmas.List.{take-append-drop, drop_more, take_more, take_all}
-use Rattle.std.proofs.lemmas.List.Elements.{All-push}
-use Rattle.std.proofs.lemmas.List.Splits.{slice_split_at, slice_split_none, length-slice_split}
+use Rattle.std.proofs.Common.{◌≡◌, ℕ, ◌<◌, List, [], ◌∷◌, length, ap, subst, ◌∙◌, arith}
+use Rattle.std.specs.Prelude.{◌==◌}
+use Rattle.std.proofs.lemmas.List.Splits.{length-slice_split}
 use Rattle.oath_node.specs.Request.{Request, IsRequest, fields_of}
-
--- no space stands in the text
-abbrev pub IsUnspaced : List ℕ → Type 0
-IsUnspaced text = All (λ b. (b == 32) ≡ false) text
-
-pub unspaced_more : (text : List ℕ) (i : ℕ) → i < length text → eqb (get_or text i 0) 32 ≡ false → IsUnspaced (take i text) → IsUnspaced (take (i + 1) text)
-unspaced_more text i lt here before = rw (take_more text i 0 lt) (All-push (λ b. (b == 32) ≡ false) (take i text) (get_or text i 0) before here)
-
-pub fields_cut : (text : List ℕ) (i : ℕ) → i < length text → get_or text i 0 ≡ 32 → IsUnspaced (take i text) → fields_of text ≡ take i text ∷ fields_of (drop (i + 1) text)
-fields_cut text i lt here before =
-    let parts : text ≡ take i text ++ (get_or text i 0 ∷ drop (i + 1) text) = sym (take-append-drop i text) ∙ ap (λ (r : List ℕ). take i text ++ r) (drop_more text i 0 lt) in
-    ap fields_of parts ∙ slice_split_at (λ b. b == 32) (take i text) (get_or text i 0) (drop (i + 1) text) before (eq-eqb _ _ here)
-
-pub fields_whole : (text : List ℕ) (i : ℕ) → length text ≤ i → IsUnspaced (take i text) → fields_of text ≡ text ∷ []
-fields_whole text i le before = slice_split_none (λ b. b == 32) text (subst IsUnspaced (take_all i text le) before)
 
 no_seventh : (a b c d e f : List ℕ) (rest : List (List ℕ)) → 0 < length rest → (r : Request) → IsRequest (a ∷ b ∷ c ∷ d ∷ e ∷ f ∷ rest) r → ⊥
 no_seventh a b c d e f [] more r h = absurd (omega arith)

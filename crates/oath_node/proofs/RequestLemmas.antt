@@ -1,24 +1,22 @@
 -- The line grammar, and the reader of lines as a function.
 use Rattle.std.proofs.Common.{◌≡◌, ℕ, ◌<◌, ◌≤◌, Bool, true, false, cond, List, [], ◌∷◌, length, Option, Some, None, refl, sym, ◌∙◌, inl, inr}
-use Rattle.std.specs.Prelude.{◌≢◌, All, ◌==◌, ◌&&◌, ◌||◌, not, nat_le, codes}
+use Rattle.std.specs.Prelude.{All, IsTrue, ◌&&◌, ◌||◌, nat_le, codes}
 use Rattle.std.specs.Bool.{Decides}
 use Rattle.std.specs.Char.{is_ascii_alphanumeric, is_ascii_digit, IsAsciiAlphanumeric, IsAsciiDigit}
 use Rattle.std.specs.Int.{is_in_range, IsInRange}
 use Rattle.std.specs.List.{list_all}
 use Rattle.std.specs.Str.{bytes_eq}
-use Rattle.std.proofs.lemmas.Bool.{leb-true, le-leb, lt-leb, eqb-false, ne_eqb, not-true, not_from_false, or_cases, or_left, or_right}
+use Rattle.std.proofs.lemmas.Bool.{leb-true, le-leb, lt-leb, or_cases, or_left, or_right}
 use Rattle.std.proofs.lemmas.Bool.Decides.{Decides-and, Decides-by_and}
 use Rattle.std.proofs.lemmas.Slice.Eq.{bytes_eq-Decides}
 use Rattle.otp_core.specs.Code.{IsCode}
 use Rattle.admit_core.specs.Fit.{Submission, Check, Resync}
-use Rattle.oath_node.specs.Field.{IsNonce, IsWord, IsWordByte}
-use Rattle.oath_node.specs.Request.{Request, IsRequest, IsLine, Reads, has_length, is_nonce, is_word, is_word_byte, is_code, are_common, given_in, request_of, request_at, fields_of, without_lf}
+use Rattle.token_file.specs.Credential.{is_word}
+use Rattle.oath_node.specs.Field.{IsNonce}
+use Rattle.oath_node.specs.Request.{Request, IsRequest, IsLine, Reads, has_length, is_nonce, is_code, are_common, given_in, request_of, request_at, fields_of, without_lf}
 
 decides_le : (a b : ℕ) → Decides (nat_le a b) (a ≤ b)
 decides_le a b = (leb-true a b, le-leb a b)
-
-decides_ne : (a b : ℕ) → Decides (not (a == b)) (a ≢ b)
-decides_ne a b = (λ e. eqb-false a b (not-true (a == b) e), λ h. not_from_false (a == b) (ne_eqb a b h))
 
 decides_range : (lo hi c : ℕ) → Decides (is_in_range lo hi c) (IsInRange lo hi c)
 decides_range lo hi c = Decides-and (nat_le lo c) (nat_le c hi) (decides_le lo c) (decides_le c hi)
@@ -44,13 +42,6 @@ decides_alphanumeric c =
       ],
     )
 
-decides_word_byte : (b : ℕ) → Decides (is_word_byte b) (IsWordByte b)
-decides_word_byte b =
-    let d = Decides-and _ _ (Decides-and _ _ (decides_ne b 32) (decides_ne b 9)) (Decides-and _ _ (decides_ne b 13) (decides_ne b 10)) in (
-      λ e. (let h = d.0 e in record { no_space = h.0.0; no_tab = h.0.1; no_cr = h.1.0; no_lf = h.1.1 }),
-      λ h. d.1 ((h.no_space, h.no_tab), (h.no_cr, h.no_lf)),
-    )
-
 -- a text of some length, each byte of which passes a test
 decides_text : (least most : ℕ) (p : ℕ → Bool) (P : ℕ → Type 0) → ((b : ℕ) → Decides (p b) (P b)) → (text : List ℕ)
     → Decides (has_length least most text && list_all p text) ((least ≤ length text) × (length text ≤ most) × All P text)
@@ -61,24 +52,24 @@ decides_text least most p P each text =
 decides_nonce : (text : List ℕ) → Decides (is_nonce text) (IsNonce text)
 decides_nonce text = decides_text 1 20 is_ascii_alphanumeric IsAsciiAlphanumeric decides_alphanumeric text
 
-pub decides_word : (text : List ℕ) → Decides (is_word text) (IsWord text)
-decides_word text = decides_text 1 64 is_word_byte IsWordByte decides_word_byte text
+decides_word : (text : List ℕ) → Decides (is_word text) (IsTrue (is_word text))
+decides_word text = (λ e. e, λ h. h)
 
 decides_code : (text : List ℕ) → Decides (is_code text) (IsCode text)
 decides_code text = decides_text 6 8 is_ascii_digit IsAsciiDigit (decides_range 48 57) text
 
-decides_common : (nonce user password : List ℕ) → Decides (are_common nonce user password) (IsNonce nonce × (IsWord user × IsWord password))
+decides_common : (nonce user password : List ℕ) → Decides (are_common nonce user password) (IsNonce nonce × (IsTrue (is_word user) × IsTrue (is_word password)))
 decides_common nonce user password = Decides-and _ _ (decides_nonce nonce) (Decides-and _ _ (decides_word user) (decides_word password))
 
 decides_check : (word nonce user code password : List ℕ)
     → Decides (bytes_eq word (codes "CHECK") && (are_common nonce user password && is_code code))
-    ((word ≡ codes "CHECK") × ((IsNonce nonce × (IsWord user × IsWord password)) × IsCode code))
+    ((word ≡ codes "CHECK") × ((IsNonce nonce × (IsTrue (is_word user) × IsTrue (is_word password))) × IsCode code))
 decides_check word nonce user code password =
     Decides-and _ _ (bytes_eq-Decides word (codes "CHECK")) (Decides-and _ _ (decides_common nonce user password) (decides_code code))
 
 decides_resync : (word nonce user first second password : List ℕ)
     → Decides (bytes_eq word (codes "RESYNC") && (are_common nonce user password && (is_code first && is_code second)))
-    ((word ≡ codes "RESYNC") × ((IsNonce nonce × (IsWord user × IsWord password)) × (IsCode first × IsCode second)))
+    ((word ≡ codes "RESYNC") × ((IsNonce nonce × (IsTrue (is_word user) × IsTrue (is_word password))) × (IsCode first × IsCode second)))
 decides_resync word nonce user first second password =
     Decides-and _ _ (bytes_eq-Decides word (codes "RESYNC"))
     (Decides-and _ _ (decides_common nonce user password) (Decides-and _ _ (decides_code first) (decides_code second)))

@@ -1,11 +1,12 @@
 -- A client's line: its fields between single spaces, and what they say.
-use Rattle.std.specs.Prelude.{◌≡◌, ℕ, ◌-◌, ◌≤◌, ◌==◌, ◌&&◌, not, nat_le, Bool, if◌then◌else◌, List, [], ◌∷◌, length, take, slice_index, Option, Some, None, codes}
+use Rattle.std.specs.Prelude.{◌≡◌, ℕ, ◌-◌, ◌≤◌, ◌==◌, ◌&&◌, nat_le, Bool, IsTrue, if◌then◌else◌, List, [], ◌∷◌, length, take, slice_index, Option, Some, None, codes}
 use Rattle.std.specs.Char.{is_ascii_alphanumeric, is_ascii_digit}
 use Rattle.std.specs.List.{slice_split, list_all}
 use Rattle.std.specs.Str.{bytes_eq}
 use Rattle.otp_core.specs.Code.{IsCode}
+use Rattle.token_file.specs.Credential.{is_word}
 use Rattle.admit_core.specs.Fit.{Submission, Check, Resync}
-use Rattle.oath_node.specs.Field.{IsNonce, IsWord}
+use Rattle.oath_node.specs.Field.{IsNonce}
 
 pub record Request : Type 0 where
   pub nonce : List ℕ
@@ -29,19 +30,19 @@ given_in text = if bytes_eq text (codes "-") then None else Some text
 pub record IsCheck (word nonce user code password : List ℕ) (r : Request) : Type 0 where
   pub is_check : word ≡ codes "CHECK"
   pub is_nonce : IsNonce nonce
-  pub is_user : IsWord user
+  pub is_user : IsTrue (is_word user)
   pub is_code : IsCode code
-  pub is_password : IsWord password
+  pub is_password : IsTrue (is_word password)
   pub value : r ≡ record { nonce = nonce; user = user; submission = Check code; password = given_in password }
 
 -- the request that a RESYNC with these fields makes
 pub record IsResync (word nonce user first second password : List ℕ) (r : Request) : Type 0 where
   pub is_resync : word ≡ codes "RESYNC"
   pub is_nonce : IsNonce nonce
-  pub is_user : IsWord user
+  pub is_user : IsTrue (is_word user)
   pub is_first : IsCode first
   pub is_second : IsCode second
-  pub is_password : IsWord password
+  pub is_password : IsTrue (is_word password)
   pub value : r ≡ record { nonce = nonce; user = user; submission = Resync first second; password = given_in password }
 
 -- by cases on the fields
@@ -61,12 +62,6 @@ has_length least most text = nat_le least (length text) && nat_le (length text) 
 
 abbrev pub is_nonce : List ℕ → Bool
 is_nonce text = has_length 1 20 text && list_all is_ascii_alphanumeric text
-
-abbrev pub is_word_byte : ℕ → Bool
-is_word_byte b = (not (b == 32) && not (b == 9)) && (not (b == 13) && not (b == 10))
-
-abbrev pub is_word : List ℕ → Bool
-is_word text = has_length 1 64 text && list_all is_word_byte text
 
 abbrev pub is_code : List ℕ → Bool
 is_code text = has_length 6 8 text && list_all is_ascii_digit text

@@ -1,19 +1,17 @@
-ghost use Rattle.std.specs.Prelude.{◌≡◌, ◌↔◌, [], ◌∷◌, IsTrue, IfSome, IfNone};
+ghost use Rattle.std.specs.Prelude.{◌≡◌, [], ◌∷◌, IfSome, IfNone};
 ghost use Rattle.std.specs.Option.{option_copied};
 ghost use Rattle.oath_node.specs.Codes.{submission_of};
-ghost use Rattle.oath_node.specs.Field.{IsNonce, IsWord, IsWordByte};
 ghost use Rattle.oath_node.specs.Request as spec;
 ghost use Rattle.oath_node.specs.Request.{Request, IsLine, Reads, fields_of, given_in};
 
 use crate::answer::Nonce;
+use field_text::cut_at;
 use otp_core::Code;
 use std::marker::Model;
+use token_file::is_word;
 
 /// The most bytes of a client's line, its LF with them.
 const MAX_LINE_LEN: usize = 256;
-
-/// The longest user name and the longest password, in bytes.
-const MAX_WORD_LEN: usize = 64;
 
 /// What a line submits: the code of one factor, or the codes of two factors in a row.
 #[derive(Debug, Drop)]
@@ -80,20 +78,6 @@ impl<'a> RequestLine<'a> {
     }
 }
 
-/// Whether a byte may stand in a user's name or a password.
-fn is_word_byte(byte: u8) -> bool
-    ensures { IsTrue result ↔ IsWordByte byte }
-{
-    byte != b' ' && byte != b'\t' && byte != b'\r' && byte != b'\n'
-}
-
-/// Whether a text is 1 to 64 bytes, none of them a space, TAB, CR or LF.
-fn is_word(text: &[u8]) -> bool
-    ensures { IsTrue result ↔ IsWord text.now }
-{
-    1 <= text.len() && text.len() <= MAX_WORD_LEN && text.iter().all(|&byte| is_word_byte(byte))
-}
-
 /// The text without one LF at its end.
 fn without_lf(bytes: &[u8]) -> &[u8]
     ensures { result.now ≡ spec.without_lf bytes.now }
@@ -103,19 +87,6 @@ fn without_lf(bytes: &[u8]) -> &[u8]
     } else {
         bytes
     }
-}
-
-/// The field before the first space, and what stands after the space.
-fn cut(text: &[u8]) -> Option<(&[u8], &[u8])>
-    ensures some { IfSome result (λ x. fields_of text.now ≡ x.0.now ∷ fields_of x.1.now) }
-    ensures none { IfNone result (fields_of text.now ≡ text.now ∷ []) }
-{
-    for place in 0..text.len() {
-        if text[place] == b' ' {
-            return Some((&text[..place], &text[place + 1..]));
-        }
-    }
-    None
 }
 
 /// The password that a field gives: none where it is `-`.
@@ -182,13 +153,13 @@ fn resync_line<'a>(
 fn read_fields(text: &[u8]) -> Option<RequestLine<'_>>
     ensures { Reads (fields_of text.now) result }
 {
-    let (word, rest) = cut(text)?;
-    let (nonce, rest) = cut(rest)?;
-    let (user, rest) = cut(rest)?;
-    let (code, rest) = cut(rest)?;
-    match cut(rest) {
+    let (word, rest) = cut_at(text, b' ')?;
+    let (nonce, rest) = cut_at(rest, b' ')?;
+    let (user, rest) = cut_at(rest, b' ')?;
+    let (code, rest) = cut_at(rest, b' ')?;
+    match cut_at(rest, b' ') {
         None => check_line(word, nonce, user, code, rest),
-        Some((second, password)) => match cut(password) {
+        Some((second, password)) => match cut_at(password, b' ') {
             None => resync_line(word, nonce, user, code, second, password),
             Some(_) => None,
         },
