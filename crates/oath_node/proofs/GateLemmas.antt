@@ -10,7 +10,7 @@ use Rattle.admit_core.specs.Throttle.{Result, Failed, Accepted, gate_after, wait
 use Rattle.oath_node.specs.Gates.{gate_of, gates_of, gates_after, standing_by}
 use Rattle.oath_node.specs.ReferenceServer.{Server, results_after, standing_of}
 use Rattle.oath_node.specs.Request.{Request, request_at}
-use Rattle.oath_node.specs.Rules.{Standing, at_token, at_place, for_user, judged, verdict}
+use Rattle.oath_node.specs.Rules.{Standing, token_verdict, place_verdict, user_verdict, judgement_of, verdict}
 use Rattle.oath_node.specs.declared.answer.Outcome.TheVariants.{Clock}
 use Rattle.oath_node.specs.declared.rules.Verdict.{Verdict}
 use Rattle.oath_node.specs.declared.rules.Verdict.TheVariants.{BadLine, Refused, Fails, Proposes}
@@ -30,29 +30,29 @@ wait_same results token moment = ap (λ (g : GateRecord). g.until - moment) (gat
 abbrev IsSameStanding : Standing → Standing → Type 0
 IsSameStanding a b = ((token : ℕ) → a.next token ≡ b.next token) × ((token : ℕ) → a.wait token ≡ b.wait token)
 
-same_at_place : (limits : Limits) (a b : Standing) (moment : ℕ) (r : Request) (token : ℕ) (found : Option Credential) → IsSameStanding a b
-    → at_place limits a moment r token found ≡ at_place limits b moment r token found
-same_at_place limits a b moment r token None h = refl
-same_at_place limits a b moment r token (Some c) h =
-    ap (λ (n : ℕ). at_token limits n (a.wait token) moment r token c) (h.0 token)
-    ∙ ap (λ (n : ℕ). at_token limits (b.next token) n moment r token c) (h.1 token)
+same_place_verdict : (limits : Limits) (a b : Standing) (moment : ℕ) (r : Request) (token : ℕ) (found : Option Credential) → IsSameStanding a b
+    → place_verdict limits a moment r token found ≡ place_verdict limits b moment r token found
+same_place_verdict limits a b moment r token None h = refl
+same_place_verdict limits a b moment r token (Some c) h =
+    ap (λ (n : ℕ). token_verdict limits n (a.wait token) moment r token c) (h.0 token)
+    ∙ ap (λ (n : ℕ). token_verdict limits (b.next token) n moment r token c) (h.1 token)
 
-same_for_user : (book : List Credential) (limits : Limits) (a b : Standing) (moment : ℕ) (r : Request) (place : Option ℕ) → IsSameStanding a b
-    → for_user book limits a moment r place ≡ for_user book limits b moment r place
-same_for_user book limits a b moment r None h = refl
-same_for_user book limits a b moment r (Some token) h = same_at_place limits a b moment r token (slice_get book token) h
+same_user_verdict : (book : List Credential) (limits : Limits) (a b : Standing) (moment : ℕ) (r : Request) (place : Option ℕ) → IsSameStanding a b
+    → user_verdict book limits a moment r place ≡ user_verdict book limits b moment r place
+same_user_verdict book limits a b moment r None h = refl
+same_user_verdict book limits a b moment r (Some token) h = same_place_verdict limits a b moment r token (slice_get book token) h
 
-same_judged : (book : List Credential) (limits : Limits) (a b : Standing) (moment : ℕ) (r : Option Request) → IsSameStanding a b
-    → judged book limits a moment r ≡ judged book limits b moment r
-same_judged book limits a b moment None h = refl
-same_judged book limits a b moment (Some r) h =
-    ap (λ (v : Verdict). cond (nat_lt moment (2 ^ 40)) v (Refused r.nonce Clock)) (same_for_user book limits a b moment r (place_of r.user book) h)
+same_judgement : (book : List Credential) (limits : Limits) (a b : Standing) (moment : ℕ) (r : Option Request) → IsSameStanding a b
+    → judgement_of book limits a moment r ≡ judgement_of book limits b moment r
+same_judgement book limits a b moment None h = refl
+same_judgement book limits a b moment (Some r) h =
+    ap (λ (v : Verdict). cond (nat_lt moment (2 ^ 40)) v (Refused r.nonce Clock)) (same_user_verdict book limits a b moment r (place_of r.user book) h)
 
 -- the gates of the results lead to the verdict that the results lead to
 pub verdict_same : (book : List Credential) (limits : Limits) (s : Server) (moment : ℕ) (text : List ℕ)
     → verdict book limits (standing_by s.floors (gates_of s.front.results) moment) moment text ≡ verdict book limits (standing_of s moment) moment text
 verdict_same book limits s moment text =
-    same_judged book limits (standing_by s.floors (gates_of s.front.results) moment) (standing_of s moment) moment (request_at text)
+    same_judgement book limits (standing_by s.floors (gates_of s.front.results) moment) (standing_of s moment) moment (request_at text)
     ((λ token. refl), (λ token. wait_same s.front.results token moment))
 
 -- and a verdict makes of the gates what it makes of the results

@@ -15,9 +15,9 @@ use Rattle.admit_core.specs.Password.{PasswordFits}
 use Rattle.admit_core.specs.Throttle.{Result, Failed, Accepted, AreGated, IsOpenAfter, counted_failures, last_failure, wait_after}
 use Rattle.admit_core.specs.Window.{InWindow}
 use Rattle.oath_node.specs.Column.{column_fits}
-use Rattle.oath_node.specs.ReferenceServer.{Server, Line, floor_of, floors_after, results_of, ruled, standing_of}
+use Rattle.oath_node.specs.ReferenceServer.{Server, Line, floor_of, floors_after, results_of, service_by, standing_of}
 use Rattle.oath_node.specs.Request.{Request, IsLine, request_at}
-use Rattle.oath_node.specs.Rules.{Standing, fitted, with_password, when_open, at_token, at_place, for_user, examined, judged, verdict}
+use Rattle.oath_node.specs.Rules.{Standing, fit_verdict, remaining_verdict, open_verdict, token_verdict, place_verdict, user_verdict, request_verdict, judgement_of, verdict}
 use Rattle.oath_node.specs.declared.answer.Outcome.TheVariants.{Clock, Exhausted, Password, Throttled}
 use Rattle.oath_node.specs.declared.rules.Verdict.{Verdict}
 use Rattle.oath_node.specs.declared.rules.Verdict.TheVariants.{BadLine, Refused, Fails, Proposes}
@@ -54,11 +54,11 @@ record IsAdmissible (book : List Credential) (s : Server) (l : Line) (r : Reques
   user : c.name ≡ r.user
   is_open : IsOpenAfter (results_of s token) l.moment
 
-fitted_grounds : FitLaw → (book : List Credential) (limits : Limits) (s : Server) (l : Line) (r : Request) (token : ℕ) (c : Credential)
+fit_grounds : FitLaw → (book : List Credential) (limits : Limits) (s : Server) (l : Line) (r : Request) (token : ℕ) (c : Credential)
     → IsAdmissible book s l r token c → PasswordFits c.password r.password
-    → (fit : Option (ℕ × ℕ)) → least_fit c limits (floor_of s token) l.moment r.submission ≡ fit → HasGrounds book limits s l (fitted r token fit)
-fitted_grounds law book limits s l r token c h password None e = h.is_open
-fitted_grounds law book limits s l r token c h password (Some (lo, hi)) e = record {
+    → (fit : Option (ℕ × ℕ)) → least_fit c limits (floor_of s token) l.moment r.submission ≡ fit → HasGrounds book limits s l (fit_verdict r token fit)
+fit_grounds law book limits s l r token c h password None e = h.is_open
+fit_grounds law book limits s l r token c h password (Some (lo, hi)) e = record {
   request = r;
   grammar = h.grammar;
   credential = c;
@@ -72,21 +72,21 @@ fitted_grounds law book limits s l r token c h password (Some (lo, hi)) e = reco
   };
 }
 
-password_grounds : FitLaw → (book : List Credential) (limits : Limits) (s : Server) (l : Line) (r : Request) (token : ℕ) (c : Credential)
+remaining_grounds : FitLaw → (book : List Credential) (limits : Limits) (s : Server) (l : Line) (r : Request) (token : ℕ) (c : Credential)
     → IsAdmissible book s l r token c → PasswordFits c.password r.password
-    → HasGrounds book limits s l (with_password limits (floor_of s token) l.moment r token c)
-password_grounds law book limits s l r token c h password =
-    cond_both (floor_of s token == 2 ^ 62) (Refused r.nonce Exhausted) (fitted r token (least_fit c limits (floor_of s token) l.moment r.submission))
+    → HasGrounds book limits s l (remaining_verdict limits (floor_of s token) l.moment r token c)
+remaining_grounds law book limits s l r token c h password =
+    cond_both (floor_of s token == 2 ^ 62) (Refused r.nonce Exhausted) (fit_verdict r token (least_fit c limits (floor_of s token) l.moment r.submission))
     (HasGrounds book limits s l)
     (λ _. tt)
-    (λ _. fitted_grounds law book limits s l r token c h password _ refl)
+    (λ _. fit_grounds law book limits s l r token c h password _ refl)
 
 open_grounds : FitLaw → (book : List Credential) (limits : Limits) (s : Server) (l : Line) (r : Request) (token : ℕ) (c : Credential)
-    → IsAdmissible book s l r token c → HasGrounds book limits s l (when_open limits (floor_of s token) l.moment r token c)
+    → IsAdmissible book s l r token c → HasGrounds book limits s l (open_verdict limits (floor_of s token) l.moment r token c)
 open_grounds law book limits s l r token c h =
-    cond_both (column_fits c.password r.password) (with_password limits (floor_of s token) l.moment r token c) (Fails r.nonce Password token)
+    cond_both (column_fits c.password r.password) (remaining_verdict limits (floor_of s token) l.moment r token c) (Fails r.nonce Password token)
     (HasGrounds book limits s l)
-    (λ fits. password_grounds law book limits s l r token c h ((decides_column c.password r.password).0 fits))
+    (λ fits. remaining_grounds law book limits s l r token c h ((decides_column c.password r.password).0 fits))
     (λ _. h.is_open)
 
 -- a token for which nobody has to wait is open
@@ -98,10 +98,10 @@ no_wait results moment e =
 
 token_grounds : FitLaw → (book : List Credential) (limits : Limits) (s : Server) (l : Line) (r : Request) (token : ℕ) (c : Credential)
     → IsMoment l.moment → IsLine l.text r → slice_get book token ≡ Some c → c.name ≡ r.user
-    → HasGrounds book limits s l (at_token limits (floor_of s token) (wait_after (results_of s token) l.moment) l.moment r token c)
+    → HasGrounds book limits s l (token_verdict limits (floor_of s token) (wait_after (results_of s token) l.moment) l.moment r token c)
 token_grounds law book limits s l r token c in_range grammar here user =
     let wait = wait_after (results_of s token) l.moment in
-    cond_both (nat_lt 0 wait) (Refused r.nonce (Throttled wait)) (when_open limits (floor_of s token) l.moment r token c)
+    cond_both (nat_lt 0 wait) (Refused r.nonce (Throttled wait)) (open_verdict limits (floor_of s token) l.moment r token c)
     (HasGrounds book limits s l)
     (λ _. tt)
     (λ e. open_grounds law book limits s l r token c (record {
@@ -115,38 +115,38 @@ token_grounds law book limits s l r token c in_range grammar here user =
 place_grounds : FitLaw → (book : List Credential) (limits : Limits) (s : Server) (l : Line) (r : Request) (token : ℕ)
     → IsMoment l.moment → IsLine l.text r → place_of r.user book ≡ Some token
     → (found : Option Credential) → slice_get book token ≡ found
-    → HasGrounds book limits s l (at_place limits (standing_of s l.moment) l.moment r token found)
+    → HasGrounds book limits s l (place_verdict limits (standing_of s l.moment) l.moment r token found)
 place_grounds law book limits s l r token in_range grammar place None e = tt
 place_grounds law book limits s l r token in_range grammar place (Some c) e =
     token_grounds law book limits s l r token c in_range grammar e (place_named r.user book token c place e)
 
 user_grounds : FitLaw → (book : List Credential) (limits : Limits) (s : Server) (l : Line) (r : Request) → IsMoment l.moment → IsLine l.text r
-    → (place : Option ℕ) → place_of r.user book ≡ place → HasGrounds book limits s l (for_user book limits (standing_of s l.moment) l.moment r place)
+    → (place : Option ℕ) → place_of r.user book ≡ place → HasGrounds book limits s l (user_verdict book limits (standing_of s l.moment) l.moment r place)
 user_grounds law book limits s l r in_range grammar None e = tt
 user_grounds law book limits s l r in_range grammar (Some token) e = place_grounds law book limits s l r token in_range grammar e _ refl
 
-examined_grounds : FitLaw → (book : List Credential) (limits : Limits) (s : Server) (l : Line) (r : Request) → IsLine l.text r
-    → HasGrounds book limits s l (examined book limits (standing_of s l.moment) l.moment r)
-examined_grounds law book limits s l r grammar =
-    cond_both (nat_lt l.moment (2 ^ 40)) (for_user book limits (standing_of s l.moment) l.moment r (place_of r.user book)) (Refused r.nonce Clock)
+request_grounds : FitLaw → (book : List Credential) (limits : Limits) (s : Server) (l : Line) (r : Request) → IsLine l.text r
+    → HasGrounds book limits s l (request_verdict book limits (standing_of s l.moment) l.moment r)
+request_grounds law book limits s l r grammar =
+    cond_both (nat_lt l.moment (2 ^ 40)) (user_verdict book limits (standing_of s l.moment) l.moment r (place_of r.user book)) (Refused r.nonce Clock)
     (HasGrounds book limits s l)
     (λ below. user_grounds law book limits s l r (ltb-true l.moment (2 ^ 40) below) grammar _ refl)
     (λ _. tt)
 
-judged_grounds : FitLaw → (book : List Credential) (limits : Limits) (s : Server) (l : Line) (r : Option Request) → request_at l.text ≡ r
-    → HasGrounds book limits s l (judged book limits (standing_of s l.moment) l.moment r)
-judged_grounds law book limits s l None e = tt
-judged_grounds law book limits s l (Some r) e = examined_grounds law book limits s l r (line_of_request l.text r e)
+judgement_grounds : FitLaw → (book : List Credential) (limits : Limits) (s : Server) (l : Line) (r : Option Request) → request_at l.text ≡ r
+    → HasGrounds book limits s l (judgement_of book limits (standing_of s l.moment) l.moment r)
+judgement_grounds law book limits s l None e = tt
+judgement_grounds law book limits s l (Some r) e = request_grounds law book limits s l r (line_of_request l.text r e)
 
 pub verdict_grounds : FitLaw → (book : List Credential) (limits : Limits) (s : Server) (l : Line)
     → HasGrounds book limits s l (verdict book limits (standing_of s l.moment) l.moment l.text)
-verdict_grounds law book limits s l = judged_grounds law book limits s l _ refl
+verdict_grounds law book limits s l = judgement_grounds law book limits s l _ refl
 
 -- a request at a moment in range, for a user whose token is open
-pub examined_open : (book : List Credential) (limits : Limits) (s : Standing) (moment : ℕ) (r : Request) (token : ℕ) (c : Credential)
+pub request_verdict-open : (book : List Credential) (limits : Limits) (s : Standing) (moment : ℕ) (r : Request) (token : ℕ) (c : Credential)
     → moment < 2 ^ 40 → place_of r.user book ≡ Some token → slice_get book token ≡ Some c → s.wait token ≤ 0
-    → examined book limits s moment r ≡ when_open limits (s.next token) moment r token c
-examined_open book limits s moment r token c below place here none =
+    → request_verdict book limits s moment r ≡ open_verdict limits (s.next token) moment r token c
+request_verdict-open book limits s moment r token c below place here none =
     rw (lt-ltb moment (2 ^ 40) below, place, here, le-ltb 0 (s.wait token) none) refl
 
 -- ---- the floors after a verdict
@@ -179,7 +179,7 @@ ordered book limits s l token lo hi g = ordered_of_fit g.credential g.request.su
 -- what is proposed is used up
 pub floor_of-proposed : (book : List Credential) (limits : Limits) (s : Server) (l : Line) (nonce : List ℕ) (token lo hi : ℕ)
     → length s.floors ≡ length book → Grounds book limits s l token lo hi
-    → floor_of (ruled s l.moment (Proposes nonce token lo hi)).server token ≡ hi + 1
+    → floor_of (service_by s l.moment (Proposes nonce token lo hi)).server token ≡ hi + 1
 floor_of-proposed book limits s l nonce token lo hi sized g =
     let within : token < length book = slice_get_within book token g.credential g.token_is in
     get_or-set_same s.floors token (hi + 1) 0 (omega arith)
@@ -187,12 +187,12 @@ floor_of-proposed book limits s l nonce token lo hi sized g =
 -- no floor falls
 pub floor_rises : (book : List Credential) (limits : Limits) (s : Server) (l : Line) (v : Verdict)
     → length s.floors ≡ length book → HasGrounds book limits s l v
-    → (token : ℕ) → floor_of s token ≤ floor_of (ruled s l.moment v).server token
+    → (token : ℕ) → floor_of s token ≤ floor_of (service_by s l.moment v).server token
 floor_rises book limits s l BadLine sized g token = omega arith
 floor_rises book limits s l (Refused nonce outcome) sized g token = omega arith
 floor_rises book limits s l (Fails nonce outcome t) sized g token = omega arith
 floor_rises book limits s l (Proposes nonce t lo hi) sized g token =
-    let after = (ruled s l.moment (Proposes nonce t lo hi)).server in
+    let after = (service_by s l.moment (Proposes nonce t lo hi)).server in
     let used = floor_of-proposed book limits s l nonce t lo hi sized g in
     let low = free book limits s l t lo hi g in
     let up = ordered book limits s l t lo hi g in
@@ -217,7 +217,7 @@ abbrev pub KeepsGates : Server → Type 0
 KeepsGates s = (token : ℕ) → AreGated (results_of s token)
 
 pub gates_kept : (book : List Credential) (limits : Limits) (s : Server) (l : Line) (v : Verdict)
-    → HasGrounds book limits s l v → KeepsGates s → KeepsGates (ruled s l.moment v).server
+    → HasGrounds book limits s l v → KeepsGates s → KeepsGates (service_by s l.moment v).server
 gates_kept book limits s l BadLine g h token = h token
 gates_kept book limits s l (Refused nonce outcome) g h token = h token
 gates_kept book limits s l (Fails nonce outcome t) g h token =

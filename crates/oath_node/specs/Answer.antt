@@ -6,7 +6,7 @@ use Rattle.oath_node.specs.declared.answer.Answer.TheVariants.{BadLine, Reply}
 use Rattle.oath_node.specs.declared.answer.Outcome.{Outcome}
 use Rattle.oath_node.specs.declared.answer.Outcome.TheVariants.{Accepted, Unknown, Password, Throttled, Invalid, Clock, Exhausted}
 
--- numbers are decimal, without leading zeros
+-- the bytes of what became of a line, behind its nonce; numbers are decimal, without leading zeros
 abbrev pub reply_bytes : List ℕ → Outcome → List ℕ
 reply_bytes nonce (Accepted factor) = codes "OK " ++ nonce ++ codes " " ++ decimal factor
 reply_bytes nonce Unknown = codes "NO " ++ nonce ++ codes " UNKNOWN"
@@ -16,6 +16,7 @@ reply_bytes nonce Invalid = codes "NO " ++ nonce ++ codes " INVALID"
 reply_bytes nonce Clock = codes "NO " ++ nonce ++ codes " CLOCK"
 reply_bytes nonce Exhausted = codes "NO " ++ nonce ++ codes " EXHAUSTED"
 
+-- the bytes of an answer, without a line end
 abbrev pub answer_bytes : Answer → List ℕ
 answer_bytes BadLine = codes "NO - BADLINE"
 answer_bytes (Reply nonce outcome) = reply_bytes nonce outcome

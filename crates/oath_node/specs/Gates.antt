@@ -10,12 +10,16 @@ use Rattle.oath_node.specs.declared.rules.Verdict.TheVariants.{BadLine, Refused,
 abbrev pub gates_of : List (List Result) → List GateRecord
 gates_of results = map gate_after results
 
+-- the gate of a token
 abbrev pub gate_of : List GateRecord → ℕ → GateRecord
 gate_of gates token = slice_index_or gates token clear_gate
 
 -- the standing by these gates
 abbrev pub standing_by : List ℕ → List GateRecord → ℕ → Standing
-standing_by floors gates moment = record { next = λ token. slice_index floors token; wait = λ token. (gate_of gates token).until - moment }
+standing_by floors gates moment = record {
+  next = λ token. slice_index floors token;
+  wait = λ token. (gate_of gates token).until - moment;
+}
 
 -- a failure counts, and an acceptance opens the gate
 abbrev pub gates_after : List GateRecord → ℕ → Verdict → List GateRecord

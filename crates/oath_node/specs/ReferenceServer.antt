@@ -43,22 +43,26 @@ pub record Told : Type 0 where
   pub accepted : Option Span
 
 -- what a line leads to: the server after it, and what is told
-pub record Served : Type 0 where
+pub record Service : Type 0 where
   pub server : Server
   pub told : Told
 
 -- the first free factor of a token
 abbrev pub floor_of : Server → ℕ → ℕ
-floor_of s token = slice_index s.floors token
+floor_of server token = slice_index server.floors token
 
 -- the results of a token
 abbrev pub results_of : Server → ℕ → List Result
-results_of s token = slice_index_or s.front.results token []
+results_of server token = slice_index_or server.front.results token []
 
 -- the wait is that of the results, by the throttle's definition
 abbrev pub standing_of : Server → ℕ → Standing
-standing_of s moment = record { next = floor_of s; wait = λ token. wait_after (results_of s token) moment }
+standing_of server moment = record {
+  next = floor_of server;
+  wait = λ token. wait_after (results_of server token) moment;
+}
 
+-- what a verdict tells: `OK` with the last factor for a proposal, which is accepted, and otherwise a refusal
 abbrev pub told_by : Verdict → Told
 told_by BadLine = record { answer = BadLineAnswer; accepted = None }
 told_by (Refused nonce outcome) = record { answer = Reply nonce outcome; accepted = None }
@@ -77,7 +81,7 @@ floors_after floors (Proposes nonce token lo hi) = slice_set floors token (hi + 
 
 -- with one result more for a token
 abbrev pub with_result : List (List Result) → ℕ → Result → List (List Result)
-with_result results token r = slice_set results token (r ∷ slice_index_or results token [])
+with_result results token result = slice_set results token (result ∷ slice_index_or results token [])
 
 -- a failure and an acceptance are results, and nothing else is
 abbrev pub results_after : List (List Result) → ℕ → Verdict → List (List Result)
@@ -86,19 +90,23 @@ results_after results moment (Refused nonce outcome) = results
 results_after results moment (Fails nonce outcome token) = with_result results token (Failed moment)
 results_after results moment (Proposes nonce token lo hi) = with_result results token Passed
 
-abbrev pub ruled : Server → ℕ → Verdict → Served
-ruled s moment v = record {
+-- what a verdict at a moment leads to
+abbrev pub service_by : Server → ℕ → Verdict → Service
+service_by server moment verdict = record {
   server = record {
-    floors = floors_after s.floors v;
-    front = record { results = results_after s.front.results moment v };
+    floors = floors_after server.floors verdict;
+    front = record { results = results_after server.front.results moment verdict };
   };
-  told = told_by v;
+  told = told_by verdict;
 }
 
-abbrev pub served : List Credential → Limits → Server → Line → Served
-served book limits s l = ruled s l.moment (verdict book limits (standing_of s l.moment) l.moment l.text)
+-- what a line leads to: the rules decide, by the server as it stands
+abbrev pub service_of : List Credential → Limits → Server → Line → Service
+service_of book limits server line =
+    service_by server line.moment (verdict book limits (standing_of server line.moment) line.moment line.text)
 
 -- the server after these lines
 unfoldable pub server_after : List Credential → Limits → Server → List Line → Server
-server_after book limits s [] = s
-server_after book limits s (l ∷ ls) = server_after book limits (served book limits s l).server ls
+server_after book limits server [] = server
+server_after book limits server (line ∷ lines) =
+    server_after book limits (service_of book limits server line).server lines

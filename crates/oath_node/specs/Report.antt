@@ -6,54 +6,65 @@ use Rattle.token_file.specs.Credential.{Credential}
 use Rattle.admit_core.specs.Entitled.{IsEntitled}
 use Rattle.admit_core.specs.Throttle.{Result}
 use Rattle.oath_node.specs.Answer.{answer_bytes}
-use Rattle.oath_node.specs.ReferenceServer.{Server, Line, Span, Told, Served, floor_of, results_of, served, server_after, server_at}
+use Rattle.oath_node.specs.ReferenceServer.{Server, Line, Span, Told, Service, floor_of, results_of, service_of, server_after, server_at}
 use Rattle.oath_node.specs.Request.{Request, IsLine}
 use Rattle.oath_node.specs.declared.answer.Answer.{Answer}
 use Rattle.oath_node.specs.declared.report.LinePass.{LinePass}
 use Rattle.oath_node.specs.declared.report.LineAnswer.{LineAnswer}
 
+-- what a run of lines tells
 pub record Report : Type 0 where
   pub passes : List LinePass
   pub answers : List LineAnswer
 
--- with one pass, or one answer, more
+-- with one pass more
 abbrev pub with_pass : Report → LinePass → Report
-with_pass r p = record { passes = r.passes ++ p ∷ []; answers = r.answers }
+with_pass report pass = record { passes = report.passes ++ pass ∷ []; answers = report.answers }
 
+-- with one answer more
 abbrev pub with_answer : Report → LineAnswer → Report
-with_answer r a = record { passes = r.passes; answers = r.answers ++ a ∷ [] }
+with_answer report answer = record { passes = report.passes; answers = report.answers ++ answer ∷ [] }
 
+-- what was accepted with the line of a number, as a pass, or nothing
 abbrev pub passes_at : ℕ → Option Span → List LinePass
 passes_at number None = []
 passes_at number (Some span) = record { began = number; token = span.token; lo = span.lo; hi = span.hi } ∷ []
 
+-- what the line of a number, which a client sent, is answered
 abbrev pub answer_at : ℕ → ℕ → Answer → LineAnswer
-answer_at number client answer = record { line = number; client = client; bytes = record { items = answer_bytes answer } }
+answer_at number client answer = record {
+  line = number;
+  client = client;
+  bytes = record { items = answer_bytes answer };
+}
 
 -- with what was accepted with the line of this number
 abbrev pub with_passes : Report → ℕ → Option Span → Report
-with_passes r number accepted = record { passes = r.passes ++ passes_at number accepted; answers = r.answers }
+with_passes report number accepted = record {
+  passes = report.passes ++ passes_at number accepted;
+  answers = report.answers;
+}
 
 -- with what the line of this number was told
-abbrev pub extended : Report → ℕ → ℕ → Told → Report
-extended r number client told = record {
-  passes = r.passes ++ passes_at number told.accepted;
-  answers = r.answers ++ answer_at number client told.answer ∷ [];
+abbrev pub with_told : Report → ℕ → ℕ → Told → Report
+with_told report number client told = record {
+  passes = report.passes ++ passes_at number told.accepted;
+  answers = report.answers ++ answer_at number client told.answer ∷ [];
 }
 
 -- what the line of this number was told comes before the rest
-abbrev pub before : ℕ → Line → Told → Report → Report
-before number l told rest = record {
+abbrev pub told_before : ℕ → Line → Told → Report → Report
+told_before number line told rest = record {
   passes = passes_at number told.accepted ++ rest.passes;
-  answers = answer_at number l.client told.answer ∷ rest.answers;
+  answers = answer_at number line.client told.answer ∷ rest.answers;
 }
 
 -- the report of lines that are numbered from a number on
 unfoldable pub report_from : List Credential → Limits → ℕ → Server → List Line → Report
-report_from book limits number s [] = record { passes = []; answers = [] }
-report_from book limits number s (l ∷ ls) =
-    let this : Served = served book limits s l in
-    before number l this.told (report_from book limits (number + 1) this.server ls)
+report_from book limits number server [] = record { passes = []; answers = [] }
+report_from book limits number server (line ∷ lines) =
+    let service : Service = service_of book limits server line in
+    told_before number line service.told (report_from book limits (number + 1) service.server lines)
 
 -- the report of lines that are numbered from 0
 abbrev pub report_of : List Credential → Limits → List ℕ → List Line → Report
@@ -61,8 +72,16 @@ report_of book limits floors lines = report_from book limits 0 (server_at floors
 
 -- a pass as an acceptance at the one node there is: it began and was accepted with its line
 abbrev pub acceptance_of : LinePass → Acceptance
-acceptance_of p = record { began = p.began; ended = p.began; node = 1; token = p.token; lo = p.lo; hi = p.hi }
+acceptance_of pass = record {
+  began = pass.began;
+  ended = pass.began;
+  node = 1;
+  token = pass.token;
+  lo = pass.lo;
+  hi = pass.hi;
+}
 
+-- passes as acceptances
 abbrev pub acceptances_of : List LinePass → List Acceptance
 acceptances_of passes = map acceptance_of passes
 
@@ -86,18 +105,20 @@ results_in book limits floors lines token = results_of (server_after book limits
 -- submits is entitled to the pass's factors: its moment is in range, its password is as the token's
 -- column says, the token is open at that moment by its results before that line, and the factors are the
 -- least in the window that fit, for the token's first free factor before that line.
-pub record IsJustified (book : List Credential) (limits : Limits) (floors : List ℕ) (lines : List Line) (p : LinePass) : Type 0 where
+pub record IsJustified (book : List Credential) (limits : Limits) (floors : List ℕ) (lines : List Line)
+    (pass : LinePass) : Type 0 where
   pub line : Line
-  pub began : slice_get lines p.began ≡ Some line
+  pub began : slice_get lines pass.began ≡ Some line
   pub request : Request
   pub grammar : IsLine line.text request
   pub credential : Credential
-  pub token : slice_get book p.token ≡ Some credential
+  pub token : slice_get book pass.token ≡ Some credential
   pub user : credential.name ≡ request.user
   pub entitled : IsEntitled credential limits line.moment request.submission request.password
-      (floor_before book limits floors lines p.token p.began) (results_before book limits floors lines p.token p.began) p.lo p.hi
+      (floor_before book limits floors lines pass.token pass.began)
+      (results_before book limits floors lines pass.token pass.began) pass.lo pass.hi
 
 -- each pass of a list is
 abbrev pub AreJustified : List Credential → Limits → List ℕ → List Line → List LinePass → Type 0
 AreJustified book limits floors lines passes =
-    (k : ℕ) (p : LinePass) → slice_get passes k ≡ Some p → IsJustified book limits floors lines p
+    (place : ℕ) (pass : LinePass) → slice_get passes place ≡ Some pass → IsJustified book limits floors lines pass

@@ -18,46 +18,58 @@ pub record Standing : Type 0 where
   pub wait : ℕ → ℕ
 
 -- no fit in the window: INVALID, a failure; otherwise the least one is proposed
-abbrev pub fitted : Request → ℕ → Option (ℕ × ℕ) → Verdict
-fitted r token None = Fails r.nonce Invalid token
-fitted r token (Some factors) = Proposes r.nonce token factors.0 factors.1
+abbrev pub fit_verdict : Request → ℕ → Option (ℕ × ℕ) → Verdict
+fit_verdict request token None = Fails request.nonce Invalid token
+fit_verdict request token (Some factors) = Proposes request.nonce token factors.0 factors.1
 
 -- no factor left: EXHAUSTED
-abbrev pub with_password : Limits → ℕ → ℕ → Request → ℕ → Credential → Verdict
-with_password limits next moment r token c =
-    if next == 2 ^ 62 then Refused r.nonce Exhausted else fitted r token (least_fit c limits next moment r.submission)
+abbrev pub remaining_verdict : Limits → ℕ → ℕ → Request → ℕ → Credential → Verdict
+remaining_verdict limits next moment request token credential =
+    if next == 2 ^ 62
+    then Refused request.nonce Exhausted
+    else fit_verdict request token (least_fit credential limits next moment request.submission)
 
 -- a password that isn't as the token's column says: PASSWORD, a failure
-abbrev pub when_open : Limits → ℕ → ℕ → Request → ℕ → Credential → Verdict
-when_open limits next moment r token c =
-    if column_fits c.password r.password then with_password limits next moment r token c else Fails r.nonce Password token
+abbrev pub open_verdict : Limits → ℕ → ℕ → Request → ℕ → Credential → Verdict
+open_verdict limits next moment request token credential =
+    if column_fits credential.password request.password
+    then remaining_verdict limits next moment request token credential
+    else Fails request.nonce Password token
 
 -- the token is closed for some seconds: THROTTLED, with these seconds
-abbrev pub at_token : Limits → ℕ → ℕ → ℕ → Request → ℕ → Credential → Verdict
-at_token limits next wait moment r token c =
-    if nat_lt 0 wait then Refused r.nonce (Throttled wait) else when_open limits next moment r token c
+abbrev pub token_verdict : Limits → ℕ → ℕ → ℕ → Request → ℕ → Credential → Verdict
+token_verdict limits next wait moment request token credential =
+    if nat_lt 0 wait
+    then Refused request.nonce (Throttled wait)
+    else open_verdict limits next moment request token credential
 
-abbrev pub at_place : Limits → Standing → ℕ → Request → ℕ → Option Credential → Verdict
-at_place limits s moment r token None = Refused r.nonce Unknown
-at_place limits s moment r token (Some c) = at_token limits (s.next token) (s.wait token) moment r token c
+-- the credential at the user's place; there is one, so UNKNOWN never comes from here
+abbrev pub place_verdict : Limits → Standing → ℕ → Request → ℕ → Option Credential → Verdict
+place_verdict limits standing moment request token None = Refused request.nonce Unknown
+place_verdict limits standing moment request token (Some credential) =
+    token_verdict limits (standing.next token) (standing.wait token) moment request token credential
 
 -- no such user: UNKNOWN
-abbrev pub for_user : List Credential → Limits → Standing → ℕ → Request → Option ℕ → Verdict
-for_user book limits s moment r None = Refused r.nonce Unknown
-for_user book limits s moment r (Some token) = at_place limits s moment r token (slice_get book token)
+abbrev pub user_verdict : List Credential → Limits → Standing → ℕ → Request → Option ℕ → Verdict
+user_verdict book limits standing moment request None = Refused request.nonce Unknown
+user_verdict book limits standing moment request (Some token) =
+    place_verdict limits standing moment request token (slice_get book token)
 
 -- a moment outside the range: CLOCK
-abbrev pub examined : List Credential → Limits → Standing → ℕ → Request → Verdict
-examined book limits s moment r =
-    if nat_lt moment (2 ^ 40) then for_user book limits s moment r (place_of r.user book) else Refused r.nonce Clock
+abbrev pub request_verdict : List Credential → Limits → Standing → ℕ → Request → Verdict
+request_verdict book limits standing moment request =
+    if nat_lt moment (2 ^ 40)
+    then user_verdict book limits standing moment request (place_of request.user book)
+    else Refused request.nonce Clock
 
 -- outside the grammar: BADLINE
-abbrev pub judged : List Credential → Limits → Standing → ℕ → Option Request → Verdict
-judged book limits s moment None = BadLine
-judged book limits s moment (Some r) = examined book limits s moment r
+abbrev pub judgement_of : List Credential → Limits → Standing → ℕ → Option Request → Verdict
+judgement_of book limits standing moment None = BadLine
+judgement_of book limits standing moment (Some request) = request_verdict book limits standing moment request
 
+-- what the rules make of a line that comes at a moment
 abbrev pub verdict : List Credential → Limits → Standing → ℕ → List ℕ → Verdict
-verdict book limits s moment line = judged book limits s moment (request_at line)
+verdict book limits standing moment line = judgement_of book limits standing moment (request_at line)
 
 -- a token that a verdict names is one of so many, and what fails does so at a moment in range
 abbrev pub IsRecordable : ℕ → ℕ → Verdict → Type 0

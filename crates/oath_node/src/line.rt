@@ -174,7 +174,7 @@ pub(crate) fn read_line(bytes: &[u8]) -> Option<RequestLine<'_>>
     // What is read is in the grammar.
     ensures some { IfSome result (IsLine bytes.now) }
     // What is in the grammar is read.
-    ensures none { IfNone result ((r : Request) → IsLine bytes.now r → ⊥) }
+    ensures none { IfNone result ((request : Request) → IsLine bytes.now request → ⊥) }
     // The reader as a function.
     ensures exact { result ≡ spec.request_at bytes.now }
 {

@@ -48,13 +48,13 @@ pub(crate) fn judge(
     ensures recordable { IsRecordable (length book.now) moment result }
 {
     match read_line(line) {
-        Some(request) => examined(book, settings, floors, gates, moment, request),
+        Some(request) => request_verdict(book, settings, floors, gates, moment, request),
         None => Verdict::BadLine,
     }
 }
 
 /// The moment, the user, and whether the token is open.
-fn examined(
+fn request_verdict(
     book: &Book,
     settings: Settings,
     floors: &[Next],
@@ -65,7 +65,7 @@ fn examined(
     requires floors { length floors.now ≡ length book.now }
     requires gates { length gates.now ≡ length book.now }
     ensures value { result
-        ≡ spec.examined book.now settings (standing_by floors.now gates.now moment) moment request.entry }
+        ≡ spec.request_verdict book.now settings (standing_by floors.now gates.now moment) moment request.entry }
     ensures recordable { IsRecordable (length book.now) moment result }
 {
     if moment >= MOMENTS_END {
@@ -79,7 +79,7 @@ fn examined(
         return Verdict::Refused(request.into_nonce(), Outcome::Throttled(wait));
     }
     let next = floors[id.value() as usize];
-    when_open(book.token(id), id, next, settings, moment, request)
+    open_verdict(book.token(id), id, next, settings, moment, request)
 }
 
 /// How many seconds are left until a token is open.
@@ -91,7 +91,7 @@ fn wait_at(gates: &[Gate], id: TokenId, moment: u64) -> u64
 }
 
 /// The password, the factors that are left, and the window, at a token that is open.
-fn when_open(
+fn open_verdict(
     token: &Token,
     id: TokenId,
     next: Next,
@@ -100,7 +100,7 @@ fn when_open(
     request: RequestLine<'_>,
 ) -> Verdict
     requires { IsMoment moment }
-    ensures value { result ≡ spec.when_open settings next moment request.entry id token.now }
+    ensures value { result ≡ spec.open_verdict settings next moment request.entry id token.now }
     ensures recordable { (tokens : ℕ) → id < tokens → IsRecordable tokens moment result }
 {
     if !password_fits(token, request.password()) {

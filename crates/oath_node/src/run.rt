@@ -3,7 +3,7 @@ ghost use Rattle.admit_core.specs.Throttle.{SpacesFailures};
 ghost use Rattle.otp_core.specs.Acceptance.{HaveSingleUse, KeepRealTimeOrder};
 ghost use Rattle.oath_node.specs.Gates.{gates_after, gates_of, standing_by};
 ghost use Rattle.oath_node.specs.ReferenceServer.{floors_after, server_at, told_by};
-ghost use Rattle.oath_node.specs.Report.{AreJustified, acceptances_of, extended, report_of, results_in, with_passes};
+ghost use Rattle.oath_node.specs.Report.{AreJustified, acceptances_of, report_of, results_in, with_passes, with_told};
 ghost use Rattle.oath_node.specs.Rules.{IsRecordable, verdict};
 
 use crate::answer::{Answer, Outcome, write_answer};
@@ -110,14 +110,14 @@ fn take_line(
     requires floors { length floors.old ≡ length book.now }
     requires gates { length gates.old ≡ length book.now }
     ensures floors { let moment = line.now.moment in
-        let v = verdict book.now settings (standing_by floors.old gates.old moment) moment line.now.text in
-        OnOk result (floors.new ≡ floors_after floors.old v) }
+        let ruling = verdict book.now settings (standing_by floors.old gates.old moment) moment line.now.text in
+        OnOk result (floors.new ≡ floors_after floors.old ruling) }
     ensures gates { let moment = line.now.moment in
-        let v = verdict book.now settings (standing_by floors.old gates.old moment) moment line.now.text in
-        OnOk result (gates.new ≡ gates_after gates.old moment v) }
+        let ruling = verdict book.now settings (standing_by floors.old gates.old moment) moment line.now.text in
+        OnOk result (gates.new ≡ gates_after gates.old moment ruling) }
     ensures report { let moment = line.now.moment in
-        let v = verdict book.now settings (standing_by floors.old gates.old moment) moment line.now.text in
-        OnOk result (report.new ≡ extended report.old number line.now.client (told_by v)) }
+        let ruling = verdict book.now settings (standing_by floors.old gates.old moment) moment line.now.text in
+        OnOk result (report.new ≡ with_told report.old number line.now.client (told_by ruling)) }
 {
     let verdict = judge(book, settings, floors, gates, line.moment, line.line);
     let answer = record_verdict(number, line.moment, verdict, floors, gates, report)?;
