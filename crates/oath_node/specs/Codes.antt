@@ -1,4 +1,4 @@
--- The codes of a line, as the program holds them.
+-- The codes of a line, as the program holds them. Private contracts alone cite it: no public one rests on it.
 use Rattle.admit_core.specs.Fit.{Submission, Check, Resync}
 use Rattle.oath_node.specs.declared.line.Codes.{Codes}
 use Rattle.oath_node.specs.declared.line.Codes.TheVariants.{One, Two}

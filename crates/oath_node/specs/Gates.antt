@@ -1,4 +1,5 @@
--- What the program keeps in place of the results of each token: its gate.
+-- What the program keeps in place of the results of each token: its gate. Private contracts alone cite it: no
+-- public one rests on it.
 use Rattle.std.specs.Prelude.{ℕ, ◌-◌, List, map, slice_index, slice_index_or, slice_set}
 use Rattle.admit_core.specs.Gate.{GateRecord, clear_gate, with_failure}
 use Rattle.admit_core.specs.Throttle.{Result, gate_after}

@@ -3,6 +3,7 @@ pub mod Codes
 pub mod Column
 pub mod Field
 pub mod Gates
+pub mod Recording
 pub mod ReferenceServer
 pub mod Report
 pub mod Request

@@ -17,14 +17,6 @@ pub record Report : Type 0 where
   pub passes : List LinePass
   pub answers : List LineAnswer
 
--- with one pass more
-abbrev pub with_pass : Report → LinePass → Report
-with_pass report pass = record { passes = report.passes ++ pass ∷ []; answers = report.answers }
-
--- with one answer more
-abbrev pub with_answer : Report → LineAnswer → Report
-with_answer report answer = record { passes = report.passes; answers = report.answers ++ answer ∷ [] }
-
 -- what was accepted with the line of a number, as a pass, or nothing
 abbrev pub passes_at : ℕ → Option Span → List LinePass
 passes_at number None = []
@@ -36,20 +28,6 @@ answer_at number client answer = record {
   line = number;
   client = client;
   bytes = record { items = answer_bytes answer };
-}
-
--- with what was accepted with the line of this number
-abbrev pub with_passes : Report → ℕ → Option Span → Report
-with_passes report number accepted = record {
-  passes = report.passes ++ passes_at number accepted;
-  answers = report.answers;
-}
-
--- with what the line of this number was told
-abbrev pub with_told : Report → ℕ → ℕ → Told → Report
-with_told report number client told = record {
-  passes = report.passes ++ passes_at number told.accepted;
-  answers = report.answers ++ answer_at number client told.answer ∷ [];
 }
 
 -- what the line of this number was told comes before the rest
@@ -122,3 +100,27 @@ pub record IsJustified (book : List Credential) (limits : Limits) (floors : List
 abbrev pub AreJustified : List Credential → Limits → List ℕ → List Line → List LinePass → Type 0
 AreJustified book limits floors lines passes =
     (place : ℕ) (pass : LinePass) → slice_get passes place ≡ Some pass → IsJustified book limits floors lines pass
+
+-- ---- How a report grows. Private contracts alone cite what follows: no public one rests on it
+
+-- with one pass more
+abbrev pub with_pass : Report → LinePass → Report
+with_pass report pass = record { passes = report.passes ++ pass ∷ []; answers = report.answers }
+
+-- with one answer more
+abbrev pub with_answer : Report → LineAnswer → Report
+with_answer report answer = record { passes = report.passes; answers = report.answers ++ answer ∷ [] }
+
+-- with what was accepted with the line of this number
+abbrev pub with_passes : Report → ℕ → Option Span → Report
+with_passes report number accepted = record {
+  passes = report.passes ++ passes_at number accepted;
+  answers = report.answers;
+}
+
+-- with what the line of this number was told
+abbrev pub with_told : Report → ℕ → ℕ → Told → Report
+with_told report number client told = record {
+  passes = report.passes ++ passes_at number told.accepted;
+  answers = report.answers ++ answer_at number client told.answer ∷ [];
+}

@@ -101,7 +101,7 @@ request_of _ = None
 abbrev pub request_at : List ℕ → Option Request
 request_at bytes = if nat_le (length bytes) 256 then request_of (fields_of (without_lf bytes)) else None
 
--- what a reader of fields answers
+-- what a reader of fields answers; private contracts alone cite it
 abbrev pub Reads : List (List ℕ) → Option Request → Type 0
 Reads fields (Some request) = IsRequest fields request
 Reads fields None = (request : Request) → IsRequest fields request → ⊥

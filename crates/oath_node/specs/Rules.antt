@@ -1,7 +1,6 @@
 -- The rules by which a line is answered. The first that applies decides: read upwards from `verdict`.
-use Rattle.std.specs.Prelude.{ℕ, ◌<◌, ◌^◌, ◌==◌, nat_lt, List, Option, Some, None, if◌then◌else◌, slice_get}
+use Rattle.std.specs.Prelude.{ℕ, ◌^◌, ◌==◌, nat_lt, List, Option, Some, None, if◌then◌else◌, slice_get}
 use Rattle.otp_core.specs.Limits.{Limits}
-use Rattle.otp_core.specs.Range.{IsMoment}
 use Rattle.token_file.specs.Credential.{Credential, place_of}
 use Rattle.admit_core.specs.Fit.{least_fit}
 use Rattle.oath_node.specs.Column.{column_fits}
@@ -70,10 +69,3 @@ judgement_of book limits standing moment (Some request) = request_verdict book l
 -- what the rules make of a line that comes at a moment
 abbrev pub verdict : List Credential → Limits → Standing → ℕ → List ℕ → Verdict
 verdict book limits standing moment line = judgement_of book limits standing moment (request_at line)
-
--- a token that a verdict names is one of so many, and what fails does so at a moment in range
-abbrev pub IsRecordable : ℕ → ℕ → Verdict → Type 0
-IsRecordable tokens moment BadLine = Unit {0}
-IsRecordable tokens moment (Refused nonce outcome) = Unit {0}
-IsRecordable tokens moment (Fails nonce outcome token) = (token < tokens) × IsMoment moment
-IsRecordable tokens moment (Proposes nonce token lo hi) = token < tokens

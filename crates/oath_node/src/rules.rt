@@ -3,8 +3,8 @@ ghost use Rattle.admit_core.specs.Fit.{least_fit};
 ghost use Rattle.otp_core.specs.Range.{IsFactor, IsMoment};
 ghost use Rattle.oath_node.specs.Codes.{submission_of};
 ghost use Rattle.oath_node.specs.Gates.{gate_of, standing_by};
+ghost use Rattle.oath_node.specs.Recording.{IsRecordable};
 ghost use Rattle.oath_node.specs.Rules as spec;
-ghost use Rattle.oath_node.specs.Rules.{IsRecordable};
 
 use crate::answer::{Nonce, Outcome};
 use crate::line::{Codes, RequestLine, read_line};

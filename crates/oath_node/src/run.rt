@@ -2,9 +2,10 @@ ghost use Rattle.std.specs.Prelude.{◌≡◌, ℕ, length, IfOk, OnOk};
 ghost use Rattle.admit_core.specs.Throttle.{SpacesFailures};
 ghost use Rattle.otp_core.specs.Acceptance.{HaveSingleUse, KeepRealTimeOrder};
 ghost use Rattle.oath_node.specs.Gates.{gates_after, gates_of, standing_by};
+ghost use Rattle.oath_node.specs.Recording.{IsRecordable};
 ghost use Rattle.oath_node.specs.ReferenceServer.{floors_after, server_at, told_by};
 ghost use Rattle.oath_node.specs.Report.{AreJustified, acceptances_of, report_of, results_in, with_passes, with_told};
-ghost use Rattle.oath_node.specs.Rules.{IsRecordable, verdict};
+ghost use Rattle.oath_node.specs.Rules.{verdict};
 
 use crate::answer::{Answer, Outcome, write_answer};
 use crate::fault::OpenFault;
