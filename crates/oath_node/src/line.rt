@@ -14,14 +14,14 @@ use token_file::is_word;
 const MAX_LINE_LEN: usize = 256;
 
 /// What a line submits: the code of one factor, or the codes of two factors in a row.
-#[derive(Debug, Drop)]
+#[derive(Drop)]
 pub(crate) enum Codes {
     One(Code),
     Two(Code, Code),
 }
 
 /// What a client's line asks for.
-#[derive(Debug, Drop)]
+#[derive(Drop)]
 pub(crate) struct RequestLine<'a> {
     nonce: Nonce,
     user: &'a [u8],

@@ -11,7 +11,7 @@ use crate::line::{Codes, RequestLine, read_line};
 use admit_core::{
     Gate, find_check, find_resync, least_fit_is_least, password_fits, resync_window, window,
 };
-use otp_core::{Factor, MOMENTS_END, Next, Settings};
+use otp_core::{FACTORS_END, Factor, MOMENTS_END, Next, Settings};
 use token_file::{Book, Token, TokenId};
 
 /// What the rules make of a line.
@@ -106,7 +106,7 @@ fn open_verdict(
     if !password_fits(token, request.password()) {
         return Verdict::Fails(request.into_nonce(), Outcome::Password, id);
     }
-    if next.value() == 1 << 62 {
+    if next.value() == FACTORS_END {
         return Verdict::Refused(request.into_nonce(), Outcome::Exhausted);
     }
     match find_fit(token, next, settings, moment, request.codes()) {

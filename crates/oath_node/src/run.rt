@@ -14,12 +14,13 @@ use crate::rules::{Verdict, judge};
 use admit_core::{Gate, failures_are_spaced, gate_keeps_throttle, least_fit_is_least};
 use otp_core::{Next, Settings};
 use std::alloc::Global;
+use std::fmt;
 use std::marker::Model;
 use token_file::Book;
 
 /// A client's line: the client's number, the moment at which it came, in seconds since 1970-01-01
 /// 00:00:00 UTC, and its bytes.
-#[derive(Debug, Drop)]
+#[derive(Drop)]
 pub struct ClientLine<'a> {
     pub client: u64,
     pub moment: u64,
@@ -32,6 +33,16 @@ impl<'a> Model for ClientLine<'a> {
     ghost Value = { Line };
 
     ghost view = { λ line. record { client = line.client; moment = line.moment; text = line.line.now } };
+}
+
+/// It shows no byte of the line, which may have codes and a password.
+impl<'a> fmt::Debug for ClientLine<'a> {
+    fn fmt<W: fmt::Write>(&self, f: &mut fmt::Formatter<W>) -> fmt::Result {
+        f.debug_struct("ClientLine")
+            .field("client", &self.client)
+            .field("moment", &self.moment)
+            .finish_non_exhaustive()
+    }
 }
 
 /// Answers the lines in order, one answer for each, from these first free factors on, of which there is
