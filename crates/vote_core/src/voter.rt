@@ -7,9 +7,10 @@ ghost use Rattle.vote_core.specs.declared.fault.VoteFault.{VoteFault};
 ghost use Rattle.vote_core.specs.Calls.{FitsVoter, IsOther, IsStoreOf, UnlessSpent, Votes};
 ghost use Rattle.vote_core.specs.Rows.{row as row_in};
 ghost use Rattle.vote_core.specs.State.{VoterRecord, voter_of};
-ghost use Rattle.vote_core.specs.Voting.{fresh, on_message as spec_on_message, propose as spec_propose, tick as spec_tick};
+ghost use Rattle.vote_core.specs.Voting.{fresh_voter, on_message as spec_on_message, propose as spec_propose, tick as spec_tick};
 
 use crate::ballot::Ballot;
+use crate::ballots::MAX_PENDING;
 use crate::fault::VoteFault;
 use crate::message::Message;
 use crate::place::Place;
@@ -30,7 +31,7 @@ pub struct Voter {
     place: Place,
     tokens: u32,
     boot: u64,
-    ballots: ArrayVec<Ballot, 32>,
+    ballots: ArrayVec<Ballot, MAX_PENDING>,
     seq: u64,
     turn: u32,
 }
@@ -40,15 +41,29 @@ impl Model for Voter {
 
     ghost Value = { VoterRecord };
 
-    ghost view = { λ v. record { place = v.place; tokens = v.tokens; boot = v.boot; ballots = v.ballots.items; seq = v.seq; turn = v.turn } };
+    ghost view = { λ v. record {
+      place = v.place;
+      tokens = v.tokens;
+      boot = v.boot;
+      ballots = v.ballots.items;
+      seq = v.seq;
+      turn = v.turn;
+    } };
 
-    ghost invariant = { λ v. IsVoter (record { place = v.place; tokens = v.tokens; boot = v.boot; ballots = v.ballots.items; seq = v.seq; turn = v.turn }) };
+    ghost invariant = { λ v. IsVoter (record {
+      place = v.place;
+      tokens = v.tokens;
+      boot = v.boot;
+      ballots = v.ballots.items;
+      seq = v.seq;
+      turn = v.turn;
+    }) };
 }
 
 impl Voter {
     /// A voter of a new boot: nothing waits, and the floor of token 0 is told first.
     pub fn open<S: FloorStore>(store: &mut S, place: Place) -> Result<Voter, StoreFault>
-        ensures opened { IfOk result (λ voter. voter_of voter ≡ fresh) }
+        ensures opened { IfOk result (λ voter. voter_of voter ≡ fresh_voter) }
         ensures place { IfOk result (λ voter. voter.place ≡ place) }
         ensures store { IfOk result (λ voter. IsStoreOf voter (S.held store.new)) }
         ensures raises { RaisesBoot S.held store.old store.new result }
@@ -87,10 +102,11 @@ impl Voter {
         self.tokens
     }
 
-    /// The message may be handed in: it comes from another member, is for a token that is there, and
-    /// is of a proposal of the sender where it asks, of this node where it answers.
+    /// Whether the message may be handed in: it comes from another member, is for a token that is
+    /// there, and is of a proposal of the sender where it asks, of this node where it answers.
     pub fn fits(&self, from: u8, message: &Message) -> bool
-        ensures { IsTrue result ↔ (IsOther self.now.place from × FitsVoter self.now.place self.now.tokens from message.now) }
+        ensures { IsTrue result
+            ↔ (IsOther self.now.place from × FitsVoter self.now.place self.now.tokens from message.now) }
     {
         let is_other = 1 <= from && from <= self.place.n() && from != self.place.me();
         is_other && fits_tokens(self.place, self.tokens, from, *message)
@@ -104,7 +120,7 @@ impl Voter {
         self.ballots.len()
     }
 
-    /// As many proposals wait as there is room for.
+    /// Whether as many proposals wait as there is room for, `MAX_PENDING`.
     pub fn is_busy(&self) -> bool
         ensures busy { IsTrue result ↔ (length self.now.ballots ≡ 32) }
         ensures room { IsFalse result → length self.now.ballots < 32 }
@@ -126,7 +142,8 @@ impl Voter {
         requires span { IsSpan lo hi }
         requires free { (S.held store.old).is_clean → (row_in (S.held store.old).content token).next ≤ lo }
         requires store { IsStoreOf self.old (S.held store.old) }
-        ensures votes { UnlessSpent result (Votes S.held store.old store.new self.old self.new (spec_propose self.old.place token lo hi)) }
+        ensures votes { UnlessSpent result (Votes S.held store.old store.new self.old self.new
+            (spec_propose self.old.place token lo hi)) }
         ensures spent { result ≡ Err VoteFault.Spent ↔ (self.old.seq ≡ 2 ^ 62) }
         ensures unchanged { result ≡ Err VoteFault.Spent → (store.new ≡ store.old) × (self.new ≡ self.old) }
     {
@@ -149,7 +166,8 @@ impl Voter {
         requires from { IsOther self.old.place from }
         requires fits { FitsVoter self.old.place self.old.tokens from message }
         requires store { IsStoreOf self.old (S.held store.old) }
-        ensures votes { UnlessSpent result (Votes S.held store.old store.new self.old self.new (spec_on_message self.old.place from message)) }
+        ensures votes { UnlessSpent result (Votes S.held store.old store.new self.old self.new
+            (spec_on_message self.old.place from message)) }
         ensures never_spent { IfErr result (λ fault. fault ≢ VoteFault.Spent) }
     {
         // At most nine members: the sender has a bit.
@@ -164,7 +182,8 @@ impl Voter {
     /// token.
     pub fn tick<S: FloorStore>(&mut self, store: &mut S) -> Result<Step, VoteFault>
         requires { IsStoreOf self.old (S.held store.old) }
-        ensures votes { UnlessSpent result (Votes S.held store.old store.new self.old self.new (spec_tick self.old.place)) }
+        ensures votes { UnlessSpent result (Votes S.held store.old store.new self.old self.new
+            (spec_tick self.old.place)) }
         ensures never_spent { IfErr result (λ fault. fault ≢ VoteFault.Spent) }
         ensures same_store { store.new ≡ store.old }
     {
