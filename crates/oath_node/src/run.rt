@@ -46,7 +46,7 @@ impl<'a> fmt::Debug for ClientLine<'a> {
 }
 
 /// Answers the lines in order, one answer for each, from these first free factors on, of which there is
-/// one for each token of the book, and with no failures before. The only refusal is want of memory, and
+/// one for each token of the book, and with no failures before. The one refusal is that memory ran out, and
 /// then there is no report.
 pub fn run_lines(
     alloc: Global,
