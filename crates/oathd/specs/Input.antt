@@ -11,13 +11,14 @@ TextLine = Option (List ℕ)
 
 -- the pieces of a text between its LFs
 abbrev pub pieces_of : List ℕ → List (List ℕ)
-pieces_of text = slice_split (λ b. b == 10) text
+pieces_of text = slice_split (λ byte. byte == 10) text
 
 -- What stands behind the last LF is a line unless it is empty. Where the text was cut off, it is the line
 -- that goes on.
 abbrev pub last_line : Bool → List ℕ → List TextLine
 last_line is_cut last = if is_cut then None ∷ [] else if length last == 0 then [] else Some last ∷ []
 
+-- the lines that pieces between LFs are, of which the last is as above
 abbrev pub lines_between : Bool → List (List ℕ) → List TextLine
 lines_between is_cut [] = []
 lines_between is_cut (last ∷ []) = last_line is_cut last
@@ -27,12 +28,12 @@ lines_between is_cut (line ∷ next ∷ more) = Some line ∷ lines_between is_c
 abbrev pub lines_of : ℕ → List ℕ → List TextLine
 lines_of limit text = lines_between (nat_lt limit (length text)) (pieces_of (take limit text))
 
--- the line `%%`
+-- whether a line is `%%`
 abbrev pub is_marker : TextLine → Bool
 is_marker None = false
 is_marker (Some line) = bytes_eq line (codes "%%")
 
--- whether one of the lines is
+-- whether one of the lines is `%%`
 abbrev pub has_marker : List TextLine → Bool
 has_marker lines = list_any is_marker lines
 
@@ -40,7 +41,7 @@ has_marker lines = list_any is_marker lines
 abbrev pub users_part : List TextLine → List TextLine
 users_part lines = take_while (λ line. not (is_marker line)) lines
 
--- the lines behind it
+-- the lines behind the first `%%`
 abbrev pub clients_part : List TextLine → List TextLine
 clients_part lines = drop (length (users_part lines) + 1) lines
 

@@ -1,17 +1,12 @@
 -- What the words of the command line ask for, by the values that clap found.
 use Rattle.std.specs.Prelude.{◌≡◌, ℕ, List, Option, Some, codes}
-use Rattle.std.specs.Option.{option_and_then}
 use Rattle.clap.specs.Matches.{first_value}
 use Rattle.clap.specs.declared.parser.matches.Found.{Found}
+use Rattle.command_line.specs.Number.{number_at}
 use Rattle.otp_core.specs.Limits.{Limits, AreLimits}
 use Rattle.otp_core.specs.Range.{IsMoment}
-use Rattle.field_text.specs.Number.{number_of}
 use Rattle.oathd.specs.declared.words.Request.{Request}
 use Rattle.oathd.specs.declared.words.Request.TheVariants.{Lines, Secret}
-
--- the number of an option, in decimal digits
-abbrev pub number_at : Found → List ℕ → Option ℕ
-number_at found name = option_and_then number_of (first_value found name)
 
 -- these numbers are given, and in their ranges
 pub record AsksForLines (found : Found) (limits : Limits) (moment : ℕ) : Type 0 where
@@ -22,11 +17,12 @@ pub record AsksForLines (found : Found) (limits : Limits) (moment : ℕ) : Type 
   pub limits_in_range : AreLimits limits.look_ahead limits.skew limits.range
   pub moment_in_range : IsMoment moment
 
--- the command with this name, and these values
+-- the command with this name, and these values, ask for this
 abbrev pub AsksFor : List ℕ → Found → Request → Type 0
 AsksFor name found (Lines settings moment) = (name ≡ codes "lines") × AsksForLines found settings moment
 AsksFor name found (Secret hex) = (name ≡ codes "secret") × (first_value found (codes "HEX") ≡ Some hex.now)
 
+-- the command with this name, and these values, ask for nothing
 abbrev pub AsksForNothing : List ℕ → Found → Type 0
 AsksForNothing name found = (request : Request) → AsksFor name found request → ⊥
 

@@ -2,10 +2,9 @@ ghost use Rattle.std.specs.Prelude.{◌≡◌, IfOk, IfErr};
 ghost use Rattle.oathd.specs.Client as spec;
 ghost use Rattle.oathd.specs.Fault.{IsOutside};
 
-use field_text::cut_at;
 use crate::fault::Fault;
 use crate::input::{Lines, NextLine};
-use field_text::read_number;
+use field_text::{cut_at, read_number};
 use oath_node::ClientLine;
 use std::alloc::Global;
 
@@ -35,7 +34,8 @@ pub(crate) fn read_client_lines<'a>(
     mut lines: Lines<'a>,
     first: u64,
 ) -> Result<ClientLines<'a>, Fault>
-    ensures lines { IfOk result (λ found. record { good = found.good.items; bad = found.bad } ≡ spec.client_lines first lines.entry) }
+    ensures lines { IfOk result (λ found.
+        record { good = found.good.items; bad = found.bad } ≡ spec.client_lines first lines.entry) }
     ensures outside { IfErr result IsOutside }
 {
     let mut good = Vec::new(alloc);

@@ -1,6 +1,7 @@
 ghost use Rattle.std.specs.Prelude.{◌≡◌};
 ghost use Rattle.oathd.specs.declared.fault.Fault.TheVariants.{BadKey, Memory, Users};
 
+use command_line::{OutsideFault, ProgramFault, USAGE};
 use oath_node::OpenFault;
 use secret_text::SecretFault;
 use std::alloc::AllocFailed;
@@ -28,20 +29,39 @@ pub(crate) enum Fault {
     /// The secret among the words has a fault.
     #[error("bad key: {0}")]
     BadKey(SecretFault),
+    /// A word of the process is not UTF-8.
+    #[error("a word is not text")]
+    NotText,
 }
 
-impl Fault {
-    /// The exit status of a run that ends so.
-    pub(crate) fn status(self) -> u8
-        ensures { result ≡ 1 }
-    {
+impl ProgramFault for Fault {
+    ghost use Rattle.oathd.specs.Fault.{status_of};
+
+    ghost status_of = { status_of };
+
+    fn status(self) -> u8 {
         match self {
+            Fault::NotText => USAGE,
             Fault::Memory
             | Fault::CannotRead
             | Fault::CannotWrite
             | Fault::Users(_)
             | Fault::InputLine(_)
             | Fault::BadKey(_) => 1,
+        }
+    }
+}
+
+impl From<OutsideFault> for Fault {
+    ghost use Rattle.oathd.specs.Fault.{outside_fault_of};
+
+    ghost from_gives = { λ outside fault. fault ≡ outside_fault_of outside };
+
+    fn from(fault: OutsideFault) -> Self {
+        match fault {
+            OutsideFault::Memory => Fault::Memory,
+            OutsideFault::CannotWrite => Fault::CannotWrite,
+            OutsideFault::NotText => Fault::NotText,
         }
     }
 }

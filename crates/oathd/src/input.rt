@@ -5,8 +5,8 @@ ghost use Rattle.oathd.specs.Fault.{IsOutside};
 ghost use Rattle.oathd.specs.Input.{AreSplit, IsNext, has_marker, lines_between, lines_of, pieces_of, users_file};
 ghost use Rattle.oathd.specs.Run.{clients_of};
 
-use field_text::cut_at;
 use crate::fault::Fault;
+use field_text::cut_at;
 use std::alloc::Global;
 use std::io::{ErrorKind, Read};
 use std::marker::Model;
@@ -71,7 +71,8 @@ impl Input {
     /// The users file, and the lines of clients behind the first `%%`.
     pub(crate) fn parts(&self) -> Parts<'_>
         ensures users { result.users.now ≡ users_file (lines_of self.now.limit self.now.bytes) self.now.bytes }
-        ensures clients { client_lines result.first result.clients ≡ clients_of (lines_of self.now.limit self.now.bytes) }
+        ensures clients { client_lines result.first result.clients
+            ≡ clients_of (lines_of self.now.limit self.now.bytes) }
     {
         let (read, is_cut) = self.within_limit();
         match split_users(read, is_cut) {

@@ -1,32 +1,23 @@
 ghost use Rattle.std.specs.Prelude.{◌≡◌, ◌++◌, ◌∷◌, [], map, length, IfSome, IfOk, IfErr, OnOk, Ok};
 ghost use Rattle.std.specs.Io.KnownBytes.{Appends};
 ghost use Rattle.otp_core.specs.Range.{IsMoment};
-ghost use Rattle.oathd.specs.Run.{EndsSo, RefusesUsers, answer_line, bytes_of, printed, run_of, run_read};
+ghost use Rattle.oathd.specs.Run.{EndsSo, RefusesUsers, bytes_of, printed_lines, run_of, run_read};
 ghost use Rattle.token_file.specs.UsersFile.{book_of, import_of, instant_of};
 
 use crate::client::read_client_lines;
 use crate::fault::Fault;
 use crate::input::Input;
+use command_line::write_line;
 use oath_node::{LineAnswer, run_lines};
 use otp_core::{Next, Settings};
 use std::alloc::Global;
 use std::io::{Read, Write};
 use token_file::{Book, FromRead, MAX_FILE_LEN, read_book};
 
-/// Writes an answer, and the LF that ends it.
-pub(crate) fn write_line<W: Write>(writer: &mut W, answer: &[u8]) -> Result<(), Fault>
-    ensures written { OnOk result
-        (Appends (W.contents writer.old) (W.contents writer.new) (answer_line answer.now)) }
-    ensures fault { IfErr result (λ fault. fault ≡ Fault.CannotWrite) }
-{
-    writer.write_all(answer).map_err(|_| Fault::CannotWrite)?;
-    writer.write_all(b"\n").map_err(|_| Fault::CannotWrite)
-}
-
 /// Writes each answer on a line of its own.
 fn write_answers<W: Write>(writer: &mut W, answers: &[LineAnswer]) -> Result<(), Fault>
     ensures written { OnOk result
-        (Appends (W.contents writer.old) (W.contents writer.new) (printed (map bytes_of answers.now))) }
+        (Appends (W.contents writer.old) (W.contents writer.new) (printed_lines (map bytes_of answers.now))) }
     ensures fault { IfErr result (λ fault. fault ≡ Fault.CannotWrite) }
 {
     for answer in answers {
@@ -66,7 +57,8 @@ fn serve_input<W: Write>(
     writer: &mut W,
 ) -> Result<(), Fault>
     requires { IsMoment moment }
-    ensures ends { EndsSo (run_read (record { limits = settings; moment = moment }) MAX_FILE_LEN input.now.limit input.now.bytes)
+    ensures ends { EndsSo
+        (run_read (record { limits = settings; moment = moment }) MAX_FILE_LEN input.now.limit input.now.bytes)
         result (W.contents writer.old) (W.contents writer.new) }
 {
     let parts = input.parts();

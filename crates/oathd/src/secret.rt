@@ -1,7 +1,7 @@
 ghost use Rattle.oathd.specs.Secret.{EndsWithText};
 
 use crate::fault::Fault;
-use crate::lines::write_line;
+use command_line::write_line;
 use secret_text::{read_hex, write_base32};
 use std::io::Write;
 
@@ -10,5 +10,6 @@ pub(crate) fn print_secret<W: Write>(writer: &mut W, hex: &[u8]) -> Result<(), F
     ensures ends { EndsWithText hex.now result (W.contents writer.old) (W.contents writer.new) }
 {
     let secret = read_hex(hex)?;
-    write_line(writer, &write_base32(&secret))
+    write_line(writer, &write_base32(&secret))?;
+    Ok(())
 }

@@ -1,7 +1,8 @@
 use crate::fault::Fault;
 use crate::lines::serve_lines;
 use crate::secret::print_secret;
-use crate::words::{Request, read_words};
+use crate::words::{Request, command, read_words};
+use command_line::ProgramFault;
 use otp_core::Settings;
 use secret_text::SecretFault;
 use std::alloc::{AllocError, Global};
@@ -46,28 +47,33 @@ fn answers_lines(rt: HostRuntime) -> Result<(), Fail> {
             ahead,
             0,
             "HOTP silver - 3132333435363738393031323334353637383930\n%%\n\
-            7 100 RESYNC 4 silver 287922 399871 -\n7 105 RESYNC 5 silver 162583 399871 -\n7 106 CHECK 6 silver 399871 -\n",
+            7 100 RESYNC 4 silver 287922 399871 -\n7 105 RESYNC 5 silver 162583 399871 -\n\
+            7 106 CHECK 6 silver 399871 -\n",
             "NO 4 INVALID\nOK 5 8\nNO 6 INVALID\n",
         ),
         // a password column
         (
             ahead,
             0,
-            "HOTP silver pw 3132333435363738393031323334353637383930\n%%\n7 100 CHECK 1 silver 755224 -\n7 105 CHECK 2 silver 755224 pw\n",
+            "HOTP silver pw 3132333435363738393031323334353637383930\n%%\n\
+            7 100 CHECK 1 silver 755224 -\n7 105 CHECK 2 silver 755224 pw\n",
             "NO 1 PASSWORD\nOK 2 0\n",
         ),
         // no factor is left
         (
             ahead,
             0,
-            "HOTP silver - 3132333435363738393031323334353637383930 4611686018427387904\n%%\n7 100 CHECK 1 silver 755224 -\n",
+            "HOTP silver - 3132333435363738393031323334353637383930 4611686018427387904\n%%\n\
+            7 100 CHECK 1 silver 755224 -\n",
             "NO 1 EXHAUSTED\n",
         ),
         // what an import leaves free: a used counter, a fresh one, and no step up to now and the skew
         (
             ahead,
             59,
-            "HOTP a - 3132333435363738393031323334353637383930 3 969429 2009-12-07T23:18:13L\nHOTP b - 3132333435363738393031323334353637383930 3\nHOTP/T30 c - 3132333435363738393031323334353637383930\n%%\n\
+            "HOTP a - 3132333435363738393031323334353637383930 3 969429 2009-12-07T23:18:13L\n\
+            HOTP b - 3132333435363738393031323334353637383930 3\n\
+            HOTP/T30 c - 3132333435363738393031323334353637383930\n%%\n\
             7 60 CHECK 1 a 969429 -\n7 60 CHECK 2 b 969429 -\n7 60 CHECK 3 c 359152 -\n7 90 CHECK 4 c 969429 -\n",
             "NO 1 INVALID\nOK 2 3\nNO 3 INVALID\nOK 4 3\n",
         ),
@@ -94,7 +100,8 @@ fn answers_lines(rt: HostRuntime) -> Result<(), Fail> {
         (
             usual,
             0,
-            "# no user\n%%\n7 100 CHECK 1 silver 755224 -\n7 100 check 2 silver 755224 -\n7 1099511627776 CHECK 3 silver 755224 -",
+            "# no user\n%%\n7 100 CHECK 1 silver 755224 -\n7 100 check 2 silver 755224 -\n\
+            7 1099511627776 CHECK 3 silver 755224 -",
             "NO 1 UNKNOWN\nNO - BADLINE\nNO 3 CLOCK\n",
         ),
     ] {
@@ -322,6 +329,8 @@ fn refuses_words(rt: HostRuntime) -> Result<(), Fail> {
         ("oathd secret -1", 2),
         ("oathd secret --moment 0 00", 2),
         ("oathd --help", 0),
+        ("oathd --version", 0),
+        ("oathd -V", 0),
         ("oathd lines --help", 0),
         ("oathd secret --help", 0),
     ] {
@@ -341,5 +350,80 @@ fn refuses_words(rt: HostRuntime) -> Result<(), Fail> {
         String::from_str(alloc, " 1")?,
     ];
     assert!(rt; read_words(alloc, &words).is_err());
+    Ok(())
+}
+
+/// The text that clap has for words that ask for nothing.
+fn told(alloc: Global, text: &str) -> Result<String, Fail> {
+    let words = words_of(alloc, text)?;
+    match read_words(alloc, &words) {
+        Ok(_) => Err(Fail::from("taken")),
+        Err(error) => Ok(format!(in alloc; "{error}")?),
+    }
+}
+
+#[test]
+fn tells_its_version(rt: HostRuntime) -> Result<(), Fail> {
+    let text = told(rt.alloc(), "oathd --version")?;
+    assert_eq!(rt; text.as_str(), "oathd 0.1.0\n");
+    Ok(())
+}
+
+/// A number out of its range, or with a sign, is named with its range and the usage of its command.
+#[test]
+fn names_the_wrong_number(rt: HostRuntime) -> Result<(), Fail> {
+    let alloc = rt.alloc();
+    for (words, option, value, most) in [
+        (
+            "--look-ahead 101",
+            "look-ahead <COUNT>",
+            "101",
+            "COUNT is 0 to 100",
+        ),
+        ("--skew +5", "skew <STEPS>", "+5", "STEPS is 0 to 10"),
+        ("--range +5", "range <COUNT>", "+5", "COUNT is 0 to 1000"),
+        (
+            "--range= --skew 11",
+            "skew <STEPS>",
+            "11",
+            "STEPS is 0 to 10",
+        ),
+        (
+            "--moment 1099511627776",
+            "moment <SECONDS>",
+            "1099511627776",
+            "SECONDS is 0 to 1099511627775",
+        ),
+    ] {
+        let text = told(alloc, format!(in alloc; "oathd lines {words}")?.as_str())?;
+        let wanted = format!(in alloc;
+            "error: invalid value '{value}' for '--{option}': {most}, in decimal digits alone\n\n\
+            Usage: oathd lines [OPTIONS]\n\nFor more information, try '--help'.\n"
+        )?;
+        assert_eq!(rt; text.as_str(), wanted.as_str(), "{words}");
+    }
+    Ok(())
+}
+
+/// Whether each line of a text has at most 80 characters.
+fn is_narrow(text: &str) -> bool {
+    text.lines().all(|line| line.chars().count() <= 80)
+}
+
+#[test]
+fn help_is_narrow(rt: HostRuntime) -> Result<(), Fail> {
+    let alloc = rt.alloc();
+    for text in [
+        "oathd --help",
+        "oathd -h",
+        "oathd lines --help",
+        "oathd secret --help",
+    ] {
+        let help = told(alloc, text)?;
+        assert!(rt; is_narrow(help.as_str()), "{help}");
+        assert!(rt; help.contains("Usage: oathd"), "{help}");
+    }
+    let mut command = command(alloc)?;
+    assert!(rt; is_narrow(command.render_long_help()?.as_str()));
     Ok(())
 }

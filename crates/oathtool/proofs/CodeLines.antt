@@ -4,7 +4,8 @@ use Rattle.std.specs.Io.KnownBytes.{Appends}
 use Rattle.std.specs.Prelude.{flat_map}
 use Rattle.std.specs.List.{range_with_len}
 use Rattle.std.proofs.lemmas.Grind.{flat_map-append}
-use Rattle.oathtool.specs.Codes.{code_at, code_lines, line_of}
+use Rattle.command_line.specs.Line.{line_of}
+use Rattle.oathtool.specs.Codes.{code_at, code_lines}
 use Rattle.oathtool.specs.declared.codes.Generator.{Generator}
 
 -- one number more at the end

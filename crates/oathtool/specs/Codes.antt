@@ -1,6 +1,7 @@
 -- The codes of a key, and the lines that are printed of them.
-use Rattle.std.specs.Prelude.{◌≡◌, ℕ, List, [], ◌∷◌, ◌++◌, flat_map}
+use Rattle.std.specs.Prelude.{◌≡◌, ℕ, List, flat_map}
 use Rattle.std.specs.List.{range_with_len}
+use Rattle.command_line.specs.Line.{line_of}
 use Rattle.otp_core.specs.Codes.{AreCodesOf}
 use Rattle.otp_core.specs.Digits.{count_of}
 use Rattle.otp_core.specs.Hotp.{code_of}
@@ -18,10 +19,6 @@ IsSetUp codes generator = AreCodesOf codes generator.hash generator.key.now (cou
 -- the code of a factor is the OTP, to the last byte
 abbrev pub Matches : Generator → List ℕ → ℕ → Type 0
 Matches generator otp factor = code_at generator factor ≡ otp
-
--- a text on a line of its own
-abbrev pub line_of : List ℕ → List ℕ
-line_of text = text ++ 10 ∷ []
 
 -- the codes of so many factors from one on, upwards, each on a line of its own
 abbrev pub code_lines : Generator → ℕ → ℕ → List ℕ

@@ -1,9 +1,11 @@
--- Exit statuses.
+-- What ends a run before its time.
 use Rattle.std.specs.Prelude.{ℕ}
+use Rattle.command_line.specs.declared.fault.OutsideFault.{OutsideFault}
+use Rattle.command_line.specs.declared.fault.OutsideFault.TheVariants as outside
 use Rattle.oathtool.specs.declared.fault.Fault.{Fault}
-use Rattle.oathtool.specs.declared.fault.Fault.TheVariants.{BadTime, BadStepSize, BadKey, NoClock, BeforeStart, FactorTooLarge, NoMatch, Memory, CannotWrite}
+use Rattle.oathtool.specs.declared.fault.Fault.TheVariants.{BadTime, BadStepSize, BadKey, NoClock, BeforeStart, FactorTooLarge, NoMatch, Memory, CannotWrite, NotText}
 
--- 2 where a value is out of range, 1 for the rest
+-- the exit status: 2 where the words are wrong or a value is out of range, 1 for the rest
 abbrev pub status_of : Fault → ℕ
 status_of BadTime = 2
 status_of BadStepSize = 2
@@ -14,3 +16,10 @@ status_of FactorTooLarge = 2
 status_of NoMatch = 1
 status_of Memory = 1
 status_of CannotWrite = 1
+status_of NotText = 2
+
+-- what a fault at the program's edge is for a run
+abbrev pub outside_fault_of : OutsideFault → Fault
+outside_fault_of outside.Memory = Memory
+outside_fault_of outside.CannotWrite = CannotWrite
+outside_fault_of outside.NotText = NotText

@@ -38,8 +38,8 @@ pub record IsNearestBefore (generator : Generator) (otp : List ℕ) (step window
 
 -- The offset is the one nearest 0 at which the code is the OTP, and of two the negative one.
 abbrev pub IsNearestOffset : Generator → List ℕ → ℕ → ℕ → ℤ → Type 0
-IsNearestOffset generator otp step window (pos n) = IsNearestAfter generator otp step window n
-IsNearestOffset generator otp step window (negsuc n) = IsNearestBefore generator otp step window (suc n)
+IsNearestOffset generator otp step window (pos distance) = IsNearestAfter generator otp step window distance
+IsNearestOffset generator otp step window (negsuc less) = IsNearestBefore generator otp step window (suc less)
 
 -- the code is the OTP at no distance in the window, before or after
 abbrev pub HasNoNearest : Generator → List ℕ → ℕ → ℕ → Type 0

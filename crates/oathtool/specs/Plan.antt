@@ -21,7 +21,7 @@ use Rattle.oathtool.specs.declared.words.Words.{Words}
 
 -- the text of `--now`, if there is one
 abbrev pub time_text : Words → Option (List ℕ)
-time_text words = option_map (λ s. s.now) words.time
+time_text words = option_map (λ text. text.now) words.time
 
 -- the text gives the time, and none where there is no text
 abbrev pub IsTimeGiven : Option (List ℕ) → Option ℕ → Type 0
@@ -39,10 +39,12 @@ pub record HasTimes (words : Words) (times : Times) : Type 0 where
 abbrev pub IsNoTime : List ℕ → Type 0
 IsNoTime text = (seconds : ℕ) → IsTimeText text seconds → ⊥
 
+-- there is a text, and it gives no time
 abbrev pub IsNoTimeGiven : Option (List ℕ) → Type 0
 IsNoTimeGiven None = ⊥
 IsNoTimeGiven (Some text) = IsNoTime text
 
+-- the start or the time that is given is none
 abbrev pub HasBadTime : Words → Type 0
 HasBadTime words = IsNoTime words.start.now ⊎ IsNoTimeGiven (time_text words)
 
@@ -79,6 +81,7 @@ abbrev pub first_in : Mode → ℕ → Times → Option ℕ → Result ℕ Fault
 first_in Hotp counter times clock = Ok counter
 first_in (Totp hash) counter times clock = step_at times (moment_of times.time clock)
 
+-- the first factor that the words ask for
 abbrev pub first_of : Words → Times → Option ℕ → Result ℕ Fault
 first_of words times clock = first_in words.mode words.counter times clock
 
@@ -108,10 +111,12 @@ pub data Stops (words : Words) (clock : Option ℕ) (fault : Fault) : Type 0 whe
 
 -- ---- what the codes are made with
 
+-- the hash of a mode
 abbrev pub hash_of : Mode → Hash
 hash_of Hotp = Sha1
 hash_of (Totp hash) = hash
 
+-- the generator has the words' hash and digits, and this key
 pub record IsGenerator (words : Words) (secret : List ℕ) (generator : Generator) : Type 0 where
   pub hash : generator.hash ≡ hash_of words.mode
   pub key : generator.key.now ≡ secret

@@ -2,7 +2,8 @@
 use Rattle.std.specs.Prelude.{◌≡◌, ℕ, ◌+◌, ℤ, List, [], Option, Some, None, Result, Ok, Err, option_map}
 use Rattle.std.specs.Fmt.{decimal, signed_decimal}
 use Rattle.std.specs.Io.KnownBytes.{Appends}
-use Rattle.oathtool.specs.Codes.{code_lines, line_of}
+use Rattle.command_line.specs.Line.{line_of}
+use Rattle.oathtool.specs.Codes.{code_lines}
 use Rattle.oathtool.specs.Offset.{HasNoNearest, HasNoOffset, IsLeastOffset, IsNearestOffset}
 use Rattle.oathtool.specs.Plan.{IsGenerator, IsReady, Stops}
 use Rattle.oathtool.specs.declared.codes.Generator.{Generator}
@@ -15,7 +16,7 @@ use Rattle.oathtool.specs.declared.words.Words.{Words}
 
 -- the OTP of the words, if there is one
 abbrev pub otp_text : Words → Option (List ℕ)
-otp_text words = option_map (λ s. s.now) words.otp
+otp_text words = option_map (λ text. text.now) words.otp
 
 -- the text is the OTP's offset, on a line
 abbrev pub IsOffsetLine : Mode → Generator → List ℕ → ℕ → ℕ → List ℕ → Type 0

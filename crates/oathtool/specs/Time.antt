@@ -19,16 +19,17 @@ has_marks text =
 abbrev pub number_at : List ℕ → ℕ → ℕ → Option ℕ
 number_at text from to = number_of (slice_range text from to)
 
-abbrev pub fields_given : Option ℕ → Option ℕ → Option ℕ → Option ℕ → Option ℕ → Option ℕ → Option Fields
-fields_given (Some year) (Some month) (Some day) (Some hour) (Some minute) (Some second) =
+-- the fields that six numbers are, where each is one
+abbrev pub fields_of_numbers : Option ℕ → Option ℕ → Option ℕ → Option ℕ → Option ℕ → Option ℕ → Option Fields
+fields_of_numbers (Some year) (Some month) (Some day) (Some hour) (Some minute) (Some second) =
     Some (record { year = year; month = month; day = day; hour = hour; minute = minute; second = second })
-fields_given _ _ _ _ _ _ = None
+fields_of_numbers _ _ _ _ _ _ = None
 
 -- the six numbers of such a text
 abbrev pub fields_of : List ℕ → Option Fields
 fields_of text =
     if has_marks text
-    then fields_given (number_at text 0 4) (number_at text 5 7) (number_at text 8 10)
+    then fields_of_numbers (number_at text 0 4) (number_at text 5 7) (number_at text 8 10)
     (number_at text 11 13) (number_at text 14 16) (number_at text 17 19)
     else None
 
@@ -51,6 +52,7 @@ pub record IsTimeOf (fields : Fields) (seconds : ℕ) : Type 0 where
   pub value : pos seconds ≡ epoch_day date *ℤ pos 86_400
       +ℤ pos (fields.hour * 3_600 + fields.minute * 60 + fields.second)
 
+-- the text is a day and a time of day, and so many seconds lie between 1970 and it
 pub record IsDateText (text : List ℕ) (seconds : ℕ) : Type 0 where
   pub fields : Fields
   pub read : fields_of text ≡ Some fields
@@ -58,6 +60,7 @@ pub record IsDateText (text : List ℕ) (seconds : ℕ) : Type 0 where
 
 -- ---- `@SECONDS`
 
+-- the text is `@` and so many seconds
 pub record IsSecondsText (text : List ℕ) (seconds : ℕ) : Type 0 where
   pub digits : List ℕ
   pub marked : text ≡ 64 ∷ digits

@@ -4,6 +4,7 @@ use Rattle.oathtool.specs.declared.fault.Fault.TheVariants.{BadTime as BadTimeOp
 use Rattle.oathtool.specs.declared.time.TimeFault.{TimeFault}
 use Rattle.oathtool.specs.declared.time.TimeFault.TheVariants.{BadTime, Memory}
 
+-- the run's fault for a fault of a time
 abbrev pub fault_of : TimeFault → Fault
 fault_of BadTime = BadTimeOption
 fault_of Memory = NoMemory

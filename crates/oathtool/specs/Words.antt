@@ -1,26 +1,22 @@
 -- What the words of the command line ask for, by the values that clap found.
-use Rattle.std.specs.Prelude.{◌≡◌, ℕ, ◌≤◌, Bool, true, false, List, map, Option, Some, None, codes}
+use Rattle.std.specs.Prelude.{◌≡◌, ℕ, ◌≤◌, Bool, true, false, List, map, Option, Some, None, codes, option_map}
 use Rattle.std.specs.Char.{to_ascii_lowercase}
-use Rattle.std.specs.Option.{option_and_then}
-use Rattle.std.specs.Prelude.{option_map}
 use Rattle.clap.specs.Matches.{first_value, one_text}
 use Rattle.clap.specs.declared.parser.matches.Found.{Found}
+use Rattle.command_line.specs.Number.{number_at}
 use Rattle.hmac_core.specs.declared.hash.Hash.{Hash}
 use Rattle.hmac_core.specs.declared.hash.Hash.TheVariants.{Sha1, Sha256, Sha512}
 use Rattle.otp_core.specs.Digits.{count_of}
 use Rattle.otp_core.specs.Range.{IsFactor}
-use Rattle.field_text.specs.Number.{number_of}
 use Rattle.oathtool.specs.declared.words.Mode.{Mode}
 use Rattle.oathtool.specs.declared.words.Mode.TheVariants.{Hotp, Totp}
 use Rattle.oathtool.specs.declared.words.Words.{Words}
 
--- the number of an option, in decimal digits alone
-abbrev pub number_at : Found → List ℕ → Option ℕ
-number_at found name = option_and_then number_of (first_value found name)
+-- a text in lower case
+abbrev pub lowercase_of : List ℕ → List ℕ
+lowercase_of text = map to_ascii_lowercase text
 
-abbrev pub lower : List ℕ → List ℕ
-lower text = map to_ascii_lowercase text
-
+-- the name of a hash
 abbrev pub hash_name : Hash → List ℕ
 hash_name Sha1 = codes "SHA1"
 hash_name Sha256 = codes "SHA256"
@@ -28,7 +24,7 @@ hash_name Sha512 = codes "SHA512"
 
 -- the text is the hash's name, in any case
 abbrev pub IsNameOf : List ℕ → Hash → Type 0
-IsNameOf text hash = lower text ≡ lower (hash_name hash)
+IsNameOf text hash = lowercase_of text ≡ lowercase_of (hash_name hash)
 
 -- the value of `--totp` asks for the mode
 abbrev pub IsMode : Option (List ℕ) → Mode → Type 0
@@ -54,9 +50,9 @@ pub record AsksFor (found : Found) (words : Words) : Type 0 where
   pub window_in : words.window ≤ 1000
   pub step_size : first_value found (codes "time-step-size") ≡ Some words.step_size.now
   pub start : first_value found (codes "start-time") ≡ Some words.start.now
-  pub time : first_value found (codes "now") ≡ option_map (λ s. s.now) words.time
+  pub time : first_value found (codes "now") ≡ option_map (λ text. text.now) words.time
   pub key : first_value found (codes "KEY") ≡ Some words.key.now
-  pub otp : first_value found (codes "OTP") ≡ option_map (λ s. s.now) words.otp
+  pub otp : first_value found (codes "OTP") ≡ option_map (λ text. text.now) words.otp
 
 -- the window is at most 1,000
 abbrev pub HasWindow : Words → Type 0

@@ -1,9 +1,10 @@
-ghost use Rattle.std.specs.Prelude.{◌≡◌, ◌+◌, ◌↔◌, ◌++◌, ◌∷◌, [], IsTrue, OnOk, IfErr};
+ghost use Rattle.std.specs.Prelude.{◌≡◌, ◌+◌, ◌↔◌, IsTrue, OnOk, IfErr};
 ghost use Rattle.std.specs.Io.KnownBytes.{Appends};
 ghost use Rattle.otp_core.specs.Range.{IsFactor};
 ghost use Rattle.oathtool.specs.Codes.{IsSetUp, Matches, code_at, code_lines};
 
 use crate::fault::Fault;
+use command_line::write_line;
 use hmac_core::Hash;
 use otp_core::{Code, Codes, Digits, Factor};
 use std::io::Write;
@@ -47,16 +48,6 @@ pub(crate) fn factor_after(first: Factor, distance: u64) -> Factor
     ensures { result ≡ first + distance }
 {
     Factor::new(first.value() + distance).unwrap()
-}
-
-/// Writes a line, and the LF that ends it.
-pub(crate) fn write_line<W: Write>(writer: &mut W, line: &[u8]) -> Result<(), Fault>
-    ensures written { OnOk result
-        (Appends (W.contents writer.old) (W.contents writer.new) (line.now ++ 10 ∷ [])) }
-    ensures fault { IfErr result (λ fault. fault ≡ Fault.CannotWrite) }
-{
-    writer.write_all(line).map_err(|_| Fault::CannotWrite)?;
-    writer.write_all(b"\n").map_err(|_| Fault::CannotWrite)
 }
 
 /// Writes the codes of a factor and of so many after it, each on a line of its own.

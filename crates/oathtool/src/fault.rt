@@ -1,11 +1,9 @@
 ghost use Rattle.std.specs.Prelude.{◌≡◌};
 ghost use Rattle.oathtool.specs.declared.fault.Fault.TheVariants.{BadKey};
 
+use command_line::{OutsideFault, ProgramFault, USAGE};
 use secret_text::SecretFault;
 use thiserror::Error;
-
-/// The exit status of words that ask for nothing that the program does.
-pub(crate) const USAGE: u8 = 2;
 
 /// What ends a run before its time. The text lacks the program's name.
 #[derive(Clone, Copy, Debug, PartialEq, Eq, Error)]
@@ -37,23 +35,42 @@ pub(crate) enum Fault {
     /// Standard output failed.
     #[error("cannot write")]
     CannotWrite,
+    /// A word of the process is not UTF-8.
+    #[error("a word is not text")]
+    NotText,
 }
 
-impl Fault {
+impl ProgramFault for Fault {
     ghost use Rattle.oathtool.specs.Fault.{status_of};
 
-    /// The exit status of a run that ends so.
-    pub(crate) fn status(self) -> u8
-        ensures { result ≡ status_of self }
-    {
+    ghost status_of = { status_of };
+
+    fn status(self) -> u8 {
         match self {
-            Fault::BadTime | Fault::BadStepSize | Fault::BeforeStart | Fault::FactorTooLarge =>
-                USAGE,
+            Fault::BadTime
+            | Fault::BadStepSize
+            | Fault::BeforeStart
+            | Fault::FactorTooLarge
+            | Fault::NotText => USAGE,
             Fault::BadKey(_)
             | Fault::NoClock
             | Fault::NoMatch
             | Fault::Memory
             | Fault::CannotWrite => 1,
+        }
+    }
+}
+
+impl From<OutsideFault> for Fault {
+    ghost use Rattle.oathtool.specs.Fault.{outside_fault_of};
+
+    ghost from_gives = { λ outside fault. fault ≡ outside_fault_of outside };
+
+    fn from(fault: OutsideFault) -> Self {
+        match fault {
+            OutsideFault::Memory => Fault::Memory,
+            OutsideFault::CannotWrite => Fault::CannotWrite,
+            OutsideFault::NotText => Fault::NotText,
         }
     }
 }

@@ -1,10 +1,12 @@
-ghost use Rattle.std.specs.Prelude.{◌≡◌, ◌+◌, ◌<◌, ◌↔◌, ◌++◌, ◌∷◌, [], IfSome, IfNone, IsNone, OnOk, IfErr};
+ghost use Rattle.std.specs.Prelude.{◌≡◌, ◌+◌, ◌<◌, ◌↔◌, IfSome, IfNone, IsNone, OnOk, IfErr};
 ghost use Rattle.std.specs.Io.KnownBytes.{Appends};
+ghost use Rattle.command_line.specs.Line.{line_of};
 ghost use Rattle.otp_core.specs.Range.{IsFactor};
 ghost use Rattle.oathtool.specs.Offset.{HasNoNearest, HasNoOffset, IsLeastOffset, IsNearestOffset};
 
-use crate::codes::{Generator, factor_after, write_line};
+use crate::codes::{Generator, factor_after};
 use crate::fault::Fault;
+use command_line::write_line;
 use itoa::{Buffer, Integer};
 use otp_core::Factor;
 use std::io::Write;
@@ -66,8 +68,9 @@ pub(crate) fn find_offset_totp(
 /// Writes an offset in decimal on a line of its own.
 pub(crate) fn write_offset<W: Write, I: Integer>(writer: &mut W, offset: I) -> Result<(), Fault>
     ensures written { OnOk result
-        (Appends (W.contents writer.old) (W.contents writer.new) (I.text offset ++ 10 ∷ [])) }
+        (Appends (W.contents writer.old) (W.contents writer.new) (line_of (I.text offset))) }
     ensures fault { IfErr result (λ fault. fault ≡ Fault.CannotWrite) }
 {
-    write_line(writer, Buffer::new().format(offset).as_bytes())
+    write_line(writer, Buffer::new().format(offset).as_bytes())?;
+    Ok(())
 }

@@ -45,8 +45,8 @@ impl From<TimeFault> for Fault {
 
 /// Reads a time that may be there.
 fn read_given(alloc: Global, text: Option<&str>) -> Result<Option<u64>, TimeFault>
-    ensures some { IfOk result (IsTimeGiven (option_map (λ s. s.now) text.entry)) }
-    ensures bad { result ≡ Err TimeFault.BadTime → IsNoTimeGiven (option_map (λ s. s.now) text.entry) }
+    ensures some { IfOk result (IsTimeGiven (option_map (λ text. text.now) text.entry)) }
+    ensures bad { result ≡ Err TimeFault.BadTime → IsNoTimeGiven (option_map (λ text. text.now) text.entry) }
 {
     let Some(text) = text else {
         return Ok(None);

@@ -2,6 +2,7 @@ use crate::fault::Fault;
 use crate::run::run;
 use crate::time::{TimeFault, read_time};
 use crate::words::read_words;
+use command_line::ProgramFault;
 use std::alloc::{AllocError, Global};
 use std::io::{self, ErrorKind, Write};
 use std::test::Fail;
@@ -177,6 +178,53 @@ fn ranges_of_options(rt: HostRuntime) -> Result<(), Fail> {
         assert_eq!(rt; (text.is_empty(), status), (false, 0), "{line}");
     }
     assert_eq!(rt; ran(rt.alloc(), "--help", None)?.1, 0);
+    assert_eq!(rt; ran(rt.alloc(), "-V", None)?.1, 0);
+    Ok(())
+}
+
+/// The text that clap has for words that ask for nothing.
+fn told(alloc: Global, line: &str) -> Result<String, Fail> {
+    let words = words_of(alloc, line)?;
+    match read_words(alloc, &words) {
+        Ok(_) => Err(Fail::from("taken")),
+        Err(error) => Ok(format!(in alloc; "{error}")?),
+    }
+}
+
+/// The version, and the errors of numbers, with the option's name and what it takes.
+#[test]
+fn told_of_words(rt: HostRuntime) -> Result<(), Fail> {
+    let usage = "\n\nUsage: oathtool [OPTIONS] <KEY> [OTP]";
+    let more = "\n\nFor more information, try '--help'.\n";
+    let window =
+        "error: invalid value '+5' for '--window <WIDTH>': WIDTH is 0 to 1000, in decimal digits alone";
+    let counter = "error: invalid value '4611686018427387904' for '--counter <COUNTER>': \
+        COUNTER is 0 to 4611686018427387903, in decimal digits alone";
+    let digits = "error: invalid value '9' for '--digits <DIGITS>'\n  [possible values: 6, 7, 8]";
+    for (line, text, usage, more) in [
+        ("--version", "oathtool 0.1.0\n", "", ""),
+        ("-w|+5|K20", window, usage, more),
+        ("-c|4611686018427387904|-w|1001|K20", counter, usage, more),
+        ("-d|9|K20", digits, "", more),
+    ] {
+        let found = told(rt.alloc(), line)?;
+        let wanted = format!(in rt.alloc(); "{text}{usage}{more}")?;
+        assert_eq!(rt; found.as_str(), wanted.as_str(), "{line}");
+    }
+    Ok(())
+}
+
+/// No line of the help has more than 80 characters.
+#[test]
+fn help_is_narrow(rt: HostRuntime) -> Result<(), Fail> {
+    for line in ["--help", "-h"] {
+        let help = told(rt.alloc(), line)?;
+        assert!(rt; help.contains("Usage: oathtool"), "{help}");
+        assert!(rt;
+            help.lines().all(|line| line.chars().count() <= 80),
+            "{help}"
+        );
+    }
     Ok(())
 }
 

@@ -1,13 +1,12 @@
 ghost use Rattle.std.specs.Prelude.{◌≡◌, ◌↔◌, IfSome, IfNone, IfOk, IsTrue, option_map};
 ghost use Rattle.clap.specs.Matches.{found_of};
 ghost use Rattle.hmac_core.specs.declared.hash.Hash.{Hash as AnyHash};
-ghost use Rattle.oathtool.specs.Words.{AsksFor, HasWindow, IsMode, IsNameOf, NeedsClock, number_at};
+ghost use Rattle.oathtool.specs.Words.{AsksFor, HasWindow, IsMode, IsNameOf, NeedsClock};
 ghost use Rattle.oathtool.specs.declared.words.Mode.{Mode as AnyMode};
 ghost use Rattle.oathtool.specs.declared.words.Words.{Words as AnyWords};
 
-use clap::error::ErrorKind;
-use clap::{Arg, ArgAction, ArgMatches, Command, Error, value_parser};
-use field_text::read_number;
+use clap::{Arg, ArgAction, ArgMatches, Command, Error};
+use command_line::{NumberOption, VERSION, number_error, number_of};
 use hmac_core::Hash;
 use otp_core::{Digits, Factor};
 use std::alloc::{AllocError, Global};
@@ -17,6 +16,46 @@ const MAX_WINDOW: u64 = 1000;
 
 /// The names of the hashes that a time-based code is made with.
 const HASH_NAMES: [&str; 3] = ["SHA1", "SHA256", "SHA512"];
+
+/// How many digits a code may have.
+const DIGIT_COUNTS: [&str; 3] = ["6", "7", "8"];
+
+/// The counter at which the codes begin.
+const COUNTER: NumberOption = NumberOption {
+    name: "counter",
+    short: Some('c'),
+    value_name: "COUNTER",
+    most: 4_611_686_018_427_387_903,
+    default: "0",
+    help: "The counter at which the codes begin,\n0 to 4611686018427387903 (HOTP)",
+};
+
+/// How many more codes there are, or how far one is looked for.
+const WINDOW: NumberOption = NumberOption {
+    name: "window",
+    short: Some('w'),
+    value_name: "WIDTH",
+    most: MAX_WINDOW,
+    default: "0",
+    help: "How many more codes to print, or how far to look for OTP,\n0 to 1000",
+};
+
+/// The options that take a number.
+const NUMBERS: [NumberOption; 2] = [COUNTER, WINDOW];
+
+/// What the help says besides the words.
+const PROGRAM_HELP: &str = "\
+Examples:
+  oathtool -w 9 3132333435363738393031323334353637383930
+    prints the first ten codes of that key
+  oathtool --totp -b \"gezd gnbv gy3t qojq gezd gnbv gy3t qojq\"
+    prints its code of this moment
+
+KEY can be seen by other users of the machine while the program runs, and stays
+in the shell's history: give keys of test tokens, or use a machine of your own.
+
+The status is 0, or 1 where OTP isn't found, KEY is bad, or memory, clock or
+output fail, or 2 where the words are wrong or a value is out of range.";
 
 /// Which kind of code.
 #[derive(Clone, Copy, Debug, PartialEq, Eq)]
@@ -74,7 +113,7 @@ fn with_modes<'a>(alloc: Global, command: Command<'a>) -> Result<Command<'a>, Al
     let hotp = flag(
         alloc,
         "hotp",
-        "Codes based on a counter (HOTP, RFC 4226), with SHA-1. This is the default",
+        "Codes based on a counter (HOTP, RFC 4226), with SHA-1. This is the\ndefault",
     )
     .conflicts_with("totp")?;
     let totp = Arg::new(alloc, "totp")
@@ -87,41 +126,20 @@ fn with_modes<'a>(alloc: Global, command: Command<'a>) -> Result<Command<'a>, Al
         .value_parser(HASH_NAMES.as_slice())
         .ignore_case(true)
         .help(
-            "Codes based on time (TOTP, RFC 6238), with this hash, in any case. SHA1 where none is named",
+            "Codes based on time (TOTP, RFC 6238), with this hash, in any case.\nSHA1 where none is named",
         );
     command.arg(hotp)?.arg(totp)
 }
 
 /// Adds the options that take a number.
 fn with_numbers<'a>(alloc: Global, command: Command<'a>) -> Result<Command<'a>, AllocError> {
-    let counter = text(
-        alloc,
-        "counter",
-        'c',
-        "COUNTER",
-        "The counter at which the codes begin, 0 to 4611686018427387903 (HOTP)",
-    )
-    .value_parser(value_parser!(u64).range(0..=4_611_686_018_427_387_903))
-    .default_value("0");
-    let digits = text(
-        alloc,
-        "digits",
-        'd',
-        "DIGITS",
-        "How many digits a code has, 6, 7 or 8",
-    )
-    .value_parser(value_parser!(u8).range(6..=8))
-    .default_value("6");
-    let window = text(
-        alloc,
-        "window",
-        'w',
-        "WIDTH",
-        "How many more codes to print, or how far to look for OTP, 0 to 1000",
-    )
-    .value_parser(value_parser!(u16).range(0..=1000))
-    .default_value("0");
-    command.arg(counter)?.arg(digits)?.arg(window)
+    let digits = text(alloc, "digits", 'd', "DIGITS", "How many digits a code has")
+        .value_parser(DIGIT_COUNTS.as_slice())
+        .default_value("6");
+    command
+        .arg(COUNTER.arg(alloc))?
+        .arg(digits)?
+        .arg(WINDOW.arg(alloc))
 }
 
 /// Adds the options of time-based codes.
@@ -131,7 +149,7 @@ fn with_times<'a>(alloc: Global, command: Command<'a>) -> Result<Command<'a>, Al
         "time-step-size",
         's',
         "SECONDS",
-        "How long a time step is, 1 to 1000000 seconds, with or without a final s (TOTP)",
+        "How long a time step is, 1 to 1000000 seconds, with or without a\nfinal s (TOTP)",
     )
     .default_value("30s");
     let start = text(
@@ -139,7 +157,7 @@ fn with_times<'a>(alloc: Global, command: Command<'a>) -> Result<Command<'a>, Al
         "start-time",
         'S',
         "TIME",
-        "The time from which time steps are counted, @SECONDS or 'YYYY-MM-DD hh:mm:ss UTC' (TOTP)",
+        "The time from which time steps are counted, @SECONDS or\n'YYYY-MM-DD hh:mm:ss UTC' (TOTP)",
     )
     .default_value("1970-01-01 00:00:00 UTC");
     let now = text(
@@ -147,7 +165,7 @@ fn with_times<'a>(alloc: Global, command: Command<'a>) -> Result<Command<'a>, Al
         "now",
         'N',
         "TIME",
-        "The time of the codes, in the same two forms [default: the clock] (TOTP)",
+        "The time of the codes, in the same two forms (TOTP)\n[default: the clock]",
     );
     command.arg(step_size)?.arg(start)?.arg(now)
 }
@@ -157,7 +175,7 @@ fn command<'a>(alloc: Global) -> Result<Command<'a>, AllocError> {
     let base32 = flag(
         alloc,
         "base32",
-        "KEY is in base32, in any case, with or without spaces and a final padding, and not in hexadecimal",
+        "KEY is in base32, in any case, with or without spaces and a final\npadding, and not in hexadecimal",
     )
     .short('b');
     let key = Arg::new(alloc, "KEY")
@@ -165,19 +183,16 @@ fn command<'a>(alloc: Global) -> Result<Command<'a>, AllocError> {
         .action(ArgAction::Set)
         .help("The secret, 1 to 128 bytes in hexadecimal, or in base32 with -b");
     let otp = Arg::new(alloc, "OTP").action(ArgAction::Set).help(
-        "A code to look for. Its offset is printed: from the counter on, or the nearest to the time step, -w to w",
+        "A code to look for. Its offset is printed: from the counter on, or the\nnearest to the time step, -w to w",
     );
     let command = Command::new(alloc, "oathtool")
-        .about("Makes one-time passwords, or finds how far one is from the counter or time step")
-        .after_help(
-            "Examples:\n  \
-             oathtool -w 9 3132333435363738393031323334353637383930\n    \
-             prints the first ten codes of that key\n  \
-             oathtool --totp -b \"gezd gnbv gy3t qojq gezd gnbv gy3t qojq\"\n    \
-             prints its code of this moment\n\n\
-             The status is 0, or 1 where OTP isn't found, KEY is bad, or memory, clock or output fail,\n\
-             or 2 where the words are wrong or a value is out of range.",
-        );
+        .version(VERSION)
+        .about(
+            "Makes one-time passwords of OATH tokens, HOTP (RFC 4226) and TOTP (RFC 6238),\n\
+            or finds how far one is from the counter or time step",
+        )
+        .next_line_help(true)
+        .after_help(PROGRAM_HELP);
     let command = with_modes(alloc, command)?.arg(base32)?;
     let command = with_times(alloc, with_numbers(alloc, command)?)?;
     command.arg(key)?.arg(otp)
@@ -201,20 +216,13 @@ fn hash_named(name: &str) -> Option<Hash>
 
 /// The mode that the value of `--totp` asks for, which is not there for HOTP.
 fn mode_of(totp: Option<&str>) -> Option<Mode>
-    ensures some { IfSome result (IsMode (option_map (λ s. s.now) totp.entry)) }
-    ensures none { IfNone result ((mode : AnyMode) → IsMode (option_map (λ s. s.now) totp.entry) mode → ⊥) }
+    ensures some { IfSome result (IsMode (option_map (λ text. text.now) totp.entry)) }
+    ensures none { IfNone result ((mode : AnyMode) → IsMode (option_map (λ text. text.now) totp.entry) mode → ⊥) }
 {
     match totp {
         None => Some(Mode::Hotp),
         Some(name) => Some(Mode::Totp(hash_named(name)?)),
     }
-}
-
-/// The number of an option, or `None` where it is written with anything but digits.
-fn number_of(matches: &ArgMatches<'_>, name: &str) -> Option<u64>
-    ensures { result ≡ number_at (found_of matches.now) name.now }
-{
-    read_number(matches.get_str(name)?.as_bytes())
 }
 
 /// What the values of the words ask for, or `None` where one is out of its range or a number is written
@@ -242,7 +250,8 @@ fn words_of<'a>(matches: &ArgMatches<'a>) -> Option<Words<'a>>
 }
 
 /// What the words ask for. The first of them is the program's name. The error has clap's text, which
-/// goes to standard output where help was asked for.
+/// goes to standard output where help or the version was asked for; a number that is out of its range or
+/// not in digits alone is named with that range.
 pub(crate) fn read_words<'a>(alloc: Global, words: &'a [String]) -> Result<Words<'a>, Error>
     ensures { IfOk result HasWindow }
 {
@@ -250,9 +259,6 @@ pub(crate) fn read_words<'a>(alloc: Global, words: &'a [String]) -> Result<Words
     let matches = command.try_get_matches_from_mut(words)?;
     match words_of(&matches) {
         Some(words) => Ok(words),
-        None => Err(command.error(
-            ErrorKind::ValueValidation,
-            "a number is written in decimal digits alone",
-        )?),
+        None => Err(number_error(alloc, &mut command, &matches, &NUMBERS)?),
     }
 }

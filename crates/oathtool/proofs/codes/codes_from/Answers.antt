@@ -1,5 +1,6 @@
 use Rattle.std.proofs.Common.{◌≡◌, ℕ, ◌+◌, List, ◌++◌, ap, ◌∙◌, sym}
-use Rattle.oathtool.specs.Codes.{code_at, code_lines, line_of}
+use Rattle.command_line.specs.Line.{line_of}
+use Rattle.oathtool.specs.Codes.{code_at, code_lines}
 use Rattle.oathtool.proofs.CodeLines.{code_lines_more, joined}
 use Rattle.oathtool.proofs.codes.codes_from.Goals as goal
 
