@@ -8,7 +8,7 @@ ghost use Rattle.oathtool.specs.declared.words.Words.{Words as AnyWords};
 use clap::{Arg, ArgAction, ArgMatches, Command, Error};
 use command_line::{NumberOption, VERSION, number_error, number_of};
 use hmac_core::Hash;
-use otp_core::{Digits, Factor};
+use otp_core::{Digits, FACTORS_END, Factor};
 use std::alloc::{AllocError, Global};
 
 /// The widest window.
@@ -25,7 +25,7 @@ const COUNTER: NumberOption = NumberOption {
     name: "counter",
     short: Some('c'),
     value_name: "COUNTER",
-    most: 4_611_686_018_427_387_903,
+    most: FACTORS_END - 1,
     default: "0",
     help: "The counter at which the codes begin,\n0 to 4611686018427387903 (HOTP)",
 };
