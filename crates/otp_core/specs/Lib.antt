@@ -2,6 +2,7 @@ pub mod Acceptance
 pub mod Code
 pub mod Codes
 pub mod Digits
+pub mod Examples
 pub mod Hotp
 pub mod Limits
 pub mod Range

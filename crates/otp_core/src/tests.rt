@@ -85,3 +85,11 @@ fn ranges(rt: HostRuntime) {
     );
     assert_eq!(rt; Settings::new(10, 11, 100), None);
 }
+
+/// No byte of a secret is shown.
+#[test]
+fn hidden_secret(rt: HostRuntime) -> Result<(), Fail> {
+    let secret = Secret::new(b"12345678901234567890").ok_or("a secret")?;
+    assert!(rt; format!(in rt.alloc(); "{secret:?}")?.as_str() == "Secret(..)");
+    Ok(())
+}

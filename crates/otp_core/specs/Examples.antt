@@ -1,0 +1,45 @@
+-- Worked cases: the keys of the standards' tables, and acceptances and witnesses that break what the theorems promise.
+use Rattle.std.specs.Prelude.{ℕ, ◌==◌, ◌||◌, not, nat_le, if◌then◌else◌, List, codes}
+use Rattle.otp_core.specs.Acceptance.{Acceptance}
+
+-- the secret of RFC 4226, appendix D, and for SHA-1 of RFC 6238, appendix B
+abbrev pub secret_of_20 : List ℕ
+secret_of_20 = codes "12345678901234567890"
+
+-- the secrets of RFC 6238, appendix B, for SHA-256 and SHA-512
+abbrev pub secret_of_32 : List ℕ
+secret_of_32 = codes "12345678901234567890123456789012"
+
+abbrev pub secret_of_64 : List ℕ
+secret_of_64 = codes "1234567890123456789012345678901234567890123456789012345678901234"
+
+-- ---- acceptances of token 0 at node 1, with the events in which they began and ended and their factors
+
+abbrev pub accepted : ℕ → ℕ → ℕ → ℕ → Acceptance
+accepted began ended lo hi = record { began = began; ended = ended; node = 1; token = 0; lo = lo; hi = hi }
+
+-- one factor, in one event
+abbrev pub accepted_at : ℕ → ℕ → Acceptance
+accepted_at event factor = accepted event event factor factor
+
+-- the same of token 1
+abbrev pub accepted_of_other : ℕ → ℕ → Acceptance
+accepted_of_other event factor =
+    record { began = event; ended = event; node = 1; token = 1; lo = factor; hi = factor }
+
+-- ---- witnesses of an acceptance of the factors 4 and 5 of token 2, which began in event 1 and ended in event 3
+
+abbrev pub witnessed : Acceptance
+witnessed = record { began = 1; ended = 3; node = 1; token = 2; lo = 4; hi = 5 }
+
+-- the first free factor of token 2 is 4 up to an event, and then 6; that of another token stays 4
+abbrev pub floor_until : ℕ → ℕ → ℕ → ℕ → ℕ
+floor_until last node token event = if nat_le event last || not (token == 2) then 4 else 6
+
+-- the nodes 1 to k let the factors go in event 2, the others never
+abbrev pub floor_of_first : ℕ → ℕ → ℕ → ℕ → ℕ
+floor_of_first k node token event = if nat_le node k then floor_until 2 node token event else 4
+
+-- the factors are let go in event 2, and in one later event they are free again
+abbrev pub floor_back_in : ℕ → ℕ → ℕ → ℕ → ℕ
+floor_back_in later node token event = if event == later then 4 else floor_until 2 node token event
