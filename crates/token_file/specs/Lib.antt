@@ -9,3 +9,4 @@ pub mod UsersFile
 pub mod Reading
 pub mod Writing
 pub mod WrittenFile
+pub mod Examples

@@ -3,8 +3,8 @@ ghost use Rattle.otp_core.specs.Range.{IsMoment};
 use crate::reading::read_lines;
 use crate::token::array_of;
 use crate::{
-    Book, FileFault, FromRead, Kind, LineFault, Password, Pulled, Source, Token, TokenId,
-    read_book, write_row,
+    Book, FileFault, FromRead, Kind, LineFault, MAX_FILE_LEN, Password, Pulled, Source, Token,
+    TokenId, read_book, write_row,
 };
 use arrayvec::ArrayVec;
 use hmac_core::Hash;
@@ -406,6 +406,24 @@ fn fault_texts(rt: HostRuntime) -> Result<(), Fail> {
         format!(in rt.alloc(); "{}", LineFault::Memory)?.as_str(),
         "out of memory"
     );
+    Ok(())
+}
+
+/// The text of each fault of a text, and how long a file can be.
+#[test]
+fn each_fault_text(rt: HostRuntime) -> Result<(), Fail> {
+    for (fault, text) in [
+        (LineFault::MissingField, "MissingField"),
+        (LineFault::BadSecret, "BadSecret"),
+        (LineFault::BadCounter, "BadCounter"),
+        (LineFault::NameTooLong, "NameTooLong"),
+        (LineFault::TooMany, "TooMany"),
+        (LineFault::LineTooLong, "LineTooLong"),
+        (LineFault::FileTooLong, "FileTooLong"),
+    ] {
+        assert!(rt; format!(in rt.alloc(); "{fault}")?.as_str() == text);
+    }
+    assert!(rt; MAX_FILE_LEN == 16_777_216);
     Ok(())
 }
 
