@@ -1,0 +1,67 @@
+ghost use Rattle.std.specs.Prelude.{◌≡◌, ℕ, List, [], ◌∷◌, Some, None, length, true, false};
+ghost use Rattle.floor_store.specs.Content.{IsContent, opening_content, opening_row, with_next_boot, with_row};
+ghost use Rattle.floor_store.specs.Examples.{content_at, free_row, granted_row, later_row, new_pass, old_pass, pass, proposal, two_rows};
+ghost use Rattle.floor_store.specs.Fault.{IsBrokenBy, IsCounted, is_failure};
+ghost use Rattle.floor_store.specs.Range.{HasSpan, IsPass, IsProposal, IsSpan};
+ghost use Rattle.floor_store.specs.Records.{RowRecord};
+ghost use Rattle.floor_store.specs.declared.fault.StoreFault.TheVariants.{AlreadyThere, Disk, Memory, Spent, Unusable};
+
+/// What each write makes of a content, worked through.
+pub fn contents_are_worked()
+    ensures first { with_row (two_rows granted_row (free_row 9) (Some old_pass)) 0 later_row None
+        ≡ two_rows later_row (free_row 9) (Some old_pass) }
+    ensures second { with_row (two_rows granted_row (free_row 9) (Some old_pass)) 1 later_row (Some new_pass)
+        ≡ two_rows granted_row later_row (Some new_pass) }
+    ensures first_pass { with_row (two_rows granted_row (free_row 9) None) 0 later_row (Some new_pass)
+        ≡ two_rows later_row (free_row 9) (Some new_pass) }
+    ensures no_pass { with_row (two_rows granted_row (free_row 9) None) 1 later_row None
+        ≡ two_rows granted_row later_row None }
+    ensures no_row { with_row (two_rows granted_row (free_row 9) None) 2 later_row None
+        ≡ two_rows granted_row (free_row 9) None }
+    ensures boot { with_next_boot (two_rows granted_row later_row (Some old_pass))
+        ≡ record { rows = granted_row ∷ later_row ∷ []; boot = 5; last = Some old_pass } }
+    ensures opening_row { opening_row 9 ≡ free_row 9 }
+    ensures opening { opening_content (5 ∷ 0 ∷ 5 ∷ [])
+        ≡ record { rows = free_row 5 ∷ free_row 0 ∷ free_row 5 ∷ []; boot = 0; last = None } }
+    ensures empty { opening_content [] ≡ record { rows = []; boot = 0; last = None } }
+{}
+
+/// The ends of each range, one beyond each end, and the faults that break a store.
+pub fn ranges_are_worked()
+    ensures boots { IsContent (content_at 4611686018427387903 []) }
+    ensures boot_too_many { IsContent (content_at 4611686018427387904 []) → ⊥ }
+    ensures tokens { (rows : List RowRecord) → length rows ≡ 10000 → IsContent (content_at 0 rows) }
+    ensures token_too_many { (rows : List RowRecord) → length rows ≡ 10001 → IsContent (content_at 0 rows) → ⊥ }
+    ensures first_proposal { IsProposal (proposal 1 0 0) }
+    ensures last_proposal { IsProposal (proposal 9 4611686018427387903 4611686018427387903) }
+    ensures node_0 { IsProposal (proposal 0 0 0) → ⊥ }
+    ensures node_10 { IsProposal (proposal 10 0 0) → ⊥ }
+    ensures proposal_boot { IsProposal (proposal 1 4611686018427387904 0) → ⊥ }
+    ensures proposal_seq { IsProposal (proposal 1 0 4611686018427387904) → ⊥ }
+    ensures one_factor { IsSpan 5 5 }
+    ensures two_factors { IsSpan 5 6 }
+    ensures three_factors { IsSpan 5 7 → ⊥ }
+    ensures backwards { IsSpan 6 5 → ⊥ }
+    ensures no_grant { HasSpan None }
+    ensures short_grant { HasSpan (Some (proposal 1 0 0, 5, 6)) }
+    ensures long_grant { HasSpan (Some (proposal 1 0 0, 5, 7)) → ⊥ }
+    ensures first_pass { IsPass (pass 0 5 6 0 0) }
+    ensures last_pass { IsPass (pass 9999 5 5 4611686018427387903 4611686018427387903) }
+    ensures pass_token { IsPass (pass 10000 5 5 0 0) → ⊥ }
+    ensures pass_span { IsPass (pass 0 5 7 0 0) → ⊥ }
+    ensures pass_boot { IsPass (pass 0 5 5 4611686018427387904 0) → ⊥ }
+    ensures pass_seq { IsPass (pass 0 5 5 0 4611686018427387904) → ⊥ }
+    ensures memory { is_failure Memory ≡ true }
+    ensures disk { is_failure Disk ≡ true }
+    ensures spent { is_failure Spent ≡ false }
+    ensures unusable { is_failure Unusable ≡ true }
+    ensures already_there { is_failure AlreadyThere ≡ false }
+    ensures broken { IsBrokenBy (Some Disk) Disk }
+    ensures works { IsBrokenBy None Disk → ⊥ }
+    ensures other_fault { IsBrokenBy (Some Disk) Memory → ⊥ }
+    ensures no_failure { IsBrokenBy (Some Spent) Spent → ⊥ }
+    ensures same_again { IsCounted (Some Disk) 1 1 Disk }
+    ensures one_more { IsCounted None 0 1 Disk }
+    ensures not_counted { IsCounted None 1 1 Disk → ⊥ }
+    ensures other_before { IsCounted (Some Memory) 0 1 Disk → ⊥ }
+{}
