@@ -42,6 +42,9 @@ returns-clause-begun_lost c h = h 0 (accepted 1 2 1 0 5 6) refl
 pub returns-clause-begun_before : goal.returns-clause-begun_before
 returns-clause-begun_before c h = h 0 (accepted 1 2 1 0 5 6) refl
 
+pub returns-clause-begun_at_its_end : goal.returns-clause-begun_at_its_end
+returns-clause-begun_at_its_end c h = h 0 (accepted 0 1 1 0 5 6) refl
+
 pub returns-clause-begun_later : goal.returns-clause-begun_later
 returns-clause-begun_later c h = h 0 (accepted 1 2 1 0 5 6) refl
 
