@@ -5,8 +5,8 @@ use Rattle.clap.specs.declared.parser.matches.Found.{Found}
 use Rattle.command_line.specs.Number.{number_at}
 use Rattle.otp_core.specs.Limits.{Limits, AreLimits}
 use Rattle.otp_core.specs.Range.{IsMoment}
-use Rattle.oathd.specs.declared.words.Request.{Request}
-use Rattle.oathd.specs.declared.words.Request.TheVariants.{Lines, Secret}
+use Rattle.oathd_core.specs.declared.request.Request.{Request}
+use Rattle.oathd_core.specs.declared.request.Request.TheVariants.{Lines, Secret}
 
 -- these numbers are given, and in their ranges
 pub record AsksForLines (found : Found) (limits : Limits) (moment : ℕ) : Type 0 where
@@ -25,8 +25,3 @@ AsksFor name found (Secret hex) = (name ≡ codes "secret") × (first_value foun
 -- the command with this name, and these values, ask for nothing
 abbrev pub AsksForNothing : List ℕ → Found → Type 0
 AsksForNothing name found = (request : Request) → AsksFor name found request → ⊥
-
--- the moment of a request that has one is in range
-abbrev pub HasMoment : Request → Type 0
-HasMoment (Lines settings moment) = IsMoment moment
-HasMoment (Secret hex) = Unit {0}

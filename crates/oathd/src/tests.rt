@@ -1,267 +1,11 @@
-use crate::fault::Fault;
-use crate::lines::serve_lines;
-use crate::secret::print_secret;
-use crate::words::{Request, command, read_words};
-use command_line::ProgramFault;
+use crate::serve::serve;
+use crate::words::{command, read_words};
+use command_line::OutsideFault;
+use oathd_core::Request;
 use otp_core::Settings;
-use secret_text::SecretFault;
 use std::alloc::{AllocError, Global};
 use std::io::{self, ErrorKind, Write};
 use std::test::Fail;
-
-/// What a run over an input prints, and the text of its fault, or none.
-fn served(
-    alloc: Global,
-    settings: Settings,
-    moment: u32,
-    limit: u32,
-    input: &[u8],
-) -> Result<(Vec<u8>, String), Fail> {
-    let mut reader = input;
-    let mut written = Vec::new(alloc);
-    let moment = u64::from(moment);
-    let text = match serve_lines(alloc, settings, moment, limit, &mut reader, &mut written) {
-        Ok(()) => String::new(alloc),
-        Err(fault) => format!(in alloc; "{fault}")?,
-    };
-    Ok((written, text))
-}
-
-/// A run as it is documented: what follows the users file, and what is printed.
-#[test]
-fn answers_lines(rt: HostRuntime) -> Result<(), Fail> {
-    let ahead = Settings::new(5, 1, 9).ok_or("settings")?;
-    let usual = Settings::default();
-    let exact = Settings::new(10, 0, 100).ok_or("settings")?;
-    for (settings, moment, input, answers) in [
-        // the first path
-        (
-            ahead,
-            0,
-            "HOTP silver - 3132333435363738393031323334353637383930\n%%\n\
-            7 100 CHECK 1 silver 755224 -\n7 200 CHECK 2 silver 755224 -\n7 300 CHECK 3 silver 969429 -\n",
-            "OK 1 0\nNO 2 INVALID\nOK 3 3\n",
-        ),
-        // a resynchronization: the second span lies within the range
-        (
-            ahead,
-            0,
-            "HOTP silver - 3132333435363738393031323334353637383930\n%%\n\
-            7 100 RESYNC 4 silver 287922 399871 -\n7 105 RESYNC 5 silver 162583 399871 -\n\
-            7 106 CHECK 6 silver 399871 -\n",
-            "NO 4 INVALID\nOK 5 8\nNO 6 INVALID\n",
-        ),
-        // a password column
-        (
-            ahead,
-            0,
-            "HOTP silver pw 3132333435363738393031323334353637383930\n%%\n\
-            7 100 CHECK 1 silver 755224 -\n7 105 CHECK 2 silver 755224 pw\n",
-            "NO 1 PASSWORD\nOK 2 0\n",
-        ),
-        // no factor is left
-        (
-            ahead,
-            0,
-            "HOTP silver - 3132333435363738393031323334353637383930 4611686018427387904\n%%\n\
-            7 100 CHECK 1 silver 755224 -\n",
-            "NO 1 EXHAUSTED\n",
-        ),
-        // what an import leaves free: a used counter, a fresh one, and no step up to now and the skew
-        (
-            ahead,
-            59,
-            "HOTP a - 3132333435363738393031323334353637383930 3 969429 2009-12-07T23:18:13L\n\
-            HOTP b - 3132333435363738393031323334353637383930 3\n\
-            HOTP/T30 c - 3132333435363738393031323334353637383930\n%%\n\
-            7 60 CHECK 1 a 969429 -\n7 60 CHECK 2 b 969429 -\n7 60 CHECK 3 c 359152 -\n7 90 CHECK 4 c 969429 -\n",
-            "NO 1 INVALID\nOK 2 3\nNO 3 INVALID\nOK 4 3\n",
-        ),
-        // a time token with no skew
-        (
-            exact,
-            0,
-            "HOTP/T30/8 silver - 3132333435363738393031323334353637383930\n%%\n\
-            7 1111111109 CHECK 1 silver 07081804 -\n7 1111111111 CHECK 2 silver 14050471 -\n",
-            "OK 1 37037036\nOK 2 37037037\n",
-        ),
-        // the throttle
-        (
-            ahead,
-            0,
-            "HOTP silver - 3132333435363738393031323334353637383930\n%%\n\
-            7 100 CHECK 1 silver 000000 -\n7 104 CHECK 2 silver 755224 -\n7 105 CHECK 3 silver 000000 -\n\
-            7 114 CHECK 4 silver 359152 -\n7 115 CHECK 5 silver 359152 -\n7 115 CHECK 6 silver 000000 -\n\
-            7 119 CHECK 7 silver 969429 -\n7 120 CHECK 8 silver 969429 -\n",
-            "NO 1 INVALID\nNO 2 THROTTLED 1\nNO 3 INVALID\nNO 4 THROTTLED 1\nOK 5 2\nNO 6 INVALID\n\
-            NO 7 THROTTLED 1\nOK 8 3\n",
-        ),
-        // nobody is known, and each line is answered
-        (
-            usual,
-            0,
-            "# no user\n%%\n7 100 CHECK 1 silver 755224 -\n7 100 check 2 silver 755224 -\n\
-            7 1099511627776 CHECK 3 silver 755224 -",
-            "NO 1 UNKNOWN\nNO - BADLINE\nNO 3 CLOCK\n",
-        ),
-    ] {
-        let (written, fault) = served(rt.alloc(), settings, moment, 2000, input.as_bytes())?;
-        assert!(rt; written.as_slice() == answers.as_bytes(), "{input}");
-        assert!(rt; fault.is_empty(), "{input}");
-    }
-    Ok(())
-}
-
-#[test]
-fn finds_the_first_fault(rt: HostRuntime) -> Result<(), Fail> {
-    for (input, written, fault) in [
-        ("HOTP a - 00", "", ""),
-        ("HOTP a - aF\n%%", "", ""),
-        ("", "", ""),
-        ("%%\n7 1 x\n", "NO - BADLINE\n", ""),
-        ("HOTP a - 00\n%% \n", "", ""),
-        ("HOTP a - 00\n%%\n007 00 \n", "NO - BADLINE\n", ""),
-        (
-            "HOTP a - 00\n%%\n7 18446744073709551615 x\n7 18446744073709551616 x",
-            "NO - BADLINE\n",
-            "input line 4",
-        ),
-        (
-            "HOTP a - 00\n#\n%%\n7 1 x\n7 1\n7 1 x\n",
-            "NO - BADLINE\n",
-            "input line 5",
-        ),
-        ("HOTP a - 00\n%%\n+7 1 x\n", "", "input line 3"),
-        ("HOTP a - 00\n%%\n\n", "", "input line 3"),
-        ("HOTP a - 00\n%%\n%%\n", "", "input line 3"),
-        ("HOTP a - 00\n%%\n7  1 x\n", "", "input line 3"),
-        ("HOTP silver -\n%%\n\n", "", "users line 1: MissingField"),
-        ("#\nHOTP a - 0g\n", "", "users line 2: BadSecret"),
-        (
-            "HOTP a - 00 4611686018427387905",
-            "",
-            "users line 1: BadCounter",
-        ),
-        (
-            "HOTP a - 00\nHOTP a - 01\n",
-            "",
-            "users line 2: DuplicateUser",
-        ),
-        (
-            "HOTP uuuuuuuuuuuuuuuuuuuuuuuuuuuuuuuuuuuuuuuuuuuuuuuuuuuuuuuuuuuuuuuuu - zz\n",
-            "",
-            "users line 1: NameTooLong",
-        ),
-    ] {
-        let found = served(rt.alloc(), Settings::default(), 0, 1000, input.as_bytes())?;
-        assert!(rt; found.0.as_slice() == written.as_bytes(), "{input}");
-        assert!(rt; found.1.as_str() == fault, "{input}");
-    }
-    let found = served(rt.alloc(), Settings::default(), 0, 5000, &[b'#'; 4097])?;
-    assert!(rt; found.1.as_str() == "users line 1: LineTooLong");
-    Ok(())
-}
-
-#[test]
-fn reads_up_to_the_limit(rt: HostRuntime) -> Result<(), Fail> {
-    let input = b"HOTP a - 00\n%%\n7 1 x\n7 1 y\n";
-    for (limit, written, fault) in [
-        (0, "", ""),
-        (8, "", "users line 1: MissingField"),
-        (14, "", ""),
-        (15, "", "input line 3"),
-        (20, "", "input line 3"),
-        (21, "NO - BADLINE\n", "input line 4"),
-        (26, "NO - BADLINE\n", "input line 4"),
-        (27, "NO - BADLINE\nNO - BADLINE\n", ""),
-    ] {
-        let found = served(rt.alloc(), Settings::default(), 0, limit, input)?;
-        assert!(rt; found.0.as_slice() == written.as_bytes(), "{limit}");
-        assert!(rt; found.1.as_str() == fault, "{limit}");
-    }
-    Ok(())
-}
-
-/// A writer that has room for so many bytes.
-#[derive(Drop)]
-struct Full(usize);
-
-impl Write for Full {
-    fn write(&mut self, bytes: &[u8]) -> io::Result<usize> {
-        let taken = bytes.len().min(self.0);
-        self.0 -= taken;
-        if taken == 0 && !bytes.is_empty() {
-            return Err(ErrorKind::WriteZero.into());
-        }
-        Ok(taken)
-    }
-
-    fn flush(&mut self) -> io::Result<()> {
-        Ok(())
-    }
-}
-
-#[test]
-fn fails_where_the_writer_does(rt: HostRuntime) -> Result<(), Fail> {
-    for (room, end) in [
-        (0, Err(Fault::CannotWrite)),
-        (12, Err(Fault::CannotWrite)),
-        (20, Err(Fault::CannotWrite)),
-        (26, Ok(())),
-    ] {
-        let mut reader: &[u8] = b"HOTP a - 00\n%%\n7 1 x\n7 1 y\n";
-        let found = serve_lines(
-            rt.alloc(),
-            Settings::default(),
-            0,
-            1000,
-            &mut reader,
-            &mut Full(room),
-        );
-        assert!(rt; found == end, "{room}");
-    }
-    Ok(())
-}
-
-#[test]
-fn secret_text(rt: HostRuntime) -> Result<(), Fail> {
-    let alloc = rt.alloc();
-    for (hex, written, fault) in [
-        ("666f6f626172", "MZXW6YTBOI======\n", ""),
-        (
-            "3132333435363738393031323334353637383930",
-            "GEZDGNBVGY3TQOJQGEZDGNBVGY3TQOJQ\n",
-            "",
-        ),
-        ("", "", "bad key: Empty"),
-        ("666", "", "bad key: BadLength"),
-        ("666g", "", "bad key: BadCharacter"),
-    ] {
-        let mut found = Vec::new(alloc);
-        let text = match print_secret(&mut found, hex.as_bytes()) {
-            Ok(()) => String::new(alloc),
-            Err(fault) => {
-                assert!(rt; fault.status() == 1, "{hex}");
-                format!(in alloc; "{fault}")?
-            }
-        };
-        assert!(rt; found.as_slice() == written.as_bytes(), "{hex}");
-        assert!(rt; text.as_str() == fault, "{hex}");
-    }
-    let end = print_secret(&mut Full(0), &[b'0'; 258]);
-    assert!(rt; end == Err(Fault::BadKey(SecretFault::TooLong)));
-    for (room, end) in [
-        (0, Err(Fault::CannotWrite)),
-        (16, Err(Fault::CannotWrite)),
-        (17, Ok(())),
-    ] {
-        assert!(rt;
-            print_secret(&mut Full(room), b"666f6f626172") == end,
-            "{room}"
-        );
-    }
-    Ok(())
-}
 
 /// The words of a command line, at single spaces.
 fn words_of(alloc: Global, text: &str) -> Result<Vec<String>, AllocError> {
@@ -272,37 +16,66 @@ fn words_of(alloc: Global, text: &str) -> Result<Vec<String>, AllocError> {
     Ok(words)
 }
 
+/// Whether words are what asks for this secret.
+fn asks_for_secret(alloc: Global, text: &str, hex: &str) -> Result<bool, AllocError> {
+    let words = words_of(alloc, text)?;
+    Ok(matches!(read_words(alloc, &words), Ok(Request::Secret { hex: found }) if found == hex))
+}
+
 #[test]
-fn reads_words(rt: HostRuntime) -> Result<(), Fail> {
-    let alloc = rt.alloc();
-    let words = words_of(
-        alloc,
-        "oathd lines --look-ahead 5 --skew=2 --range 9 --moment 1099511627775",
-    )?;
-    let settings = Settings::new(5, 2, 9).ok_or("settings")?;
-    let moment = 1_099_511_627_775;
-    assert!(rt; read_words(alloc, &words)? == Request::Lines { settings, moment });
+fn reads_secrets(rt: HostRuntime) -> Result<(), Fail> {
     for (text, hex) in [
         ("oathd secret 666f", "666f"),
         ("oathd secret ", ""),
         ("oathd secret -- -1", "-1"),
     ] {
-        let words = words_of(alloc, text)?;
-        assert!(rt;
-            read_words(alloc, &words)? == Request::Secret { hex },
-            "{text}"
-        );
+        assert!(rt; asks_for_secret(rt.alloc(), text, hex)?, "{text}");
     }
-    let words = words_of(alloc, "oathd lines")?;
-    let settings = Settings::default();
-    assert!(rt;
-        read_words(alloc, &words)?
-            == Request::Lines {
-                settings,
-                moment: 0
-            }
-    );
     Ok(())
+}
+
+/// Whether these words of the command `lines` ask for these settings, at this moment.
+fn asks_for_lines(
+    alloc: Global,
+    text: &str,
+    settings: Settings,
+    moment: u64,
+) -> Result<bool, Fail> {
+    let words = words_of(alloc, format!(in alloc; "oathd lines{text}")?.as_str())?;
+    let wanted = Request::Lines { settings, moment };
+    Ok(matches!(read_words(alloc, &words), Ok(found) if found == wanted))
+}
+
+/// Each option is taken from 0 up to its most; no option changes another.
+#[test]
+fn reads_numbers(rt: HostRuntime) -> Result<(), Fail> {
+    for (text, numbers, moment) in [
+        ("", (10, 1, 100), 0),
+        (" --look-ahead 0", (0, 1, 100), 0),
+        (" --look-ahead 100", (100, 1, 100), 0),
+        (" --skew 0", (10, 0, 100), 0),
+        (" --skew 10", (10, 10, 100), 0),
+        (" --range 0", (10, 1, 0), 0),
+        (" --range 1000", (10, 1, 1000), 0),
+        (" --moment 0", (10, 1, 100), 0),
+        (" --moment 1099511627775", (10, 1, 100), 1_099_511_627_775),
+        (" --look-ahead 5 --skew=2 --range 9 --moment 59", (5, 2, 9), 59),
+    ] {
+        let (look_ahead, skew, range) = numbers;
+        let settings = Settings::new(look_ahead, skew, range).ok_or("settings")?;
+        assert!(rt; asks_for_lines(rt.alloc(), text, settings, moment)?, "{text}");
+    }
+    Ok(())
+}
+
+/// Whether words are refused with this status, and told on the errors unless that is 0.
+fn is_refused(alloc: Global, words: &[String], status: u8) -> bool {
+    match read_words(alloc, words) {
+        Ok(_) => false,
+        Err(error) => {
+            error.exit_code() == i32::from(status) && error.use_stderr() == (status != 0)
+        }
+    }
 }
 
 #[test]
@@ -335,21 +108,11 @@ fn refuses_words(rt: HostRuntime) -> Result<(), Fail> {
         ("oathd secret --help", 0),
     ] {
         let words = words_of(alloc, text)?;
-        match read_words(alloc, &words) {
-            Ok(_) => return Err(Fail::from("taken")),
-            Err(error) => {
-                assert!(rt; error.exit_code() == status, "{text}");
-                assert!(rt; error.use_stderr() == (status == 2), "{text}");
-            }
-        }
+        assert!(rt; is_refused(alloc, &words, status), "{text}");
     }
-    let words = [
-        String::from_str(alloc, "oathd")?,
-        String::from_str(alloc, "lines")?,
-        String::from_str(alloc, "--skew")?,
-        String::from_str(alloc, " 1")?,
-    ];
-    assert!(rt; read_words(alloc, &words).is_err());
+    let mut words = words_of(alloc, "oathd lines --skew")?;
+    words.push(String::from_str(alloc, " 1")?)?;
+    assert!(rt; is_refused(alloc, &words, 2));
     Ok(())
 }
 
@@ -362,45 +125,23 @@ fn told(alloc: Global, text: &str) -> Result<String, Fail> {
     }
 }
 
-#[test]
-fn tells_its_version(rt: HostRuntime) -> Result<(), Fail> {
-    let text = told(rt.alloc(), "oathd --version")?;
-    assert_eq!(rt; text.as_str(), "oathd 0.1.0\n");
-    Ok(())
-}
-
 /// A number out of its range, or with a sign, is named with its range and the usage of its command.
 #[test]
 fn names_the_wrong_number(rt: HostRuntime) -> Result<(), Fail> {
     let alloc = rt.alloc();
     for (words, option, value, most) in [
-        (
-            "--look-ahead 101",
-            "look-ahead <COUNT>",
-            "101",
-            "COUNT is 0 to 100",
-        ),
+        ("--look-ahead 101", "look-ahead <COUNT>", "101", "COUNT is 0 to 100"),
         ("--skew +5", "skew <STEPS>", "+5", "STEPS is 0 to 10"),
         ("--range +5", "range <COUNT>", "+5", "COUNT is 0 to 1000"),
-        (
-            "--range= --skew 11",
-            "skew <STEPS>",
-            "11",
-            "STEPS is 0 to 10",
-        ),
-        (
-            "--moment 1099511627776",
-            "moment <SECONDS>",
-            "1099511627776",
-            "SECONDS is 0 to 1099511627775",
-        ),
+        ("--range= --skew 11", "skew <STEPS>", "11", "STEPS is 0 to 10"),
+        ("--moment 1099511627776", "moment <SECONDS>", "1099511627776", "SECONDS is 0 to 1099511627775"),
     ] {
         let text = told(alloc, format!(in alloc; "oathd lines {words}")?.as_str())?;
         let wanted = format!(in alloc;
             "error: invalid value '{value}' for '--{option}': {most}, in decimal digits alone\n\n\
             Usage: oathd lines [OPTIONS]\n\nFor more information, try '--help'.\n"
         )?;
-        assert_eq!(rt; text.as_str(), wanted.as_str(), "{words}");
+        assert!(rt; text.as_str() == wanted.as_str(), "{words}");
     }
     Ok(())
 }
@@ -425,5 +166,121 @@ fn help_is_narrow(rt: HostRuntime) -> Result<(), Fail> {
     }
     let mut command = command(alloc)?;
     assert!(rt; is_narrow(command.render_long_help()?.as_str()));
+    Ok(())
+}
+
+/// Whether the program, run with these words over this input, ends with this status, and with these bytes on
+/// the output and on the errors.
+fn serves(
+    alloc: Global,
+    words: &str,
+    input: &str,
+    wanted: (u8, &str, &str),
+) -> Result<bool, AllocError> {
+    let words = words_of(alloc, words)?;
+    let mut reader = input.as_bytes();
+    let mut output = Vec::new(alloc);
+    let mut errors = Vec::new(alloc);
+    let status = serve(alloc, Ok(words), &mut reader, &mut output, &mut errors);
+    Ok(status == wanted.0
+        && output.as_slice() == wanted.1.as_bytes()
+        && errors.as_slice() == wanted.2.as_bytes())
+}
+
+#[test]
+fn statuses_and_texts(rt: HostRuntime) -> Result<(), Fail> {
+    for (words, input, wanted) in [
+        ("oathd lines", "%%\n7 1 CHECK 1 a 755224 -\n", (0, "NO 1 UNKNOWN\n", "")),
+        // the answers before a bad line, and its number
+        (
+            "oathd lines",
+            "%%\n7 1 CHECK 1 a 755224 -\n\n7 1 CHECK 1 a 755224 -\n",
+            (1, "NO 1 UNKNOWN\n", "oathd: input line 3\n"),
+        ),
+        ("oathd lines", "HOTP a -\n", (1, "", "oathd: users line 1: MissingField\n")),
+        ("oathd secret 666f6f626172", "", (0, "MZXW6YTBOI======\n", "")),
+        ("oathd secret 666", "", (1, "", "oathd: bad key: BadLength\n")),
+        ("oathd --version", "", (0, "oathd 0.1.0\n", "")),
+        (
+            "oathd lines --skew 11",
+            "%%\n7 1 CHECK 1 a 755224 -\n",
+            (
+                2,
+                "",
+                "error: invalid value '11' for '--skew <STEPS>': STEPS is 0 to 10, in decimal digits alone\n\n\
+                Usage: oathd lines [OPTIONS]\n\nFor more information, try '--help'.\n",
+            ),
+        ),
+    ] {
+        assert!(rt; serves(rt.alloc(), words, input, wanted)?, "{words}");
+    }
+    Ok(())
+}
+
+/// A writer that has room for so many bytes, and whose flush may fail.
+#[derive(Drop)]
+struct Failing {
+    room: usize,
+    flushes: bool,
+}
+
+impl Write for Failing {
+    fn write(&mut self, bytes: &[u8]) -> io::Result<usize> {
+        let taken = bytes.len().min(self.room);
+        self.room -= taken;
+        if taken == 0 && !bytes.is_empty() {
+            return Err(ErrorKind::WriteZero.into());
+        }
+        Ok(taken)
+    }
+
+    fn flush(&mut self) -> io::Result<()> {
+        if self.flushes {
+            Ok(())
+        } else {
+            Err(ErrorKind::Other.into())
+        }
+    }
+}
+
+/// Whether the program ends with this status and these bytes on the errors, where the words could not be had or
+/// the output fails.
+fn fails(
+    alloc: Global,
+    words: Result<Vec<String>, OutsideFault>,
+    mut output: Failing,
+    status: u8,
+    text: &str,
+) -> bool {
+    let mut reader: &[u8] = b"%%\n7 1 CHECK 1 a 755224 -\n";
+    let mut errors = Vec::new(alloc);
+    let found = serve(alloc, words, &mut reader, &mut output, &mut errors);
+    found == status && errors.as_slice() == text.as_bytes()
+}
+
+#[test]
+fn fails_at_its_edge(rt: HostRuntime) -> Result<(), Fail> {
+    let alloc = rt.alloc();
+    for (words, room, flushes, status, text) in [
+        ("oathd lines", 12, true, 1, "oathd: cannot write\n"),
+        ("oathd lines", 13, true, 0, ""),
+        ("oathd lines", 13, false, 1, "oathd: cannot write\n"),
+        ("oathd secret 666f6f626172", 16, true, 1, "oathd: cannot write\n"),
+        ("oathd --version", 11, true, 1, "oathd: cannot write\n"),
+    ] {
+        let words = words_of(alloc, words)?;
+        let output = Failing { room, flushes };
+        assert!(rt; fails(alloc, Ok(words), output, status, text), "{room}");
+    }
+    for (fault, status, text) in [
+        (OutsideFault::NotText, 2, "oathd: a word is not text\n"),
+        (OutsideFault::Memory, 1, "oathd: out of memory\n"),
+    ] {
+        let output = Failing {
+            room: 0,
+            flushes: true,
+        };
+        assert!(rt; fails(alloc, Err(fault), output, status, text), "{text}");
+    }
     Ok(())
 }

@@ -1,28 +1,15 @@
 ghost use Rattle.std.specs.Prelude.{◌≡◌, ℕ, codes, IfSome, IfNone, IfOk};
 ghost use Rattle.clap.specs.Matches.{first_value, found_of};
 ghost use Rattle.otp_core.specs.Limits.{Limits};
-ghost use Rattle.oathd.specs.Words.{AsksFor, AsksForLines, AsksForNothing, HasMoment};
+ghost use Rattle.oathd_core.specs.Request.{HasMoment};
+ghost use Rattle.oathd.specs.Words.{AsksFor, AsksForLines, AsksForNothing};
 
 use clap::error::ErrorKind;
 use clap::{Arg, ArgAction, ArgMatches, Command, Error};
 use command_line::{NumberOption, VERSION, number_error, number_of};
+use oathd_core::Request;
 use otp_core::{MOMENTS_END, Settings};
 use std::alloc::{AllocError, Global};
-
-/// What the words ask for.
-#[derive(Clone, Copy, Debug, PartialEq, Eq)]
-pub(crate) enum Request<'a> {
-    /// To answer the lines of standard input.
-    Lines {
-        settings: Settings,
-        /// The moment at which the users are imported.
-        moment: u64,
-    },
-    /// To print the base32 text of the secret that is written so in hexadecimal.
-    Secret {
-        hex: &'a str,
-    },
-}
 
 /// What the help of the program says besides its commands.
 const PROGRAM_HELP: &str = "\

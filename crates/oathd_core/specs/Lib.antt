@@ -1,0 +1,6 @@
+pub mod Client
+pub mod Fault
+pub mod Input
+pub mod Request
+pub mod Run
+pub mod Secret

@@ -1,0 +1,29 @@
+//! What the commands of `oathd` do, over any reader and writer: `lines` answers the lines of clients behind a
+//! users file, and `secret` prints a secret in base32.
+//!
+//! ```rust
+//! use oathd_core::{Request, run};
+//! use otp_core::Settings;
+//!
+//! let mut input = b"HOTP silver - 3132333435363738393031323334353637383930\n%%\n\
+//!     7 100 CHECK 1 silver 755224 -\n".as_slice();
+//! let mut output = Vec::new(alloc);
+//! let request = Request::Lines { settings: Settings::default(), moment: 0 };
+//! run(alloc, request, &mut input, &mut output)?;
+//! assert!(rt; output.as_slice() == b"OK 1 0\n".as_slice());
+//! ```
+#![tactic(auto)]
+
+mod client;
+mod fault;
+mod input;
+mod lines;
+mod request;
+mod secret;
+#[cfg(test)]
+mod tests;
+
+pub use fault::Fault;
+pub use lines::serve_lines;
+pub use request::{Request, run};
+pub use secret::print_secret;
