@@ -150,3 +150,8 @@ pub line_of_request : (bytes : List ℕ) (r : Request) → request_at bytes ≡ 
 line_of_request bytes r e =
     let read = only_when (nat_le (length bytes) 256) (request_of (fields_of (without_lf bytes))) r e in
     (leb-true (length bytes) 256 read.0, request_takes (fields_of (without_lf bytes)) r read.1)
+
+-- what is in the line grammar is given by the reader
+pub request_of_line : (bytes : List ℕ) (r : Request) → IsLine bytes r → request_at bytes ≡ Some r
+request_of_line bytes r h =
+    rw (le-leb (length bytes) 256 h.0) (request_again (fields_of (without_lf bytes)) r h.1)

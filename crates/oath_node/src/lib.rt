@@ -19,6 +19,7 @@
 
 mod answer;
 mod fault;
+mod laws;
 mod line;
 mod report;
 mod rules;
@@ -27,5 +28,9 @@ mod run;
 mod tests;
 
 pub use fault::OpenFault;
+pub use laws::{
+    answers_are_worked, columns_are_worked, grammar_is_read, lines_are_worked,
+    promises_can_be_broken, rules_are_worked, runs_are_worked,
+};
 pub use report::{LineAnswer, LinePass, LineReport};
 pub use run::{ClientLine, run_lines};

@@ -1,0 +1,134 @@
+-- Worked cases: what lines say, what the rules make of them, and what one server answers. The codes are those of RFC
+-- 4226, Appendix D.
+use Rattle.std.specs.Prelude.{ℕ, zero, suc, List, [], ◌∷◌, ◌++◌, map, replicate, Option, Some, None, codes}
+use Rattle.admit_core.specs.Fit.{Submission, Check, Resync}
+use Rattle.admit_core.specs.Throttle.{Result}
+use Rattle.hmac_core.specs.declared.hash.Hash.TheVariants.{Sha1}
+use Rattle.otp_core.specs.Limits.{Limits}
+use Rattle.otp_core.specs.declared.digits.Digits.TheVariants.{Six}
+use Rattle.token_file.specs.Credential.{Credential}
+use Rattle.token_file.specs.declared.token.Kind.TheVariants.{Event}
+use Rattle.token_file.specs.declared.token.Password.{Password}
+use Rattle.token_file.specs.declared.token.Password.TheVariants.{NoneAllowed, NotChecked, Equal}
+use Rattle.oath_node.specs.ReferenceServer.{Line, server_after, server_at}
+use Rattle.oath_node.specs.Report.{IsJustified, floor_before, report_of, results_before}
+use Rattle.oath_node.specs.Request.{Request, request_at}
+use Rattle.oath_node.specs.Rules.{Standing, verdict}
+use Rattle.oath_node.specs.declared.report.LinePass.{LinePass}
+use Rattle.oath_node.specs.declared.rules.Verdict.{Verdict}
+
+-- ---- Lines
+
+-- a CHECK with nonce 1, the user silver and the first code of the key
+abbrev pub check_with : Option (List ℕ) → Option Request
+check_with password = Some (record {
+  nonce = codes "1";
+  user = codes "silver";
+  submission = Check (codes "755224");
+  password = password;
+})
+
+-- so many letters
+abbrev pub letters : ℕ → List ℕ
+letters count = replicate count 97
+
+-- a CHECK with this nonce, user, code and password
+abbrev pub check_text : List ℕ → List ℕ → List ℕ → List ℕ → List ℕ
+check_text nonce user code password =
+    codes "CHECK " ++ nonce ++ codes " " ++ user ++ codes " " ++ code ++ codes " " ++ password
+
+-- the request of a CHECK with this nonce, user, code and password
+abbrev pub check_request : List ℕ → List ℕ → List ℕ → List ℕ → Option Request
+check_request nonce user code password =
+    Some (record { nonce = nonce; user = user; submission = Check code; password = Some password })
+
+-- ---- Rules
+
+-- an event token of six digits, with the key of RFC 4226, Appendix D
+abbrev pub token_of : List ℕ → Password → Credential
+token_of name password = record {
+  name = name;
+  password = password;
+  secret = codes "12345678901234567890";
+  kind = Event;
+  digits = Six;
+  hash = Sha1;
+}
+
+-- a token for each kind of password column
+abbrev pub three_tokens : List Credential
+three_tokens =
+    token_of (codes "silver") NoneAllowed ∷ token_of (codes "gold") (Equal (record { items = codes "pw" }))
+    ∷ token_of (codes "iron") NotChecked ∷ []
+
+-- a look-ahead of 5 and a range of 9
+abbrev pub narrow_limits : Limits
+narrow_limits = record { look_ahead = 5; skew = 1; range = 9 }
+
+-- what stands for the first token, the second or the third
+abbrev pub by_token : ℕ → ℕ → ℕ → ℕ → ℕ
+by_token silver gold iron zero = silver
+by_token silver gold iron (suc zero) = gold
+by_token silver gold iron (suc (suc token)) = iron
+
+-- Silver has this first free factor and this wait, gold has the first free factor 3 and no wait, and iron has no factor
+-- left.
+abbrev pub standing_with : ℕ → ℕ → Standing
+standing_with next wait = record {
+  next = by_token next 3 4611686018427387904;
+  wait = by_token wait 0 0;
+}
+
+-- what the rules make of a line for the first free factor and the wait of silver, and a moment
+abbrev pub verdict_on : ℕ → ℕ → ℕ → List ℕ → Verdict
+verdict_on next wait moment text = verdict three_tokens narrow_limits (standing_with next wait) moment text
+
+-- ---- Runs
+
+-- a line of client 7
+abbrev pub line_at : ℕ → List ℕ → Line
+line_at moment text = record { client = 7; moment = moment; text = text }
+
+-- Silver is wrong, too early, right and then replayed; gold is given two codes in a row; a line is none, a user is
+-- unknown, and a password is missing.
+abbrev pub lines_of_a_run : List Line
+lines_of_a_run =
+    line_at 100 (codes "CHECK a silver 000000 -") ∷ line_at 104 (codes "CHECK b silver 755224 -")
+    ∷ line_at 105 (codes "CHECK c silver 287082 -") ∷ line_at 106 (codes "CHECK d silver 287082 -")
+    ∷ line_at 107 (codes "RESYNC e gold 287082 359152 pw") ∷ line_at 108 (codes "CHECK")
+    ∷ line_at 109 (codes "CHECK f lead 755224 -") ∷ line_at 110 (codes "CHECK g gold 254676 -") ∷ []
+
+-- a look-ahead of 1 and a range of 2
+abbrev pub narrowest_limits : Limits
+narrowest_limits = record { look_ahead = 1; skew = 0; range = 2 }
+
+-- What a run comes to: each answer with the number of its line and the client, what was accepted, and the first free
+-- factors and the results that the server is left with.
+pub record Outcome : Type 0 where
+  pub answers : List (ℕ × ℕ × List ℕ)
+  pub passes : List LinePass
+  pub floors : List ℕ
+  pub results : List (List Result)
+
+-- what these lines come to, from factor 0 on
+abbrev pub outcome_of : List Line → Outcome
+outcome_of lines =
+    let report = report_of three_tokens narrowest_limits (0 ∷ 0 ∷ 0 ∷ []) lines in
+    let server = server_after three_tokens narrowest_limits (server_at (0 ∷ 0 ∷ 0 ∷ [])) lines in
+    record {
+      answers = map (λ answer. (answer.line, answer.client, answer.bytes.items)) report.answers;
+      passes = report.passes;
+      floors = server.floors;
+      results = server.front.results;
+    }
+
+-- the first free factor and the results of silver before the line of a number of that run
+abbrev pub silver_before : ℕ → ℕ × List Result
+silver_before number = (
+  floor_before three_tokens narrowest_limits (0 ∷ 0 ∷ 0 ∷ []) lines_of_a_run 0 number,
+  results_before three_tokens narrowest_limits (0 ∷ 0 ∷ 0 ∷ []) lines_of_a_run 0 number,
+)
+
+-- whether a pass of that run is justified
+abbrev pub IsJustifiedInRun : LinePass → Type 0
+IsJustifiedInRun pass = IsJustified three_tokens narrowest_limits (0 ∷ 0 ∷ 0 ∷ []) lines_of_a_run pass

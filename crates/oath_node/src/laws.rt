@@ -1,0 +1,150 @@
+ghost use Rattle.std.specs.Prelude.{◌≡◌, ◌↔◌, ◌∷◌, ◌++◌, [], ℕ, List, Some, None, codes, false, true};
+ghost use Rattle.token_file.specs.declared.token.Password.TheVariants.{Equal, NoneAllowed, NotChecked};
+ghost use Rattle.admit_core.specs.Fit.{Resync};
+ghost use Rattle.admit_core.specs.Throttle.{Accepted as Passed, Failed};
+ghost use Rattle.oath_node.specs.Answer.{answer_bytes};
+ghost use Rattle.oath_node.specs.Column.{column_fits};
+ghost use Rattle.oath_node.specs.Examples.{IsJustifiedInRun, check_request, check_text, check_with, letters, lines_of_a_run, outcome_of, silver_before, verdict_on};
+ghost use Rattle.oath_node.specs.Request.{IsLine, Request, request_at};
+ghost use Rattle.oath_node.specs.declared.answer.Answer.TheVariants.{BadLine as BadLineAnswer, Reply};
+ghost use Rattle.oath_node.specs.declared.answer.Outcome.TheVariants.{Accepted, Clock, Exhausted, Invalid, Password, Throttled, Unknown};
+ghost use Rattle.oath_node.specs.declared.rules.Verdict.TheVariants.{BadLine, Fails, Proposes, Refused};
+
+/// A line is in the grammar exactly where it is read so.
+pub fn grammar_is_read()
+    ensures { (bytes : List ℕ) (request : Request)
+        → IsLine bytes request ↔ (request_at bytes ≡ Some request) }
+{}
+
+/// Some lines, and what they say.
+pub fn lines_are_worked()
+    ensures check { request_at (codes "CHECK 1 silver 755224 -") ≡ check_with None }
+    ensures password { request_at (codes "CHECK 1 silver 755224 pw") ≡ check_with (Some (codes "pw")) }
+    ensures plus { request_at (codes "CHECK 1 silver 755224 +") ≡ check_with (Some (codes "+")) }
+    ensures two_marks { request_at (codes "CHECK 1 silver 755224 --") ≡ check_with (Some (codes "--")) }
+    ensures resync { request_at (codes "RESYNC aZ9 silver 755224 12345678 -") ≡ Some (record {
+      nonce = codes "aZ9";
+      user = codes "silver";
+      submission = Resync (codes "755224") (codes "12345678");
+      password = None;
+    }) }
+
+    // one LF at the end, and nothing else
+    ensures lf { request_at (codes "CHECK 1 silver 755224 -" ++ 10 ∷ []) ≡ check_with None }
+    ensures two_lfs { request_at (codes "CHECK 1 silver 755224 -" ++ 10 ∷ 10 ∷ []) ≡ None }
+    ensures cr_lf { request_at (codes "CHECK 1 silver 755224 -" ++ 13 ∷ 10 ∷ []) ≡ None }
+    ensures empty { request_at [] ≡ None }
+    ensures space_before { request_at (codes " CHECK 1 silver 755224 -") ≡ None }
+    ensures space_behind { request_at (codes "CHECK 1 silver 755224 - ") ≡ None }
+    ensures two_spaces { request_at (codes "CHECK  1 silver 755224 -") ≡ None }
+    ensures tab { request_at (codes "CHECK 1 silver" ++ 9 ∷ codes "755224 -") ≡ None }
+
+    // the words and the number of fields
+    ensures lower_case { request_at (codes "check 1 silver 755224 -") ≡ None }
+    ensures other_word { request_at (codes "RECHECK 1 silver 755224 -") ≡ None }
+    ensures few { request_at (codes "CHECK 1 silver 755224") ≡ None }
+    ensures check_of_two { request_at (codes "CHECK 1 silver 755224 287082 -") ≡ None }
+    ensures resync_of_one { request_at (codes "RESYNC 1 silver 755224 -") ≡ None }
+    ensures many { request_at (codes "RESYNC 1 silver 755224 287082 - -") ≡ None }
+
+    // the ends of each field
+    ensures longest { request_at (check_text (letters 20) (letters 64) (codes "12345678") (letters 64))
+        ≡ check_request (letters 20) (letters 64) (codes "12345678") (letters 64) }
+    ensures nonce { request_at (check_text (letters 21) (letters 64) (codes "12345678") (letters 64)) ≡ None }
+    ensures user { request_at (check_text (letters 20) (letters 65) (codes "12345678") (letters 64)) ≡ None }
+    ensures password_length { request_at (check_text (letters 20) (letters 64) (codes "12345678") (letters 65)) ≡ None }
+    ensures code_of_5 { request_at (codes "CHECK 1 silver 75522 -") ≡ None }
+    ensures code_of_9 { request_at (codes "CHECK 1 silver 755224000 -") ≡ None }
+    ensures letter_in_code { request_at (codes "CHECK 1 silver 75522a -") ≡ None }
+    ensures first_code { request_at (codes "RESYNC 1 silver 75522 287082 -") ≡ None }
+    ensures second_code { request_at (codes "RESYNC 1 silver 755224 28708 -") ≡ None }
+    ensures empty_nonce { request_at (codes "CHECK  silver 755224 -") ≡ None }
+    ensures empty_user { request_at (codes "CHECK 1  755224 -") ≡ None }
+    ensures empty_password { request_at (codes "CHECK 1 silver 755224 ") ≡ None }
+    ensures underscore { request_at (codes "CHECK 1_ silver 755224 -") ≡ None }
+    ensures form_feed { request_at (check_text (codes "1") (97 ∷ 12 ∷ []) (codes "755224") (codes "pw"))
+        ≡ check_request (codes "1") (97 ∷ 12 ∷ []) (codes "755224") (codes "pw") }
+    ensures tab_in_user { request_at (check_text (codes "1") (97 ∷ 9 ∷ []) (codes "755224") (codes "pw")) ≡ None }
+{}
+
+/// What the rules make of some lines: the first rule that applies decides.
+pub fn rules_are_worked()
+    ensures bad_line { verdict_on 0 1 1099511627776 (codes "CHECK 1 lead 755224") ≡ BadLine }
+    ensures clock { verdict_on 0 1 1099511627776 (codes "CHECK 1 lead 755224 -") ≡ Refused (codes "1") Clock }
+    ensures last_moment { verdict_on 0 0 1099511627775 (codes "CHECK 1 silver 755224 -") ≡ Proposes (codes "1") 0 0 0 }
+    ensures unknown { verdict_on 0 1 100 (codes "CHECK 1 lead 755224 -") ≡ Refused (codes "1") Unknown }
+    ensures throttled { verdict_on 4611686018427387904 1 100 (codes "CHECK 1 silver 755224 pw")
+        ≡ Refused (codes "1") (Throttled 1) }
+    ensures password { verdict_on 4611686018427387904 0 100 (codes "CHECK 1 silver 755224 pw")
+        ≡ Fails (codes "1") Password 0 }
+    ensures no_password { verdict_on 0 0 100 (codes "CHECK 1 gold 969429 -") ≡ Fails (codes "1") Password 1 }
+    ensures exhausted { verdict_on 4611686018427387904 0 100 (codes "CHECK 1 silver 755224 -")
+        ≡ Refused (codes "1") Exhausted }
+    ensures last_factor { verdict_on 4611686018427387903 0 100 (codes "CHECK 1 silver 755224 -")
+        ≡ Fails (codes "1") Invalid 0 }
+    ensures not_checked { verdict_on 0 0 100 (codes "CHECK 1 iron 755224 -") ≡ Refused (codes "1") Exhausted }
+
+    // each token by its own first free factor, up to the look-ahead or the range
+    ensures first { verdict_on 0 0 100 (codes "CHECK 1 silver 755224 -") ≡ Proposes (codes "1") 0 0 0 }
+    ensures furthest { verdict_on 0 0 100 (codes "CHECK 1 silver 254676 -") ≡ Proposes (codes "1") 0 5 5 }
+    ensures too_far { verdict_on 0 0 100 (codes "CHECK 1 silver 287922 -") ≡ Fails (codes "1") Invalid 0 }
+    ensures gold { verdict_on 0 1 100 (codes "CHECK 1 gold 969429 pw") ≡ Proposes (codes "1") 1 3 3 }
+    ensures used_up { verdict_on 0 1 100 (codes "CHECK 1 gold 359152 pw") ≡ Fails (codes "1") Invalid 1 }
+    ensures two_codes { verdict_on 0 0 100 (codes "RESYNC 1 silver 399871 520489 -")
+        ≡ Proposes (codes "1") 0 8 9 }
+    ensures two_too_far { verdict_on 0 0 100 (codes "RESYNC 1 silver 520489 403154 -")
+        ≡ Fails (codes "1") Invalid 0 }
+{}
+
+/// Each password column, beside what a line gives.
+pub fn columns_are_worked()
+    ensures none { column_fits NoneAllowed None ≡ true }
+    ensures none_allowed { column_fits NoneAllowed (Some (codes "pw")) ≡ false }
+    ensures not_checked { column_fits NotChecked None ≡ true }
+    ensures any { column_fits NotChecked (Some (codes "pw")) ≡ true }
+    ensures missing { column_fits (Equal (record { items = codes "pw" })) None ≡ false }
+    ensures equal { column_fits (Equal (record { items = codes "pw" })) (Some (codes "pw")) ≡ true }
+    ensures longer { column_fits (Equal (record { items = codes "pw" })) (Some (codes "pwd")) ≡ false }
+{}
+
+/// The text of each answer.
+pub fn answers_are_worked()
+    ensures bad_line { answer_bytes BadLineAnswer ≡ codes "NO - BADLINE" }
+    ensures accepted { answer_bytes (Reply (codes "a1") (Accepted 4611686018427387903))
+        ≡ codes "OK a1 4611686018427387903" }
+    ensures first { answer_bytes (Reply (codes "a1") (Accepted 0)) ≡ codes "OK a1 0" }
+    ensures unknown { answer_bytes (Reply (codes "a1") Unknown) ≡ codes "NO a1 UNKNOWN" }
+    ensures password { answer_bytes (Reply (codes "a1") Password) ≡ codes "NO a1 PASSWORD" }
+    ensures throttled { answer_bytes (Reply (codes "a1") (Throttled 50000)) ≡ codes "NO a1 THROTTLED 50000" }
+    ensures invalid { answer_bytes (Reply (codes "a1") Invalid) ≡ codes "NO a1 INVALID" }
+    ensures clock { answer_bytes (Reply (codes "a1") Clock) ≡ codes "NO a1 CLOCK" }
+    ensures exhausted { answer_bytes (Reply (codes "a1") Exhausted) ≡ codes "NO a1 EXHAUSTED" }
+{}
+
+/// A run of eight lines: its answers, what it accepts, and the server that it leaves. A failure and an
+/// acceptance of a token are its results, the newest first, and nothing else is.
+pub fn runs_are_worked()
+    ensures outcome { outcome_of lines_of_a_run ≡ record {
+      answers = (0, 7, codes "NO a INVALID") ∷ (1, 7, codes "NO b THROTTLED 1") ∷ (2, 7, codes "OK c 1")
+          ∷ (3, 7, codes "NO d INVALID") ∷ (4, 7, codes "OK e 2") ∷ (5, 7, codes "NO - BADLINE")
+          ∷ (6, 7, codes "NO f UNKNOWN") ∷ (7, 7, codes "NO g PASSWORD") ∷ [];
+      passes = record { began = 2; token = 0; lo = 1; hi = 1 }
+          ∷ record { began = 4; token = 1; lo = 1; hi = 2 } ∷ [];
+      floors = 2 ∷ 3 ∷ 0 ∷ [];
+      results = (Failed 106 ∷ Passed ∷ Failed 100 ∷ []) ∷ (Failed 110 ∷ Passed ∷ []) ∷ [] ∷ [];
+    } }
+    ensures before_any { silver_before 0 ≡ (0, []) }
+    ensures before_accepted { silver_before 2 ≡ (0, Failed 100 ∷ []) }
+    ensures after_accepted { silver_before 3 ≡ (2, Passed ∷ Failed 100 ∷ []) }
+{}
+
+/// What is said of an acceptance of that run can be broken: by another token, another factor, a line that is none or
+/// isn't there, one that came while the token was closed, and one with a factor that is used up.
+pub fn promises_can_be_broken()
+    ensures token { IsJustifiedInRun (record { began = 2; token = 1; lo = 1; hi = 1 }) → ⊥ }
+    ensures factor { IsJustifiedInRun (record { began = 2; token = 0; lo = 0; hi = 0 }) → ⊥ }
+    ensures bad_line { IsJustifiedInRun (record { began = 5; token = 0; lo = 1; hi = 1 }) → ⊥ }
+    ensures no_line { IsJustifiedInRun (record { began = 8; token = 0; lo = 1; hi = 1 }) → ⊥ }
+    ensures closed { IsJustifiedInRun (record { began = 1; token = 0; lo = 0; hi = 0 }) → ⊥ }
+    ensures used_up { IsJustifiedInRun (record { began = 3; token = 0; lo = 1; hi = 1 }) → ⊥ }
+{}
