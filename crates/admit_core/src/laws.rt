@@ -1,11 +1,19 @@
-ghost use Rattle.std.specs.Prelude.{◌≡◌, ℕ, ◌-◌, ◌≤◌, ◌↔◌, List, [], ◌∷◌, Some, None, Contains};
-ghost use Rattle.admit_core.specs.Fit.{Submission, InWindowOf, IsLeastBetween, NoneBetween, least_fit, IsLeastFit, NothingFits};
-ghost use Rattle.admit_core.specs.Gate.{clear_gate, with_failure};
-ghost use Rattle.admit_core.specs.Throttle.{Result, Failed, Accepted, gate_after, wait_after, IsOpenAfter, AreGated, SpacesFailures};
+ghost use Rattle.std.specs.Prelude.{◌≡◌, ℕ, ◌-◌, ◌*◌, ◌+◌, ◌<◌, ◌≤◌, ◌↔◌, List, [], ◌∷◌, ◌++◌, codes, length, map, replicate, Some, None, Contains};
+ghost use Rattle.std.specs.List.{range_with_len};
+ghost use Rattle.hmac_core.specs.declared.hash.Hash.{Hash};
+ghost use Rattle.admit_core.specs.Entitled.{IsEntitled};
+ghost use Rattle.admit_core.specs.Examples.{checked, limits_of, right, some_limits, token_of, token_of_equal_codes, token_of_kind, token_of_sha256, token_with, wrong};
+ghost use Rattle.admit_core.specs.Fit.{Check, Resync, Submission, Fits, InWindowOf, IsLeastBetween, NoneBetween, least_fit, IsLeastFit, NothingFits};
+ghost use Rattle.admit_core.specs.Gate.{IsGate, clear_gate, with_failure};
+ghost use Rattle.admit_core.specs.Password.{PasswordFits};
+ghost use Rattle.admit_core.specs.Throttle.{Result, Failed, Accepted, counted_failures, gate_after, wait_after, IsOpenAfter, AreGated, SpacesFailures};
+ghost use Rattle.otp_core.specs.Examples.{secret_of_20};
 ghost use Rattle.otp_core.specs.Limits.{Limits};
-ghost use Rattle.admit_core.specs.Window.{InWindow, AreEnds, window_numbers};
+ghost use Rattle.otp_core.specs.declared.digits.Digits.{Digits};
+ghost use Rattle.admit_core.specs.Window.{InCheckWindow, InResyncWindow, InWindow, AreEnds, window_numbers};
 ghost use Rattle.token_file.specs.Credential.{Credential};
 ghost use Rattle.token_file.specs.declared.token.Kind.{Kind};
+ghost use Rattle.token_file.specs.declared.token.Password.{Password};
 
 /// The two numbers of a gate are those of the list of results, each failure and each acceptance
 /// changes them as [`Gate::fail`](crate::Gate::fail) and [`Gate::clear`](crate::Gate::clear) do, and
@@ -52,4 +60,137 @@ pub fn least_fit_is_least()
     ensures empty { (credential : Credential) (limits : Limits) (next moment : ℕ) (submission : Submission) →
         ((number : ℕ) → InWindowOf credential limits next moment submission number → ⊥) →
         least_fit credential limits next moment submission ≡ None }
+{}
+
+/// The windows of event tokens and of time tokens, worked through at their ends.
+pub fn windows_are_worked()
+    ensures events { window_numbers Kind.Event 10 some_limits 7 0 ≡ range_with_len 7 11 }
+    ensures last_events { window_numbers Kind.Event 10 some_limits 4611686018427387902 0
+        ≡ 4611686018427387902 ∷ 4611686018427387903 ∷ [] }
+    ensures no_events { window_numbers Kind.Event 10 some_limits 4611686018427387904 0 ≡ [] }
+    ensures steps { window_numbers Kind.Time30 10 some_limits 0 0 ∷ window_numbers Kind.Time30 10 some_limits 0 59
+        ∷ window_numbers Kind.Time30 10 some_limits 0 90 ∷ window_numbers Kind.Time30 10 some_limits 4 90
+        ∷ window_numbers Kind.Time30 10 some_limits 5 90 ∷ window_numbers Kind.Time60 10 some_limits 0 59
+        ∷ window_numbers Kind.Time60 10 some_limits 0 120 ∷ window_numbers Kind.Time30 10 (limits_of 3 0 8) 0 90
+        ∷ window_numbers Kind.Time30 10 (limits_of 3 10 8) 0 60 ∷ []
+        ≡ (0 ∷ 1 ∷ []) ∷ (0 ∷ 1 ∷ 2 ∷ []) ∷ (2 ∷ 3 ∷ 4 ∷ []) ∷ (4 ∷ []) ∷ [] ∷ (0 ∷ 1 ∷ []) ∷ (1 ∷ 2 ∷ 3 ∷ [])
+        ∷ (3 ∷ []) ∷ range_with_len 0 13 ∷ [] }
+    ensures in_events { InWindow Kind.Event 10 some_limits 7 0 7 × InWindow Kind.Event 10 some_limits 7 0 17
+        × InWindow Kind.Event 10 some_limits 4611686018427387902 0 4611686018427387903 }
+    ensures no_event_below { InWindow Kind.Event 10 some_limits 7 0 6 → ⊥ }
+    ensures no_event_beyond { InWindow Kind.Event 10 some_limits 7 0 18 → ⊥ }
+    ensures no_event_at_the_end { InWindow Kind.Event 10 some_limits 4611686018427387902 0 4611686018427387904 → ⊥ }
+    ensures check_window { InCheckWindow Kind.Event some_limits 7 0 10 × (InCheckWindow Kind.Event some_limits 7 0 11 → ⊥) }
+    ensures resync_window { InResyncWindow Kind.Event some_limits 7 0 15
+        × (InResyncWindow Kind.Event some_limits 7 0 16 → ⊥) }
+    ensures in_steps { InWindow Kind.Time30 10 some_limits 0 90 2 × InWindow Kind.Time30 10 some_limits 0 90 4
+        × InWindow Kind.Time60 10 some_limits 0 120 1 × InWindow Kind.Time60 10 some_limits 0 120 3
+        × InWindow Kind.Time30 10 (limits_of 3 0 8) 0 90 3 }
+    ensures no_step_before { (InWindow Kind.Time30 10 some_limits 0 90 1 → ⊥)
+        × (InWindow Kind.Time30 10 (limits_of 3 0 8) 0 90 2 → ⊥) }
+    ensures no_step_after { (InWindow Kind.Time30 10 some_limits 0 90 5 → ⊥)
+        × (InWindow Kind.Time30 10 (limits_of 3 0 8) 0 90 4 → ⊥) }
+    ensures no_step_below { InWindow Kind.Time30 10 some_limits 4 90 3 → ⊥ }
+    ensures ends { AreEnds (λ number. number < 5) 0 4 × (AreEnds (λ number. number < 5) 0 5 → ⊥)
+        × (AreEnds (λ number. number < 5) 1 4 → ⊥) × (AreEnds (λ number. ⊥) 1 0 → ⊥) }
+{}
+
+/// What fits a token, worked through with the codes of the standards: within the window and past each of its ends.
+pub fn fits_are_worked()
+    ensures checks { least_fit (token_of_kind Kind.Event) some_limits 0 0 (Check (codes "755224"))
+        ∷ least_fit (token_of_kind Kind.Event) some_limits 0 0 (Check (codes "969429"))
+        ∷ least_fit (token_of_kind Kind.Event) some_limits 0 0 (Check (codes "338314"))
+        ∷ least_fit (token_of_kind Kind.Event) some_limits 1 0 (Check (codes "338314"))
+        ∷ least_fit (token_of_kind Kind.Event) some_limits 1 0 (Check (codes "755224")) ∷ []
+        ≡ Some (0, 0) ∷ Some (3, 3) ∷ None ∷ Some (4, 4) ∷ None ∷ [] }
+    ensures resyncs { least_fit (token_of_kind Kind.Event) some_limits 0 0 (Resync (codes "162583") (codes "399871"))
+        ∷ least_fit (token_of_kind Kind.Event) (limits_of 100 1 7) 0 0 (Resync (codes "162583") (codes "399871"))
+        ∷ least_fit (token_of_kind Kind.Event) some_limits 0 0 (Resync (codes "399871") (codes "162583"))
+        ∷ least_fit (token_of_kind Kind.Event) some_limits 0 0 (Resync (codes "287922") (codes "399871"))
+        ∷ least_fit (token_of_kind Kind.Event) some_limits 1 0 (Resync (codes "755224") (codes "287082")) ∷ []
+        ≡ Some (7, 8) ∷ None ∷ None ∷ None ∷ None ∷ [] }
+    ensures equal_codes { least_fit token_of_equal_codes some_limits 0 0 (Check (codes "132707"))
+        ∷ least_fit token_of_equal_codes some_limits 1 0 (Check (codes "132707"))
+        ∷ least_fit token_of_equal_codes some_limits 0 0 (Resync (codes "132707") (codes "132707")) ∷ []
+        ≡ Some (0, 0) ∷ Some (1, 1) ∷ Some (0, 1) ∷ [] }
+    ensures steps { least_fit (token_of_kind Kind.Time30) some_limits 0 59 (Check (codes "359152"))
+        ∷ least_fit (token_of_kind Kind.Time30) some_limits 0 59 (Check (codes "969429"))
+        ∷ least_fit (token_of_kind Kind.Time30) some_limits 0 59 (Resync (codes "287082") (codes "359152"))
+        ∷ least_fit (token_of_kind Kind.Time60) some_limits 0 59 (Check (codes "359152")) ∷ []
+        ≡ Some (2, 2) ∷ None ∷ Some (1, 2) ∷ None ∷ [] }
+    ensures other_codes { least_fit (token_of Password.NoneAllowed secret_of_20 Kind.Event Digits.Eight Hash.Sha1) some_limits
+        0 0 (Check (codes "84755224")) ≡ Some (0, 0) }
+    ensures other_hashes { least_fit token_of_sha256 some_limits 0 59 (Check (codes "46119246")) ≡ Some (1, 1) }
+    ensures fits { Fits (token_of_kind Kind.Event) (Check (codes "755224")) 0 0
+        × (Fits (token_of_kind Kind.Event) (Check (codes "755224")) 0 1 → ⊥) }
+    ensures fits_in_a_row { Fits (token_of_kind Kind.Event) (Resync (codes "755224") (codes "287082")) 0 1
+        × (Fits token_of_equal_codes (Resync (codes "132707") (codes "132707")) 0 0 → ⊥) }
+    ensures not_least { (IsLeastFit token_of_equal_codes some_limits 0 0 (Check (codes "132707")) 1 1 → ⊥)
+        × (IsLeastBetween token_of_equal_codes 0 2 (Check (codes "132707")) 1 1 → ⊥) }
+    ensures below { (IsLeastFit (token_of_kind Kind.Event) some_limits 1 0 (Check (codes "755224")) 0 0 → ⊥)
+        × (IsLeastBetween (token_of_kind Kind.Event) 1 2 (Check (codes "755224")) 0 0 → ⊥) }
+    ensures beyond { (IsLeastFit (token_of_kind Kind.Event) some_limits 0 0 (Check (codes "338314")) 4 4 → ⊥)
+        × (IsLeastFit (token_of_kind Kind.Event) (limits_of 100 1 7) 0 0 (Resync (codes "162583") (codes "399871")) 7 8 → ⊥)
+        × (IsLeastBetween (token_of_kind Kind.Event) 0 7 (Resync (codes "162583") (codes "399871")) 7 8 → ⊥) }
+    ensures something_fits { (NothingFits (token_of_kind Kind.Event) some_limits 0 0 (Check (codes "969429")) → ⊥)
+        × (NoneBetween (token_of_kind Kind.Event) 3 3 (Check (codes "969429")) → ⊥) }
+{}
+
+/// The delay of RFC 4226, section 7.3, worked through with 5 seconds.
+pub fn throttle_is_worked()
+    ensures gates { map gate_after ([] ∷ (Failed 100 ∷ []) ∷ (Failed 105 ∷ Failed 100 ∷ []) ∷ (Accepted ∷ Failed 100 ∷ [])
+        ∷ (Failed 130 ∷ Accepted ∷ Failed 105 ∷ Failed 100 ∷ []) ∷ [])
+        ≡ record { fails = 0; until = 0 } ∷ record { fails = 1; until = 105 } ∷ record { fails = 2; until = 115 }
+        ∷ record { fails = 0; until = 0 } ∷ record { fails = 1; until = 135 } ∷ [] }
+    ensures many { map (λ count. gate_after (replicate count (Failed 7))) (9999 ∷ 10000 ∷ 10001 ∷ [])
+        ≡ record { fails = 9999; until = 50002 } ∷ record { fails = 10000; until = 50007 }
+        ∷ record { fails = 10000; until = 50007 } ∷ [] }
+    ensures waits { map (wait_after (Failed 105 ∷ Failed 100 ∷ [])) (105 ∷ 114 ∷ 115 ∷ 200 ∷ []) ≡ 10 ∷ 1 ∷ 0 ∷ 0 ∷ [] }
+    ensures open { IsOpenAfter [] 0 × IsOpenAfter (Accepted ∷ Failed 100 ∷ []) 0 × IsOpenAfter (Failed 100 ∷ []) 105
+        × IsOpenAfter (Failed 105 ∷ Failed 100 ∷ []) 115 }
+    ensures closed { (IsOpenAfter (Failed 100 ∷ []) 104 → ⊥) × (IsOpenAfter (Failed 105 ∷ Failed 100 ∷ []) 114 → ⊥) }
+    ensures after_failures { map (λ fails. with_failure (record { fails = fails; until = 3 }) 100)
+        (0 ∷ 1 ∷ 9999 ∷ 10000 ∷ [])
+        ≡ record { fails = 1; until = 105 } ∷ record { fails = 2; until = 110 }
+        ∷ record { fails = 10000; until = 50100 } ∷ record { fails = 10000; until = 50100 } ∷ [] }
+    ensures clear { clear_gate ≡ record { fails = 0; until = 0 } }
+    ensures ranges { IsGate 10000 1099511677776 × (IsGate 10001 0 → ⊥) × (IsGate 0 1099511677777 → ⊥) }
+    ensures gated { AreGated (Failed 115 ∷ Failed 105 ∷ Failed 100 ∷ []) × AreGated (Failed 100 ∷ Accepted ∷ Failed 100 ∷ []) }
+    ensures not_gated { (AreGated (Failed 104 ∷ Failed 100 ∷ []) → ⊥)
+        × (AreGated (Failed 200 ∷ Failed 104 ∷ Failed 100 ∷ []) → ⊥)
+        × (AreGated (Accepted ∷ Failed 104 ∷ Failed 100 ∷ []) → ⊥) }
+{}
+
+/// What is promised of an acceptance and of the throttle is broken by the least that is wrong.
+pub fn promises_can_be_broken()
+    ensures passwords { PasswordFits Password.NoneAllowed None × PasswordFits Password.NotChecked None
+        × PasswordFits Password.NotChecked wrong × PasswordFits checked right }
+    ensures password_where_none_is { PasswordFits Password.NoneAllowed right → ⊥ }
+    ensures no_password { PasswordFits checked None → ⊥ }
+    ensures wrong_password { PasswordFits checked wrong → ⊥ }
+    ensures entitled { IsEntitled (token_of_kind Kind.Event) some_limits 105 (Check (codes "755224")) None 0
+        (Failed 100 ∷ []) 0 0 }
+    ensures with_a_password { IsEntitled (token_of_kind Kind.Event) some_limits 105 (Check (codes "755224")) right 0
+        [] 0 0 → ⊥ }
+    ensures without_a_password { IsEntitled (token_with checked) some_limits 105 (Check (codes "755224")) None 0
+        [] 0 0 → ⊥ }
+    ensures with_another_password { IsEntitled (token_with checked) some_limits 105 (Check (codes "755224")) wrong 0
+        [] 0 0 → ⊥ }
+    ensures a_second_early { IsEntitled (token_of_kind Kind.Event) some_limits 104 (Check (codes "755224")) None 0
+        (Failed 100 ∷ []) 0 0 → ⊥ }
+    ensures past_all_moments { IsEntitled (token_of_kind Kind.Event) some_limits 1099511627776 (Check (codes "755224")) None 0
+        [] 0 0 → ⊥ }
+    ensures not_the_least { IsEntitled token_of_equal_codes some_limits 0 (Check (codes "132707")) None 0 [] 1 1 → ⊥ }
+    ensures below_the_window { IsEntitled (token_of_kind Kind.Event) some_limits 0 (Check (codes "755224")) None 1
+        [] 0 0 → ⊥ }
+    ensures beyond_the_window { IsEntitled (token_of_kind Kind.Event) some_limits 0 (Check (codes "338314")) None 0
+        [] 4 4 → ⊥ }
+    ensures spaced { SpacesFailures (Failed 115 ∷ Failed 105 ∷ Failed 100 ∷ [])
+        × SpacesFailures (Failed 100 ∷ Accepted ∷ Failed 100 ∷ []) }
+    ensures two_too_near { SpacesFailures (Failed 104 ∷ Failed 100 ∷ []) → ⊥ }
+    ensures three_too_near { SpacesFailures (Failed 114 ∷ Failed 105 ∷ Failed 100 ∷ []) → ⊥ }
+    ensures older_too_near { SpacesFailures (Failed 200 ∷ Failed 104 ∷ Failed 100 ∷ Accepted ∷ []) → ⊥ }
+    ensures ten_thousand { (newer older : List Result) (first last : ℕ) (between : List ℕ) →
+        SpacesFailures (newer ++ (Failed last ∷ (map Failed between ++ (Failed first ∷ older)))) →
+        length between ≡ 9998 → 2 * first + 499950000 ≤ 2 * last }
 {}

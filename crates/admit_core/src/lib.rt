@@ -12,7 +12,10 @@ mod tests;
 mod windows;
 
 pub use gate::Gate;
-pub use laws::{failures_are_spaced, gate_keeps_throttle, least_fit_is_least};
+pub use laws::{
+    failures_are_spaced, fits_are_worked, gate_keeps_throttle, least_fit_is_least,
+    promises_can_be_broken, throttle_is_worked, windows_are_worked,
+};
 pub use password::password_fits;
 pub use search::{find_check, find_resync};
 pub use windows::{resync_window, window};
