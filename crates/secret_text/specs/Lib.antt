@@ -1,3 +1,4 @@
 pub mod Base32
 pub mod Bits
+pub mod Examples
 pub mod Hexadecimal

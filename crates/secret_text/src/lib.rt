@@ -12,4 +12,4 @@ mod tests;
 pub use base32::{read_base32, write_base32};
 pub use fault::SecretFault;
 pub use hexadecimal::read_hex;
-pub use laws::reads_what_it_wrote;
+pub use laws::{reads_what_it_wrote, texts_are_worked};

@@ -125,3 +125,17 @@ fn hexadecimal_texts(rt: HostRuntime) -> Result<(), Fail> {
     }
     Ok(())
 }
+
+/// The text of each fault.
+#[test]
+fn fault_texts(rt: HostRuntime) -> Result<(), Fail> {
+    for (fault, text) in [
+        (SecretFault::BadCharacter(3), "BadCharacter"),
+        (SecretFault::BadLength, "BadLength"),
+        (SecretFault::TooLong, "TooLong"),
+        (SecretFault::Empty, "Empty"),
+    ] {
+        assert!(rt; format!(in rt.alloc(); "{fault}")?.as_str() == text);
+    }
+    Ok(())
+}
