@@ -282,9 +282,14 @@ abbrev pub accepted : ℕ → ℕ → ℕ → ℕ → ℕ → ℕ → Acceptance
 accepted began ended node token lo hi =
     record { began = began; ended = ended; node = node; token = token; lo = lo; hi = hi }
 
--- a content of two rows at a boot, with no pass
+-- a content of two rows at a boot, after a pass of an earlier one
 abbrev pub content_at : ℕ → RowRecord → RowRecord → Content
-content_at boot first second = record { rows = first ∷ second ∷ []; boot = boot; last = None }
+content_at boot first second =
+    record { rows = first ∷ second ∷ []; boot = boot; last = Some (pass 1 9 9 0 1) }
+
+-- a content of two rows that was just opened
+abbrev pub new_content : RowRecord → RowRecord → Content
+new_content first second = record { rows = first ∷ second ∷ []; boot = 1; last = None }
 
 -- a node that runs
 abbrev pub runner : Content → VoterView → MemberView
