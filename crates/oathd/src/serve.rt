@@ -1,4 +1,5 @@
-ghost use Rattle.oathd_core.specs.Request.{HasMoment};
+ghost use Rattle.std.specs.Prelude.{◌≡◌, ◌⊎◌, Err};
+ghost use Rattle.oathd_core.specs.Request.{EndsAsAsked, HasMoment};
 
 use crate::words::read_words;
 use command_line::{OutsideFault, exit_status, explain, flushed};
@@ -6,18 +7,20 @@ use oathd_core::{Fault, Request, run};
 use std::alloc::Global;
 use std::io::{BufWriter, Read, Write};
 
-/// Does what is asked for. The output is held back, and flushed at the end, whatever that is.
+/// Does what is asked for, over an output that holds back what it is given. It is flushed at the end, whatever
+/// that is.
 fn perform<R: Read, O: Write>(
     alloc: Global,
-    request: Request<'_>,
+    request: &Request<'_>,
     reader: &mut R,
-    output: &mut O,
+    held: &mut O,
 ) -> Result<(), Fault>
-    requires { HasMoment request }
+    requires { HasMoment request.now }
+    ensures ends { (result ≡ Err Fault.CannotWrite) ⊎ EndsAsAsked request.now (R.remaining reader.old) result
+        (O.contents held.old) (O.contents held.new) }
 {
-    let mut held = BufWriter::new(alloc, output).map_err(|_| Fault::Memory)?;
-    let end = run(alloc, request, reader, &mut held);
-    flushed(&mut held, end)
+    let end = run(alloc, request, reader, held);
+    flushed(held, end)
 }
 
 /// Does what the words ask for, or writes what clap has to say of them. Gives the exit status.
@@ -30,7 +33,8 @@ fn follow<R: Read, O: Write, E: Write>(
 ) -> Result<u8, Fault> {
     match read_words(alloc, words) {
         Ok(request) => {
-            perform(alloc, request, reader, output)?;
+            let mut held = BufWriter::new(alloc, &mut *output).map_err(|_| Fault::Memory)?;
+            perform(alloc, &request, reader, &mut held)?;
             Ok(0)
         }
         Err(error) => Ok(explain(output, errors, &error)?),

@@ -59,11 +59,18 @@ fn reads_numbers(rt: HostRuntime) -> Result<(), Fail> {
         (" --range 1000", (10, 1, 1000), 0),
         (" --moment 0", (10, 1, 100), 0),
         (" --moment 1099511627775", (10, 1, 100), 1_099_511_627_775),
-        (" --look-ahead 5 --skew=2 --range 9 --moment 59", (5, 2, 9), 59),
+        (
+            " --look-ahead 5 --skew=2 --range 9 --moment 59",
+            (5, 2, 9),
+            59,
+        ),
     ] {
         let (look_ahead, skew, range) = numbers;
         let settings = Settings::new(look_ahead, skew, range).ok_or("settings")?;
-        assert!(rt; asks_for_lines(rt.alloc(), text, settings, moment)?, "{text}");
+        assert!(rt;
+            asks_for_lines(rt.alloc(), text, settings, moment)?,
+            "{text}"
+        );
     }
     Ok(())
 }
@@ -130,11 +137,26 @@ fn told(alloc: Global, text: &str) -> Result<String, Fail> {
 fn names_the_wrong_number(rt: HostRuntime) -> Result<(), Fail> {
     let alloc = rt.alloc();
     for (words, option, value, most) in [
-        ("--look-ahead 101", "look-ahead <COUNT>", "101", "COUNT is 0 to 100"),
+        (
+            "--look-ahead 101",
+            "look-ahead <COUNT>",
+            "101",
+            "COUNT is 0 to 100",
+        ),
         ("--skew +5", "skew <STEPS>", "+5", "STEPS is 0 to 10"),
         ("--range +5", "range <COUNT>", "+5", "COUNT is 0 to 1000"),
-        ("--range= --skew 11", "skew <STEPS>", "11", "STEPS is 0 to 10"),
-        ("--moment 1099511627776", "moment <SECONDS>", "1099511627776", "SECONDS is 0 to 1099511627775"),
+        (
+            "--range= --skew 11",
+            "skew <STEPS>",
+            "11",
+            "STEPS is 0 to 10",
+        ),
+        (
+            "--moment 1099511627776",
+            "moment <SECONDS>",
+            "1099511627776",
+            "SECONDS is 0 to 1099511627775",
+        ),
     ] {
         let text = told(alloc, format!(in alloc; "oathd lines {words}")?.as_str())?;
         let wanted = format!(in alloc;
@@ -182,24 +204,42 @@ fn serves(
     let mut output = Vec::new(alloc);
     let mut errors = Vec::new(alloc);
     let status = serve(alloc, Ok(words), &mut reader, &mut output, &mut errors);
-    Ok(status == wanted.0
-        && output.as_slice() == wanted.1.as_bytes()
-        && errors.as_slice() == wanted.2.as_bytes())
+    Ok(
+        status == wanted.0
+            && output.as_slice() == wanted.1.as_bytes()
+            && errors.as_slice() == wanted.2.as_bytes(),
+    )
 }
 
 #[test]
 fn statuses_and_texts(rt: HostRuntime) -> Result<(), Fail> {
     for (words, input, wanted) in [
-        ("oathd lines", "%%\n7 1 CHECK 1 a 755224 -\n", (0, "NO 1 UNKNOWN\n", "")),
+        (
+            "oathd lines",
+            "%%\n7 1 CHECK 1 a 755224 -\n",
+            (0, "NO 1 UNKNOWN\n", ""),
+        ),
         // the answers before a bad line, and its number
         (
             "oathd lines",
             "%%\n7 1 CHECK 1 a 755224 -\n\n7 1 CHECK 1 a 755224 -\n",
             (1, "NO 1 UNKNOWN\n", "oathd: input line 3\n"),
         ),
-        ("oathd lines", "HOTP a -\n", (1, "", "oathd: users line 1: MissingField\n")),
-        ("oathd secret 666f6f626172", "", (0, "MZXW6YTBOI======\n", "")),
-        ("oathd secret 666", "", (1, "", "oathd: bad key: BadLength\n")),
+        (
+            "oathd lines",
+            "HOTP a -\n",
+            (1, "", "oathd: users line 1: MissingField\n"),
+        ),
+        (
+            "oathd secret 666f6f626172",
+            "",
+            (0, "MZXW6YTBOI======\n", ""),
+        ),
+        (
+            "oathd secret 666",
+            "",
+            (1, "", "oathd: bad key: BadLength\n"),
+        ),
         ("oathd --version", "", (0, "oathd 0.1.0\n", "")),
         (
             "oathd lines --skew 11",
@@ -265,7 +305,13 @@ fn fails_at_its_edge(rt: HostRuntime) -> Result<(), Fail> {
         ("oathd lines", 12, true, 1, "oathd: cannot write\n"),
         ("oathd lines", 13, true, 0, ""),
         ("oathd lines", 13, false, 1, "oathd: cannot write\n"),
-        ("oathd secret 666f6f626172", 16, true, 1, "oathd: cannot write\n"),
+        (
+            "oathd secret 666f6f626172",
+            16,
+            true,
+            1,
+            "oathd: cannot write\n",
+        ),
         ("oathd --version", 11, true, 1, "oathd: cannot write\n"),
     ] {
         let words = words_of(alloc, words)?;

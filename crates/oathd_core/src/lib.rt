@@ -9,7 +9,7 @@
 //!     7 100 CHECK 1 silver 755224 -\n".as_slice();
 //! let mut output = Vec::new(alloc);
 //! let request = Request::Lines { settings: Settings::default(), moment: 0 };
-//! run(alloc, request, &mut input, &mut output)?;
+//! run(alloc, &request, &mut input, &mut output)?;
 //! assert!(rt; output.as_slice() == b"OK 1 0\n".as_slice());
 //! ```
 #![tactic(auto)]

@@ -34,15 +34,15 @@ pub enum Request<'a> {
 /// Those of the two functions.
 pub fn run<R: Read, W: Write>(
     alloc: Global,
-    request: Request<'_>,
+    request: &Request<'_>,
     reader: &mut R,
     writer: &mut W,
 ) -> Result<(), Fault>
-    requires { HasMoment request }
-    ensures ends { EndsAsAsked request.entry (R.remaining reader.old) result
+    requires { HasMoment request.now }
+    ensures ends { EndsAsAsked request.now (R.remaining reader.old) result
         (W.contents writer.old) (W.contents writer.new) }
 {
-    match request {
+    match *request {
         Request::Lines { settings, moment } => {
             serve_lines(alloc, settings, moment, MAX_FILE_LEN, reader, writer)
         }

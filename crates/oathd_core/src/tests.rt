@@ -1,27 +1,35 @@
 use super::*;
-use command_line::ProgramFault;
+use command_line::{OutsideFault, ProgramFault};
 use otp_core::Settings;
 use secret_text::SecretFault;
-use std::alloc::Global;
-use std::io::{self, ErrorKind, Write};
+use std::alloc::{AllocError, Global};
+use std::io::{self, ErrorKind, Read, Write};
 use std::test::Fail;
+use token_file::{FileFault, LineFault};
 
-/// What a run over an input prints, and the text of its fault, or none.
-fn served(
+/// Whether a fault has this text.
+fn has_text(alloc: Global, fault: Fault, text: &str) -> Result<bool, AllocError> {
+    Ok(format!(in alloc; "{fault}")?.as_str() == text)
+}
+
+/// Whether a run over an input prints this, and ends with a fault of this text, or well where that is empty.
+fn ends_so(
     alloc: Global,
     settings: Settings,
     moment: u32,
     limit: u32,
     input: &[u8],
-) -> Result<(Vec<u8>, String), Fail> {
+    printed: &str,
+    text: &str,
+) -> Result<bool, AllocError> {
     let mut reader = input;
     let mut written = Vec::new(alloc);
     let moment = u64::from(moment);
-    let text = match serve_lines(alloc, settings, moment, limit, &mut reader, &mut written) {
-        Ok(()) => String::new(alloc),
-        Err(fault) => format!(in alloc; "{fault}")?,
+    let ends = match serve_lines(alloc, settings, moment, limit, &mut reader, &mut written) {
+        Ok(()) => text.is_empty(),
+        Err(fault) => has_text(alloc, fault, text)?,
     };
-    Ok((written, text))
+    Ok(ends && written.as_slice() == printed.as_bytes())
 }
 
 /// A run as it is documented: what follows the users file, and what is printed.
@@ -102,60 +110,72 @@ fn answers_lines(rt: HostRuntime) -> Result<(), Fail> {
             "NO 1 UNKNOWN\nNO - BADLINE\nNO 3 CLOCK\n",
         ),
     ] {
-        let (written, fault) = served(rt.alloc(), settings, moment, 2000, input.as_bytes())?;
-        assert!(rt; written.as_slice() == answers.as_bytes(), "{input}");
-        assert!(rt; fault.is_empty(), "{input}");
+        let ends = ends_so(
+            rt.alloc(),
+            settings,
+            moment,
+            2000,
+            input.as_bytes(),
+            answers,
+            "",
+        )?;
+        assert!(rt; ends, "{input}");
     }
     Ok(())
 }
 
+/// The line `%%`, and the first line that is no client's.
 #[test]
-fn finds_the_first_fault(rt: HostRuntime) -> Result<(), Fail> {
-    for (input, written, fault) in [
-        ("HOTP a - 00", "", ""),
-        ("HOTP a - aF\n%%", "", ""),
+fn finds_the_first_bad_line(rt: HostRuntime) -> Result<(), Fail> {
+    for (input, printed, fault) in [
         ("", "", ""),
+        ("HOTP a - aF\n%%", "", ""),
         ("%%\n7 1 x\n", "NO - BADLINE\n", ""),
         ("HOTP a - 00\n%% \n", "", ""),
+        ("HOTP a - 00\n%%\r\n7 1 x\n", "", ""),
         ("HOTP a - 00\n%%\n007 00 \n", "NO - BADLINE\n", ""),
         (
-            "HOTP a - 00\n%%\n7 18446744073709551615 x\n7 18446744073709551616 x",
+            "%%\n7 18446744073709551615 x\n7 18446744073709551616 x",
             "NO - BADLINE\n",
-            "input line 4",
+            "input line 3",
         ),
         (
             "HOTP a - 00\n#\n%%\n7 1 x\n7 1\n7 1 x\n",
             "NO - BADLINE\n",
             "input line 5",
         ),
-        ("HOTP a - 00\n%%\n+7 1 x\n", "", "input line 3"),
-        ("HOTP a - 00\n%%\n\n", "", "input line 3"),
-        ("HOTP a - 00\n%%\n%%\n", "", "input line 3"),
-        ("HOTP a - 00\n%%\n7  1 x\n", "", "input line 3"),
-        ("HOTP silver -\n%%\n\n", "", "users line 1: MissingField"),
-        ("#\nHOTP a - 0g\n", "", "users line 2: BadSecret"),
-        (
-            "HOTP a - 00 4611686018427387905",
-            "",
-            "users line 1: BadCounter",
-        ),
-        (
-            "HOTP a - 00\nHOTP a - 01\n",
-            "",
-            "users line 2: DuplicateUser",
-        ),
-        (
-            "HOTP uuuuuuuuuuuuuuuuuuuuuuuuuuuuuuuuuuuuuuuuuuuuuuuuuuuuuuuuuuuuuuuuu - zz\n",
-            "",
-            "users line 1: NameTooLong",
-        ),
+        ("%%\n+7 1 x\n", "", "input line 2"),
+        ("%%\n\n", "", "input line 2"),
+        ("%%\n%%\n", "", "input line 2"),
+        ("%%\n7  1 x\n", "", "input line 2"),
     ] {
-        let found = served(rt.alloc(), Settings::default(), 0, 1000, input.as_bytes())?;
-        assert!(rt; found.0.as_slice() == written.as_bytes(), "{input}");
-        assert!(rt; found.1.as_str() == fault, "{input}");
+        let (input, usual) = (input.as_bytes(), Settings::default());
+        assert!(rt; ends_so(rt.alloc(), usual, 0, 1000, input, printed, fault)?);
     }
-    let found = served(rt.alloc(), Settings::default(), 0, 5000, &[b'#'; 4097])?;
-    assert!(rt; found.1.as_str() == "users line 1: LineTooLong");
+    Ok(())
+}
+
+/// A fault of the users file comes before a bad line.
+#[test]
+fn finds_the_fault_of_the_users(rt: HostRuntime) -> Result<(), Fail> {
+    for (input, fault) in [
+        ("HOTP silver -\n%%\n\n", "users line 1: MissingField"),
+        ("#\nHOTP a - 0g\n", "users line 2: BadSecret"),
+        ("HOTP a - 00\nHOTP a - 01\n", "users line 2: DuplicateUser"),
+    ] {
+        let (input, usual) = (input.as_bytes(), Settings::default());
+        assert!(rt; ends_so(rt.alloc(), usual, 0, 1000, input, "", fault)?);
+    }
+    let ends = ends_so(
+        rt.alloc(),
+        Settings::default(),
+        0,
+        5000,
+        &[b'#'; 4097],
+        "",
+        "users line 1: LineTooLong",
+    )?;
+    assert!(rt; ends);
     Ok(())
 }
 
@@ -172,9 +192,11 @@ fn reads_up_to_the_limit(rt: HostRuntime) -> Result<(), Fail> {
         (26, "NO - BADLINE\n", "input line 4"),
         (27, "NO - BADLINE\nNO - BADLINE\n", ""),
     ] {
-        let found = served(rt.alloc(), Settings::default(), 0, limit, input)?;
-        assert!(rt; found.0.as_slice() == written.as_bytes(), "{limit}");
-        assert!(rt; found.1.as_str() == fault, "{limit}");
+        let usual = Settings::default();
+        assert!(rt;
+            ends_so(rt.alloc(), usual, 0, limit, input, written, fault)?,
+            "{limit}"
+        );
     }
     Ok(())
 }
@@ -198,64 +220,130 @@ impl Write for Full {
     }
 }
 
+/// What the usual server makes of two lines, over this reader and writer.
+fn served<R: Read, W: Write>(alloc: Global, reader: &mut R, writer: &mut W) -> Result<(), Fault> {
+    serve_lines(alloc, Settings::default(), 0, 1000, reader, writer)
+}
+
 #[test]
-fn fails_where_the_writer_does(rt: HostRuntime) -> Result<(), Fail> {
-    for (room, end) in [
-        (0, Err(Fault::CannotWrite)),
-        (12, Err(Fault::CannotWrite)),
-        (20, Err(Fault::CannotWrite)),
-        (26, Ok(())),
-    ] {
+fn fails_where_the_writer_does(rt: HostRuntime) {
+    let cannot = Err(Fault::CannotWrite);
+    for (room, end) in [(0, cannot), (12, cannot), (20, cannot), (26, Ok(()))] {
         let mut reader: &[u8] = b"HOTP a - 00\n%%\n7 1 x\n7 1 y\n";
-        let found = serve_lines(
-            rt.alloc(),
-            Settings::default(),
-            0,
-            1000,
-            &mut reader,
-            &mut Full(room),
+        assert!(rt;
+            served(rt.alloc(), &mut reader, &mut Full(room)) == end,
+            "{room}"
         );
-        assert!(rt; found == end, "{room}");
+    }
+}
+
+/// A reader that gives a front of a text and then fails.
+#[derive(Drop)]
+struct Failing<'a> {
+    text: &'a [u8],
+    kind: ErrorKind,
+}
+
+impl Read for Failing<'_> {
+    fn read(&mut self, buf: &mut [u8]) -> io::Result<usize> {
+        if self.text.is_empty() {
+            return Err(self.kind.into());
+        }
+        self.text.read(buf)
+    }
+}
+
+#[test]
+fn fails_where_the_reader_does(rt: HostRuntime) {
+    for (kind, fault) in [
+        (ErrorKind::Other, Fault::CannotRead),
+        (ErrorKind::OutOfMemory, Fault::Memory),
+    ] {
+        let text = b"HOTP a - 00\n%%\n7 1 x\n";
+        let mut written = Vec::new(rt.alloc());
+        let end = served(rt.alloc(), &mut Failing { text, kind }, &mut written);
+        assert!(rt; end == Err(fault));
+        assert!(rt; written.is_empty());
+    }
+}
+
+/// The text of each fault, and the exit status of a run that ends so.
+#[test]
+fn texts_and_statuses(rt: HostRuntime) -> Result<(), Fail> {
+    let users = FileFault {
+        line: 7,
+        kind: LineFault::BadSecret,
+    };
+    for (fault, text, status) in [
+        (Fault::Memory, "out of memory", 1),
+        (Fault::CannotRead, "cannot read -", 1),
+        (Fault::CannotWrite, "cannot write", 1),
+        (Fault::Users(users), "users line 7: BadSecret", 1),
+        (Fault::InputLine(4_294_967_296), "input line 4294967296", 1),
+        (Fault::BadKey(SecretFault::Empty), "bad key: Empty", 1),
+        (Fault::NotText, "a word is not text", 2),
+    ] {
+        assert!(rt; has_text(rt.alloc(), fault, text)?, "{text}");
+        assert!(rt; fault.status() == status, "{text}");
+    }
+    for (outside, fault) in [
+        (OutsideFault::Memory, Fault::Memory),
+        (OutsideFault::CannotWrite, Fault::CannotWrite),
+        (OutsideFault::NotText, Fault::NotText),
+    ] {
+        assert!(rt; Fault::from(outside) == fault);
     }
     Ok(())
 }
 
+/// Whether a secret in hexadecimal prints this, or is refused with this fault.
+fn prints(alloc: Global, hex: &[u8], printed: &str, end: Result<(), Fault>) -> bool {
+    let mut written = Vec::new(alloc);
+    print_secret(&mut written, hex) == end && written.as_slice() == printed.as_bytes()
+}
+
 #[test]
-fn secret_text(rt: HostRuntime) -> Result<(), Fail> {
-    let alloc = rt.alloc();
-    for (hex, written, fault) in [
-        ("666f6f626172", "MZXW6YTBOI======\n", ""),
+fn secret_text(rt: HostRuntime) {
+    for (hex, printed, end) in [
+        // RFC 4648, section 10
+        ("666f6f626172", "MZXW6YTBOI======\n", Ok(())),
         (
             "3132333435363738393031323334353637383930",
             "GEZDGNBVGY3TQOJQGEZDGNBVGY3TQOJQ\n",
-            "",
+            Ok(()),
         ),
-        ("", "", "bad key: Empty"),
-        ("666", "", "bad key: BadLength"),
-        ("666g", "", "bad key: BadCharacter"),
+        ("", "", Err(Fault::BadKey(SecretFault::Empty))),
+        ("666", "", Err(Fault::BadKey(SecretFault::BadLength))),
+        ("666g", "", Err(Fault::BadKey(SecretFault::BadCharacter(3)))),
     ] {
-        let mut found = Vec::new(alloc);
-        let text = match print_secret(&mut found, hex.as_bytes()) {
-            Ok(()) => String::new(alloc),
-            Err(fault) => {
-                assert!(rt; fault.status() == 1, "{hex}");
-                format!(in alloc; "{fault}")?
-            }
-        };
-        assert!(rt; found.as_slice() == written.as_bytes(), "{hex}");
-        assert!(rt; text.as_str() == fault, "{hex}");
+        assert!(rt; prints(rt.alloc(), hex.as_bytes(), printed, end), "{hex}");
     }
     let end = print_secret(&mut Full(0), &[b'0'; 258]);
     assert!(rt; end == Err(Fault::BadKey(SecretFault::TooLong)));
-    for (room, end) in [
-        (0, Err(Fault::CannotWrite)),
-        (16, Err(Fault::CannotWrite)),
-        (17, Ok(())),
-    ] {
+    let cannot = Err(Fault::CannotWrite);
+    for (room, end) in [(0, cannot), (16, cannot), (17, Ok(()))] {
         assert!(rt;
             print_secret(&mut Full(room), b"666f6f626172") == end,
             "{room}"
         );
     }
-    Ok(())
+}
+
+/// Each request is done, and a secret is printed whatever the input is.
+#[test]
+fn runs_as_asked(rt: HostRuntime) {
+    let alloc = rt.alloc();
+    let mut written = Vec::new(alloc);
+    let lines = Request::Lines {
+        settings: Settings::default(),
+        moment: 0,
+    };
+    let mut reader: &[u8] = b"%%\n7 1 x\n";
+    assert!(rt; run(alloc, &lines, &mut reader, &mut written) == Ok(()));
+    let secret = Request::Secret {
+        hex: "666f6f626172",
+    };
+    let mut reader: &[u8] = b"%%\n7 1 x\n";
+    assert!(rt; run(alloc, &secret, &mut reader, &mut written) == Ok(()));
+    assert!(rt; written.as_slice() == b"NO - BADLINE\nMZXW6YTBOI======\n".as_slice());
 }
