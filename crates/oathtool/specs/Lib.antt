@@ -1,10 +1,1 @@
-pub mod Codes
-pub mod Fault
-pub mod Key
-pub mod Offset
-pub mod Plan
-pub mod Run
-pub mod StepSize
-pub mod Time
-pub mod TimeFault
 pub mod Words

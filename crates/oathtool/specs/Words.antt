@@ -8,9 +8,9 @@ use Rattle.hmac_core.specs.declared.hash.Hash.{Hash}
 use Rattle.hmac_core.specs.declared.hash.Hash.TheVariants.{Sha1, Sha256, Sha512}
 use Rattle.otp_core.specs.Digits.{count_of}
 use Rattle.otp_core.specs.Range.{IsFactor}
-use Rattle.oathtool.specs.declared.words.Mode.{Mode}
-use Rattle.oathtool.specs.declared.words.Mode.TheVariants.{Hotp, Totp}
-use Rattle.oathtool.specs.declared.words.Words.{Words}
+use Rattle.oathtool_core.specs.declared.words.Mode.{Mode}
+use Rattle.oathtool_core.specs.declared.words.Mode.TheVariants.{Hotp, Totp}
+use Rattle.oathtool_core.specs.declared.words.Words.{Words}
 
 -- a text in lower case
 abbrev pub lowercase_of : List ℕ → List ℕ
@@ -53,11 +53,3 @@ pub record AsksFor (found : Found) (words : Words) : Type 0 where
   pub time : first_value found (codes "now") ≡ option_map (λ text. text.now) words.time
   pub key : first_value found (codes "KEY") ≡ Some words.key.now
   pub otp : first_value found (codes "OTP") ≡ option_map (λ text. text.now) words.otp
-
--- the window is at most 1,000
-abbrev pub HasWindow : Words → Type 0
-HasWindow words = words.window ≤ 1000
-
--- codes are based on time, and no time is given
-abbrev pub NeedsClock : Words → Type 0
-NeedsClock words = (words.mode ≡ Hotp → ⊥) × (words.time ≡ None)

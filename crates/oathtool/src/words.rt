@@ -1,18 +1,17 @@
-ghost use Rattle.std.specs.Prelude.{◌≡◌, ◌↔◌, IfSome, IfNone, IfOk, IsTrue, option_map};
+ghost use Rattle.std.specs.Prelude.{◌≡◌, IfSome, IfNone, IfOk, option_map};
 ghost use Rattle.clap.specs.Matches.{found_of};
 ghost use Rattle.hmac_core.specs.declared.hash.Hash.{Hash as AnyHash};
-ghost use Rattle.oathtool.specs.Words.{AsksFor, HasWindow, IsMode, IsNameOf, NeedsClock};
-ghost use Rattle.oathtool.specs.declared.words.Mode.{Mode as AnyMode};
-ghost use Rattle.oathtool.specs.declared.words.Words.{Words as AnyWords};
+ghost use Rattle.oathtool_core.specs.Words.{HasWindow};
+ghost use Rattle.oathtool_core.specs.declared.words.Mode.{Mode as AnyMode};
+ghost use Rattle.oathtool_core.specs.declared.words.Words.{Words as AnyWords};
+ghost use Rattle.oathtool.specs.Words.{AsksFor, IsMode, IsNameOf};
 
 use clap::{Arg, ArgAction, ArgMatches, Command, Error};
 use command_line::{NumberOption, VERSION, number_error, number_of};
 use hmac_core::Hash;
+use oathtool_core::{MAX_WINDOW, Mode, Words};
 use otp_core::{Digits, FACTORS_END, Factor};
 use std::alloc::{AllocError, Global};
-
-/// The widest window.
-const MAX_WINDOW: u64 = 1000;
 
 /// The names of the hashes that a time-based code is made with.
 const HASH_NAMES: [&str; 3] = ["SHA1", "SHA256", "SHA512"];
@@ -56,39 +55,6 @@ in the shell's history: give keys of test tokens, or use a machine of your own.
 
 The status is 0, or 1 where OTP isn't found, KEY is bad, or memory, clock or
 output fail, or 2 where the words are wrong or a value is out of range.";
-
-/// Which kind of code.
-#[derive(Clone, Copy, Debug, PartialEq, Eq)]
-pub(crate) enum Mode {
-    /// Based on a counter, with SHA-1.
-    Hotp,
-    /// Based on time, with this hash.
-    Totp(Hash),
-}
-
-/// What the words ask for. The texts are as they were given.
-#[derive(Clone, Copy)]
-pub(crate) struct Words<'a> {
-    pub mode: Mode,
-    pub is_base32: bool,
-    pub counter: Factor,
-    pub digits: Digits,
-    pub window: u64,
-    pub step_size: &'a str,
-    pub start: &'a str,
-    pub time: Option<&'a str>,
-    pub key: &'a str,
-    pub otp: Option<&'a str>,
-}
-
-impl<'a> Words<'a> {
-    /// Whether the time is the clock's.
-    pub(crate) fn asks_clock(&self) -> bool
-        ensures { IsTrue result ↔ NeedsClock self.now }
-    {
-        self.mode != Mode::Hotp && self.time.is_none()
-    }
-}
 
 /// An option that takes a text.
 fn text<'a>(alloc: Global, name: &'a str, short: char, value: &'a str, help: &'a str) -> Arg<'a> {

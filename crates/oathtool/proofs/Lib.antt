@@ -1,4 +1,0 @@
-pub mod CodeLines
-pub mod OffsetLemmas
-pub mod RunLemmas
-pub mod TimeLemmas

@@ -1,7 +1,0 @@
-use Rattle.std.proofs.Common.{ℕ, ◌+◌, ◌<◌}
-use Rattle.oathtool.specs.Codes.{Matches}
-use Rattle.oathtool.proofs.offset.find_offset_hotp.Given as goal
-
--- no code so far is the OTP
-abbrev pub invariant-loop-offset : goal.invariant-loop-offset
-invariant-loop-offset l = (less : ℕ) → less < l.offset → Matches l.generator l.otp (l.first + less) → ⊥

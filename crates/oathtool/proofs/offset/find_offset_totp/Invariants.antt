@@ -1,7 +1,0 @@
-use Rattle.std.proofs.Common.{ℕ, ◌<◌}
-use Rattle.oathtool.specs.Offset.{NoneAt}
-use Rattle.oathtool.proofs.offset.find_offset_totp.Given as goal
-
--- no code so far is the OTP
-abbrev pub invariant-loop-distance : goal.invariant-loop-distance
-invariant-loop-distance l = (nearer : ℕ) → nearer < l.distance → NoneAt l.generator l.otp l.step nearer

@@ -1,0 +1,43 @@
+ghost use Rattle.std.specs.Prelude.{◌≤◌};
+
+use crate::words::read_words;
+use command_line::{exit_status, explain, flushed};
+use oathtool_core::{Fault, run};
+use std::alloc::Global;
+use std::io::Write;
+
+/// The program's name, which stands before the text of a fault.
+pub(crate) const PROGRAM: &str = "oathtool";
+
+/// Reads the words and writes what they ask for, or what clap has to say of them. Gives the exit status.
+fn answer<O: Write, E: Write>(
+    alloc: Global,
+    words: &[String],
+    clock: Option<u64>,
+    output: &mut O,
+    errors: &mut E,
+) -> Result<u8, Fault> {
+    match read_words(alloc, words) {
+        Ok(words) => {
+            run(alloc, &words, clock, output)?;
+            Ok(0)
+        }
+        Err(error) => Ok(explain(output, errors, &error)?),
+    }
+}
+
+/// Does what the words of the process ask for, the first of which is the program's name. What it prints, the help
+/// and the version go to the output, which is flushed, and a fault's text and what is wrong with the words to the
+/// errors. `clock` is the present moment in seconds since 1970-01-01 00:00:00 UTC, if there is a clock. Gives the
+/// exit status.
+pub(crate) fn serve<O: Write, E: Write>(
+    alloc: Global,
+    words: &[String],
+    clock: Option<u64>,
+    output: &mut O,
+    errors: &mut E,
+) -> u8 {
+    let end = answer(alloc, words, clock, output, errors);
+    let end = flushed(output, end);
+    exit_status(errors, PROGRAM, end)
+}

@@ -1,0 +1,11 @@
+pub mod Codes
+pub mod Examples
+pub mod Fault
+pub mod Key
+pub mod Offset
+pub mod Plan
+pub mod Run
+pub mod StepSize
+pub mod Time
+pub mod TimeFault
+pub mod Words
