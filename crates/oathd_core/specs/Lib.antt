@@ -1,4 +1,5 @@
 pub mod Client
+pub mod Examples
 pub mod Fault
 pub mod Input
 pub mod Request

@@ -17,6 +17,7 @@
 mod client;
 mod fault;
 mod input;
+mod laws;
 mod lines;
 mod request;
 mod secret;
@@ -24,6 +25,9 @@ mod secret;
 mod tests;
 
 pub use fault::Fault;
+pub use laws::{
+    client_lines_are_worked, inputs_are_worked, promises_can_be_broken, runs_are_worked,
+};
 pub use lines::serve_lines;
 pub use request::{Request, run};
 pub use secret::print_secret;

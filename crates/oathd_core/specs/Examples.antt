@@ -1,0 +1,32 @@
+-- Inputs and runs that the laws work through.
+use Rattle.std.specs.Prelude.{ℕ, List, [], ◌∷◌, Option, Some, codes}
+use Rattle.oath_node.specs.ReferenceServer.{Line}
+use Rattle.token_file.specs.declared.fault.FileFault.{FileFault}
+use Rattle.token_file.specs.declared.fault.LineFault.{LineFault}
+use Rattle.oathd_core.specs.Client.{LinesRead}
+use Rattle.oathd_core.specs.Run.{Run, Answered, run_of}
+
+-- two users lines, and three clients' lines, one of which is `%%` too
+abbrev pub text_of_two_parts : List ℕ
+text_of_two_parts = codes "a\nb\n%%\nc\n%%\nd"
+
+-- a line of a client
+abbrev pub line_saying : ℕ → ℕ → List ℕ → Line
+line_saying client moment text = record { client = client; moment = moment; text = text }
+
+-- the lines of clients before a bad one
+abbrev pub lines_before : Option ℕ → List Line → LinesRead
+lines_before bad lines = record { good = lines; bad = bad }
+
+-- a fault of a line of a users file
+abbrev pub fault_at : ℕ → LineFault → FileFault
+fault_at line kind = record { line = line; kind = kind }
+
+-- the run of the usual server, over a users file and an input of at most so many bytes
+abbrev pub run_at_most : ℕ → ℕ → List ℕ → Run
+run_at_most longest limit text =
+    run_of (record { limits = record { look_ahead = 10; skew = 1; range = 100 }; moment = 0 }) longest limit text
+
+-- two lines are answered, and the seventh line of the input is bad
+abbrev pub answered : Run
+answered = Answered (codes "OK 1 0" ∷ codes "NO 2 INVALID" ∷ []) (Some 7)
