@@ -1,4 +1,4 @@
-ghost use Rattle.std.specs.Prelude.{◌≡◌, ◌⊎◌, IfErr, IfOk, OnOk};
+ghost use Rattle.std.specs.Prelude.{◌≡◌, ◌⊎◌, IfErr, IsOk, OnOk};
 ghost use Rattle.std.specs.Io.KnownBytes.{Appends, Keeps};
 ghost use Rattle.command_line.specs.Line.{line_of};
 
@@ -20,12 +20,12 @@ pub fn write_line<W: Write>(writer: &mut W, text: &[u8]) -> Result<(), OutsideFa
 
 /// The end of a run over a writer that holds back what it is given, and is flushed now: the run's own end, or
 /// `CannotWrite` where the writer fails.
-pub fn flushed<W: Write, T: Drop, F: From<OutsideFault> + Drop>(
+pub fn flushed<W: Write, F: From<OutsideFault> + Drop>(
     writer: &mut W,
-    end: Result<T, F>,
-) -> Result<T, F>
+    end: Result<(), F>,
+) -> Result<(), F>
     ensures bytes { Keeps (W.contents writer.old) (W.contents writer.new) }
-    ensures ok { IfOk result (λ value. end ≡ Ok value) }
+    ensures ok { OnOk result (IsOk end) }
     ensures fault { IfErr result (λ fault. (end ≡ Err fault) ⊎ F.from_gives OutsideFault.CannotWrite fault) }
 {
     match writer.flush() {
