@@ -8,8 +8,8 @@ use std::alloc::Global;
 use std::io::{Read, Write};
 use token_file::MAX_FILE_LEN;
 
-/// What the program is asked to do.
-#[derive(Clone, Copy, Debug, PartialEq, Eq)]
+/// What the program is asked to do. It has no Debug, which would show the secret.
+#[derive(Clone, Copy, PartialEq, Eq)]
 pub enum Request<'a> {
     /// To answer the lines of the input.
     Lines {

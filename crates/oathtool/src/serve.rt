@@ -9,7 +9,8 @@ use std::io::Write;
 /// The program's name, which stands before the text of a fault.
 pub(crate) const PROGRAM: &str = "oathtool";
 
-/// Reads the words and writes what they ask for, or what clap has to say of them. Gives the exit status.
+/// Reads the words and writes what they ask for, or what clap has to say of them. The output is flushed, also where a
+/// run ended in a fault. Gives the exit status.
 fn answer<O: Write, E: Write>(
     alloc: Global,
     words: &[String],
@@ -19,10 +20,15 @@ fn answer<O: Write, E: Write>(
 ) -> Result<u8, Fault> {
     match read_words(alloc, words) {
         Ok(words) => {
-            run(alloc, &words, clock, output)?;
+            let end = run(alloc, &words, clock, output);
+            flushed(output, end)?;
             Ok(0)
         }
-        Err(error) => Ok(explain(output, errors, &error)?),
+        Err(error) => {
+            let status = explain(output, errors, &error)?;
+            flushed::<O, Fault>(output, Ok(()))?;
+            Ok(status)
+        }
     }
 }
 
@@ -38,6 +44,5 @@ pub(crate) fn serve<O: Write, E: Write>(
     errors: &mut E,
 ) -> u8 {
     let end = answer(alloc, words, clock, output, errors);
-    let end = flushed(output, end);
     exit_status(errors, PROGRAM, end)
 }
