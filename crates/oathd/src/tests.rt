@@ -42,8 +42,7 @@ fn asks_for_lines(
     moment: u64,
 ) -> Result<bool, Fail> {
     let words = words_of(alloc, format!(in alloc; "oathd lines{text}")?.as_str())?;
-    let wanted = Request::Lines { settings, moment };
-    Ok(matches!(read_words(alloc, &words), Ok(found) if found == wanted))
+    Ok(read_words(alloc, &words)? == Request::Lines { settings, moment })
 }
 
 /// Each option is taken from 0 up to its most; no option changes another.
