@@ -44,10 +44,11 @@ token_with password = token_of password secret_of_20 Event Six Sha1
 abbrev pub checked : Password
 checked = Equal (record { items = codes "pw" })
 
--- no password, the right one and another
+-- that password, as a line gives it
 abbrev pub right : Option (List ℕ)
 right = Some (codes "pw")
 
+-- another one
 abbrev pub wrong : Option (List ℕ)
 wrong = Some (codes "pW")
 

@@ -80,7 +80,8 @@ pub fn windows_are_worked()
     ensures no_event_below { InWindow Kind.Event 10 some_limits 7 0 6 → ⊥ }
     ensures no_event_beyond { InWindow Kind.Event 10 some_limits 7 0 18 → ⊥ }
     ensures no_event_at_the_end { InWindow Kind.Event 10 some_limits 4611686018427387902 0 4611686018427387904 → ⊥ }
-    ensures check_window { InCheckWindow Kind.Event some_limits 7 0 10 × (InCheckWindow Kind.Event some_limits 7 0 11 → ⊥) }
+    ensures check_window { InCheckWindow Kind.Event some_limits 7 0 10
+        × (InCheckWindow Kind.Event some_limits 7 0 11 → ⊥) }
     ensures resync_window { InResyncWindow Kind.Event some_limits 7 0 15
         × (InResyncWindow Kind.Event some_limits 7 0 16 → ⊥) }
     ensures in_steps { InWindow Kind.Time30 10 some_limits 0 90 2 × InWindow Kind.Time30 10 some_limits 0 90 4
@@ -118,8 +119,8 @@ pub fn fits_are_worked()
         ∷ least_fit (token_of_kind Kind.Time30) some_limits 0 59 (Resync (codes "287082") (codes "359152"))
         ∷ least_fit (token_of_kind Kind.Time60) some_limits 0 59 (Check (codes "359152")) ∷ []
         ≡ Some (2, 2) ∷ None ∷ Some (1, 2) ∷ None ∷ [] }
-    ensures other_codes { least_fit (token_of Password.NoneAllowed secret_of_20 Kind.Event Digits.Eight Hash.Sha1) some_limits
-        0 0 (Check (codes "84755224")) ≡ Some (0, 0) }
+    ensures other_codes { least_fit (token_of Password.NoneAllowed secret_of_20 Kind.Event Digits.Eight Hash.Sha1)
+        some_limits 0 0 (Check (codes "84755224")) ≡ Some (0, 0) }
     ensures other_hashes { least_fit token_of_sha256 some_limits 0 59 (Check (codes "46119246")) ≡ Some (1, 1) }
     ensures fits { Fits (token_of_kind Kind.Event) (Check (codes "755224")) 0 0
         × (Fits (token_of_kind Kind.Event) (Check (codes "755224")) 0 1 → ⊥) }
@@ -130,7 +131,8 @@ pub fn fits_are_worked()
     ensures below { (IsLeastFit (token_of_kind Kind.Event) some_limits 1 0 (Check (codes "755224")) 0 0 → ⊥)
         × (IsLeastBetween (token_of_kind Kind.Event) 1 2 (Check (codes "755224")) 0 0 → ⊥) }
     ensures beyond { (IsLeastFit (token_of_kind Kind.Event) some_limits 0 0 (Check (codes "338314")) 4 4 → ⊥)
-        × (IsLeastFit (token_of_kind Kind.Event) (limits_of 100 1 7) 0 0 (Resync (codes "162583") (codes "399871")) 7 8 → ⊥)
+        × (IsLeastFit (token_of_kind Kind.Event) (limits_of 100 1 7) 0 0 (Resync (codes "162583") (codes "399871"))
+        7 8 → ⊥)
         × (IsLeastBetween (token_of_kind Kind.Event) 0 7 (Resync (codes "162583") (codes "399871")) 7 8 → ⊥) }
     ensures something_fits { (NothingFits (token_of_kind Kind.Event) some_limits 0 0 (Check (codes "969429")) → ⊥)
         × (NoneBetween (token_of_kind Kind.Event) 3 3 (Check (codes "969429")) → ⊥) }
@@ -138,8 +140,8 @@ pub fn fits_are_worked()
 
 /// The delay of RFC 4226, section 7.3, worked through with 5 seconds.
 pub fn throttle_is_worked()
-    ensures gates { map gate_after ([] ∷ (Failed 100 ∷ []) ∷ (Failed 105 ∷ Failed 100 ∷ []) ∷ (Accepted ∷ Failed 100 ∷ [])
-        ∷ (Failed 130 ∷ Accepted ∷ Failed 105 ∷ Failed 100 ∷ []) ∷ [])
+    ensures gates { map gate_after ([] ∷ (Failed 100 ∷ []) ∷ (Failed 105 ∷ Failed 100 ∷ [])
+        ∷ (Accepted ∷ Failed 100 ∷ []) ∷ (Failed 130 ∷ Accepted ∷ Failed 105 ∷ Failed 100 ∷ []) ∷ [])
         ≡ record { fails = 0; until = 0 } ∷ record { fails = 1; until = 105 } ∷ record { fails = 2; until = 115 }
         ∷ record { fails = 0; until = 0 } ∷ record { fails = 1; until = 135 } ∷ [] }
     ensures many { map (λ count. gate_after (replicate count (Failed 7))) (9999 ∷ 10000 ∷ 10001 ∷ [])
@@ -155,7 +157,8 @@ pub fn throttle_is_worked()
         ∷ record { fails = 10000; until = 50100 } ∷ record { fails = 10000; until = 50100 } ∷ [] }
     ensures clear { clear_gate ≡ record { fails = 0; until = 0 } }
     ensures ranges { IsGate 10000 1099511677776 × (IsGate 10001 0 → ⊥) × (IsGate 0 1099511677777 → ⊥) }
-    ensures gated { AreGated (Failed 115 ∷ Failed 105 ∷ Failed 100 ∷ []) × AreGated (Failed 100 ∷ Accepted ∷ Failed 100 ∷ []) }
+    ensures gated { AreGated (Failed 115 ∷ Failed 105 ∷ Failed 100 ∷ [])
+        × AreGated (Failed 100 ∷ Accepted ∷ Failed 100 ∷ []) }
     ensures not_gated { (AreGated (Failed 104 ∷ Failed 100 ∷ []) → ⊥)
         × (AreGated (Failed 200 ∷ Failed 104 ∷ Failed 100 ∷ []) → ⊥)
         × (AreGated (Accepted ∷ Failed 104 ∷ Failed 100 ∷ []) → ⊥) }
@@ -178,8 +181,8 @@ pub fn promises_can_be_broken()
         [] 0 0 → ⊥ }
     ensures a_second_early { IsEntitled (token_of_kind Kind.Event) some_limits 104 (Check (codes "755224")) None 0
         (Failed 100 ∷ []) 0 0 → ⊥ }
-    ensures past_all_moments { IsEntitled (token_of_kind Kind.Event) some_limits 1099511627776 (Check (codes "755224")) None 0
-        [] 0 0 → ⊥ }
+    ensures past_all_moments { IsEntitled (token_of_kind Kind.Event) some_limits 1099511627776 (Check (codes "755224"))
+        None 0 [] 0 0 → ⊥ }
     ensures not_the_least { IsEntitled token_of_equal_codes some_limits 0 (Check (codes "132707")) None 0 [] 1 1 → ⊥ }
     ensures below_the_window { IsEntitled (token_of_kind Kind.Event) some_limits 0 (Check (codes "755224")) None 1
         [] 0 0 → ⊥ }

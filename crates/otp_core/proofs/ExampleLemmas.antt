@@ -5,7 +5,8 @@ use Rattle.otp_core.specs.Acceptance.{Acceptance, size}
 
 -- what holds of the one and the other, both ways, holds of those at two places
 pub of_two_places : (P : Acceptance → Acceptance → Type 0) (x y : Acceptance) → P x y → P y x
-    → (i j : ℕ) (a b : Acceptance) → i ≢ j → slice_get (x ∷ y ∷ []) i ≡ Some a → slice_get (x ∷ y ∷ []) j ≡ Some b → P a b
+    → (i j : ℕ) (a b : Acceptance) → i ≢ j → slice_get (x ∷ y ∷ []) i ≡ Some a → slice_get (x ∷ y ∷ []) j ≡ Some b
+    → P a b
 of_two_places P x y h k zero zero a b n e f = absurd (n refl)
 of_two_places P x y h k zero (suc zero) a b n e f = subst₂ P (same_Some x a e) (same_Some y b f) h
 of_two_places P x y h k zero (suc (suc j)) a b n e f = absurd (none-some b f)

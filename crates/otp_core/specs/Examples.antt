@@ -6,15 +6,17 @@ use Rattle.otp_core.specs.Acceptance.{Acceptance}
 abbrev pub secret_of_20 : List ℕ
 secret_of_20 = codes "12345678901234567890"
 
--- the secrets of RFC 6238, appendix B, for SHA-256 and SHA-512
+-- the secret of RFC 6238, appendix B, for SHA-256
 abbrev pub secret_of_32 : List ℕ
 secret_of_32 = codes "12345678901234567890123456789012"
 
+-- and for SHA-512
 abbrev pub secret_of_64 : List ℕ
 secret_of_64 = codes "1234567890123456789012345678901234567890123456789012345678901234"
 
--- ---- acceptances of token 0 at node 1, with the events in which they began and ended and their factors
+-- ---- acceptances
 
+-- one of token 0 at node 1, by the events in which it began and ended and its factors
 abbrev pub accepted : ℕ → ℕ → ℕ → ℕ → Acceptance
 accepted began ended lo hi = record { began = began; ended = ended; node = 1; token = 0; lo = lo; hi = hi }
 
@@ -27,8 +29,9 @@ abbrev pub accepted_of_other : ℕ → ℕ → Acceptance
 accepted_of_other event factor =
     record { began = event; ended = event; node = 1; token = 1; lo = factor; hi = factor }
 
--- ---- witnesses of an acceptance of the factors 4 and 5 of token 2, which began in event 1 and ended in event 3
+-- ---- witnesses
 
+-- an acceptance of the factors 4 and 5 of token 2, which began in event 1 and ended in event 3
 abbrev pub witnessed : Acceptance
 witnessed = record { began = 1; ended = 3; node = 1; token = 2; lo = 4; hi = 5 }
 

@@ -32,20 +32,21 @@ pub fn texts_are_worked()
         ≡ low_digits ++ capitals ++ small_letters }
     ensures allowed { filter (λ byte. not (is_bad byte)) (range_with_len 0 256)
         ≡ 32 ∷ low_digits ++ capitals ++ small_letters }
-    ensures fronts { map text_before_padding (codes "MY======" ∷ codes "MY= = == == " ∷ codes "MY=======" ∷ codes "M =Y="
-        ∷ codes " MY " ∷ codes " ====== " ∷ [])
+    ensures fronts { map text_before_padding (codes "MY======" ∷ codes "MY= = == == " ∷ codes "MY======="
+        ∷ codes "M =Y=" ∷ codes " MY " ∷ codes " ====== " ∷ [])
         ≡ codes "MY" ∷ codes "MY" ∷ codes "MY=" ∷ codes "M =Y" ∷ codes " MY" ∷ [] ∷ [] }
     ensures taken { map refusal_of (codes "MY======" ∷ codes "MZXQ====" ∷ codes "MZXW6===" ∷ codes "MZXW6YQ="
         ∷ codes "MZXW6YTB" ∷ codes "MZXW6YTBOI======" ∷ codes "mzxw6ytboi" ∷ codes " mZ xW = = " ∷ codes "MZ"
         ∷ replicate 205 65 ∷ []) ≡ replicate 10 None }
-    ensures bad_characters { map refusal_of (codes "MZ1" ∷ codes "M Z  1 8" ∷ codes "M =Y" ∷ codes "MY=======" ∷ codes "======="
-        ∷ codes "0" ∷ codes "A1" ∷ (77 ∷ 89 ∷ 9 ∷ []) ∷ codes "MY-" ∷ (replicate 208 65 ++ 49 ∷ []) ∷ [])
+    ensures bad_characters { map refusal_of (codes "MZ1" ∷ codes "M Z  1 8" ∷ codes "M =Y" ∷ codes "MY======="
+        ∷ codes "=======" ∷ codes "0" ∷ codes "A1"
+        ∷ (77 ∷ 89 ∷ 9 ∷ []) ∷ codes "MY-" ∷ (replicate 208 65 ++ 49 ∷ []) ∷ [])
         ≡ Some (SecretFault.BadCharacter 2) ∷ Some (SecretFault.BadCharacter 5) ∷ Some (SecretFault.BadCharacter 2)
         ∷ Some (SecretFault.BadCharacter 2) ∷ Some (SecretFault.BadCharacter 0) ∷ Some (SecretFault.BadCharacter 0)
         ∷ Some (SecretFault.BadCharacter 1) ∷ Some (SecretFault.BadCharacter 2) ∷ Some (SecretFault.BadCharacter 2)
         ∷ Some (SecretFault.BadCharacter 208) ∷ [] }
-    ensures other_faults { map refusal_of ([] ∷ codes "  " ∷ codes " ====== " ∷ codes "A" ∷ codes "AAA =" ∷ codes "AAAAAA"
-        ∷ replicate 207 65 ∷ [])
+    ensures other_faults { map refusal_of ([] ∷ codes "  " ∷ codes " ====== " ∷ codes "A" ∷ codes "AAA ="
+        ∷ codes "AAAAAA" ∷ replicate 207 65 ∷ [])
         ≡ Some SecretFault.Empty ∷ Some SecretFault.Empty ∷ Some SecretFault.Empty ∷ Some SecretFault.BadLength
         ∷ Some SecretFault.BadLength ∷ Some SecretFault.BadLength ∷ Some SecretFault.TooLong ∷ [] }
     ensures counts { map count_refusal (range_with_len 0 10)

@@ -6,7 +6,7 @@ use Rattle.otp_core.specs.Examples.{secret_of_20}
 use Rattle.otp_core.specs.declared.digits.Digits.{Digits}
 use Rattle.otp_core.specs.declared.digits.Digits.TheVariants.{Six}
 use Rattle.token_file.specs.declared.token.Kind.{Kind}
-use Rattle.token_file.specs.declared.token.Kind.TheVariants.{Event}
+use Rattle.token_file.specs.declared.token.Kind.TheVariants.{Event, Time60}
 use Rattle.token_file.specs.declared.token.Password.{Password}
 use Rattle.token_file.specs.declared.token.Password.TheVariants.{NoneAllowed, Equal}
 use Rattle.token_file.specs.declared.type_word.TokenType.{TokenType}
@@ -16,6 +16,7 @@ use Rattle.token_file.specs.Credential.{Credential}
 use Rattle.token_file.specs.Fields.{fields_of}
 use Rattle.token_file.specs.Row.{Row, row_of}
 use Rattle.token_file.specs.UsersFile.{Import, Instant}
+use Rattle.token_file.specs.WrittenFile.{WrittenRow}
 
 -- a type that a word names
 abbrev pub named : Kind → Digits → Hash → Option TokenType
@@ -83,3 +84,11 @@ abbrev pub faults : List LineFault
 faults =
     MissingField ∷ BadSecret ∷ BadCounter ∷ DuplicateUser ∷ NameTooLong ∷ TooMany ∷ LineTooLong ∷ FileTooLong ∷ Read
     ∷ Memory ∷ []
+
+-- a token and its first free factor
+abbrev pub row : Credential → ℕ → WrittenRow
+row credential next = record { credential = credential; next = next }
+
+-- an event token of no free factor but the last, and a time token
+abbrev pub written_rows : List WrittenRow
+written_rows = row (event_token (codes "a")) 4611686018427387904 ∷ row (time_token Time60) 7 ∷ []

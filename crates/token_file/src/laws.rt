@@ -5,11 +5,11 @@ ghost use Rattle.hmac_core.specs.declared.hash.Hash.{Hash};
 ghost use Rattle.otp_core.specs.Range.{IsNext};
 ghost use Rattle.otp_core.specs.declared.digits.Digits.{Digits};
 ghost use Rattle.token_file.specs.Credential.{Credential, is_blank, is_hash_of, is_password, is_word, period_of, place_of};
-ghost use Rattle.token_file.specs.Examples.{appendix_token, at_59, columns, comment_of, event_token, faults, many_tokens, named, password, row_of_line, time_token, token_of, two_rows, word_of};
+ghost use Rattle.token_file.specs.Examples.{appendix_token, at_59, columns, comment_of, event_token, faults, many_tokens, named, password, row, row_of_line, time_token, token_of, two_rows, word_of, written_rows};
 ghost use Rattle.token_file.specs.Fields.{fields_of, lines_of};
 ghost use Rattle.token_file.specs.Row.{Faulty, Holds, Ignored, first_free, password_of, row_of, secret_of};
 ghost use Rattle.token_file.specs.TypeWord.{type_of};
-ghost use Rattle.token_file.specs.UsersFile.{Import, Instant, after_last, after_line, after_token, book_of, is_of_text, is_read, outcome_of};
+ghost use Rattle.token_file.specs.UsersFile.{Import, Instant, IsCutOff, after_last, after_line, after_token, book_of, is_of_text, is_read, outcome_of};
 ghost use Rattle.token_file.specs.Writing.{IsCredential, row_line, row_text, written_counter};
 ghost use Rattle.token_file.specs.WrittenFile.{AreRows, WrittenRow, credentials_of, file_text, read_floor};
 ghost use Rattle.token_file.specs.declared.fault.LineFault.{LineFault};
@@ -142,8 +142,10 @@ pub fn files_are_worked()
         ∷ first_free 1 59 (appendix_token Digits.Six) 4611686018427387903 (Some (codes "127442"))
         ∷ first_free 1 59 (appendix_token Digits.Six) 4611686018427387904 (Some (codes "109307")) ∷ []
         ≡ 0 ∷ 1 ∷ 0 ∷ 4 ∷ 0 ∷ 1 ∷ 4611686018427387904 ∷ 4611686018427387904 ∷ [] }
-    ensures time_floors { first_free 1 59 (time_token Kind.Time30) 0 None ∷ first_free 1 60 (time_token Kind.Time30) 0 None
-        ∷ first_free 0 60 (time_token Kind.Time30) 7 (Some (codes "755224")) ∷ first_free 10 0 (time_token Kind.Time30) 0 None
+    ensures time_floors { first_free 1 59 (time_token Kind.Time30) 0 None
+        ∷ first_free 1 60 (time_token Kind.Time30) 0 None
+        ∷ first_free 0 60 (time_token Kind.Time30) 7 (Some (codes "755224"))
+        ∷ first_free 10 0 (time_token Kind.Time30) 0 None
         ∷ first_free 1 59 (time_token Kind.Time60) 0 None ∷ first_free 1 60 (time_token Kind.Time60) 0 None ∷ []
         ≡ 3 ∷ 4 ∷ 3 ∷ 11 ∷ 2 ∷ 3 ∷ [] }
     ensures empty { book_of 0 at_59 [] ≡ Ok (record { book = []; floors = [] }) }
@@ -182,10 +184,21 @@ pub fn files_are_worked()
         ≡ false ∷ false ∷ false ∷ false ∷ false ∷ false ∷ false ∷ false ∷ true ∷ false ∷ [] }
     ensures written_event { row_text (event_token (codes "u")) 7
         ≡ codes "HOTP/E/6" ++ 9 ∷ codes "u" ++ 9 ∷ codes "-" ++ 9 ∷ codes "31" ++ 9 ∷ codes "7" ++ 10 ∷ [] }
-    ensures written_time { row_text (token_of (codes "u") (password (codes "pw")) Kind.Time60 Digits.Seven Hash.Sha256) 7
+    ensures written_time { row_text
+        (token_of (codes "u") (password (codes "pw")) Kind.Time60 Digits.Seven Hash.Sha256) 7
         ≡ codes "HOTP/T60/7/SHA256" ++ 9 ∷ codes "u" ++ 9 ∷ codes "pw" ++ 9 ∷ codes "31" ++ 10 ∷ [] }
     ensures written_others { row_line (token_of (codes "u") Password.NotChecked Kind.Time30 Digits.Eight Hash.Sha512) 7
         ≡ codes "HOTP/T30/8/SHA512" ++ 9 ∷ codes "u" ++ 9 ∷ codes "+" ++ 9 ∷ codes "31" }
+    ensures rows { AreRows [] written_rows }
+    ensures same_user_twice { AreRows [] (row (event_token (codes "a")) 0 ∷ row (event_token (codes "a")) 1 ∷ []) → ⊥ }
+    ensures nexts_of_rows { AreRows [] (row (event_token (codes "a")) 4611686018427387905 ∷ []) → ⊥ }
+    ensures text_of_rows { file_text written_rows
+        ≡ codes "HOTP/E/6" ++ 9 ∷ codes "a" ++ 9 ∷ codes "-" ++ 9 ∷ codes "31" ++ 9 ∷ codes "4611686018427387904"
+        ++ 10 ∷ codes "HOTP/T60/6" ++ 9 ∷ codes "u" ++ 9 ∷ codes "-" ++ 9 ∷ codes "31" ++ 10 ∷ [] }
+    ensures tokens_of_rows { credentials_of written_rows ≡ event_token (codes "a") ∷ time_token Kind.Time60 ∷ [] }
+    ensures floors_of_rows { map (read_floor at_59) written_rows ≡ 4611686018427387904 ∷ 2 ∷ [] }
+    ensures cut_off { IsCutOff LineFault.Read 24 at_59 two_rows 2 }
+    ensures not_cut_off { IsCutOff LineFault.Read 24 at_59 [] 2 → ⊥ }
     ensures written_counters { map (λ kind. written_counter kind 7) (Kind.Event ∷ Kind.Time30 ∷ Kind.Time60 ∷ [])
         ≡ 7 ∷ 0 ∷ 0 ∷ [] }
 {}

@@ -1,5 +1,5 @@
--- Each MAC is computed.
-use Rattle.std.proofs.Common.{refl}
+-- Each MAC is computed, and a length that no digest has is refuted.
+use Rattle.std.proofs.Common.{◌≡◌, ⊎_elim, inl, inr, refl, arith}
 use Rattle.hmac_core.specs.Unfolded.sha1_steps
 use Rattle.hmac_core.specs.Unfolded.sha256_steps
 use Rattle.hmac_core.specs.Unfolded.sha512_steps
@@ -24,3 +24,12 @@ returns-clause-sha256 c = refl
 pub returns-clause-sha512 : goal.returns-clause-sha512
 unfolding sha512_steps.first_words sha512_steps.schedule sha512_steps.rounds sha512_steps.compress sha512_steps.hash_after sha512_steps.digest_bytes sha512_steps.sha512
 returns-clause-sha512 c = refl
+
+pub returns-clause-lens : goal.returns-clause-lens
+returns-clause-lens c = (
+  inl refl,
+  inr (inl refl),
+  inr (inr refl),
+  ⊎_elim (λ (e : 28 ≡ 20). omega (arith, e)) (⊎_elim (λ (e : 28 ≡ 32). omega (arith, e)) (λ (e : 28 ≡ 64). omega (arith, e))),
+  ⊎_elim (λ (e : 48 ≡ 20). omega (arith, e)) (⊎_elim (λ (e : 48 ≡ 32). omega (arith, e)) (λ (e : 48 ≡ 64). omega (arith, e))),
+)

@@ -1,5 +1,13 @@
--- Each case is computed.
-use Rattle.std.proofs.Common.{refl}
+-- Each case is computed; rows of one user, and a cut in a line that isn't there, are refuted.
+use Rattle.std.proofs.Common.{◌≡◌, ℕ, zero, suc, ◌≤◌, List, [], ◌∷◌, ◌++◌, length, Some, Result, Ok, Err, codes, lit<, lit≤, refl, sym, ap, arith}
+use Rattle.std.proofs.lemmas.Option.{none-some}
+use Rattle.hex.specs.Hex.{IsBytes}
+use Rattle.token_file.specs.Examples.{at_59, event_token, time_token}
+use Rattle.token_file.specs.UsersFile.{Import, outcome_of}
+use Rattle.token_file.specs.Writing.{IsCredential}
+use Rattle.token_file.specs.declared.fault.LineFault.{LineFault}
+use Rattle.token_file.specs.declared.fault.LineFault.TheVariants.{Read}
+use Rattle.token_file.specs.declared.token.Kind.TheVariants.{Time60}
 use Rattle.hex.specs.Hex.{decode_pairs, encode_with}
 use Rattle.std.specs.Fmt.{digits}
 use Rattle.hmac_core.specs.Unfolded.sha1_steps
@@ -87,3 +95,47 @@ returns-clause-written_others c = refl
 
 pub returns-clause-written_counters : goal.returns-clause-written_counters
 returns-clause-written_counters c = refl
+
+is_byte : IsBytes (0x31 ∷ [])
+is_byte zero = lit< tt
+is_byte (suc i) = lit< tt
+
+event_token_is : IsCredential (event_token (codes "a"))
+event_token_is = record { parts = refl; secret = (lit≤ tt, lit≤ tt); bytes = is_byte }
+
+time_token_is : IsCredential (time_token Time60)
+time_token_is = record { parts = refl; secret = (lit≤ tt, lit≤ tt); bytes = is_byte }
+
+pub returns-clause-rows : goal.returns-clause-rows
+returns-clause-rows c = (event_token_is, lit≤ tt, refl, (time_token_is, lit≤ tt, refl, tt))
+
+pub returns-clause-same_user_twice : goal.returns-clause-same_user_twice
+returns-clause-same_user_twice c h = none-some _ (sym h.3.2)
+
+pub returns-clause-nexts_of_rows : goal.returns-clause-nexts_of_rows
+returns-clause-nexts_of_rows c h = let e : 4611686018427387905 ≤ 4611686018427387904 = h.1 in omega (arith, e)
+
+pub returns-clause-text_of_rows : goal.returns-clause-text_of_rows
+unfolding digits encode_with
+returns-clause-text_of_rows c = refl
+
+pub returns-clause-tokens_of_rows : goal.returns-clause-tokens_of_rows
+returns-clause-tokens_of_rows c = refl
+
+pub returns-clause-floors_of_rows : goal.returns-clause-floors_of_rows
+returns-clause-floors_of_rows c = refl
+
+pub returns-clause-cut_off : goal.returns-clause-cut_off
+unfolding decode_pairs
+returns-clause-cut_off c = record { taken = codes "HOTP a - 31" ++ 10 ∷ codes "HO"; left = codes "TP b - 31" ++ 10 ∷ []; parts = refl; outcome = refl }
+
+abbrev line_of : Result Import (ℕ × LineFault) → ℕ
+line_of (Ok import) = 0
+line_of (Err fault) = fault.0
+
+no_second_line : (taken left : List ℕ) → [] ≡ taken ++ left → outcome_of (Some Read) 24 at_59 taken ≡ Err (2, Read) → ⊥
+no_second_line [] left e o = let line : 1 ≡ 2 = ap line_of o in omega (arith, line)
+no_second_line (byte ∷ taken) left e o = let len = ap length e in omega (arith, len)
+
+pub returns-clause-not_cut_off : goal.returns-clause-not_cut_off
+returns-clause-not_cut_off c h = no_second_line h.taken h.left h.parts h.outcome
