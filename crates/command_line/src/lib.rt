@@ -4,6 +4,7 @@
 
 mod clap_error;
 mod fault;
+mod laws;
 mod number;
 mod output;
 mod status;
@@ -13,6 +14,7 @@ mod words;
 
 pub use clap_error::explain;
 pub use fault::OutsideFault;
+pub use laws::lines_and_numbers_are_worked;
 pub use number::{NumberOption, first_out_of_range, number_error, number_of};
 pub use output::{flushed, write_line};
 pub use status::{ProgramFault, USAGE, exit_status};
