@@ -1,7 +1,7 @@
 -- Worked cases: what lines say, what the rules make of them, and what one server answers. The codes are those of RFC
 -- 4226, Appendix D.
-use Rattle.std.specs.Prelude.{ℕ, zero, suc, List, [], ◌∷◌, ◌++◌, map, replicate, Option, Some, None, codes}
-use Rattle.admit_core.specs.Fit.{Submission, Check, Resync}
+use Rattle.std.specs.Prelude.{ℕ, zero, suc, List, [], ◌∷◌, ◌++◌, map, replicate, Option, Some, codes}
+use Rattle.admit_core.specs.Fit.{Check}
 use Rattle.admit_core.specs.Throttle.{Result}
 use Rattle.hmac_core.specs.declared.hash.Hash.TheVariants.{Sha1}
 use Rattle.otp_core.specs.Limits.{Limits}
@@ -12,7 +12,7 @@ use Rattle.token_file.specs.declared.token.Password.{Password}
 use Rattle.token_file.specs.declared.token.Password.TheVariants.{NoneAllowed, NotChecked, Equal}
 use Rattle.oath_node.specs.ReferenceServer.{Line, server_after, server_at}
 use Rattle.oath_node.specs.Report.{IsJustified, floor_before, report_of, results_before}
-use Rattle.oath_node.specs.Request.{Request, request_at}
+use Rattle.oath_node.specs.Request.{Request}
 use Rattle.oath_node.specs.Rules.{Standing, verdict}
 use Rattle.oath_node.specs.declared.report.LinePass.{LinePass}
 use Rattle.oath_node.specs.declared.rules.Verdict.{Verdict}

@@ -55,7 +55,8 @@ pub fn plans_are_worked()
         (codes "1" ∷ codes "30s" ∷ codes "1000000" ∷ codes "1000000s" ∷ codes "0" ∷ codes "0s" ∷ codes "1000001"
         ∷ codes "30S" ∷ codes "30ss" ∷ codes "s" ∷ codes "" ∷ [])
         ≡ Some 1 ∷ Some 30 ∷ Some 1000000 ∷ Some 1000000 ∷ None ∷ None ∷ None ∷ None ∷ None ∷ None ∷ None ∷ [] }
-    ensures key_refusals { key_refusal true (codes "ME") ∷ key_refusal false (codes "61") ∷ key_refusal true (codes "61")
+    ensures key_refusals { key_refusal true (codes "ME") ∷ key_refusal false (codes "61")
+        ∷ key_refusal true (codes "61")
         ∷ key_refusal false (codes "ME") ∷ key_refusal true (codes "M") ∷ key_refusal false (codes "6") ∷ []
         ≡ None ∷ None ∷ Some (BadCharacter 1) ∷ Some (BadCharacter 0) ∷ Some BadLength ∷ Some BadLength ∷ [] }
     ensures key_in_base32 { IsKeyOf true (codes "ME") (97 ∷ []) }
@@ -104,7 +105,8 @@ pub fn faults_are_in_order()
     ensures key { (words : Words) (clock : Option ℕ) (fault : Fault) (times : Times) (refusal : SecretFault)
         → HasTimes words times → key_refusal words.is_base32 words.key.now ≡ Some refusal
         → Stops words clock fault → IsOr (BadKey refusal) fault }
-    ensures first { (words : Words) (clock : Option ℕ) (fault : Fault) (times : Times) (secret : List ℕ) (refusal : Fault)
+    ensures first { (words : Words) (clock : Option ℕ) (fault : Fault) (times : Times) (secret : List ℕ)
+        (refusal : Fault)
         → HasTimes words times → HasKey words secret → first_of words times clock ≡ Err refusal
         → Stops words clock fault → IsOr refusal fault }
     ensures range { (words : Words) (clock : Option ℕ) (fault : Fault) (times : Times) (secret : List ℕ) (first : ℕ)

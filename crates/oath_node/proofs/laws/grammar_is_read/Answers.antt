@@ -1,6 +1,4 @@
 -- The grammar decides what the reader reads.
-use Rattle.std.proofs.Common.{◌≡◌, ℕ, List, Some}
-use Rattle.oath_node.specs.Request.{Request, IsLine, request_at}
 use Rattle.oath_node.proofs.RequestLemmas.{line_of_request, request_of_line}
 use Rattle.oath_node.proofs.laws.grammar_is_read.Goals as goal
 
