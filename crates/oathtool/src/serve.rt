@@ -1,5 +1,3 @@
-ghost use Rattle.std.specs.Prelude.{◌≤◌};
-
 use crate::words::read_words;
 use command_line::{exit_status, explain, flushed};
 use oathtool_core::{Fault, run};
