@@ -9,9 +9,9 @@ use Rattle.admit_core.specs.Gate.{GateRecord, clear_gate, with_failure}
 use Rattle.admit_core.specs.Throttle.{Result, Failed, Accepted, gate_after, wait_after}
 use Rattle.oath_node.specs.Gates.{gate_of, gates_of, gates_after, standing_by}
 use Rattle.oath_node.specs.ReferenceServer.{Server, results_after, standing_of}
-use Rattle.oath_node.specs.Request.{Request, request_at}
+use Rattle.vote_wire.specs.Request.{Request, request_at}
 use Rattle.oath_node.specs.Rules.{Standing, token_verdict, place_verdict, user_verdict, judgement_of, verdict}
-use Rattle.oath_node.specs.declared.answer.Outcome.TheVariants.{Clock}
+use Rattle.vote_wire.specs.declared.answer.Outcome.TheVariants.{Clock}
 use Rattle.oath_node.specs.declared.rules.Verdict.{Verdict}
 use Rattle.oath_node.specs.declared.rules.Verdict.TheVariants.{BadLine, Refused, Fails, Proposes}
 

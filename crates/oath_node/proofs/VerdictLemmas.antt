@@ -16,14 +16,14 @@ use Rattle.admit_core.specs.Throttle.{Result, Failed, Accepted, AreGated, IsOpen
 use Rattle.admit_core.specs.Window.{InWindow}
 use Rattle.oath_node.specs.Column.{column_fits}
 use Rattle.oath_node.specs.ReferenceServer.{Server, Line, floor_of, floors_after, results_of, service_by, standing_of}
-use Rattle.oath_node.specs.Request.{Request, IsLine, request_at}
+use Rattle.vote_wire.specs.Request.{Request, IsLine, request_at}
 use Rattle.oath_node.specs.Rules.{Standing, fit_verdict, remaining_verdict, open_verdict, token_verdict, place_verdict, user_verdict, request_verdict, judgement_of, verdict}
-use Rattle.oath_node.specs.declared.answer.Outcome.TheVariants.{Clock, Exhausted, Password, Throttled}
+use Rattle.vote_wire.specs.declared.answer.Outcome.TheVariants.{Clock, Exhausted, Password, Throttled}
 use Rattle.oath_node.specs.declared.rules.Verdict.{Verdict}
 use Rattle.oath_node.specs.declared.rules.Verdict.TheVariants.{BadLine, Refused, Fails, Proposes}
 use Rattle.oath_node.proofs.BookLemmas.{place_named}
 use Rattle.oath_node.proofs.ColumnLemmas.{decides_column}
-use Rattle.oath_node.proofs.RequestLemmas.{line_of_request}
+use Rattle.vote_wire.proofs.RequestLemmas.{line_of_request}
 
 -- what is found is the least fit: a law of admit_core
 abbrev pub FitLaw : Type 0

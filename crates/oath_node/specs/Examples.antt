@@ -1,7 +1,6 @@
--- Worked cases: what lines say, what the rules make of them, and what one server answers. The codes are those of RFC
+-- Worked cases: what the rules make of lines, and what one server answers. The codes are those of RFC
 -- 4226, Appendix D.
-use Rattle.std.specs.Prelude.{ℕ, zero, suc, List, [], ◌∷◌, ◌++◌, map, replicate, Option, Some, codes}
-use Rattle.admit_core.specs.Fit.{Check}
+use Rattle.std.specs.Prelude.{ℕ, zero, suc, List, [], ◌∷◌, map, codes}
 use Rattle.admit_core.specs.Throttle.{Result}
 use Rattle.hmac_core.specs.declared.hash.Hash.TheVariants.{Sha1}
 use Rattle.otp_core.specs.Limits.{Limits}
@@ -12,35 +11,9 @@ use Rattle.token_file.specs.declared.token.Password.{Password}
 use Rattle.token_file.specs.declared.token.Password.TheVariants.{NoneAllowed, NotChecked, Equal}
 use Rattle.oath_node.specs.ReferenceServer.{Line, server_after, server_at}
 use Rattle.oath_node.specs.Report.{IsJustified, floor_before, report_of, results_before}
-use Rattle.oath_node.specs.Request.{Request}
 use Rattle.oath_node.specs.Rules.{Standing, verdict}
 use Rattle.oath_node.specs.declared.report.LinePass.{LinePass}
 use Rattle.oath_node.specs.declared.rules.Verdict.{Verdict}
-
--- ---- Lines
-
--- a CHECK with nonce 1, the user silver and the first code of the key
-abbrev pub check_with : Option (List ℕ) → Option Request
-check_with password = Some (record {
-  nonce = codes "1";
-  user = codes "silver";
-  submission = Check (codes "755224");
-  password = password;
-})
-
--- so many letters
-abbrev pub letters : ℕ → List ℕ
-letters count = replicate count 97
-
--- a CHECK with this nonce, user, code and password
-abbrev pub check_text : List ℕ → List ℕ → List ℕ → List ℕ → List ℕ
-check_text nonce user code password =
-    codes "CHECK " ++ nonce ++ codes " " ++ user ++ codes " " ++ code ++ codes " " ++ password
-
--- the request of a CHECK with this nonce, user, code and password
-abbrev pub check_request : List ℕ → List ℕ → List ℕ → List ℕ → Option Request
-check_request nonce user code password =
-    Some (record { nonce = nonce; user = user; submission = Check code; password = Some password })
 
 -- ---- Rules
 

@@ -1,11 +1,7 @@
-pub mod Answer
-pub mod Codes
 pub mod Column
 pub mod Examples
-pub mod Field
 pub mod Gates
 pub mod Recording
 pub mod ReferenceServer
 pub mod Report
-pub mod Request
 pub mod Rules

@@ -7,9 +7,9 @@ use Rattle.admit_core.specs.Throttle.{Result, Failed, Accepted as Passed, wait_a
 use Rattle.oath_node.specs.Rules.{Standing, verdict}
 use Rattle.oath_node.specs.declared.rules.Verdict.{Verdict}
 use Rattle.oath_node.specs.declared.rules.Verdict.TheVariants.{BadLine, Refused, Fails, Proposes}
-use Rattle.oath_node.specs.declared.answer.Answer.{Answer}
-use Rattle.oath_node.specs.declared.answer.Answer.TheVariants.{BadLine as BadLineAnswer, Reply}
-use Rattle.oath_node.specs.declared.answer.Outcome.TheVariants.{Accepted}
+use Rattle.vote_wire.specs.declared.answer.Answer.{Answer}
+use Rattle.vote_wire.specs.declared.answer.Answer.TheVariants.{BadLine as BadLineAnswer, Reply}
+use Rattle.vote_wire.specs.declared.answer.Outcome.TheVariants.{Accepted}
 
 -- a front end: the results of each token there, the newest first
 pub record Front : Type 0 where

@@ -5,10 +5,10 @@ use Rattle.otp_core.specs.Limits.{Limits}
 use Rattle.token_file.specs.Credential.{Credential}
 use Rattle.admit_core.specs.Entitled.{IsEntitled}
 use Rattle.admit_core.specs.Throttle.{Result}
-use Rattle.oath_node.specs.Answer.{answer_bytes}
+use Rattle.vote_wire.specs.Answer.{answer_bytes}
 use Rattle.oath_node.specs.ReferenceServer.{Server, Line, Span, Told, Service, floor_of, results_of, service_of, server_after, server_at}
-use Rattle.oath_node.specs.Request.{Request, IsLine}
-use Rattle.oath_node.specs.declared.answer.Answer.{Answer}
+use Rattle.vote_wire.specs.Request.{Request, IsLine}
+use Rattle.vote_wire.specs.declared.answer.Answer.{Answer}
 use Rattle.oath_node.specs.declared.report.LinePass.{LinePass}
 use Rattle.oath_node.specs.declared.report.LineAnswer.{LineAnswer}
 

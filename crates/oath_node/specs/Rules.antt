@@ -4,8 +4,8 @@ use Rattle.otp_core.specs.Limits.{Limits}
 use Rattle.token_file.specs.Credential.{Credential, place_of}
 use Rattle.admit_core.specs.Fit.{least_fit}
 use Rattle.oath_node.specs.Column.{column_fits}
-use Rattle.oath_node.specs.Request.{Request, request_at}
-use Rattle.oath_node.specs.declared.answer.Outcome.TheVariants.{Unknown, Password, Throttled, Invalid, Clock, Exhausted}
+use Rattle.vote_wire.specs.Request.{Request, request_at}
+use Rattle.vote_wire.specs.declared.answer.Outcome.TheVariants.{Unknown, Password, Throttled, Invalid, Clock, Exhausted}
 use Rattle.oath_node.specs.declared.rules.Verdict.{Verdict}
 use Rattle.oath_node.specs.declared.rules.Verdict.TheVariants.{BadLine, Refused, Fails, Proposes}
 

@@ -1,71 +1,10 @@
-ghost use Rattle.std.specs.Prelude.{◌≡◌, ◌↔◌, ◌∷◌, ◌++◌, [], ℕ, List, Some, None, codes, false, true};
+ghost use Rattle.std.specs.Prelude.{◌≡◌, ◌∷◌, [], Some, None, codes, false, true};
 ghost use Rattle.token_file.specs.declared.token.Password.TheVariants.{Equal, NoneAllowed, NotChecked};
-ghost use Rattle.admit_core.specs.Fit.{Resync};
 ghost use Rattle.admit_core.specs.Throttle.{Accepted as Passed, Failed};
-ghost use Rattle.oath_node.specs.Answer.{answer_bytes};
 ghost use Rattle.oath_node.specs.Column.{column_fits};
-ghost use Rattle.oath_node.specs.Examples.{IsJustifiedInRun, check_request, check_text, check_with, letters, lines_of_a_run, outcome_of, silver_before, verdict_on};
-ghost use Rattle.oath_node.specs.Request.{IsLine, Request, request_at};
-ghost use Rattle.oath_node.specs.declared.answer.Answer.TheVariants.{BadLine as BadLineAnswer, Reply};
-ghost use Rattle.oath_node.specs.declared.answer.Outcome.TheVariants.{Accepted, Clock, Exhausted, Invalid, Password, Throttled, Unknown};
+ghost use Rattle.oath_node.specs.Examples.{IsJustifiedInRun, lines_of_a_run, outcome_of, silver_before, verdict_on};
+ghost use Rattle.vote_wire.specs.declared.answer.Outcome.TheVariants.{Clock, Exhausted, Invalid, Password, Throttled, Unknown};
 ghost use Rattle.oath_node.specs.declared.rules.Verdict.TheVariants.{BadLine, Fails, Proposes, Refused};
-
-/// A line is in the grammar exactly where it is read so.
-pub fn grammar_is_read()
-    ensures { (bytes : List ℕ) (request : Request)
-        → IsLine bytes request ↔ (request_at bytes ≡ Some request) }
-{}
-
-/// Some lines, and what they say.
-pub fn lines_are_worked()
-    ensures check { request_at (codes "CHECK 1 silver 755224 -") ≡ check_with None }
-    ensures password { request_at (codes "CHECK 1 silver 755224 pw") ≡ check_with (Some (codes "pw")) }
-    ensures plus { request_at (codes "CHECK 1 silver 755224 +") ≡ check_with (Some (codes "+")) }
-    ensures two_marks { request_at (codes "CHECK 1 silver 755224 --") ≡ check_with (Some (codes "--")) }
-    ensures resync { request_at (codes "RESYNC aZ9 silver 755224 12345678 -") ≡ Some (record {
-      nonce = codes "aZ9";
-      user = codes "silver";
-      submission = Resync (codes "755224") (codes "12345678");
-      password = None;
-    }) }
-
-    // one LF at the end, and nothing else
-    ensures lf { request_at (codes "CHECK 1 silver 755224 -" ++ 10 ∷ []) ≡ check_with None }
-    ensures two_lfs { request_at (codes "CHECK 1 silver 755224 -" ++ 10 ∷ 10 ∷ []) ≡ None }
-    ensures cr_lf { request_at (codes "CHECK 1 silver 755224 -" ++ 13 ∷ 10 ∷ []) ≡ None }
-    ensures empty { request_at [] ≡ None }
-    ensures space_before { request_at (codes " CHECK 1 silver 755224 -") ≡ None }
-    ensures space_behind { request_at (codes "CHECK 1 silver 755224 - ") ≡ None }
-    ensures two_spaces { request_at (codes "CHECK  1 silver 755224 -") ≡ None }
-    ensures tab { request_at (codes "CHECK 1 silver" ++ 9 ∷ codes "755224 -") ≡ None }
-
-    // the words and the number of fields
-    ensures lower_case { request_at (codes "check 1 silver 755224 -") ≡ None }
-    ensures other_word { request_at (codes "RECHECK 1 silver 755224 -") ≡ None }
-    ensures few { request_at (codes "CHECK 1 silver 755224") ≡ None }
-    ensures check_of_two { request_at (codes "CHECK 1 silver 755224 287082 -") ≡ None }
-    ensures resync_of_one { request_at (codes "RESYNC 1 silver 755224 -") ≡ None }
-    ensures many { request_at (codes "RESYNC 1 silver 755224 287082 - -") ≡ None }
-
-    // the ends of each field
-    ensures longest { request_at (check_text (letters 20) (letters 64) (codes "12345678") (letters 64))
-        ≡ check_request (letters 20) (letters 64) (codes "12345678") (letters 64) }
-    ensures nonce { request_at (check_text (letters 21) (letters 64) (codes "12345678") (letters 64)) ≡ None }
-    ensures user { request_at (check_text (letters 20) (letters 65) (codes "12345678") (letters 64)) ≡ None }
-    ensures password_length { request_at (check_text (letters 20) (letters 64) (codes "12345678") (letters 65)) ≡ None }
-    ensures code_of_5 { request_at (codes "CHECK 1 silver 75522 -") ≡ None }
-    ensures code_of_9 { request_at (codes "CHECK 1 silver 755224000 -") ≡ None }
-    ensures letter_in_code { request_at (codes "CHECK 1 silver 75522a -") ≡ None }
-    ensures first_code { request_at (codes "RESYNC 1 silver 75522 287082 -") ≡ None }
-    ensures second_code { request_at (codes "RESYNC 1 silver 755224 28708 -") ≡ None }
-    ensures empty_nonce { request_at (codes "CHECK  silver 755224 -") ≡ None }
-    ensures empty_user { request_at (codes "CHECK 1  755224 -") ≡ None }
-    ensures empty_password { request_at (codes "CHECK 1 silver 755224 ") ≡ None }
-    ensures underscore { request_at (codes "CHECK 1_ silver 755224 -") ≡ None }
-    ensures form_feed { request_at (check_text (codes "1") (97 ∷ 12 ∷ []) (codes "755224") (codes "pw"))
-        ≡ check_request (codes "1") (97 ∷ 12 ∷ []) (codes "755224") (codes "pw") }
-    ensures tab_in_user { request_at (check_text (codes "1") (97 ∷ 9 ∷ []) (codes "755224") (codes "pw")) ≡ None }
-{}
 
 /// What the rules make of some lines: the first rule that applies decides.
 pub fn rules_are_worked()
@@ -105,20 +44,6 @@ pub fn columns_are_worked()
     ensures missing { column_fits (Equal (record { items = codes "pw" })) None ≡ false }
     ensures equal { column_fits (Equal (record { items = codes "pw" })) (Some (codes "pw")) ≡ true }
     ensures longer { column_fits (Equal (record { items = codes "pw" })) (Some (codes "pwd")) ≡ false }
-{}
-
-/// The text of each answer.
-pub fn answers_are_worked()
-    ensures bad_line { answer_bytes BadLineAnswer ≡ codes "NO - BADLINE" }
-    ensures accepted { answer_bytes (Reply (codes "a1") (Accepted 4611686018427387903))
-        ≡ codes "OK a1 4611686018427387903" }
-    ensures first { answer_bytes (Reply (codes "a1") (Accepted 0)) ≡ codes "OK a1 0" }
-    ensures unknown { answer_bytes (Reply (codes "a1") Unknown) ≡ codes "NO a1 UNKNOWN" }
-    ensures password { answer_bytes (Reply (codes "a1") Password) ≡ codes "NO a1 PASSWORD" }
-    ensures throttled { answer_bytes (Reply (codes "a1") (Throttled 50000)) ≡ codes "NO a1 THROTTLED 50000" }
-    ensures invalid { answer_bytes (Reply (codes "a1") Invalid) ≡ codes "NO a1 INVALID" }
-    ensures clock { answer_bytes (Reply (codes "a1") Clock) ≡ codes "NO a1 CLOCK" }
-    ensures exhausted { answer_bytes (Reply (codes "a1") Exhausted) ≡ codes "NO a1 EXHAUSTED" }
 {}
 
 /// A run of eight lines: its answers, what it accepts, and the server that it leaves. A failure and an

@@ -17,10 +17,8 @@
 //! ```
 #![tactic(auto)]
 
-mod answer;
 mod fault;
 mod laws;
-mod line;
 mod report;
 mod rules;
 mod run;
@@ -28,9 +26,6 @@ mod run;
 mod tests;
 
 pub use fault::OpenFault;
-pub use laws::{
-    answers_are_worked, columns_are_worked, grammar_is_read, lines_are_worked,
-    promises_can_be_broken, rules_are_worked, runs_are_worked,
-};
+pub use laws::{columns_are_worked, promises_can_be_broken, rules_are_worked, runs_are_worked};
 pub use report::{LineAnswer, LinePass, LineReport};
 pub use run::{ClientLine, run_lines};

@@ -1,12 +1,12 @@
 ghost use Rattle.std.specs.Prelude.{◌≡◌, [], ◌∷◌, ◌++◌, OnOk};
 ghost use Rattle.oath_node.specs.Report.{Report, with_answer, with_pass};
 
-use crate::answer::MAX_ANSWER_LEN;
 use arrayvec::ArrayVec;
 use otp_core::Factor;
 use std::alloc::{AllocError, Global};
 use std::marker::Model;
 use token_file::TokenId;
+use vote_wire::MAX_SENT_LEN;
 
 /// An accepted line: its number from 0, the token, and the factors that it used up.
 #[derive(Clone, Copy, Debug, PartialEq, Eq)]
@@ -22,7 +22,7 @@ pub struct LinePass {
 pub struct LineAnswer {
     pub line: u64,
     pub client: u64,
-    pub bytes: ArrayVec<u8, MAX_ANSWER_LEN>,
+    pub bytes: ArrayVec<u8, MAX_SENT_LEN>,
 }
 
 /// What a run of lines tells: the lines that were accepted, and an answer for each line, in order.

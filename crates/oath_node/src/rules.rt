@@ -1,18 +1,17 @@
 ghost use Rattle.std.specs.Prelude.{◌≡◌, ◌<◌, ◌+◌, ◌-◌, ℕ, length};
 ghost use Rattle.admit_core.specs.Fit.{least_fit};
 ghost use Rattle.otp_core.specs.Range.{IsFactor, IsMoment};
-ghost use Rattle.oath_node.specs.Codes.{submission_of};
+ghost use Rattle.vote_wire.specs.Codes.{submission_of};
 ghost use Rattle.oath_node.specs.Gates.{gate_of, standing_by};
 ghost use Rattle.oath_node.specs.Recording.{IsRecordable};
 ghost use Rattle.oath_node.specs.Rules as spec;
 
-use crate::answer::{Nonce, Outcome};
-use crate::line::{Codes, RequestLine, read_line};
 use admit_core::{
     Gate, find_check, find_resync, least_fit_is_least, password_fits, resync_window, window,
 };
 use otp_core::{FACTORS_END, Factor, MOMENTS_END, Next, Settings};
 use token_file::{Book, Token, TokenId};
+use vote_wire::{Codes, Line, Nonce, Outcome, read_line};
 
 /// What the rules make of a line.
 #[derive(Debug, Drop)]
@@ -60,7 +59,7 @@ fn request_verdict(
     floors: &[Next],
     gates: &[Gate],
     moment: u64,
-    request: RequestLine<'_>,
+    request: Line<'_>,
 ) -> Verdict
     requires floors { length floors.now ≡ length book.now }
     requires gates { length gates.now ≡ length book.now }
@@ -69,14 +68,14 @@ fn request_verdict(
     ensures recordable { IsRecordable (length book.now) moment result }
 {
     if moment >= MOMENTS_END {
-        return Verdict::Refused(request.into_nonce(), Outcome::Clock);
+        return Verdict::Refused(request.to_nonce(), Outcome::Clock);
     }
     let Some(id) = book.find(request.user()) else {
-        return Verdict::Refused(request.into_nonce(), Outcome::Unknown);
+        return Verdict::Refused(request.to_nonce(), Outcome::Unknown);
     };
     let wait = wait_at(gates, id, moment);
     if wait > 0 {
-        return Verdict::Refused(request.into_nonce(), Outcome::Throttled(wait));
+        return Verdict::Refused(request.to_nonce(), Outcome::Throttled(wait));
     }
     let next = floors[id.value() as usize];
     open_verdict(book.token(id), id, next, settings, moment, request)
@@ -97,26 +96,26 @@ fn open_verdict(
     next: Next,
     settings: Settings,
     moment: u64,
-    request: RequestLine<'_>,
+    request: Line<'_>,
 ) -> Verdict
     requires { IsMoment moment }
     ensures value { result ≡ spec.open_verdict settings next moment request.entry id token.now }
     ensures recordable { (tokens : ℕ) → id < tokens → IsRecordable tokens moment result }
 {
     if !password_fits(token, request.password()) {
-        return Verdict::Fails(request.into_nonce(), Outcome::Password, id);
+        return Verdict::Fails(request.to_nonce(), Outcome::Password, id);
     }
     if next.value() == FACTORS_END {
-        return Verdict::Refused(request.into_nonce(), Outcome::Exhausted);
+        return Verdict::Refused(request.to_nonce(), Outcome::Exhausted);
     }
     match find_fit(token, next, settings, moment, request.codes()) {
         Some((lo, hi)) => Verdict::Proposes {
-            nonce: request.into_nonce(),
+            nonce: request.to_nonce(),
             token: id,
             lo,
             hi,
         },
-        None => Verdict::Fails(request.into_nonce(), Outcome::Invalid, id),
+        None => Verdict::Fails(request.to_nonce(), Outcome::Invalid, id),
     }
 }
 

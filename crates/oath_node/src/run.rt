@@ -7,7 +7,6 @@ ghost use Rattle.oath_node.specs.ReferenceServer.{floors_after, server_at, told_
 ghost use Rattle.oath_node.specs.Report.{AreJustified, acceptances_of, report_of, results_in, with_passes, with_told};
 ghost use Rattle.oath_node.specs.Rules.{verdict};
 
-use crate::answer::{Answer, Outcome, write_answer};
 use crate::fault::OpenFault;
 use crate::report::{LineAnswer, LinePass, LineReport};
 use crate::rules::{Verdict, judge};
@@ -17,6 +16,7 @@ use std::alloc::Global;
 use std::fmt;
 use std::marker::Model;
 use token_file::Book;
+use vote_wire::{Answer, Outcome, write_answer};
 
 /// A client's line: the client's number, the moment at which it came, in seconds since 1970-01-01
 /// 00:00:00 UTC, and its bytes.

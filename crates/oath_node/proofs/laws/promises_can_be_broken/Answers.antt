@@ -9,9 +9,9 @@ use Rattle.token_file.specs.declared.token.Password.TheVariants.{Equal, NoneAllo
 use Rattle.oath_node.specs.Examples.{IsJustifiedInRun, line_at, lines_of_a_run, narrowest_limits, three_tokens, token_of}
 use Rattle.oath_node.specs.ReferenceServer.{Line, server_after}
 use Rattle.oath_node.specs.Report.{floor_before, results_before}
-use Rattle.oath_node.specs.Request.{Request, request_at}
+use Rattle.vote_wire.specs.Request.{Request, request_at}
 use Rattle.oath_node.specs.declared.report.LinePass.{LinePass}
-use Rattle.oath_node.proofs.RequestLemmas.{request_of_line}
+use Rattle.vote_wire.proofs.RequestLemmas.{request_of_line}
 use Rattle.oath_node.proofs.laws.promises_can_be_broken.Goals as goal
 
 same_some : {A : Type 0} (x y : A) → Some x ≡ Some y → x ≡ y

@@ -1,6 +1,0 @@
--- The grammar decides what the reader reads.
-use Rattle.oath_node.proofs.RequestLemmas.{line_of_request, request_of_line}
-use Rattle.oath_node.proofs.laws.grammar_is_read.Goals as goal
-
-pub returns : goal.returns
-returns c bytes request = (request_of_line bytes request, line_of_request bytes request)

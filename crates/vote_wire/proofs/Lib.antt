@@ -1,0 +1,5 @@
+pub mod FieldLemmas
+pub mod FormatLemmas
+pub mod RequestLemmas
+pub mod SpellingLemmas
+pub mod TagLemmas

@@ -1,0 +1,9 @@
+-- The codes of a line, as the program holds them.
+use Rattle.admit_core.specs.Fit.{Submission, Check, Resync}
+use Rattle.vote_wire.specs.declared.line.Codes.{Codes}
+use Rattle.vote_wire.specs.declared.line.Codes.TheVariants.{One, Two}
+
+-- one code is submitted by a CHECK, and two by a RESYNC
+abbrev pub submission_of : Codes → Submission
+submission_of (One code) = Check code
+submission_of (Two first second) = Resync first second

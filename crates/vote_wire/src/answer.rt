@@ -1,0 +1,158 @@
+ghost use Rattle.std.specs.Prelude.{◌≡◌, ◌↔◌, ◌+◌, ◌≤◌, ◌++◌, length, IsTrue, IsSome, IfSome};
+ghost use Rattle.std.specs.Fmt.{decimal};
+ghost use Rattle.vote_wire.specs.Answer.{answer_bytes, reply_bytes};
+ghost use Rattle.vote_wire.specs.Field.{IsNonce};
+
+use crate::writing::{MAX_SENT_LEN, push_all};
+use arrayvec::ArrayVec;
+use itoa::Buffer;
+use otp_core::Factor;
+use std::marker::Model;
+
+/// The most bytes of a nonce.
+const MAX_NONCE_LEN: usize = 20;
+
+/// By what a client tells the answer to one line from another: 1 to 20 ASCII letters or digits.
+#[derive(Debug, Drop, PartialEq, Eq)]
+pub struct Nonce {
+    text: ArrayVec<u8, MAX_NONCE_LEN>,
+}
+
+impl Model for Nonce {
+    ghost use Rattle.std.specs.Prelude.{ℕ, List};
+    ghost use Rattle.vote_wire.specs.Field.{IsNonce};
+
+    ghost Value = { List ℕ };
+
+    ghost view = { λ nonce. nonce.text.items };
+
+    ghost invariant = { λ nonce. IsNonce nonce.text.items };
+
+    ghost inverse = { λ text. record { text = record { items = text } } };
+}
+
+/// Whether a text is 1 to 20 ASCII letters or digits.
+pub(crate) fn is_nonce(text: &[u8]) -> bool
+    ensures { IsTrue result ↔ IsNonce text.now }
+{
+    1 <= text.len()
+        && text.len() <= MAX_NONCE_LEN
+        && text.iter().all(|byte| byte.is_ascii_alphanumeric())
+}
+
+impl Nonce {
+    /// The nonce that is written so, or `None` where the text is none.
+    pub fn new(text: &[u8]) -> Option<Self>
+        ensures valid { IsSome result ↔ IsNonce text.now }
+        ensures value { IfSome result (λ nonce. nonce ≡ text.now) }
+    {
+        if !is_nonce(text) {
+            return None;
+        }
+        let text = ArrayVec::try_from(text).ok()?;
+        Some(Nonce { text })
+    }
+
+    /// The bytes of the nonce.
+    pub fn as_slice(&self) -> &[u8]
+        ensures value { result.now ≡ self.now }
+        ensures range { IsNonce result.now }
+    {
+        &self.text
+    }
+}
+
+impl Default for Nonce {
+    /// The nonce `0`.
+    fn default() -> Self {
+        Nonce::new(b"0").unwrap()
+    }
+}
+
+/// What became of a line.
+#[derive(Clone, Copy, Debug, PartialEq, Eq)]
+pub enum Outcome {
+    /// Accepted, with its last factor.
+    Accepted(Factor),
+    /// No such user.
+    Unknown,
+    /// The password is not as the token's column says.
+    Password,
+    /// The token is closed for so many seconds more.
+    Throttled(u64),
+    /// The code fits no factor of the window.
+    Invalid,
+    /// Too few members are left that may grant the factors.
+    Spent,
+    /// Too few members have granted the factors in time.
+    Timeout,
+    /// As many submissions wait as there is room for.
+    Busy,
+    /// The moment is outside the range.
+    Clock,
+    /// The token has no factor left.
+    Exhausted,
+}
+
+/// The answer to a line.
+#[derive(Debug, Drop, PartialEq, Eq)]
+pub enum Answer {
+    /// The line is outside the grammar.
+    BadLine,
+    Reply(Nonce, Outcome),
+}
+
+/// A nonce between two texts.
+fn around(front: &[u8], nonce: &Nonce, back: &[u8]) -> ArrayVec<u8, MAX_SENT_LEN>
+    requires { length front.now + length back.now ≤ 44 }
+    ensures text { result.items ≡ front.now ++ nonce.now ++ back.now }
+    ensures len { length result.items ≤ length front.now + 20 + length back.now }
+{
+    let mut out = ArrayVec::new();
+    push_all(&mut out, front);
+    push_all(&mut out, nonce.as_slice());
+    push_all(&mut out, back);
+    out
+}
+
+/// A nonce between two texts, and a number.
+fn numbered(front: &[u8], nonce: &Nonce, back: &[u8], number: u64) -> ArrayVec<u8, MAX_SENT_LEN>
+    requires { length front.now + length back.now ≤ 24 }
+    ensures { result.items ≡ front.now ++ nonce.now ++ back.now ++ decimal number }
+{
+    let mut out = around(front, nonce, back);
+    push_all(&mut out, Buffer::new().format(number).as_bytes());
+    out
+}
+
+/// The bytes of the answer to a line with this nonce.
+pub fn write_reply(nonce: &Nonce, outcome: Outcome) -> ArrayVec<u8, MAX_SENT_LEN>
+    ensures { result.items ≡ reply_bytes nonce.now outcome }
+{
+    match outcome {
+        Outcome::Accepted(factor) => numbered(b"OK ", nonce, b" ", factor.value()),
+        Outcome::Unknown => around(b"NO ", nonce, b" UNKNOWN"),
+        Outcome::Password => around(b"NO ", nonce, b" PASSWORD"),
+        Outcome::Throttled(seconds) => numbered(b"NO ", nonce, b" THROTTLED ", seconds),
+        Outcome::Invalid => around(b"NO ", nonce, b" INVALID"),
+        Outcome::Spent => around(b"NO ", nonce, b" SPENT"),
+        Outcome::Timeout => around(b"NO ", nonce, b" TIMEOUT"),
+        Outcome::Busy => around(b"NO ", nonce, b" BUSY"),
+        Outcome::Clock => around(b"NO ", nonce, b" CLOCK"),
+        Outcome::Exhausted => around(b"NO ", nonce, b" EXHAUSTED"),
+    }
+}
+
+/// The bytes of an answer, without a line end.
+pub fn write_answer(answer: &Answer) -> ArrayVec<u8, MAX_SENT_LEN>
+    ensures { result.items ≡ answer_bytes answer.now }
+{
+    match answer {
+        Answer::BadLine => {
+            let mut out = ArrayVec::new();
+            push_all(&mut out, b"NO - BADLINE");
+            out
+        }
+        Answer::Reply(nonce, outcome) => write_reply(nonce, *outcome),
+    }
+}

@@ -1,0 +1,189 @@
+//! The datagrams of peers, read.
+
+ghost use Rattle.std.specs.Prelude.{◌≡◌, ◌+◌, ◌≤◌, length, ℕ, IfSome, IfNone};
+ghost use Rattle.vote_core.specs.declared.message.Message.{Message};
+ghost use Rattle.vote_wire.specs.Body as spec;
+ghost use Rattle.vote_wire.specs.Datagram.{IsDatagramOf, IsTagged, body_of, datagram_at};
+
+use crate::bytes::{number_at, word_at};
+use crate::key::{ClusterKey, TAG_LEN, are_equal, tag};
+use crate::writing::{MARK, VERSION};
+use floor_store::{Proposal, is_span};
+use otp_core::{Factor, Next};
+use token_file::MAX_TOKENS;
+use vote_core::Message;
+
+/// The fewest bytes before a tag.
+const MIN_BODY_LEN: usize = 18;
+
+/// Whether the mark and the version stand first.
+fn has_head(body: &[u8]) -> bool
+    requires { 3 ≤ length body.now }
+    ensures { result ≡ spec.has_head body.now }
+{
+    body[0] == MARK[0] && body[1] == MARK[1] && body[2] == VERSION
+}
+
+/// Whether these may be the ends and the token of a message.
+fn has_ends(from: u8, to: u8, token: u32) -> bool
+    ensures { result ≡ spec.has_ends from to token }
+{
+    1 <= from && from <= 9 && 1 <= to && to <= 9 && from != to && (token as usize) < MAX_TOKENS
+}
+
+/// The proposal, where its numbers are in range.
+#[tactic(auto, unfolding(crate::specs::Body::proposal_at))]
+fn proposal_at(body: &[u8]) -> Option<Proposal>
+    requires { 27 ≤ length body.now }
+    ensures { result ≡ spec.proposal_at body.now }
+{
+    Proposal::new(body[10], number_at(body, 11), number_at(body, 19))
+}
+
+/// The factor at a place.
+#[tactic(auto, unfolding(crate::specs::Body::factor_at))]
+fn factor_at(body: &[u8], place: usize) -> Option<Factor>
+    requires { place + 8 ≤ length body.now }
+    ensures { result ≡ spec.factor_at body.now place }
+{
+    Factor::new(number_at(body, place))
+}
+
+/// The first free factor at a place.
+#[tactic(auto, unfolding(crate::specs::Body::next_at))]
+fn next_at(body: &[u8], place: usize) -> Option<Next>
+    requires { place + 8 ≤ length body.now }
+    ensures { result ≡ spec.next_at body.now place }
+{
+    Next::new(number_at(body, place))
+}
+
+/// A proposal of this node for one factor, or for two that follow one another.
+#[tactic(auto, unfolding(crate::specs::Body::vote_at))]
+fn vote_at(body: &[u8], node: u8) -> Option<(Proposal, Factor, Factor)>
+    ensures { result ≡ spec.vote_at body.now node }
+{
+    if body.len() != 43 {
+        return None;
+    }
+    let proposal = proposal_at(body)?;
+    let lo = factor_at(body, 27)?;
+    let hi = factor_at(body, 35)?;
+    if proposal.node() == node && is_span(lo, hi) {
+        Some((proposal, lo, hi))
+    } else {
+        None
+    }
+}
+
+/// A proposal of this node, and a first free factor.
+#[tactic(auto, unfolding(crate::specs::Body::denial_at))]
+fn denial_at(body: &[u8], node: u8) -> Option<(Proposal, Next)>
+    ensures { result ≡ spec.denial_at body.now node }
+{
+    if body.len() != 35 {
+        return None;
+    }
+    let proposal = proposal_at(body)?;
+    let next = next_at(body, 27)?;
+    if proposal.node() == node {
+        Some((proposal, next))
+    } else {
+        None
+    }
+}
+
+/// A first free factor alone.
+#[tactic(auto, unfolding(crate::specs::Body::floor_at))]
+fn floor_at(body: &[u8]) -> Option<Next>
+    ensures { result ≡ spec.floor_at body.now }
+{
+    if body.len() != 18 {
+        return None;
+    }
+    next_at(body, 10)
+}
+
+/// The message by its kind.
+#[tactic(auto, unfolding(crate::specs::Body::message_at))]
+fn message_at(body: &[u8], from: u8, to: u8, token: u32) -> Option<Message>
+    requires { 4 ≤ length body.now }
+    ensures { result ≡ spec.message_at body.now from to token }
+{
+    let kind = body[3];
+    if kind == 1 {
+        let (proposal, lo, hi) = vote_at(body, from)?;
+        Some(Message::Ask {
+            proposal,
+            token,
+            lo,
+            hi,
+        })
+    } else if kind == 2 {
+        let (proposal, lo, hi) = vote_at(body, to)?;
+        Some(Message::Grant {
+            proposal,
+            token,
+            lo,
+            hi,
+        })
+    } else if kind == 3 {
+        let (proposal, next) = denial_at(body, to)?;
+        Some(Message::Deny {
+            proposal,
+            token,
+            next,
+        })
+    } else if kind == 4 {
+        let next = floor_at(body)?;
+        Some(Message::Floor { token, next })
+    } else {
+        None
+    }
+}
+
+/// Who sends what to whom, by the bytes before the tag.
+#[tactic(auto, unfolding(crate::specs::Body::body_at))]
+fn body_at(body: &[u8]) -> Option<(u8, u8, Message)>
+    ensures { result ≡ spec.body_at body.now }
+{
+    if body.len() < MIN_BODY_LEN || !has_head(body) {
+        return None;
+    }
+    let from = body[4];
+    let to = body[5];
+    let token = word_at(body, 6);
+    if !has_ends(from, to, token) {
+        return None;
+    }
+    let message = message_at(body, from, to, token)?;
+    Some((from, to, message))
+}
+
+/// The bytes before the tag, where the tag is theirs.
+fn tagged_body<'a>(key: &ClusterKey, bytes: &'a [u8]) -> Option<&'a [u8]>
+    ensures some { IfSome result (λ body. IsTagged key.now bytes.now × (body.now ≡ body_of bytes.now)) }
+    ensures none { IfNone result (IsTagged key.now bytes.now → ⊥) }
+{
+    let (body, last) = bytes.split_at_checked(bytes.len().checked_sub(TAG_LEN)?)?;
+    let last: &[u8; TAG_LEN] = last.try_into().ok()?;
+    if are_equal(last, &tag(key, body)) {
+        Some(body)
+    } else {
+        None
+    }
+}
+
+/// Who sends what to whom, by the bytes of a datagram under the key that the cluster shares, or `None`
+/// where they are outside the format or the tag is wrong.
+pub fn read_message(key: &ClusterKey, bytes: &[u8]) -> Option<(u8, u8, Message)>
+    // What is read is in the format.
+    ensures some { IfSome result (λ read. IsDatagramOf key.now bytes.now read.0 read.1 read.2) }
+    // What is in the format is read.
+    ensures none { IfNone result
+        ((from to : ℕ) (message : Message) → IsDatagramOf key.now bytes.now from to message → ⊥) }
+    // The reader as a function.
+    ensures exact { result ≡ datagram_at key.now bytes.now }
+{
+    body_at(tagged_body(key, bytes)?)
+}
