@@ -37,8 +37,8 @@ pub record Reads {A : Type 0} (store : Held) (is_right : Content → A → Type 
   pub broken : IfErr result (IsBrokenBy store.fault)
 
 -- The content becomes `made`, whole or not at all.
-pub record Makes {S A : Type 0} (held : S → Held) (old new : S) (made : Content)
-    (result : Result A StoreFault) : Type 0 where
+pub record Makes {S A E : Type 0} (held : S → Held) (old new : S) (made : Content)
+    (result : Result A E) : Type 0 where
   -- After Ok the store holds what was to be made, after Err that or what it held before.
   pub ok : (held new).is_clean → OnOk result ((held new).content ≡ made)
   pub err : (held new).is_clean → OnErr result (OldOrNew (held old).content made (held new).content)
@@ -50,8 +50,8 @@ pub record Makes {S A : Type 0} (held : S → Held) (old new : S) (made : Conten
   pub tokens : length (held new).content.rows ≡ length (held old).content.rows
 
 -- A call that writes `made`.
-pub record Writes {S A : Type 0} (held : S → Held) (old new : S) (made : Content)
-    (result : Result A StoreFault) : Type 0 where
+pub record Writes {S A E : Type 0} (held : S → Held) (old new : S) (made : Content)
+    (result : Result A E) : Type 0 where
   pub makes : Makes held old new made result
   -- A stop leaves what a stop before the call could leave, or what was to be made; after Ok only what the store holds.
   pub left : (c : Content) → (held new).leaves c → (held old).leaves c ⊎ (c ≡ made)
@@ -61,8 +61,8 @@ pub record Writes {S A : Type 0} (held : S → Held) (old new : S) (made : Conte
 
 -- A call that writes `made`, or finds it there and writes nothing. What is made follows from rows that it reads, which
 -- are right where the store is clean.
-pub record MayWrite {S A : Type 0} (held : S → Held) (old new : S) (made : Content)
-    (result : Result A StoreFault) : Type 0 where
+pub record MayWrite {S A E : Type 0} (held : S → Held) (old new : S) (made : Content)
+    (result : Result A E) : Type 0 where
   pub makes : Makes held old new made result
   pub left : (held old).is_clean → (c : Content) → (held new).leaves c → (held old).leaves c ⊎ (c ≡ made)
   pub settled : (held new).is_clean → IsSettled (held old) → OnOk result (IsSettled (held new))

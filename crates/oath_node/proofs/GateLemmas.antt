@@ -1,5 +1,5 @@
 -- The gates that the program keeps tell what the lists of results do.
-use Rattle.std.proofs.Common.{◌≡◌, ℕ, zero, suc, ◌-◌, ◌^◌, cond, List, [], ◌∷◌, length, get_or, set, replicate, Option, Some, None, refl, sym, ap, ◌∙◌}
+use Rattle.std.proofs.Common.{◌≡◌, ℕ, zero, suc, ◌-◌, ◌^◌, Bool, cond, List, [], ◌∷◌, length, get_or, set, replicate, Option, Some, None, refl, sym, ap, ◌∙◌}
 use Rattle.std.specs.Prelude.{nat_lt, slice_get}
 use Rattle.std.proofs.lemmas.List.{length-map, length-set, map-set}
 use Rattle.std.proofs.Math.ListN.{get_or-map}
@@ -11,7 +11,7 @@ use Rattle.oath_node.specs.Gates.{gate_of, gates_of, gates_after, standing_by}
 use Rattle.oath_node.specs.ReferenceServer.{Server, results_after, standing_of}
 use Rattle.vote_wire.specs.Request.{Request, request_at}
 use Rattle.oath_node.specs.Rules.{Standing, token_verdict, place_verdict, user_verdict, judgement_of, verdict}
-use Rattle.vote_wire.specs.declared.answer.Outcome.TheVariants.{Clock}
+use Rattle.vote_wire.specs.declared.answer.Outcome.TheVariants.{Busy, Clock}
 use Rattle.oath_node.specs.declared.rules.Verdict.{Verdict}
 use Rattle.oath_node.specs.declared.rules.Verdict.TheVariants.{BadLine, Refused, Fails, Proposes}
 
@@ -26,9 +26,10 @@ wait_same : (results : List (List Result)) (token moment : ℕ)
     → (gate_of (gates_of results) token).until - moment ≡ wait_after (get_or results token []) moment
 wait_same results token moment = ap (λ (g : GateRecord). g.until - moment) (gate_of-results results token)
 
--- two standings with the same floors and the same waits lead to the same verdict
+-- two standings with the same room, the same floors and the same waits lead to the same verdict
 abbrev IsSameStanding : Standing → Standing → Type 0
-IsSameStanding a b = ((token : ℕ) → a.next token ≡ b.next token) × ((token : ℕ) → a.wait token ≡ b.wait token)
+IsSameStanding a b =
+    ((token : ℕ) → a.next token ≡ b.next token) × ((token : ℕ) → a.wait token ≡ b.wait token) × (a.is_full ≡ b.is_full)
 
 same_place_verdict : (limits : Limits) (a b : Standing) (moment : ℕ) (r : Request) (token : ℕ) (found : Option Credential) → IsSameStanding a b
     → place_verdict limits a moment r token found ≡ place_verdict limits b moment r token found
@@ -46,14 +47,16 @@ same_judgement : (book : List Credential) (limits : Limits) (a b : Standing) (mo
     → judgement_of book limits a moment r ≡ judgement_of book limits b moment r
 same_judgement book limits a b moment None h = refl
 same_judgement book limits a b moment (Some r) h =
-    ap (λ (v : Verdict). cond (nat_lt moment (2 ^ 40)) v (Refused r.nonce Clock)) (same_user_verdict book limits a b moment r (place_of r.user book) h)
+    ap (λ (v : Verdict). cond (nat_lt moment (2 ^ 40)) v (Refused r.nonce Clock))
+    (ap (λ (v : Verdict). cond a.is_full (Refused r.nonce Busy) v) (same_user_verdict book limits a b moment r (place_of r.user book) h)
+    ∙ ap (λ (f : Bool). cond f (Refused r.nonce Busy) (user_verdict book limits b moment r (place_of r.user book))) h.2)
 
 -- the gates of the results lead to the verdict that the results lead to
 pub verdict_same : (book : List Credential) (limits : Limits) (s : Server) (moment : ℕ) (text : List ℕ)
     → verdict book limits (standing_by s.floors (gates_of s.front.results) moment) moment text ≡ verdict book limits (standing_of s moment) moment text
 verdict_same book limits s moment text =
     same_judgement book limits (standing_by s.floors (gates_of s.front.results) moment) (standing_of s moment) moment (request_at text)
-    ((λ token. refl), (λ token. wait_same s.front.results token moment))
+    ((λ token. refl), (λ token. wait_same s.front.results token moment), refl)
 
 -- and a verdict makes of the gates what it makes of the results
 pub gates_after_same : GateLaw → (results : List (List Result)) (moment : ℕ) (v : Verdict)

@@ -1,6 +1,17 @@
 pub mod BookLemmas
+pub mod BoundLemmas
 pub mod ColumnLemmas
+pub mod FitLemmas
 pub mod GateLemmas
+pub mod GroundLemmas
+pub mod KeptLemmas
+pub mod LineLemmas
+pub mod NodeLemmas
+pub mod OwnedLemmas
+pub mod OwnerLemmas
+pub mod PeerLemmas
+pub mod RefusalLemmas
 pub mod RunLemmas
 pub mod SafetyLemmas
+pub mod StepLemmas
 pub mod VerdictLemmas

@@ -17,7 +17,7 @@ use Rattle.admit_core.specs.Window.{InWindow}
 use Rattle.oath_node.specs.Column.{column_fits}
 use Rattle.oath_node.specs.ReferenceServer.{Server, Line, floor_of, floors_after, results_of, service_by, standing_of}
 use Rattle.vote_wire.specs.Request.{Request, IsLine, request_at}
-use Rattle.oath_node.specs.Rules.{Standing, fit_verdict, remaining_verdict, open_verdict, token_verdict, place_verdict, user_verdict, request_verdict, judgement_of, verdict}
+use Rattle.oath_node.specs.Rules.{Standing, fit_verdict, remaining_verdict, open_verdict, token_verdict, place_verdict, user_verdict, room_verdict, request_verdict, judgement_of, verdict}
 use Rattle.vote_wire.specs.declared.answer.Outcome.TheVariants.{Clock, Exhausted, Password, Throttled}
 use Rattle.oath_node.specs.declared.rules.Verdict.{Verdict}
 use Rattle.oath_node.specs.declared.rules.Verdict.TheVariants.{BadLine, Refused, Fails, Proposes}
@@ -128,7 +128,7 @@ user_grounds law book limits s l r in_range grammar (Some token) e = place_groun
 request_grounds : FitLaw → (book : List Credential) (limits : Limits) (s : Server) (l : Line) (r : Request) → IsLine l.text r
     → HasGrounds book limits s l (request_verdict book limits (standing_of s l.moment) l.moment r)
 request_grounds law book limits s l r grammar =
-    cond_both (nat_lt l.moment (2 ^ 40)) (user_verdict book limits (standing_of s l.moment) l.moment r (place_of r.user book)) (Refused r.nonce Clock)
+    cond_both (nat_lt l.moment (2 ^ 40)) (room_verdict book limits (standing_of s l.moment) l.moment r) (Refused r.nonce Clock)
     (HasGrounds book limits s l)
     (λ below. user_grounds law book limits s l r (ltb-true l.moment (2 ^ 40) below) grammar _ refl)
     (λ _. tt)
@@ -144,10 +144,10 @@ verdict_grounds law book limits s l = judgement_grounds law book limits s l _ re
 
 -- a request at a moment in range, for a user whose token is open
 pub request_verdict-open : (book : List Credential) (limits : Limits) (s : Standing) (moment : ℕ) (r : Request) (token : ℕ) (c : Credential)
-    → moment < 2 ^ 40 → place_of r.user book ≡ Some token → slice_get book token ≡ Some c → s.wait token ≤ 0
+    → moment < 2 ^ 40 → s.is_full ≡ false → place_of r.user book ≡ Some token → slice_get book token ≡ Some c → s.wait token ≤ 0
     → request_verdict book limits s moment r ≡ open_verdict limits (s.next token) moment r token c
-request_verdict-open book limits s moment r token c below place here none =
-    rw (lt-ltb moment (2 ^ 40) below, place, here, le-ltb 0 (s.wait token) none) refl
+request_verdict-open book limits s moment r token c below room place here none =
+    rw (lt-ltb moment (2 ^ 40) below, room, place, here, le-ltb 0 (s.wait token) none) refl
 
 -- ---- the floors after a verdict
 

@@ -1,6 +1,6 @@
--- Worked cases: what the rules make of lines, and what one server answers. The codes are those of RFC
--- 4226, Appendix D.
-use Rattle.std.specs.Prelude.{ℕ, zero, suc, List, [], ◌∷◌, map, codes}
+-- Worked cases: what the rules make of lines, and what one server answers. The codes are those of RFC 4226,
+-- Appendix D.
+use Rattle.std.specs.Prelude.{ℕ, zero, suc, false, List, [], ◌∷◌, map, None, codes}
 use Rattle.admit_core.specs.Throttle.{Result}
 use Rattle.hmac_core.specs.declared.hash.Hash.TheVariants.{Sha1}
 use Rattle.otp_core.specs.Limits.{Limits}
@@ -45,9 +45,12 @@ by_token silver gold iron (suc zero) = gold
 by_token silver gold iron (suc (suc token)) = iron
 
 -- Silver has this first free factor and this wait, gold has the first free factor 3 and no wait, and iron has no factor
--- left.
+-- left. No answer is kept, and no line waits.
 abbrev pub standing_with : ℕ → ℕ → Standing
 standing_with next wait = record {
+  kept = None;
+  is_waiting = false;
+  is_full = false;
   next = by_token next 3 4611686018427387904;
   wait = by_token wait 0 0;
 }

@@ -1,6 +1,6 @@
 -- What the program keeps in place of the results of each token: its gate. Private contracts alone cite it: no
 -- public one rests on it.
-use Rattle.std.specs.Prelude.{ℕ, ◌-◌, List, map, slice_index, slice_index_or, slice_set}
+use Rattle.std.specs.Prelude.{ℕ, ◌-◌, false, List, None, map, slice_index, slice_index_or, slice_set}
 use Rattle.admit_core.specs.Gate.{GateRecord, clear_gate, with_failure}
 use Rattle.admit_core.specs.Throttle.{Result, gate_after}
 use Rattle.oath_node.specs.Rules.{Standing}
@@ -18,6 +18,9 @@ gate_of gates token = slice_index_or gates token clear_gate
 -- the standing by these gates
 abbrev pub standing_by : List ℕ → List GateRecord → ℕ → Standing
 standing_by floors gates moment = record {
+  kept = None;
+  is_waiting = false;
+  is_full = false;
   next = λ token. slice_index floors token;
   wait = λ token. (gate_of gates token).until - moment;
 }

@@ -1,7 +1,17 @@
+pub mod Answers
+pub mod Calls
 pub mod Column
 pub mod Examples
 pub mod Gates
+pub mod Grounds
+pub mod Heard
+pub mod Hosted
+pub mod Machine
+pub mod Outputs
+pub mod Parcel
+pub mod Parts
 pub mod Recording
 pub mod ReferenceServer
+pub mod Refusals
 pub mod Report
 pub mod Rules

@@ -1,6 +1,6 @@
 -- One server with one first free factor for each token, which answers each line at once at a front end.
 -- Nothing is voted on, sent or waited for.
-use Rattle.std.specs.Prelude.{ℕ, ◌+◌, List, [], ◌∷◌, length, replicate, Option, Some, None, slice_index, slice_index_or, slice_set}
+use Rattle.std.specs.Prelude.{ℕ, ◌+◌, false, List, [], ◌∷◌, length, replicate, Option, Some, None, slice_index, slice_index_or, slice_set}
 use Rattle.otp_core.specs.Limits.{Limits}
 use Rattle.token_file.specs.Credential.{Credential}
 use Rattle.admit_core.specs.Throttle.{Result, Failed, Accepted as Passed, wait_after}
@@ -55,9 +55,12 @@ floor_of server token = slice_index server.floors token
 abbrev pub results_of : Server → ℕ → List Result
 results_of server token = slice_index_or server.front.results token []
 
--- the wait is that of the results, by the throttle's definition
+-- no answer is kept and no line waits; the wait is that of the results, by the throttle's definition
 abbrev pub standing_of : Server → ℕ → Standing
 standing_of server moment = record {
+  kept = None;
+  is_waiting = false;
+  is_full = false;
   next = floor_of server;
   wait = λ token. wait_after (results_of server token) moment;
 }

@@ -1,10 +1,22 @@
-ghost use Rattle.std.specs.Prelude.{◌≡◌, ◌∷◌, [], Some, None, codes, false, true};
+ghost use Rattle.std.specs.Prelude.{◌≡◌, ◌≤◌, ◌∷◌, [], ℕ, List, Some, None, codes, false, length, true};
 ghost use Rattle.token_file.specs.declared.token.Password.TheVariants.{Equal, NoneAllowed, NotChecked};
 ghost use Rattle.admit_core.specs.Throttle.{Accepted as Passed, Failed};
 ghost use Rattle.oath_node.specs.Column.{column_fits};
+ghost use Rattle.oath_node.specs.Grounds.{HasGrounds, IsSameStanding};
+ghost use Rattle.oath_node.specs.Machine.{Client, Config, NodeEvent, NodeState, made_by_event, ruling_at};
+ghost use Rattle.oath_node.specs.Outputs.{outputs_of};
+ghost use Rattle.oath_node.specs.Refusals.{IsRefusal, KeepsFloors, SparesToken};
+ghost use Rattle.oath_node.specs.Rules.{Standing, ruling};
+ghost use Rattle.otp_core.specs.Limits.{Limits};
+ghost use Rattle.token_file.specs.Credential.{Credential};
+ghost use Rattle.vote_core.specs.NodeSet.{PlaceRecord};
+ghost use Rattle.vote_core.specs.Rows.{row};
+ghost use Rattle.vote_core.specs.State.{IsPlace};
 ghost use Rattle.oath_node.specs.Examples.{IsJustifiedInRun, lines_of_a_run, outcome_of, silver_before, verdict_on};
 ghost use Rattle.vote_wire.specs.declared.answer.Outcome.TheVariants.{Clock, Exhausted, Invalid, Password, Throttled, Unknown};
 ghost use Rattle.oath_node.specs.declared.rules.Verdict.TheVariants.{BadLine, Fails, Proposes, Refused};
+
+use admit_core::least_fit_is_least;
 
 /// What the rules make of some lines: the first rule that applies decides.
 pub fn rules_are_worked()
@@ -72,4 +84,36 @@ pub fn promises_can_be_broken()
     ensures no_line { IsJustifiedInRun (record { began = 8; token = 0; lo = 1; hi = 1 }) → ⊥ }
     ensures closed { IsJustifiedInRun (record { began = 1; token = 0; lo = 0; hi = 0 }) → ⊥ }
     ensures used_up { IsJustifiedInRun (record { began = 3; token = 0; lo = 1; hi = 1 }) → ⊥ }
+{}
+
+/// What becomes of a line has its grounds, whoever answers it, and rests on the standing alone.
+pub fn rulings_have_grounds()
+    ensures grounds { (book : List Credential) (limits : Limits) (standing : Standing) (moment : ℕ) (line : List ℕ)
+        → HasGrounds book limits standing moment line (ruling book limits standing moment line) }
+    ensures same { (book : List Credential) (limits : Limits) (one other : Standing) (moment : ℕ) (line : List ℕ)
+        → IsSameStanding (length book) one other
+        → ruling book limits one moment line ≡ ruling book limits other moment line }
+{
+    least_fit_is_least();
+}
+
+/// A line that is refused leaves each first free factor, each grant, the boot and the last pass as they were,
+/// and each gate but that of a token that fails.
+pub fn refused_lines_change_gates_alone()
+    ensures floors { (config : Config) (place : PlaceRecord) (x : NodeState) (client moment : ℕ) (line : List ℕ)
+        → IsRefusal (ruling_at config x client moment line)
+        → KeepsFloors x.content (made_by_event config place (Client client moment line) x).state.content }
+    ensures gates { (config : Config) (place : PlaceRecord) (x : NodeState) (client moment : ℕ) (line : List ℕ)
+        (token : ℕ)
+        → IsRefusal (ruling_at config x client moment line)
+        → SparesToken token (ruling_at config x client moment line)
+        → (row (made_by_event config place (Client client moment line) x).state.content token).gate
+          ≡ (row x.content token).gate }
+{}
+
+/// One event makes at most 264 datagrams and replies.
+pub fn outputs_are_few()
+    ensures { (key : List ℕ) (config : Config) (place : PlaceRecord) (x : NodeState) (event : NodeEvent)
+        → IsPlace place → length x.voter.pending ≤ 32
+        → length (outputs_of key place (made_by_event config place event x)).items ≤ 264 }
 {}

@@ -17,15 +17,35 @@
 //! ```
 #![tactic(auto)]
 
+mod answers;
+mod event;
 mod fault;
+mod handling;
+mod item;
+mod items;
 mod laws;
+mod node;
+#[cfg(test)]
+mod node_tests;
+mod outputs;
+mod owner;
+mod parts;
 mod report;
 mod rules;
 mod run;
+mod settling;
 #[cfg(test)]
 mod tests;
 
-pub use fault::OpenFault;
-pub use laws::{columns_are_worked, promises_can_be_broken, rules_are_worked, runs_are_worked};
+pub use event::Event;
+pub use fault::{NodeFault, OpenFault};
+pub use item::Item;
+pub use items::Items;
+pub use laws::{
+    columns_are_worked, outputs_are_few, promises_can_be_broken, refused_lines_change_gates_alone,
+    rules_are_worked, rulings_have_grounds, runs_are_worked,
+};
+pub use node::Node;
+pub use outputs::Outputs;
 pub use report::{LineAnswer, LinePass, LineReport};
 pub use run::{ClientLine, run_lines};

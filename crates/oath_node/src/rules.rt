@@ -1,14 +1,18 @@
-ghost use Rattle.std.specs.Prelude.{◌≡◌, ◌<◌, ◌+◌, ◌-◌, ℕ, length};
+ghost use Rattle.std.specs.Prelude.{◌≡◌, ◌<◌, ◌≤◌, ◌+◌, ◌-◌, ℕ, None, false, length};
 ghost use Rattle.admit_core.specs.Fit.{least_fit};
+ghost use Rattle.floor_store.specs.Held.{Reads};
+ghost use Rattle.floor_store.specs.Range.{IsSpan};
 ghost use Rattle.otp_core.specs.Range.{IsFactor, IsMoment};
+ghost use Rattle.vote_core.specs.Rows.{row as row_in};
 ghost use Rattle.vote_wire.specs.Codes.{submission_of};
 ghost use Rattle.oath_node.specs.Gates.{gate_of, standing_by};
-ghost use Rattle.oath_node.specs.Recording.{IsRecordable};
+ghost use Rattle.oath_node.specs.Recording.{IfProposes, IsRecordable, standing_in};
 ghost use Rattle.oath_node.specs.Rules as spec;
 
 use admit_core::{
     Gate, find_check, find_resync, least_fit_is_least, password_fits, resync_window, window,
 };
+use floor_store::{FloorStore, Row, StoreFault};
 use otp_core::{FACTORS_END, Factor, MOMENTS_END, Next, Settings};
 use token_file::{Book, Token, TokenId};
 use vote_wire::{Codes, Line, Nonce, Outcome, read_line};
@@ -151,4 +155,71 @@ fn factor_after(factor: Factor) -> Factor
     ensures { result ≡ factor + 1 }
 {
     Factor::new(factor.value() + 1).unwrap()
+}
+
+/// The row of a token.
+pub(crate) fn row_of<S: FloorStore>(store: &S, token: u32) -> Result<Row, StoreFault>
+    requires { token < length (S.held store.now).content.rows }
+    ensures { Reads (S.held store.now) (λ content row. row ≡ row_in content token) result }
+{
+    store.row(token)
+}
+
+/// Whether a token is open, by its row, and what follows.
+fn token_verdict(
+    token: &Token,
+    id: TokenId,
+    row: Row,
+    settings: Settings,
+    moment: u64,
+    request: Line<'_>,
+) -> Verdict
+    requires { IsMoment moment }
+    ensures value { result
+        ≡ spec.token_verdict settings row.next (row.gate.until - moment) moment request.entry id token.now }
+    ensures recordable { (tokens : ℕ) → id < tokens → IsRecordable tokens moment result }
+    ensures spanned { IfProposes result (λ token lo hi. IsSpan lo hi) }
+    ensures free { IfProposes result (λ token lo hi. (token ≡ id) × (row.next ≤ lo)) }
+{
+    least_fit_is_least();
+    let wait = row.gate().wait(moment);
+    if wait > 0 {
+        return Verdict::Refused(request.to_nonce(), Outcome::Throttled(wait));
+    }
+    open_verdict(token, id, row.next(), settings, moment, request)
+}
+
+/// What the rules make of a request that no answer is kept for and that doesn't wait, by the rows of a store:
+/// the moment, whether there is room, the user, and the row of the token.
+pub(crate) fn examine<S: FloorStore>(
+    book: &Book,
+    settings: Settings,
+    store: &S,
+    is_full: bool,
+    moment: u64,
+    request: Line<'_>,
+) -> Verdict
+    requires works { (S.held store.now).fault ≡ None }
+    requires rows { length (S.held store.now).content.rows ≡ length book.now }
+    ensures value { (S.held store.now).is_clean → result ≡ spec.request_verdict book.now settings
+        (standing_in (S.held store.now).content is_full moment) moment request.entry }
+    ensures recordable { IsRecordable (length book.now) moment result }
+    ensures spanned { IfProposes result (λ token lo hi. IsSpan lo hi) }
+    ensures free { (S.held store.now).is_clean → IfProposes result
+        (λ token lo hi. (row_in (S.held store.now).content token).next ≤ lo) }
+    ensures room { IfProposes result (λ token lo hi. is_full ≡ false) }
+{
+    if moment >= MOMENTS_END {
+        return Verdict::Refused(request.to_nonce(), Outcome::Clock);
+    }
+    if is_full {
+        return Verdict::Refused(request.to_nonce(), Outcome::Busy);
+    }
+    let Some(id) = book.find(request.user()) else {
+        return Verdict::Refused(request.to_nonce(), Outcome::Unknown);
+    };
+    match row_of(store, id.value()) {
+        Ok(row) => token_verdict(book.token(id), id, row, settings, moment, request),
+        Err(_) => unreachable!(),
+    }
 }

@@ -1,6 +1,7 @@
 //! A voter: what the messages of the others and its own proposals make of its store.
 
-ghost use Rattle.std.specs.Prelude.{◌≡◌, ◌≢◌, ◌<◌, ◌≤◌, ◌^◌, ◌↔◌, Err, length, IfErr, IfOk, IsFalse, IsTrue};
+ghost use Rattle.std.specs.List.{list_any};
+ghost use Rattle.std.specs.Prelude.{◌≡◌, ◌≢◌, ◌<◌, ◌≤◌, ◌^◌, ◌==◌, ◌↔◌, Err, length, IfErr, IfOk, IsFalse, IsTrue};
 ghost use Rattle.floor_store.specs.Held.{RaisesBoot};
 ghost use Rattle.floor_store.specs.Range.{IsCount, IsSpan};
 ghost use Rattle.vote_core.specs.declared.fault.VoteFault.{VoteFault};
@@ -110,6 +111,21 @@ impl Voter {
     {
         let is_other = 1 <= from && from <= self.place.n() && from != self.place.me();
         is_other && fits_tokens(self.place, self.tokens, from, *message)
+    }
+
+    /// The number of the next proposal, from 0 to 2^62; 2^62 says that none is left.
+    pub fn next_seq(&self) -> u64
+        ensures value { result ≡ self.now.seq }
+        ensures range { result ≤ 2 ^ 62 }
+    {
+        self.seq
+    }
+
+    /// Whether the proposal of this number waits for votes.
+    pub fn is_pending(&self, seq: u64) -> bool
+        ensures { result ≡ list_any (λ ballot. ballot.seq == seq) self.now.ballots }
+    {
+        self.ballots.iter().any(|ballot| ballot.seq() == seq)
     }
 
     /// How many proposals wait for votes.

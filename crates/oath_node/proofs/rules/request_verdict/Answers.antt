@@ -1,4 +1,4 @@
-use Rattle.std.proofs.Common.{◌≡◌, ℕ, ◌<◌, List, length, get_or, sym, ap, ◌∙◌, arith}
+use Rattle.std.proofs.Common.{◌≡◌, ℕ, ◌<◌, List, length, get_or, refl, sym, ap, ◌∙◌, arith}
 use Rattle.std.proofs.lemmas.Grind.{get_or_default_zero}
 use Rattle.token_file.specs.Credential.{place_of}
 use Rattle.oath_node.specs.Gates.{standing_by}
@@ -16,5 +16,5 @@ returns-clause-value c =
     c.open_verdict.ensures.value
     ∙ ap (λ (n : ℕ). open_verdict c.args.settings n c.args.moment c.args.request c.in-Some.id c.token.result.now) next
     ∙ sym (request_verdict-open c.args.book.now c.args.settings (standing_by floors c.args.gates.now c.args.moment) c.args.moment c.args.request
-    c.in-Some.id c.token.result.now (omega (arith, c.if-moment-ge-MOMENTS_END.false)) (ap (λ (u : List ℕ). place_of u c.args.book.now) (sym c.user.ensures) ∙ sym c.in-Some.ensures.place) c.token.ensures.value
+    c.in-Some.id c.token.result.now (omega (arith, c.if-moment-ge-MOMENTS_END.false)) refl (ap (λ (u : List ℕ). place_of u c.args.book.now) (sym c.user.ensures) ∙ sym c.in-Some.ensures.place) c.token.ensures.value
     (omega (arith, c.if-wait-gt0.false, c.wait_at-wait.ensures)))

@@ -1,0 +1,71 @@
+-- On what grounds the rules decide: what a line meets whose factors are proposed, and what one that fails.
+use Rattle.std.specs.Prelude.{◌≡◌, ℕ, ◌<◌, ◌≤◌, true, false, List, length, Some, slice_get}
+use Rattle.otp_core.specs.Limits.{Limits}
+use Rattle.otp_core.specs.Range.{IsMoment}
+use Rattle.token_file.specs.Credential.{Credential}
+use Rattle.admit_core.specs.Fit.{IsLeastFit}
+use Rattle.admit_core.specs.Password.{PasswordFits}
+use Rattle.floor_store.specs.Range.{IsSpan}
+use Rattle.vote_wire.specs.Request.{Request, IsLine}
+use Rattle.vote_wire.specs.declared.answer.Outcome.{Outcome}
+use Rattle.vote_wire.specs.declared.answer.Outcome.TheVariants.{Accepted, Unknown, Password, Throttled, Invalid, Spent, Timeout, Busy, Clock, Exhausted}
+use Rattle.oath_node.specs.Rules.{Standing, Ruling, Outside, Again, Waiting, Denied, Wrong, Fitting}
+
+-- nothing was accepted
+abbrev pub IsRefusedBy : Outcome → Type 0
+IsRefusedBy (Accepted factor) = ⊥
+IsRefusedBy Unknown = Unit {0}
+IsRefusedBy Password = Unit {0}
+IsRefusedBy (Throttled seconds) = Unit {0}
+IsRefusedBy Invalid = Unit {0}
+IsRefusedBy Spent = Unit {0}
+IsRefusedBy Timeout = Unit {0}
+IsRefusedBy Busy = Unit {0}
+IsRefusedBy Clock = Unit {0}
+IsRefusedBy Exhausted = Unit {0}
+
+-- A line whose factors lo to hi are proposed, with its nonce: there is room for it; it is in the line grammar, at a moment
+-- in range, for the user of a token that is open, with a password as its column says; and the factors are the least in
+-- the window that fit.
+pub record IsFitting (book : List Credential) (limits : Limits) (standing : Standing) (moment : ℕ)
+    (line nonce : List ℕ) (token lo hi : ℕ) : Type 0 where
+  pub room : standing.is_full ≡ false
+  pub within : token < length book
+  pub request : Request
+  pub grammar : IsLine line request
+  pub nonce_is : nonce ≡ request.nonce
+  pub credential : Credential
+  pub is_token : slice_get book token ≡ Some credential
+  pub user : credential.name ≡ request.user
+  pub in_range : IsMoment moment
+  pub is_open : standing.wait token ≤ 0
+  pub password : PasswordFits credential.password request.password
+  pub fit : IsLeastFit credential limits (standing.next token) moment request.submission lo hi
+  pub free : standing.next token ≤ lo
+  pub span : IsSpan lo hi
+
+-- a failure of a token that is open, at a moment in range
+pub record IsWrong (book : List Credential) (standing : Standing) (moment : ℕ) (outcome : Outcome)
+    (token : ℕ) : Type 0 where
+  pub refused : IsRefusedBy outcome
+  pub within : token < length book
+  pub in_range : IsMoment moment
+  pub is_open : standing.wait token ≤ 0
+
+-- the grounds of a ruling
+abbrev pub HasGrounds : List Credential → Limits → Standing → ℕ → List ℕ → Ruling → Type 0
+HasGrounds book limits standing moment line Outside = Unit {0}
+HasGrounds book limits standing moment line (Again text) = standing.kept ≡ Some text
+HasGrounds book limits standing moment line Waiting = standing.is_waiting ≡ true
+HasGrounds book limits standing moment line (Denied nonce outcome) = IsRefusedBy outcome
+HasGrounds book limits standing moment line (Wrong nonce outcome token) = IsWrong book standing moment outcome token
+HasGrounds book limits standing moment line (Fitting nonce token lo hi) =
+    IsFitting book limits standing moment line nonce token lo hi
+
+-- two standings that tell the rules the same of the tokens of a book
+pub record IsSameStanding (tokens : ℕ) (one other : Standing) : Type 0 where
+  pub kept : one.kept ≡ other.kept
+  pub waiting : one.is_waiting ≡ other.is_waiting
+  pub full : one.is_full ≡ other.is_full
+  pub next : (token : ℕ) → token < tokens → one.next token ≡ other.next token
+  pub wait : (token : ℕ) → token < tokens → one.wait token ≡ other.wait token

@@ -1,0 +1,300 @@
+-- The machine of a node. A client's line is answered by the rules. What the rules propose, and what comes from the other
+-- members, goes to the node's voter, whose three calls are made here. A datagram stands as the envelope that its bytes
+-- say, or as None where they are outside the peer format.
+use Rattle.std.specs.Prelude.{ℕ, ◌-◌, ◌^◌, ◌==◌, ◌&&◌, nat_le, nat_lt, not, Bool, true, false, if◌then◌else◌, List, [], ◌∷◌, ◌++◌, length, map, filter, Option, Some, None}
+use Rattle.std.specs.List.{flat_map, list_any}
+use Rattle.std.specs.Str.{bytes_eq}
+use Rattle.otp_core.specs.Limits.{Limits}
+use Rattle.token_file.specs.Credential.{Credential}
+use Rattle.admit_core.specs.Gate.{GateRecord, with_failure}
+use Rattle.floor_store.specs.Content.{Content, with_next_boot}
+use Rattle.floor_store.specs.Records.{ProposalRecord, PassRecord}
+use Rattle.vote_core.specs.NodeSet.{PlaceRecord}
+use Rattle.vote_core.specs.Rows.{row}
+use Rattle.vote_core.specs.Schedule.{Envelope, content_with_gate, is_member, last_boot}
+use Rattle.vote_core.specs.Voting.{Ballot, VoterState, Voted, fresh_voter, on_message, proposal_of, propose, tick}
+use Rattle.vote_core.specs.declared.message.Message.{Message}
+use Rattle.vote_core.specs.declared.message.Message.TheVariants.{Ask, Grant, Deny, Floor}
+use Rattle.vote_core.specs.declared.step.Decision.{Decision}
+use Rattle.vote_core.specs.declared.step.Decision.TheVariants.{Accepted as Won, Spent as Lost, Timeout as Late}
+use Rattle.vote_wire.specs.Answer.{answer_bytes}
+use Rattle.vote_wire.specs.Request.{without_lf}
+use Rattle.vote_wire.specs.declared.answer.Answer.TheVariants.{BadLine, Reply as ReplyAnswer}
+use Rattle.vote_wire.specs.declared.answer.Outcome.{Outcome}
+use Rattle.vote_wire.specs.declared.answer.Outcome.TheVariants.{Accepted, Spent, Timeout}
+use Rattle.oath_node.specs.Answers.{KeptAnswer, kept_answer, kept_with, kept_with_all}
+use Rattle.oath_node.specs.Rules.{Standing, Ruling, Outside, Again, Waiting, Denied, Wrong, Fitting, ruling}
+
+-- what is the same at all events and at all members
+pub record Config : Type 0 where
+  pub book : List Credential
+  pub limits : Limits
+
+-- whose line a pending proposal is for; the line stands without an LF at its end
+pub record Owner : Type 0 where
+  pub seq : ℕ
+  pub client : ℕ
+  pub line : List ℕ
+  pub nonce : List ℕ
+
+-- A node: what its store holds, its voter, the owners of the pending proposals, the answers that it keeps, and whether
+-- it runs.
+pub record NodeState : Type 0 where
+  pub content : Content
+  pub voter : VoterState
+  pub owners : List Owner
+  pub answers : List KeptAnswer
+  pub running : Bool
+
+-- what happens at a node: a client's line comes at a moment, or a datagram from a member's address, or some time passes
+pub data NodeEvent : Type 0 where
+  Client : (client moment : ℕ) (line : List ℕ) → NodeEvent
+  Peer : (from : ℕ) (read : Option Envelope) → NodeEvent
+  Tick : NodeEvent
+
+-- what a client is told
+pub record Reply : Type 0 where
+  pub client : ℕ
+  pub bytes : List ℕ
+
+-- a proposal, and what it was begun for
+pub record Beginning : Type 0 where
+  pub proposal : ProposalRecord
+  pub token : ℕ
+  pub lo : ℕ
+  pub hi : ℕ
+
+-- What one event makes of a node: the state that it leaves, each message after its receiver, the replies, the proposal
+-- that was begun, the pass that was written, and the failure with its token and its moment.
+pub record Made : Type 0 where
+  pub state : NodeState
+  pub sends : List (ℕ × Message)
+  pub replies : List Reply
+  pub began : Option Beginning
+  pub pass : Option PassRecord
+  pub failed : Option (ℕ × ℕ)
+
+-- nothing is sent or replied
+abbrev pub quiet_made : NodeState → Made
+quiet_made x = record { state = x; sends = []; replies = []; began = None; pass = None; failed = None }
+
+-- one reply, and at most a failure
+abbrev pub reply_made : ℕ → List ℕ → Option (ℕ × ℕ) → NodeState → Made
+reply_made client bytes failed x = record {
+  state = x;
+  sends = [];
+  replies = record { client = client; bytes = bytes } ∷ [];
+  began = None;
+  pass = None;
+  failed = failed;
+}
+
+-- the node, which runs no more
+abbrev pub stopped_node : NodeState → NodeState
+stopped_node x = record x { running = false }
+
+-- the node with one kept answer more
+abbrev pub node_with_answer : ℕ → List ℕ → List ℕ → NodeState → NodeState
+node_with_answer client line text x =
+    record x { answers = kept_with x.answers (record { client = client; line = line; text = text }) }
+
+-- ---- What a line meets
+
+-- the line of this client waits for votes
+abbrev pub is_owned : List Owner → ℕ → List ℕ → Bool
+is_owned owners client line =
+    list_any (λ (owner : Owner). (owner.client == client) && bytes_eq owner.line line) owners
+
+-- what the rules ask of a node, for the line of this client and this moment
+abbrev pub standing_at : NodeState → ℕ → ℕ → List ℕ → Standing
+standing_at x client moment line = record {
+  kept = kept_answer x.answers client line;
+  is_waiting = is_owned x.owners client line;
+  is_full = nat_le 32 (length x.voter.pending);
+  next = λ token. (row x.content token).next;
+  wait = λ token. (row x.content token).gate.until - moment;
+}
+
+-- what becomes of a client's line, as it came
+abbrev pub ruling_at : Config → NodeState → ℕ → ℕ → List ℕ → Ruling
+ruling_at config x client moment text =
+    ruling config.book config.limits (standing_at x client moment (without_lf text)) moment text
+
+-- ---- A failure
+
+-- the gate of the token with one failure more
+abbrev pub gate_with_failure : Content → ℕ → ℕ → GateRecord
+gate_with_failure content token moment = with_failure (row content token).gate moment
+
+-- the content with a failure of the token, which changes its gate alone
+abbrev pub content_with_failure : ℕ → ℕ → Content → Content
+content_with_failure token moment content = content_with_gate token (gate_with_failure content token moment) content
+
+-- the node with a failure of the token
+abbrev pub node_with_failure : ℕ → ℕ → NodeState → NodeState
+node_with_failure token moment x = record x { content = content_with_failure token moment x.content }
+
+-- ---- A call of the voter
+
+-- the owner of the proposal of this number
+abbrev pub owner_with : ℕ → List Owner → Option Owner
+owner_with seq [] = None
+owner_with seq (owner ∷ owners) = if owner.seq == seq then Some owner else owner_with seq owners
+
+-- the last factor of the pass
+abbrev pub last_factor_of : Option PassRecord → ℕ
+last_factor_of None = 0
+last_factor_of (Some pass) = pass.hi
+
+-- what the owner of a decided proposal is told; the pass is that of the accepted one
+abbrev pub outcome_of : Decision → Option PassRecord → Outcome
+outcome_of Won pass = Accepted (last_factor_of pass)
+outcome_of Lost pass = Spent
+outcome_of Late pass = Timeout
+
+-- the answer to a decision, if its proposal has an owner
+abbrev pub answer_to_decision : Option PassRecord → Decision → Option Owner → List KeptAnswer
+answer_to_decision pass decision None = []
+answer_to_decision pass decision (Some owner) = record {
+  client = owner.client;
+  line = owner.line;
+  text = answer_bytes (ReplyAnswer owner.nonce (outcome_of decision pass));
+} ∷ []
+
+-- the answers to these decisions, in order
+abbrev pub answers_to_decisions : List Owner → Option PassRecord → List (ℕ × Decision) → List KeptAnswer
+answers_to_decisions owners pass decisions =
+    flat_map (λ (made : ℕ × Decision). answer_to_decision pass made.1 (owner_with made.0 owners)) decisions
+
+-- the proposal of this number waits
+abbrev pub is_pending : List Ballot → ℕ → Bool
+is_pending ballots seq = list_any (λ (ballot : Ballot). ballot.seq == seq) ballots
+
+-- those whose proposals wait
+abbrev pub owners_of_pending : List Ballot → List Owner → List Owner
+owners_of_pending ballots owners = filter (λ (owner : Owner). is_pending ballots owner.seq) owners
+
+-- the reply that gives an answer
+abbrev pub reply_with : KeptAnswer → Reply
+reply_with answer = record { client = answer.client; bytes = answer.text }
+
+-- What a call of the voter makes of a node with these owners: it sends what the voter sends, and answers what the voter
+-- decided. These answers are kept.
+abbrev pub made_by_vote : List Owner → Option Beginning → Voted → NodeState → Made
+made_by_vote owners began voted x =
+    let told = answers_to_decisions owners voted.pass voted.decisions in
+    record {
+      state = record {
+        content = voted.content;
+        voter = voted.voter;
+        owners = owners_of_pending voted.voter.pending owners;
+        answers = kept_with_all x.answers told;
+        running = x.running;
+      };
+      sends = voted.sends;
+      replies = map reply_with told;
+      began = began;
+      pass = voted.pass;
+      failed = None;
+    }
+
+-- ---- A client's line
+
+-- the node's next proposal, for these factors of the token
+abbrev pub next_beginning : PlaceRecord → ℕ → ℕ → ℕ → NodeState → Beginning
+next_beginning place token lo hi x =
+    record { proposal = proposal_of place x.content x.voter; token = token; lo = lo; hi = hi }
+
+-- the owner of the node's next proposal
+abbrev pub next_owner : ℕ → List ℕ → List ℕ → NodeState → Owner
+next_owner client line nonce x = record { seq = x.voter.seq; client = client; line = line; nonce = nonce }
+
+-- the factors of the token are proposed for the line of a client; with no number left the node stops
+unfoldable pub made_by_proposal : PlaceRecord → ℕ → List ℕ → List ℕ → ℕ → ℕ → ℕ → NodeState → Made
+made_by_proposal place client line nonce token lo hi x =
+    let owners = x.owners ++ next_owner client line nonce x ∷ [] in
+    let voted = propose place token lo hi x.content x.voter in
+    if nat_lt x.voter.seq (2 ^ 62)
+    then made_by_vote owners (Some (next_beginning place token lo hi x)) voted x
+    else quiet_made (stopped_node x)
+
+-- what a ruling on the line of a client makes of the node; all answers but that to a bad line are kept
+unfoldable pub made_by_ruling : PlaceRecord → ℕ → ℕ → List ℕ → Ruling → NodeState → Made
+made_by_ruling place client moment line Outside x = reply_made client (answer_bytes BadLine) None x
+made_by_ruling place client moment line (Again text) x = reply_made client text None x
+made_by_ruling place client moment line Waiting x = quiet_made x
+made_by_ruling place client moment line (Denied nonce outcome) x =
+    let text = answer_bytes (ReplyAnswer nonce outcome) in
+    reply_made client text None (node_with_answer client line text x)
+made_by_ruling place client moment line (Wrong nonce outcome token) x =
+    let text = answer_bytes (ReplyAnswer nonce outcome) in
+    reply_made client text (Some (token, moment))
+    (node_with_answer client line text (node_with_failure token moment x))
+made_by_ruling place client moment line (Fitting nonce token lo hi) x =
+    made_by_proposal place client line nonce token lo hi x
+
+-- what a client's line makes of the node, as it came
+abbrev pub made_by_line : Config → PlaceRecord → ℕ → ℕ → List ℕ → NodeState → Made
+made_by_line config place client moment text x =
+    made_by_ruling place client moment (without_lf text) (ruling_at config x client moment text) x
+
+-- ---- A member's datagram
+
+-- the token that a message is about
+abbrev pub token_of : Message → ℕ
+token_of (Ask proposal token lo hi) = token
+token_of (Grant proposal token lo hi) = token
+token_of (Deny proposal token next) = token
+token_of (Floor token next) = token
+
+-- its sender is the member that it came from, and another one; it is for this node, and about a token of the book
+abbrev pub is_heard : Config → PlaceRecord → ℕ → Envelope → Bool
+is_heard config place from envelope =
+    (envelope.sender == from)
+    && ((envelope.receiver == place.me)
+    && (not (envelope.sender == place.me)
+    && (is_member place.n envelope.sender && nat_lt (token_of envelope.message) (length config.book))))
+
+-- what the message of another member makes of the node
+abbrev pub made_by_message : PlaceRecord → ℕ → Message → NodeState → Made
+made_by_message place from message x =
+    made_by_vote x.owners None (on_message place from message x.content x.voter) x
+
+-- what a datagram makes of the node: what is outside the format and what is not heard is dropped
+unfoldable pub made_by_datagram : Config → PlaceRecord → ℕ → Option Envelope → NodeState → Made
+made_by_datagram config place from None x = quiet_made x
+made_by_datagram config place from (Some envelope) x =
+    if is_heard config place from envelope then made_by_message place from envelope.message x else quiet_made x
+
+-- ---- Each event
+
+-- what a tick makes of the node
+abbrev pub made_by_tick : PlaceRecord → NodeState → Made
+made_by_tick place x = made_by_vote x.owners None (tick place x.content x.voter) x
+
+-- what an event makes of a node that runs
+unfoldable pub made_while_running : Config → PlaceRecord → NodeEvent → NodeState → Made
+made_while_running config place (Client client moment text) x = made_by_line config place client moment text x
+made_while_running config place (Peer from read) x = made_by_datagram config place from read x
+made_while_running config place Tick x = made_by_tick place x
+
+-- what an event makes of a node: nothing of one that is stopped
+unfoldable pub made_by_event : Config → PlaceRecord → NodeEvent → NodeState → Made
+made_by_event config place event x =
+    if x.running then made_while_running config place event x else quiet_made x
+
+-- ---- Opening and restart
+
+-- a node over this content, in a new boot: nothing waits, and no answer is kept
+abbrev pub opened_node : Content → NodeState
+opened_node content = record {
+  content = with_next_boot content;
+  voter = fresh_voter;
+  owners = [];
+  answers = [];
+  running = true;
+}
+
+-- a node that is opened again; at the last boot it stops
+abbrev pub restarted_node : NodeState → NodeState
+restarted_node x = if nat_lt x.content.boot last_boot then opened_node x.content else stopped_node x

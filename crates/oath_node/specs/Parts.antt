@@ -1,0 +1,39 @@
+-- What the parts of a running node are as a machine, and what a call does to them. Private contracts alone cite it: no
+-- public one rests on it.
+use Rattle.std.specs.Prelude.{◌≡◌, ℕ, ◌^◌, false, List, Result, IfOk, IfErr}
+use Rattle.floor_store.specs.Held.{Held, Breaks, MayWrite}
+use Rattle.vote_core.specs.State.{IsSameVoter}
+use Rattle.oath_node.specs.Calls.{IsMade}
+use Rattle.oath_node.specs.Hosted.{running_state}
+use Rattle.oath_node.specs.Machine.{Made, NodeState}
+use Rattle.oath_node.specs.Outputs.{OutputsRecord}
+use Rattle.oath_node.specs.declared.fault.NodeFault.{NodeFault}
+use Rattle.oath_node.specs.declared.fault.NodeFault.TheVariants.{Store, Stopped, Spent}
+use Rattle.oath_node.specs.declared.parts.Parts.{Parts}
+
+-- the machine that the parts are
+abbrev pub state_in : {S : Type 0} → (S → Held) → Parts S → NodeState
+state_in held parts =
+    running_state (held parts.store).content parts.voter parts.owners.items parts.answers
+
+-- The step stops the machine, no number is left for a proposal, and nothing changes.
+pub record StopsParts {S : Type 0} (held : S → Held) (old new : Parts S) (made : Made) : Type 0 where
+  pub halts : (held old.store).is_clean → made.state.running ≡ false
+  pub none_left : old.voter.seq ≡ 2 ^ 62
+  pub unchanged : new ≡ old
+
+-- why a call fails
+abbrev pub FailsParts : {S : Type 0} → (S → Held) → Parts S → Parts S → Made → NodeFault → Type 0
+FailsParts held old new made (Store fault) = Breaks held old.store new.store fault
+FailsParts held old new made Stopped = ⊥
+FailsParts held old new made Spent = StopsParts held old new made
+
+-- A call that takes the parts through this step of their machine.
+pub record Steps {S : Type 0} (held : S → Held) (key : List ℕ) (old new : Parts S) (step : NodeState → Made)
+    (result : Result OutputsRecord NodeFault) : Type 0 where
+  pub made : IfOk result (λ outputs. (held new.store).is_clean
+      → IsMade key old.voter.place (step (state_in held old)) outputs (state_in held new))
+  pub writes : MayWrite held old.store new.store (step (state_in held old)).state.content result
+  pub fails : IfErr result (FailsParts held old new (step (state_in held old)))
+  pub boot : (held new.store).is_clean → (held new.store).content.boot ≡ (held old.store).content.boot
+  pub same : IsSameVoter old.voter new.voter

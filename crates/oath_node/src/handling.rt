@@ -1,0 +1,315 @@
+//! What each event makes of a running node.
+
+ghost use Rattle.std.specs.Prelude.{◌≡◌, ◌<◌, ◌≤◌, ◌↔◌, IfErr, IsTrue, None, false, length, nat_le};
+ghost use Rattle.floor_store.specs.Held.{Breaks, MayWrite};
+ghost use Rattle.floor_store.specs.Range.{IsSpan};
+ghost use Rattle.oath_node.specs.Answers.{kept_with};
+ghost use Rattle.oath_node.specs.Heard.{IsHeardAs};
+ghost use Rattle.oath_node.specs.Hosted.{envelope_at, event_of};
+ghost use Rattle.oath_node.specs.Machine.{content_with_failure, made_by_datagram, made_by_event, made_by_line, made_by_message, made_by_proposal, made_by_ruling, made_by_tick};
+ghost use Rattle.oath_node.specs.Outputs.{reply_outputs};
+ghost use Rattle.oath_node.specs.Parts.{Steps};
+ghost use Rattle.oath_node.specs.Recording.{IfProposes, IsRecordable};
+ghost use Rattle.oath_node.specs.Rules.{verdict_ruling};
+ghost use Rattle.otp_core.specs.Range.{IsMoment};
+ghost use Rattle.vote_core.specs.Calls.{FitsVoter, IsOther, IsStoreOf};
+ghost use Rattle.vote_core.specs.Rows.{row};
+
+use crate::answers::{Answers, KeptAnswer};
+use crate::event::Event;
+use crate::fault::NodeFault;
+use crate::outputs::Outputs;
+use crate::owner::{Owner, is_waiting};
+use crate::parts::Parts;
+use crate::rules::{Verdict, examine, row_of};
+use crate::settling::{finish, line_of, text_of};
+use arrayvec::ArrayVec;
+use floor_store::{FloorStore, StoreFault};
+use otp_core::{Factor, Settings};
+use token_file::Book;
+use vote_core::{Message, VoteFault, Voter};
+use vote_wire::{
+    Answer, ClusterKey, MAX_SENT_LEN, Nonce, read_line, read_message, without_lf, write_answer,
+    write_reply,
+};
+
+/// Whether a message is heard: it comes from the member that it says, is for this node, and may be handed to
+/// its voter.
+fn is_heard(voter: &Voter, from: u8, sender: u8, to: u8, message: &Message) -> bool
+    ensures { IsTrue result ↔ IsHeardAs voter.now.place voter.now.tokens from sender to message.now }
+{
+    sender == from && to == voter.place().me() && voter.fits(from, message)
+}
+
+/// Puts a failure of a token at a moment: its gate is closed for a while.
+fn fail<S: FloorStore>(store: &mut S, token: u32, moment: u64) -> Result<(), StoreFault>
+    requires token { token < length (S.held store.old).content.rows }
+    requires moment { IsMoment moment }
+    ensures writes { MayWrite S.held store.old store.new
+        (content_with_failure token moment (S.held store.old).content) result }
+    ensures breaks { IfErr result (Breaks S.held store.old store.new) }
+    ensures boot { (S.held store.new).is_clean → (S.held store.new).content.boot ≡ (S.held store.old).content.boot }
+{
+    let row = row_of(store, token)?;
+    let mut gate = row.gate();
+    gate.fail(moment);
+    store.put(token, row.with_gate(gate), None)
+}
+
+/// Gives a reply, and keeps it.
+fn remember<'k>(
+    key: &'k ClusterKey,
+    answers: &mut Answers,
+    client: u64,
+    line: &[u8],
+    bytes: ArrayVec<u8, MAX_SENT_LEN>,
+) -> Outputs<'k>
+    requires { length line.now ≤ 256 }
+    ensures outputs { result ≡ reply_outputs client bytes.items }
+    ensures answers { answers.new ≡ kept_with answers.old
+        (record { client = client; line = line.now; text = bytes.items }) }
+{
+    answers.put(KeptAnswer {
+        client,
+        line: line_of(line),
+        text: text_of(bytes.as_slice()),
+    });
+    Outputs::reply(key, client, bytes)
+}
+
+impl<S: FloorStore> Parts<S> {
+    /// A tick.
+    fn on_tick<'k>(&mut self, key: &'k ClusterKey) -> Result<Outputs<'k>, NodeFault>
+        requires { IsStoreOf self.old.voter (S.held self.old.store) }
+        ensures { Steps S.held key.now self.old self.new (made_by_tick self.old.voter.place) result }
+    {
+        match self.voter.tick(&mut self.store) {
+            Ok(step) => Ok(finish(
+                key,
+                &self.voter,
+                &mut self.owners,
+                &mut self.answers,
+                step,
+            )),
+            Err(VoteFault::Store(fault)) => Err(NodeFault::Store(fault)),
+            Err(VoteFault::Spent) => unreachable!(),
+        }
+    }
+
+    /// A message of another member.
+    fn on_message<'k>(
+        &mut self,
+        key: &'k ClusterKey,
+        from: u8,
+        message: Message,
+    ) -> Result<Outputs<'k>, NodeFault>
+        requires store { IsStoreOf self.old.voter (S.held self.old.store) }
+        requires from { IsOther self.old.voter.place from }
+        requires fits { FitsVoter self.old.voter.place self.old.voter.tokens from message }
+        ensures { Steps S.held key.now self.old self.new
+            (made_by_message self.old.voter.place from message) result }
+    {
+        match self.voter.on_message(&mut self.store, from, message) {
+            Ok(step) => Ok(finish(
+                key,
+                &self.voter,
+                &mut self.owners,
+                &mut self.answers,
+                step,
+            )),
+            Err(VoteFault::Store(fault)) => Err(NodeFault::Store(fault)),
+            Err(VoteFault::Spent) => unreachable!(),
+        }
+    }
+
+    /// A datagram from the address of a member. It is dropped where it is outside the peer format, comes from
+    /// another than it says, goes to another, or is of no member or token that there is.
+    fn on_datagram<'k>(
+        &mut self,
+        book: &Book,
+        settings: Settings,
+        key: &'k ClusterKey,
+        from: u8,
+        bytes: &[u8],
+    ) -> Result<Outputs<'k>, NodeFault>
+        requires store { IsStoreOf self.old.voter (S.held self.old.store) }
+        requires rows { length (S.held self.old.store).content.rows ≡ length book.now }
+        ensures { Steps S.held key.now self.old self.new (made_by_datagram
+            (record { book = book.now; limits = settings }) self.old.voter.place from
+            (envelope_at key.now bytes.now)) result }
+    {
+        let Some((sender, to, message)) = read_message(key, bytes) else {
+            return Ok(Outputs::nothing(key));
+        };
+        if !is_heard(&self.voter, from, sender, to, &message) {
+            return Ok(Outputs::nothing(key));
+        }
+        self.on_message(key, from, message)
+    }
+
+    /// Begins a proposal for the line of a client.
+    fn propose<'k>(
+        &mut self,
+        key: &'k ClusterKey,
+        client: u64,
+        line: &[u8],
+        nonce: Nonce,
+        token: u32,
+        lo: Factor,
+        hi: Factor,
+    ) -> Result<Outputs<'k>, NodeFault>
+        requires store { IsStoreOf self.old.voter (S.held self.old.store) }
+        requires room { length self.old.voter.ballots < 32 }
+        requires place { length self.old.owners.items < 32 }
+        requires line { length line.now ≤ 256 }
+        requires token { token < length (S.held self.old.store).content.rows }
+        requires span { IsSpan lo hi }
+        requires free { (S.held self.old.store).is_clean → (row (S.held self.old.store).content token).next ≤ lo }
+        ensures { Steps S.held key.now self.old self.new
+            (made_by_proposal self.old.voter.place client line.now nonce token lo hi) result }
+    {
+        let seq = self.voter.next_seq();
+        match self.voter.propose(&mut self.store, token, lo, hi) {
+            Ok(step) => {
+                self.owners.push(Owner {
+                    seq,
+                    client,
+                    line: line_of(line),
+                    nonce,
+                });
+                Ok(finish(
+                key,
+                &self.voter,
+                &mut self.owners,
+                &mut self.answers,
+                step,
+            ))
+            }
+            Err(VoteFault::Store(fault)) => Err(NodeFault::Store(fault)),
+            Err(VoteFault::Spent) => Err(NodeFault::Spent),
+        }
+    }
+
+    /// What the rules made of a line that no answer is kept for and that doesn't wait.
+    #[tactic(auto, unfolding(crate::specs::Machine::made_by_ruling))]
+    fn on_verdict<'k>(
+        &mut self,
+        key: &'k ClusterKey,
+        client: u64,
+        moment: u64,
+        line: &[u8],
+        verdict: Verdict,
+    ) -> Result<Outputs<'k>, NodeFault>
+        requires store { IsStoreOf self.old.voter (S.held self.old.store) }
+        requires line { length line.now ≤ 256 }
+        requires room { IfProposes verdict (λ token lo hi.
+            (length self.old.voter.ballots < 32) × (length self.old.owners.items < 32)) }
+        requires recordable { IsRecordable (length (S.held self.old.store).content.rows) moment verdict }
+        requires spanned { IfProposes verdict (λ token lo hi. IsSpan lo hi) }
+        requires free { (S.held self.old.store).is_clean → IfProposes verdict
+            (λ token lo hi. (row (S.held self.old.store).content token).next ≤ lo) }
+        ensures { Steps S.held key.now self.old self.new
+            (made_by_ruling self.old.voter.place client moment line.now (verdict_ruling verdict)) result }
+    {
+        match verdict {
+            Verdict::BadLine => {
+                let bytes = write_answer(&Answer::BadLine);
+                Ok(Outputs::reply(key, client, bytes))
+            }
+            Verdict::Refused(nonce, outcome) => {
+                let bytes = write_reply(&nonce, outcome);
+                Ok(remember(key, &mut self.answers, client, line, bytes))
+            }
+            Verdict::Fails(nonce, outcome, token) => {
+                match fail(&mut self.store, token.value(), moment) {
+                    Ok(()) => {
+                        let bytes = write_reply(&nonce, outcome);
+                        Ok(remember(key, &mut self.answers, client, line, bytes))
+                    }
+                    Err(fault) => Err(NodeFault::Store(fault)),
+                }
+            }
+            Verdict::Proposes {
+                nonce,
+                token,
+                lo,
+                hi,
+            } => self.propose(key, client, line, nonce, token.value(), lo, hi),
+        }
+    }
+
+    /// Whether as many lines wait as there is room for.
+    fn is_full(&self) -> bool
+        ensures room { result ≡ false
+            → (length self.now.voter.ballots < 32) × (length self.now.owners.items < 32) }
+        ensures full { length self.now.owners.items ≤ length self.now.voter.ballots
+            → result ≡ nat_le 32 (length self.now.voter.ballots) }
+    {
+        if self.voter.is_busy() {
+            return true;
+        }
+        self.owners.is_full()
+    }
+
+    /// The line of a client, as it came.
+    fn on_line<'k>(
+        &mut self,
+        book: &Book,
+        settings: Settings,
+        key: &'k ClusterKey,
+        client: u64,
+        moment: u64,
+        bytes: &[u8],
+    ) -> Result<Outputs<'k>, NodeFault>
+        requires works { (S.held self.old.store).fault ≡ None }
+        requires store { IsStoreOf self.old.voter (S.held self.old.store) }
+        requires rows { length (S.held self.old.store).content.rows ≡ length book.now }
+        requires room { (S.held self.old.store).is_clean
+            → length self.old.owners.items ≤ length self.old.voter.ballots }
+        ensures { Steps S.held key.now self.old self.new (made_by_line
+            (record { book = book.now; limits = settings }) self.old.voter.place client moment bytes.now) result }
+    {
+        let Some(request) = read_line(bytes) else {
+            let bytes = write_answer(&Answer::BadLine);
+            return Ok(Outputs::reply(key, client, bytes));
+        };
+        let line = without_lf(bytes);
+        if let Some(kept) = self.answers.find(client, line) {
+            return Ok(Outputs::reply(key, client, text_of(kept.text.as_slice())));
+        }
+        if is_waiting(self.owners.as_slice(), client, line) {
+            return Ok(Outputs::nothing(key));
+        }
+        let is_full = self.is_full();
+        let verdict = examine(book, settings, &self.store, is_full, moment, request);
+        self.on_verdict(key, client, moment, line, verdict)
+    }
+
+    /// Any event.
+    pub(crate) fn on_event<'k>(
+        &mut self,
+        book: &Book,
+        settings: Settings,
+        key: &'k ClusterKey,
+        event: Event<'_>,
+    ) -> Result<Outputs<'k>, NodeFault>
+        requires works { (S.held self.old.store).fault ≡ None }
+        requires store { IsStoreOf self.old.voter (S.held self.old.store) }
+        requires rows { length (S.held self.old.store).content.rows ≡ length book.now }
+        requires room { (S.held self.old.store).is_clean
+            → length self.old.owners.items ≤ length self.old.voter.ballots }
+        ensures { Steps S.held key.now self.old self.new (made_by_event
+            (record { book = book.now; limits = settings }) self.old.voter.place (event_of key.now event.entry))
+            result }
+    {
+        match event {
+            Event::Client {
+                client,
+                moment,
+                line,
+            } => self.on_line(book, settings, key, client, moment, line),
+            Event::Peer { from, bytes } => self.on_datagram(book, settings, key, from, bytes),
+            Event::Tick => self.on_tick(key),
+        }
+    }
+}

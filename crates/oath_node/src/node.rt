@@ -1,0 +1,171 @@
+//! A node: it answers the lines of clients and the datagrams of the other members, over a store.
+
+ghost use Rattle.std.specs.Prelude.{◌≡◌, ◌≤◌, ◌↔◌, Err, IfErr, IfOk, false, length};
+ghost use Rattle.oath_node.specs.Calls.{Handles, IsOpened, IsRefused, Restarts};
+ghost use Rattle.oath_node.specs.Hosted.{event_of};
+ghost use Rattle.oath_node.specs.declared.fault.NodeFault.{NodeFault};
+
+use crate::answers::Answers;
+use crate::event::Event;
+use crate::fault::{NodeFault, OpenFault};
+use crate::outputs::Outputs;
+use crate::parts::Parts;
+use arrayvec::ArrayVec;
+use floor_store::FloorStore;
+use otp_core::Settings;
+use std::alloc::Global;
+use std::marker::Model;
+use token_file::Book;
+use vote_core::{Place, Voter};
+use vote_wire::ClusterKey;
+
+/// A node over a store of its own. All members of a cluster have the same book, settings and key.
+#[derive(Drop)]
+pub struct Node<'b, S: FloorStore> {
+    book: &'b Book,
+    settings: Settings,
+    key: &'b ClusterKey,
+    parts: Parts<S>,
+    is_running: bool,
+}
+
+impl<'b, S: FloorStore> Model for Node<'b, S> {
+    ghost use Rattle.oath_node.specs.Hosted.{Hosted, IsNode};
+
+    ghost Value = { Hosted S };
+
+    ghost view = { λ node. record {
+      store = node.parts.store;
+      book = node.book.now;
+      limits = node.settings;
+      key = node.key.now;
+      voter = node.parts.voter;
+      owners = node.parts.owners.items;
+      answers = node.parts.answers;
+      running = node.is_running;
+    } };
+
+    ghost invariant = { λ node. IsNode S.held (record {
+      store = node.parts.store;
+      book = node.book.now;
+      limits = node.settings;
+      key = node.key.now;
+      voter = node.parts.voter;
+      owners = node.parts.owners.items;
+      answers = node.parts.answers;
+      running = node.is_running;
+    }) };
+}
+
+impl<'b, S: FloorStore> Node<'b, S> {
+    /// Opens a node over a store, in a new boot: nothing waits, and no answer is kept. All memory that it
+    /// ever takes is taken before the boot is raised. Where it is refused the store is handed back.
+    ///
+    /// # Errors
+    /// `Memory` where there is none; the store is as it was. `Store` where the store refuses to raise the
+    /// boot.
+    pub fn open(
+        alloc: Global,
+        book: &'b Book,
+        settings: Settings,
+        place: Place,
+        key: &'b ClusterKey,
+        store: S,
+    ) -> Result<Node<'b, S>, (S, OpenFault)>
+        requires { length (S.held store).content.rows ≡ length book.now }
+        ensures opened { IfOk result (IsOpened S.held store) }
+        ensures book { IfOk result (λ node. node.book ≡ book.now) }
+        ensures limits { IfOk result (λ node. node.limits ≡ settings) }
+        ensures key { IfOk result (λ node. node.key ≡ key.now) }
+        ensures place { IfOk result (λ node. node.voter.place ≡ place) }
+        ensures refused { IfErr result (λ refusal. IsRefused S.held store refusal.0 refusal.1) }
+    {
+        let mut store = store;
+        let Ok(answers) = Answers::new(alloc) else {
+            return Err((store, OpenFault::Memory));
+        };
+        match Voter::open(&mut store, place) {
+            Ok(voter) => Ok(Node {
+                book,
+                settings,
+                key,
+                parts: Parts {
+                    store,
+                    voter,
+                    owners: ArrayVec::new(),
+                    answers,
+                },
+                is_running: true,
+            }),
+            Err(fault) => Err((store, OpenFault::Store(fault))),
+        }
+    }
+
+    /// Opens it again on its store, in a new boot: nothing waits, and no answer is kept. It takes no memory.
+    ///
+    /// # Errors
+    /// `Store` where the store refuses to raise the boot. The node is stopped.
+    pub fn restart(&mut self) -> Result<(), NodeFault>
+        ensures { Restarts S.held self.old self.new result }
+    {
+        let place = self.parts.voter.place();
+        match Voter::open(&mut self.parts.store, place) {
+            Ok(voter) => {
+                let _boot = voter.boot();
+                self.parts.voter = voter;
+                self.parts.owners.clear();
+                self.parts.answers.clear();
+                self.is_running = true;
+                Ok(())
+            }
+            Err(fault) => {
+                self.is_running = false;
+                Err(NodeFault::Store(fault))
+            }
+        }
+    }
+
+    /// Takes an event: one step of the node's machine, with at most one write to its store. The outputs are
+    /// there once what it writes is kept. It takes no memory.
+    ///
+    /// # Errors
+    /// `Stopped` where the node was stopped before, and nothing changes. `Store` where the store met a failure,
+    /// and `Spent` where a line is right but no number of this boot is left for a proposal: then there are no
+    /// outputs, and the node is stopped until it is restarted.
+    pub fn handle(&mut self, event: Event<'_>) -> Result<Outputs<'b>, NodeFault>
+        ensures handles { Handles S.held self.old self.new (event_of self.old.key event.entry) result }
+        ensures few { IfOk result (λ outputs. (S.held self.new.store).is_clean → length outputs.items ≤ 264) }
+        ensures stopped { result ≡ Err NodeFault.Stopped ↔ (self.old.running ≡ false) }
+    {
+        if !self.is_running {
+            return Err(NodeFault::Stopped);
+        }
+        // At most 32 lines wait, and there are at most nine members.
+        let _pending = self.parts.voter.pending();
+        let place = self.parts.voter.place();
+        let _me = place.me();
+        let _members = place.n();
+        match self.parts.on_event(self.book, self.settings, self.key, event) {
+            Ok(outputs) => Ok(outputs),
+            Err(fault) => {
+                self.is_running = false;
+                Err(fault)
+            }
+        }
+    }
+
+    /// The store as it stands.
+    pub fn close(self) -> S
+        ensures { result ≡ self.entry.store }
+    {
+        let Node { parts, .. } = self;
+        parts.store
+    }
+
+    /// Whether it runs: no fault has stopped it since it was opened or restarted.
+    pub fn is_running(&self) -> bool
+        ensures { result ≡ self.now.running }
+    {
+        self.is_running
+    }
+}

@@ -1,0 +1,410 @@
+//! A node by its calls, from the bytes of datagrams to the bytes of datagrams.
+
+use crate::{Event, Item, Node, NodeFault};
+use arrayvec::ArrayVec;
+use floor_store::{FloorStore, FuseStore, MemStore, StoreFault};
+use otp_core::{Next, Settings};
+use std::alloc::Global;
+use std::process::Abort;
+use std::test::Fail;
+use token_file::{Book, FromRead, read_book};
+use vote_core::Place;
+use vote_wire::{ClusterKey, MAX_SENT_LEN, tag};
+
+/// The token of RFC 4226, Appendix D.
+const SILVER: &[u8] = b"HOTP silver - 3132333435363738393031323334353637383930";
+
+/// An Ask from 1 to 2 for token 0, factors 0 to 0, by proposal 0 of boot 1 of node 1, under 32 zeros.
+const ASK: [u8; 59] = [
+    0x4f, 0x56, 2, 1, 1, 2, 0, 0, 0, 0, 1, 0, 0, 0, 0, 0, 0, 0, 1, 0, 0, 0, 0, 0, 0, 0, 0, 0, 0, 0,
+    0, 0, 0, 0, 0, 0, 0, 0, 0, 0, 0, 0, 0, 0x0c, 0x53, 0x1f, 0xa7, 0x11, 0xe9, 0x66, 0xd0, 0xa9,
+    0xbd, 0xa8, 3, 0x85, 0x1c, 0x99, 0x19,
+];
+
+/// The Grant of node 2 to it.
+const GRANT: [u8; 59] = [
+    0x4f, 0x56, 2, 2, 2, 1, 0, 0, 0, 0, 1, 0, 0, 0, 0, 0, 0, 0, 1, 0, 0, 0, 0, 0, 0, 0, 0, 0, 0, 0,
+    0, 0, 0, 0, 0, 0, 0, 0, 0, 0, 0, 0, 0, 0x12, 0x15, 0x87, 0x3a, 0xcb, 0xf1, 0x24, 0x46, 0xb7,
+    0xa5, 0xe9, 0x75, 0xd1, 0xe9, 0x14, 0x72,
+];
+
+fn settings() -> Result<Settings, Fail> {
+    Ok(Settings::new(5, 1, 9).ok_or("settings")?)
+}
+
+/// The key of a cluster that needs none.
+fn zeros() -> Result<ClusterKey, Fail> {
+    Ok(ClusterKey::new(&[0; 32]).ok_or("a key")?)
+}
+
+fn book_of(alloc: Global, users: &[u8]) -> Result<(Book, Vec<Next>), Fail> {
+    Ok(read_book(alloc, &mut FromRead::new(users), settings()?, 0)?)
+}
+
+/// A node over a store.
+fn node_over<'b, S: FloorStore + Drop>(
+    alloc: Global,
+    book: &'b Book,
+    key: &'b ClusterKey,
+    store: S,
+    me: u8,
+    n: u8,
+) -> Result<Node<'b, S>, Fail> {
+    let place = Place::new(me, n).ok_or("a place")?;
+    if store.tokens() as usize != book.len() {
+        return Err("another number of tokens".into());
+    }
+    match Node::open(alloc, book, settings()?, place, key, store) {
+        Ok(node) => Ok(node),
+        Err((_, fault)) => Err(fault.into()),
+    }
+}
+
+/// A node over a fresh store in memory.
+fn opened<'b>(
+    alloc: Global,
+    book: &'b Book,
+    key: &'b ClusterKey,
+    floors: &[Next],
+    me: u8,
+    n: u8,
+) -> Result<Node<'b, MemStore>, Fail> {
+    if floors.len() > 10_000 {
+        return Err("too many tokens".into());
+    }
+    node_over(alloc, book, key, MemStore::new(alloc, floors)?, me, n)
+}
+
+/// The text of the one item, which is a reply to this client; nothing where there is none.
+fn reply_to<S: FloorStore>(
+    node: &mut Node<'_, S>,
+    client: u64,
+    moment: u64,
+    line: &[u8],
+) -> Result<ArrayVec<u8, MAX_SENT_LEN>, Fail> {
+    let outputs = node.handle(Event::Client {
+        client,
+        moment,
+        line,
+    })?;
+    let mut text = ArrayVec::new();
+    for item in outputs.items() {
+        match item {
+            Item::Reply { client: to, bytes } => {
+                if to != client {
+                    return Err("a reply to another client".into());
+                }
+                text = bytes;
+            }
+            Item::Datagram { .. } => {}
+        }
+    }
+    Ok(text)
+}
+
+/// Hands the bytes in as those of a member, and gives the bytes of the one datagram to it.
+fn datagram_to<S: FloorStore>(
+    node: &mut Node<'_, S>,
+    from: u8,
+    bytes: &[u8],
+) -> Result<ArrayVec<u8, MAX_SENT_LEN>, Fail> {
+    let outputs = node.handle(Event::Peer { from, bytes })?;
+    let mut sent = ArrayVec::new();
+    for item in outputs.items() {
+        match item {
+            Item::Datagram { to, bytes } => {
+                if to != from {
+                    return Err("a datagram to another member".into());
+                }
+                sent = bytes;
+            }
+            Item::Reply { .. } => return Err("a reply".into()),
+        }
+    }
+    Ok(sent)
+}
+
+/// A fresh token: one acceptance, kept answers given again to the same client alone, the throttle, and
+/// what is refused without an examination.
+#[test]
+fn fresh_token(rt: HostRuntime) -> Result<(), Fail> {
+    let (book, floors) = book_of(rt.alloc(), SILVER)?;
+    let key = zeros()?;
+    let mut node = opened(rt.alloc(), &book, &key, &floors, 1, 1)?;
+    let rows: [(u64, u64, &[u8], &[u8]); 10] = [
+        (7, 100, b"CHECK 1 silver 755224 -", b"OK 1 0"),
+        (7, 100, b"CHECK 2 silver 755224 -", b"NO 2 INVALID"),
+        (7, 100, b"CHECK 1 silver 755224 -\n", b"OK 1 0"),
+        (8, 104, b"CHECK 1 silver 755224 -", b"NO 1 THROTTLED 1"),
+        (8, 105, b"CHECK 3 silver 755224 -", b"NO 3 INVALID"),
+        (7, 114, b"CHECK 4 silver 359152 -", b"NO 4 THROTTLED 1"),
+        (7, 115, b"CHECK 5 silver 359152 -", b"OK 5 2"),
+        (7, 116, b"CHECK 6 gold 287082 -", b"NO 6 UNKNOWN"),
+        (7, 117, b"CHECK 7 silver 12345 -", b"NO - BADLINE"),
+        (
+            7,
+            1_099_511_627_776,
+            b"CHECK 8 silver 969429 -",
+            b"NO 8 CLOCK",
+        ),
+    ];
+    for (client, moment, line, want) in rows {
+        let text = reply_to(&mut node, client, moment, line)?;
+        assert_eq!(rt; text.as_slice(), want, "to {line:?}");
+    }
+    Ok(())
+}
+
+/// An Ask is granted; cut short, or with a byte more, or from another, it is dropped.
+#[test]
+fn ask_bytes(rt: HostRuntime) -> Result<(), Fail> {
+    let (book, floors) = book_of(rt.alloc(), SILVER)?;
+    let key = zeros()?;
+    let mut node = opened(rt.alloc(), &book, &key, &floors, 2, 3)?;
+    let mut longer = ArrayVec::<u8, 60>::new();
+    let _ = longer.try_extend_from_slice(&ASK);
+    let _ = longer.try_push(0);
+    assert_eq!(rt; datagram_to(&mut node, 1, &ASK[..58])?.len(), 0);
+    assert_eq!(rt; datagram_to(&mut node, 1, &longer)?.len(), 0);
+    assert_eq!(rt; datagram_to(&mut node, 3, &ASK)?.len(), 0);
+    assert_eq!(rt;
+        datagram_to(&mut node, 1, &ASK)?.as_slice(),
+        GRANT.as_slice()
+    );
+    assert_eq!(rt;
+        datagram_to(&mut node, 1, &ASK)?.as_slice(),
+        GRANT.as_slice()
+    );
+    Ok(())
+}
+
+/// The Ask with these bytes changed, each at its place, and the tag that it then has.
+fn changed(key: &ClusterKey, changes: &[(usize, u8)]) -> [u8; 59] {
+    let mut bytes = ASK;
+    for &(place, new) in changes {
+        if let Some(byte) = bytes.get_mut(place) {
+            *byte = new;
+        }
+    }
+    let tag = tag(key, &bytes[..43]);
+    bytes[43..].copy_from_slice(&tag);
+    bytes
+}
+
+/// An Ask that is none, or that isn't for node 2 of three from node 1 about the one token, changes nothing.
+#[test]
+fn changed_asks(rt: HostRuntime) -> Result<(), Fail> {
+    let (book, floors) = book_of(rt.alloc(), SILVER)?;
+    let key = zeros()?;
+    if floors.len() > 10_000 {
+        return Err("too many tokens".into());
+    }
+    let store = FuseStore::new(MemStore::new(rt.alloc(), &floors)?, 100, false);
+    let mut node = node_over(rt.alloc(), &book, &key, store, 2, 3)?;
+    let rows: [&[(usize, u8)]; 9] = [
+        &[(3, 5)],
+        &[(2, 1)],
+        &[(42, 2)],
+        &[(10, 3)],
+        &[(5, 1)],
+        &[(5, 3)],
+        &[(4, 3), (10, 3)],
+        &[(4, 4), (10, 4)],
+        &[(9, 1)],
+    ];
+    for changes in rows {
+        let bytes = changed(&key, changes);
+        assert_eq!(rt; datagram_to(&mut node, 1, &bytes)?.len(), 0, "{changes:?}");
+    }
+    // The opening alone is written.
+    assert_eq!(rt; node.close().passed(), 1);
+    Ok(())
+}
+
+/// A submission waits, is accepted by the second vote of three, and its answer is kept.
+#[test]
+fn second_vote(rt: HostRuntime) -> Result<(), Fail> {
+    let (book, floors) = book_of(rt.alloc(), SILVER)?;
+    let key = zeros()?;
+    let mut node = opened(rt.alloc(), &book, &key, &floors, 1, 3)?;
+    let line = b"CHECK a silver 755224 -".as_slice();
+    let outputs = node.handle(Event::Client {
+        client: 7,
+        moment: 1000,
+        line,
+    })?;
+    let mut sent = 0u32;
+    for item in outputs.items() {
+        if let Item::Datagram { to: 2, bytes } = item {
+            assert_eq!(rt; bytes.as_slice(), ASK.as_slice());
+        }
+        sent = sent.saturating_add(1);
+    }
+    assert_eq!(rt; sent, 2);
+    assert_eq!(rt; outputs.begun().is_some(), true);
+    assert_eq!(rt; reply_to(&mut node, 7, 1000, line)?.len(), 0);
+    let outputs = node.handle(Event::Peer {
+        from: 2,
+        bytes: &GRANT,
+    })?;
+    assert_eq!(rt; outputs.pass().is_some(), true);
+    let mut told = false;
+    for item in outputs.items() {
+        if let Item::Reply { client: 7, bytes } = item {
+            told = bytes.as_slice() == b"OK a 0".as_slice();
+        }
+    }
+    assert_eq!(rt; told, true);
+    assert_eq!(rt;
+        reply_to(&mut node, 7, 1001, line)?.as_slice(),
+        b"OK a 0".as_slice()
+    );
+    Ok(())
+}
+
+/// A submission that nobody answers is asked for again at each of seven ticks, and given up at the eighth.
+#[test]
+fn timeout_after_eight_ticks(rt: HostRuntime) -> Result<(), Fail> {
+    let (book, floors) = book_of(rt.alloc(), SILVER)?;
+    let key = zeros()?;
+    let mut node = opened(rt.alloc(), &book, &key, &floors, 1, 3)?;
+    let line = b"CHECK a silver 755224 -".as_slice();
+    reply_to(&mut node, 7, 1000, line)?;
+    let mut sent = 0u32;
+    let mut told = false;
+    for _ in 0..8 {
+        let outputs = node.handle(Event::Tick)?;
+        for item in outputs.items() {
+            match item {
+                Item::Datagram { .. } => sent = sent.saturating_add(1),
+                Item::Reply { client: _, bytes } => {
+                    told = bytes.as_slice() == b"NO a TIMEOUT".as_slice();
+                }
+            }
+        }
+    }
+    assert_eq!(rt; sent, 30);
+    assert_eq!(rt; told, true);
+    Ok(())
+}
+
+/// A restart keeps the gate.
+#[test]
+fn gate_survives_restart(rt: HostRuntime) -> Result<(), Fail> {
+    let (book, floors) = book_of(rt.alloc(), SILVER)?;
+    let key = zeros()?;
+    let mut node = opened(rt.alloc(), &book, &key, &floors, 1, 1)?;
+    let text = reply_to(&mut node, 7, 100, b"CHECK 1 silver 000000 -")?;
+    assert_eq!(rt; text.as_slice(), b"NO 1 INVALID".as_slice());
+    node.restart()?;
+    let text = reply_to(&mut node, 7, 104, b"CHECK 1 silver 755224 -")?;
+    assert_eq!(rt; text.as_slice(), b"NO 1 THROTTLED 1".as_slice());
+    let text = reply_to(&mut node, 7, 105, b"CHECK 2 silver 755224 -")?;
+    assert_eq!(rt; text.as_slice(), b"OK 2 0".as_slice());
+    Ok(())
+}
+
+/// The row of a users file, or a line, of a number.
+fn numbered(alloc: Global, front: &[u8], number: u32, back: &[u8]) -> Result<Vec<u8>, Fail> {
+    let mut text = Vec::new(alloc);
+    text.extend_from_slice(front)?;
+    text.push(b'0' + (number / 1000 % 10) as u8)?;
+    text.push(b'0' + (number / 100 % 10) as u8)?;
+    text.push(b'0' + (number / 10 % 10) as u8)?;
+    text.push(b'0' + (number % 10) as u8)?;
+    text.extend_from_slice(back)?;
+    Ok(text)
+}
+
+/// Thirty-two submissions wait, and the next one is told that the node is busy.
+#[test]
+fn thirty_three_submissions(rt: HostRuntime) -> Result<(), Fail> {
+    let alloc = rt.alloc();
+    let mut users = Vec::new(alloc);
+    for number in 0..33 {
+        let row = numbered(
+            alloc,
+            b"HOTP u",
+            number,
+            b" - 3132333435363738393031323334353637383930\n",
+        )?;
+        users.extend_from_slice(&row)?;
+    }
+    let (book, floors) = book_of(alloc, &users)?;
+    let key = zeros()?;
+    let mut node = opened(alloc, &book, &key, &floors, 1, 3)?;
+    for number in 0..33 {
+        let line = numbered(alloc, b"CHECK 33 u", number, b" 755224 -")?;
+        let text = reply_to(&mut node, 7, 1000, &line)?;
+        let want = if number < 32 {
+            b"".as_slice()
+        } else {
+            b"NO 33 BUSY"
+        };
+        assert_eq!(rt; text.as_slice(), want, "{number}");
+    }
+    Ok(())
+}
+
+/// The first answer is given again after so many other lines, or no longer.
+fn after_lines<R: Abort + AllocGlobal>(rt: &R, lines: u32, want: &[u8]) -> Result<(), Fail> {
+    let alloc = rt.alloc();
+    let (book, floors) = book_of(alloc, SILVER)?;
+    let key = zeros()?;
+    let mut node = opened(alloc, &book, &key, &floors, 1, 1)?;
+    let line = b"CHECK 1 silver 755224 -".as_slice();
+    assert_eq!(rt;
+        reply_to(&mut node, 7, 100, line)?.as_slice(),
+        b"OK 1 0".as_slice()
+    );
+    for number in 0..lines {
+        let other = numbered(alloc, b"CHECK n", number, b" nobody 755224 -")?;
+        let text = reply_to(&mut node, 7, 100, &other)?;
+        assert_eq!(rt; text.ends_with(b" UNKNOWN"), true);
+    }
+    assert_eq!(rt; reply_to(&mut node, 7, 100, line)?.as_slice(), want);
+    Ok(())
+}
+
+#[test]
+fn after_1023_lines(rt: HostRuntime) -> Result<(), Fail> {
+    after_lines(&rt, 1023, b"OK 1 0")
+}
+
+#[test]
+fn after_1024_lines(rt: HostRuntime) -> Result<(), Fail> {
+    after_lines(&rt, 1024, b"NO 1 INVALID")
+}
+
+/// A store that fails stops the node until it is restarted.
+#[test]
+fn stopped_by_its_store(rt: HostRuntime) -> Result<(), Fail> {
+    let alloc = rt.alloc();
+    let (book, floors) = book_of(alloc, SILVER)?;
+    if floors.len() > 10_000 {
+        return Err("too many tokens".into());
+    }
+    let key = zeros()?;
+    let store = FuseStore::new(MemStore::new(alloc, &floors)?, 1, false);
+    let mut node = node_over(alloc, &book, &key, store, 1, 1)?;
+    let line = b"CHECK 1 silver 755224 -".as_slice();
+    let event = Event::Client {
+        client: 7,
+        moment: 100,
+        line,
+    };
+    assert_eq!(rt;
+        node.handle(event).err(),
+        Some(NodeFault::Store(StoreFault::Disk))
+    );
+    assert_eq!(rt; node.is_running(), false);
+    assert_eq!(rt; node.handle(Event::Tick).err(), Some(NodeFault::Stopped));
+    assert_eq!(rt; node.restart(), Err(NodeFault::Store(StoreFault::Disk)));
+    let store = node.close().mend();
+    let mut node = node_over(alloc, &book, &key, store, 1, 1)?;
+    assert_eq!(rt;
+        reply_to(&mut node, 7, 100, line)?.as_slice(),
+        b"OK 1 0".as_slice()
+    );
+    Ok(())
+}

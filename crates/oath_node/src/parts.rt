@@ -1,0 +1,14 @@
+use crate::answers::Answers;
+use crate::owner::Owner;
+use arrayvec::ArrayVec;
+use vote_core::{MAX_PENDING, Voter};
+
+/// What an event at a running node changes: its store, its voter, the owners of the pending proposals, and
+/// the answers that it keeps.
+#[derive(Drop)]
+pub(crate) struct Parts<S> {
+    pub(crate) store: S,
+    pub(crate) voter: Voter,
+    pub(crate) owners: ArrayVec<Owner, MAX_PENDING>,
+    pub(crate) answers: Answers,
+}

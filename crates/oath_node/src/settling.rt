@@ -1,0 +1,123 @@
+//! What a voter's step leads to: replies to those whose proposals are decided, and answers to be kept.
+
+ghost use Rattle.std.specs.Prelude.{◌≡◌, ◌≤◌, length, map};
+ghost use Rattle.oath_node.specs.Answers.{kept_with_all};
+ghost use Rattle.oath_node.specs.Machine.{answers_to_decisions, last_factor_of as spec_last_factor_of, outcome_of as spec_outcome_of, owners_of_pending, reply_with};
+ghost use Rattle.oath_node.specs.Outputs.{items_of};
+ghost use Rattle.vote_core.specs.State.{sent_by, voter_of};
+
+use crate::answers::{Answers, KeptAnswer, MAX_LINE_LEN};
+use crate::outputs::{Outputs, Reply};
+use crate::owner::{Owner, owner_with};
+use arrayvec::ArrayVec;
+use floor_store::Pass;
+use otp_core::Factor;
+use vote_core::{Decision, MAX_PENDING, Step, Voter};
+use vote_wire::{ClusterKey, MAX_SENT_LEN, Outcome, write_reply};
+
+/// A line to be kept.
+pub(crate) fn line_of(bytes: &[u8]) -> ArrayVec<u8, MAX_LINE_LEN>
+    requires { length bytes.now ≤ 256 }
+    ensures { result.items ≡ bytes.now }
+{
+    let mut line = ArrayVec::new();
+    let _ = line.try_extend_from_slice(bytes);
+    line
+}
+
+/// An answer to be kept, or to be given again.
+pub(crate) fn text_of(bytes: &[u8]) -> ArrayVec<u8, MAX_SENT_LEN>
+    requires { length bytes.now ≤ 64 }
+    ensures { result.items ≡ bytes.now }
+{
+    let mut text = ArrayVec::new();
+    let _ = text.try_extend_from_slice(bytes);
+    text
+}
+
+/// The last factor of the accepted submission.
+fn last_factor_of(pass: &Option<Pass>) -> Factor
+    ensures { result ≡ spec_last_factor_of pass.now }
+{
+    match pass {
+        Some(pass) => pass.hi(),
+        None => Factor::new(0).unwrap(),
+    }
+}
+
+/// What the owner of a decided proposal is told.
+fn outcome_of(decision: Decision, pass: &Option<Pass>) -> Outcome
+    ensures { result ≡ spec_outcome_of decision pass.now }
+{
+    match decision {
+        Decision::Accepted => Outcome::Accepted(last_factor_of(pass)),
+        Decision::Spent => Outcome::Spent,
+        Decision::Timeout => Outcome::Timeout,
+    }
+}
+
+/// The replies to what was decided, in order. They are kept.
+fn settle(
+    owners: &[Owner],
+    pass: &Option<Pass>,
+    decisions: &[(u64, Decision)],
+    answers: &mut Answers,
+) -> ArrayVec<Reply, MAX_PENDING>
+    requires { length decisions.now ≤ 32 }
+    ensures replies { result.items ≡ map reply_with (answers_to_decisions owners.now pass.now decisions.now) }
+    ensures answers { answers.new
+        ≡ kept_with_all answers.old (answers_to_decisions owners.now pass.now decisions.now) }
+{
+    let mut replies = ArrayVec::new();
+    for entry in decisions {
+        let (seq, decision) = *entry;
+        if let Some(owner) = owner_with(owners, seq) {
+            let bytes = write_reply(&owner.nonce, outcome_of(decision, pass));
+            answers.put(KeptAnswer {
+                client: owner.client,
+                line: line_of(owner.line.as_slice()),
+                text: text_of(bytes.as_slice()),
+            });
+            replies.push(Reply {
+                client: owner.client,
+                bytes,
+            });
+        }
+    }
+    replies
+}
+
+/// Keeps those whose proposals still wait.
+fn keep_pending(owners: &mut ArrayVec<Owner, MAX_PENDING>, voter: &Voter)
+    ensures { owners.new.items ≡ owners_of_pending (voter_of voter.now).pending owners.old.items }
+{
+    owners.retain(|owner| voter.is_pending(owner.seq))
+}
+
+/// Takes what a voter's step leads to into the owners and the answers.
+pub(crate) fn finish<'k>(
+    key: &'k ClusterKey,
+    voter: &Voter,
+    owners: &mut ArrayVec<Owner, MAX_PENDING>,
+    answers: &mut Answers,
+    step: Step,
+) -> Outputs<'k>
+    ensures outputs { result ≡ record {
+      items = items_of key.now voter.now.place.me (sent_by step.sends.items)
+          (map reply_with (answers_to_decisions owners.old.items step.pass step.decisions.items));
+      begun = step.begun;
+      pass = step.pass;
+    } }
+    ensures owners { owners.new.items ≡ owners_of_pending (voter_of voter.now).pending owners.old.items }
+    ensures answers { answers.new ≡ kept_with_all answers.old
+        (answers_to_decisions owners.old.items step.pass step.decisions.items) }
+{
+    let replies = settle(
+        owners.as_slice(),
+        &step.pass,
+        step.decisions.as_slice(),
+        answers,
+    );
+    keep_pending(owners, voter);
+    Outputs::of_step(key, voter.place().me(), step, replies)
+}
