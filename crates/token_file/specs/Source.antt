@@ -1,5 +1,5 @@
 -- What a pull does to the bytes that a source has left.
-use Rattle.std.specs.Prelude.{◌≡◌, ℕ, ◌≤◌, Bool, true, false, List, length, take, Option, Some, None}
+use Rattle.std.specs.Prelude.{◌≡◌, ℕ, ◌≤◌, Bool, true, false, List, length, take, Option, Some, None, IfSome}
 use Rattle.std.specs.Io.KnownBytes.{Consumes, IsAtEnd}
 use Rattle.token_file.specs.declared.source.Pulled.{Pulled}
 use Rattle.token_file.specs.declared.source.Pulled.TheVariants.{Bytes, Failed}
@@ -10,6 +10,10 @@ abbrev pub Pulls : Option (List ℕ) → Option (List ℕ) → Pulled → List �
 Pulls old new (Bytes count) buffer =
     (count ≤ length buffer) × Consumes old new (take count buffer) × (count ≡ 0 → IsAtEnd new)
 Pulls old new Failed buffer = (lost : List ℕ) × Consumes old new lost
+
+-- what is known stays as it was
+abbrev pub Stays : {A : Type 0} → Option A → Option A → Type 0
+Stays old new = IfSome old (λ value. new ≡ Some value)
 
 -- whether a pull failed
 abbrev pub is_failure : Pulled → Bool

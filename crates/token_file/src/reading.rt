@@ -1,7 +1,7 @@
 ghost use Rattle.std.specs.Prelude.{◌≡◌, ◌+◌, ◌∷◌, ◌^◌, ◌<◌, ◌≤◌, ◌≢◌, ◌||◌, [], false, length, is_ok, IfErr, IfOk, IsTrue, MatchResult, OnOk, Ok, Err};
 ghost use Rattle.otp_core.specs.Range.{IsMoment};
 ghost use Rattle.token_file.specs.Reading.{Fails, Leads, Progress, initial_progress};
-ghost use Rattle.token_file.specs.Source.{OfText};
+ghost use Rattle.token_file.specs.Source.{OfText, Stays};
 ghost use Rattle.token_file.specs.UsersFile.{Instant, IsCutOff, after_line, book_of, import_of, instant_of, is_of_text, is_read, is_read_result};
 
 use crate::book::{Book, MAX_TOKENS};
@@ -214,7 +214,8 @@ fn add_line(
 }
 
 /// The book of a users file and the first free factor of each token, at an import at this moment. A pull
-/// asks for 4,096 bytes at most, and no more is pulled after a fault.
+/// asks for 4,096 bytes at most, and no more is pulled after a fault. What stands behind the text in the source
+/// stays.
 pub fn read_book<S: Source>(
     alloc: Global,
     source: &mut S,
@@ -232,6 +233,7 @@ pub fn read_book<S: Source>(
         IsCutOff LineFault.Read MAX_FILE_LEN (instant_of settings moment) text fault.line)) }
     ensures memory { IfErr result (λ fault. fault.kind ≡ LineFault.Memory → OfText (S.left source.old) (λ text.
         IsCutOff LineFault.Memory MAX_FILE_LEN (instant_of settings moment) text fault.line)) }
+    ensures behind { Stays (S.behind source.old) (S.behind source.new) }
     ensures failed { S.has_failed source.new ≡ (S.has_failed source.old || is_read_result result) }
 {
     read_lines(alloc, source, MAX_FILE_LEN, settings, moment)
@@ -257,6 +259,7 @@ pub(crate) fn read_lines<S: Source>(
         IsCutOff LineFault.Read limit (instant_of settings moment) text fault.line)) }
     ensures memory { IfErr result (λ fault. fault.kind ≡ LineFault.Memory → OfText (S.left source.old) (λ text.
         IsCutOff LineFault.Memory limit (instant_of settings moment) text fault.line)) }
+    ensures behind { Stays (S.behind source.old) (S.behind source.new) }
     ensures failed { S.has_failed source.new ≡ (S.has_failed source.old || is_read_result result) }
 {
     let mut reading = Reading::new(alloc, limit);

@@ -1,4 +1,4 @@
-ghost use Rattle.std.specs.Prelude.{◌≡◌, ◌<◌, ◌↔◌, IsTrue};
+ghost use Rattle.std.specs.Prelude.{◌≡◌, ◌<◌, ◌↔◌, IsTrue, None};
 ghost use Rattle.std.specs.IoError.{error_kind};
 
 use std::io::{Error, ErrorKind, Read};
@@ -18,18 +18,25 @@ pub enum Pulled {
 /// Where a text comes from, in pieces.
 pub trait Source {
     ghost use Rattle.std.specs.Prelude.{◌||◌, ℕ, Bool, List, length, Option, None};
-    ghost use Rattle.token_file.specs.Source.{Pulls, is_failure};
+    ghost use Rattle.token_file.specs.Source.{Pulls, Stays, is_failure};
 
     // The bytes that are left, where the source tells.
     ghost left: { Self → Option (List ℕ) } = { λ _. None };
 
+    // The words in which the source tells what stands behind its text.
+    ghost Behind: { Type 0 } = { Unit {0} };
+
+    // What stands behind its text, where the source tells.
+    ghost behind: { Self → Option Self.Behind };
+
     // Whether a pull has failed.
     ghost has_failed: { Self → Bool };
 
-    /// Takes bytes from the front of what is left into the buffer.
+    /// Takes bytes from the front of what is left into the buffer. What stands behind the text stays.
     fn pull(&mut self, buffer: &mut [u8]) -> Pulled
         requires { 0 < length buffer.old }
         ensures bytes { Pulls (left self.old) (left self.new) result buffer.new }
+        ensures behind { Stays (behind self.old) (behind self.new) }
         ensures failed { has_failed self.new ≡ (has_failed self.old || is_failure result) };
 }
 
@@ -57,6 +64,8 @@ impl<R: Read> FromRead<R> {
 
 impl<R: Read> Source for FromRead<R> {
     ghost left = { λ source. R.remaining source.reader };
+
+    ghost behind = { λ _. None };
 
     ghost has_failed = { λ source. source.has_failed };
 

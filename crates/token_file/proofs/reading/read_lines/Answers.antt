@@ -6,11 +6,13 @@ use Rattle.token_file.specs.declared.source.Pulled.TheVariants.{Bytes}
 use Rattle.token_file.specs.Source.{OfText, Pulls}
 use Rattle.token_file.specs.UsersFile.{Instant, IsCutOff, after_line, at_line, book_of, is_of_text, is_read, is_read_result}
 use Rattle.token_file.proofs.ReadingLemmas.{at_end, cut_here, err_both, err_map, fault_within, handed_on, memory_within, not_read, ok_map, or-false, same_failed, so_far_more, so_far_none, so_far_paired, so_far_within, text_map}
+use Rattle.token_file.proofs.SourceLemmas.{stays_start, stays_then}
 use Rattle.token_file.proofs.reading.read_lines.Goals as goal
 
 pub loop-init : goal.loop-init
 loop-init g c = record {
   so_far = so_far_none (record { skew = c.args.settings.skew; moment = c.args.moment }) c.args.limit (g.S.Source.left c.args.source.now) c.new-reading.result c.new-reading.ensures;
+  behind = stays_start (g.S.Source.behind c.args.source.now);
   failed = refl;
 }
 
@@ -67,6 +69,11 @@ returns-in-Bytes-eq0-clause-failed g c =
     same_failed (g.S.Source.has_failed c.args.source.now) (g.S.Source.has_failed c.loop.source) (g.S.Source.has_failed c.pull.new.self) (is_read_result c.finish.result)
     c.in-Bytes-eq0.ensures.failed c.loop.invariant.failed (not_read c.finish.result c.finish.ensures.unread)
 
+pub returns-in-Bytes-eq0-clause-behind : goal.returns-in-Bytes-eq0-clause-behind
+returns-in-Bytes-eq0-clause-behind g c =
+    stays_then (g.S.Source.behind c.args.source.now) (g.S.Source.behind c.loop.source) (g.S.Source.behind c.pull.new.self)
+    c.loop.invariant.behind c.in-Bytes-eq0.ensures.behind
+
 -- a fault within the bytes that were pulled
 pub returns-in_err-take_all-in-Bytes-clause-fault :
     goal.returns-in_err-take_all-in-Bytes-clause-fault
@@ -97,6 +104,17 @@ returns-in_err-take_all-in-Bytes-clause-failed g c =
     same_failed (g.S.Source.has_failed c.args.source.now) (g.S.Source.has_failed c.loop.source) (g.S.Source.has_failed c.pull.new.self) (is_read_result c.from_residual.result)
     c.in-Bytes.ensures.failed c.loop.invariant.failed (not_read c.from_residual.result quiet)
 
+pub returns-in_err-take_all-in-Bytes-clause-behind :
+    goal.returns-in_err-take_all-in-Bytes-clause-behind
+returns-in_err-take_all-in-Bytes-clause-behind g c =
+    stays_then (g.S.Source.behind c.args.source.now) (g.S.Source.behind c.loop.source) (g.S.Source.behind c.pull.new.self)
+    c.loop.invariant.behind c.in-Bytes.ensures.behind
+
+pub returns-in-Failed-clause-behind : goal.returns-in-Failed-clause-behind
+returns-in-Failed-clause-behind g c =
+    stays_then (g.S.Source.behind c.args.source.now) (g.S.Source.behind c.loop.source) (g.S.Source.behind c.pull.new.self)
+    c.loop.invariant.behind c.in-Failed.ensures.behind
+
 pub returns-in-Failed-clause-read : goal.returns-in-Failed-clause-read
 returns-in-Failed-clause-read g c = λ e.
     cut_here Read (record { skew = c.args.settings.skew; moment = c.args.moment }) c.args.limit c.loop.counter c.fault.result.line (g.S.Source.left c.args.source.now) (g.S.Source.left c.loop.source) c.loop.reading
@@ -110,6 +128,8 @@ loop-preserved g c =
       so_far = so_far_more (record { skew = c.args.settings.skew; moment = c.args.moment }) c.args.limit c.loop.counter (g.S.Source.left c.args.source.now) (g.S.Source.left c.loop.source)
           (g.S.Source.left c.pull.new.self) c.loop.reading c.take_all.new.self (take c.in-Bytes.len c.pull.new.buffer) c.loop.invariant.so_far c.in-Bytes.ensures.bytes.1
           c.in_ok-take_all-in-Bytes.ensures.ok some;
+      behind = stays_then (g.S.Source.behind c.args.source.now) (g.S.Source.behind c.loop.source) (g.S.Source.behind c.pull.new.self)
+          c.loop.invariant.behind c.in-Bytes.ensures.behind;
       failed = c.in-Bytes.ensures.failed ∙ or-false (g.S.Source.has_failed c.loop.source) ∙ c.loop.invariant.failed;
     }
 
