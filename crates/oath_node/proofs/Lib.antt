@@ -13,5 +13,6 @@ pub mod PeerLemmas
 pub mod RefusalLemmas
 pub mod RunLemmas
 pub mod SafetyLemmas
+pub mod ServingLemmas
 pub mod StepLemmas
 pub mod VerdictLemmas

@@ -1,5 +1,5 @@
--- What the program keeps in place of the results of each token: its gate. Private contracts alone cite it: no
--- public one rests on it.
+-- What the program keeps in place of the results of each token: its gate. Of the public contracts those of a server
+-- that is asked line by line rest on it, to say what such a server holds; all others are private.
 use Rattle.std.specs.Prelude.{ℕ, ◌-◌, false, List, None, map, slice_index, slice_index_or, slice_set}
 use Rattle.admit_core.specs.Gate.{GateRecord, clear_gate, with_failure}
 use Rattle.admit_core.specs.Throttle.{Result, gate_after}

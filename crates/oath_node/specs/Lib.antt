@@ -15,3 +15,4 @@ pub mod ReferenceServer
 pub mod Refusals
 pub mod Report
 pub mod Rules
+pub mod Serving

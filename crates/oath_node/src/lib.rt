@@ -33,6 +33,7 @@ mod parts;
 mod report;
 mod rules;
 mod run;
+mod server;
 mod settling;
 #[cfg(test)]
 mod tests;
@@ -49,3 +50,4 @@ pub use node::Node;
 pub use outputs::Outputs;
 pub use report::{LineAnswer, LinePass, LineReport};
 pub use run::{ClientLine, run_lines};
+pub use server::LineServer;

@@ -158,29 +158,47 @@ fn record_verdict(
     ensures report { OnOk result (report.new ≡ with_passes report.old number (told_by verdict).accepted) }
     ensures answer { IfOk result (λ answer. answer ≡ (told_by verdict).answer) }
 {
+    if let Verdict::Proposes { token, lo, hi, .. } = &verdict {
+        report.push_pass(LinePass {
+            began: number,
+            token: *token,
+            lo: *lo,
+            hi: *hi,
+        })?;
+    }
+    Ok(take_verdict(moment, verdict, floors, gates))
+}
+
+/// Takes what the rules made of a line into the floors and the gates, and gives the answer.
+pub(crate) fn take_verdict(
+    moment: u64,
+    verdict: Verdict,
+    floors: &mut [Next],
+    gates: &mut [Gate],
+) -> Answer
+    requires recordable { IsRecordable (length floors.old) moment verdict }
+    requires gates { length gates.old ≡ length floors.old }
+    ensures floors { floors.new ≡ floors_after floors.old verdict }
+    ensures gates { gates.new ≡ gates_after gates.old moment verdict }
+    ensures answer { result ≡ (told_by verdict).answer }
+{
     match verdict {
-        Verdict::BadLine => Ok(Answer::BadLine),
-        Verdict::Refused(nonce, outcome) => Ok(Answer::Reply(nonce, outcome)),
+        Verdict::BadLine => Answer::BadLine,
+        Verdict::Refused(nonce, outcome) => Answer::Reply(nonce, outcome),
         Verdict::Fails(nonce, outcome, token) => {
             gates[token.value() as usize].fail(moment);
-            Ok(Answer::Reply(nonce, outcome))
+            Answer::Reply(nonce, outcome)
         }
         Verdict::Proposes {
             nonce,
             token,
-            lo,
             hi,
+            ..
         } => {
-            report.push_pass(LinePass {
-                began: number,
-                token,
-                lo,
-                hi,
-            })?;
             let place = token.value() as usize;
             floors[place] = Next::after(hi);
             gates[place].clear();
-            Ok(Answer::Reply(nonce, Outcome::Accepted(hi)))
+            Answer::Reply(nonce, Outcome::Accepted(hi))
         }
     }
 }
