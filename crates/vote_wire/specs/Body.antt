@@ -104,7 +104,6 @@ body_bytes from to (Floor token next) = head_bytes 4 from to token ++ to_be_byte
 -- ---- Reading
 
 infixl 10 ◌>>=◌
-
 -- the value of the next reader, where the first one gives one
 abbrev pub ◌>>=◌ : {A B : Type 0} → Option A → (A → Option B) → Option B
 None >>= next = None

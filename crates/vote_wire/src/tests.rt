@@ -23,9 +23,7 @@ const DENY: [u8; 35] = [
 ];
 
 /// A Floor from 1 to 3 for token 0, first free factor 4, before its tag.
-const FLOOR: [u8; 18] = [
-    0x4f, 0x56, 2, 4, 1, 3, 0, 0, 0, 0, 0, 0, 0, 0, 0, 0, 0, 4,
-];
+const FLOOR: [u8; 18] = [0x4f, 0x56, 2, 4, 1, 3, 0, 0, 0, 0, 0, 0, 0, 0, 0, 0, 0, 4];
 
 fn zeros() -> Result<ClusterKey, Fail> {
     Ok(ClusterKey::new(&[0; 32]).ok_or("a key")?)
@@ -95,7 +93,10 @@ fn messages() -> Result<[(u8, u8, Message); 4], Fail> {
 fn datagrams_of_each_kind(rt: HostRuntime) -> Result<(), Fail> {
     let key = zeros()?;
     let [ask, grant, deny, floor] = messages()?;
-    assert_eq!(rt; write_message(&key, ask.0, ask.1, &ask.2).as_slice(), ASK.as_slice());
+    assert_eq!(rt;
+        write_message(&key, ask.0, ask.1, &ask.2).as_slice(),
+        ASK.as_slice()
+    );
     assert_eq!(rt; read_message(&key, &ASK), Some(ask));
     for ((from, to, message), body, len) in [
         (ask, &ASK[..43], 59),
@@ -117,10 +118,14 @@ fn datagrams_of_each_kind(rt: HostRuntime) -> Result<(), Fail> {
 fn another_bit(rt: HostRuntime) -> Result<(), Fail> {
     let key = zeros()?;
     for place in 0..ASK.len() {
-        for bit in 0..8 {
+        for bit in [1, 2, 4, 8, 16, 32, 64, 128] {
             let mut changed = ASK;
-            changed[place] ^= 1 << bit;
-            assert_eq!(rt; read_message(&key, &changed), None, "bit {bit} of byte {place}");
+            changed[place] ^= bit;
+            assert_eq!(rt;
+                read_message(&key, &changed),
+                None,
+                "bit {bit} of byte {place}"
+            );
         }
     }
     let other = ClusterKey::new(&[1; 32]).ok_or("a key")?;
@@ -178,7 +183,11 @@ fn changed_bodies(rt: HostRuntime) -> Result<(), Fail> {
         }
         let tag = tag(&key, &changed);
         let _ = changed.try_extend_from_slice(&tag);
-        assert_eq!(rt; read_message(&key, &changed), None, "byte {byte} at {place}");
+        assert_eq!(rt;
+            read_message(&key, &changed),
+            None,
+            "byte {byte} at {place}"
+        );
     }
     Ok(())
 }
@@ -202,7 +211,11 @@ fn keys(rt: HostRuntime) -> Result<(), Fail> {
     }
     for (len, is_key) in [(15, false), (16, true), (64, true), (65, false)] {
         let bytes = [0x0b; 65];
-        assert_eq!(rt; ClusterKey::new(&bytes[..len]).is_some(), is_key, "{len} bytes");
+        assert_eq!(rt;
+            ClusterKey::new(&bytes[..len]).is_some(),
+            is_key,
+            "{len} bytes"
+        );
     }
     Ok(())
 }
@@ -250,10 +263,16 @@ fn lines_of_both_kinds(rt: HostRuntime) -> Result<(), Fail> {
 /// Answers as text.
 #[test]
 fn answers(rt: HostRuntime) -> Result<(), Fail> {
-    assert_eq!(rt; write_answer(&Answer::BadLine).as_slice(), b"NO - BADLINE".as_slice());
+    assert_eq!(rt;
+        write_answer(&Answer::BadLine).as_slice(),
+        b"NO - BADLINE".as_slice()
+    );
     let last = factor((1 << 62) - 1)?;
     for (outcome, text) in [
-        (Outcome::Accepted(last), b"OK n1 4611686018427387903".as_slice()),
+        (
+            Outcome::Accepted(last),
+            b"OK n1 4611686018427387903".as_slice(),
+        ),
         (Outcome::Throttled(105), b"NO n1 THROTTLED 105"),
         (Outcome::Spent, b"NO n1 SPENT"),
     ] {
