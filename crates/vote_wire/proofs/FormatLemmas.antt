@@ -1,11 +1,11 @@
 -- The reader of bodies as a function, and their format: what is read is in the format, and what is in the format is
 -- read.
 use Rattle.std.proofs.Common.{◌≡◌, ℕ, ◌+◌, ◌^◌, ◌≤◌, Bool, true, false, cond, eqb, ltb, leb, List, length, Option, Some, None, refl, sym, subst, arith, inl, inr}
-use Rattle.std.specs.Prelude.{◌⊎◌, IfSome, IfNone, ◌&&◌, nat_lt, nat_le, not}
+use Rattle.std.specs.Prelude.{◌⊎◌, ◌&&◌, nat_lt, nat_le, not}
 use Rattle.std.proofs.lemmas.Bool.{eqb-true, eqb-false, leb-true, ltb-true, le-leb, lt-ltb, le-ltb, eq-eqb, ne_eqb, not-true, not_from_false, and_parts, and_from}
 use Rattle.otp_core.specs.Range.{IsFactor, IsNext}
 use Rattle.floor_store.specs.Records.{ProposalRecord}
-use Rattle.floor_store.specs.Range.{IsProposal, IsSpan}
+use Rattle.floor_store.specs.Range.{IsProposal}
 use Rattle.vote_core.specs.declared.message.Message.{Message}
 use Rattle.vote_core.specs.declared.message.Message.TheVariants.{Ask, Grant, Deny, Floor}
 use Rattle.vote_wire.specs.Bytes.{byte_at, word_at, number_at}

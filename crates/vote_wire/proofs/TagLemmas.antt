@@ -1,5 +1,5 @@
 -- A datagram, its body and its tag.
-use Rattle.std.proofs.Common.{◌≡◌, ℕ, ◌+◌, ◌-◌, ◌<◌, ◌≤◌, Bool, true, false, cond, List, ◌++◌, length, take, drop, Option, Some, None, refl, sym, ap, subst, ◌∙◌, arith, length-append}
+use Rattle.std.proofs.Common.{◌≡◌, ℕ, ◌-◌, ◌≤◌, Bool, true, false, cond, List, ◌++◌, length, Option, Some, None, refl, sym, ap, subst, ◌∙◌, arith, length-append}
 use Rattle.std.specs.Prelude.{◌↔◌, IfNone, IfSome}
 use Rattle.std.specs.Str.{bytes_eq}
 use Rattle.std.proofs.lemmas.List.{length-take-le, length-drop, take-append-drop, take-append-le, drop-append-le, take_all, drop_all}
@@ -10,7 +10,7 @@ use Rattle.hmac_core.specs.declared.hash.Hash.TheVariants.{Sha256}
 use Rattle.sha2.proofs.Facts256.{length-sha256}
 use Rattle.sha2.specs.Sha256.{sha256}
 use Rattle.vote_core.specs.declared.message.Message.{Message}
-use Rattle.vote_wire.specs.Body.{HasSpelling, IsBodyOf, SaysMessage, body_at, body_bytes}
+use Rattle.vote_wire.specs.Body.{HasSpelling, SaysMessage, body_at, body_bytes}
 use Rattle.vote_wire.specs.Bytes.{AreBytes}
 use Rattle.vote_wire.specs.Datagram.{IsDatagramOf, IsTagged, body_of, datagram_at, datagram_bytes, tag_at}
 use Rattle.vote_wire.specs.Key.{tag_of}

@@ -1,7 +1,6 @@
 -- Where the tag is right, the body is read; where it is wrong, nothing is.
-use Rattle.std.proofs.Common.{◌≡◌, sym, ap, ◌∙◌}
+use Rattle.std.proofs.Common.{sym, ap, ◌∙◌}
 use Rattle.vote_wire.specs.Body.{body_at}
-use Rattle.vote_wire.specs.Datagram.{datagram_at}
 use Rattle.vote_wire.proofs.TagLemmas.{is_none, is_some, tagged_is_read, untagged_is_none}
 use Rattle.vote_wire.proofs.reading.read_message.Goals as goal
 
