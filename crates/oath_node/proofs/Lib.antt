@@ -4,7 +4,6 @@ pub mod ColumnLemmas
 pub mod FitLemmas
 pub mod GateLemmas
 pub mod GroundLemmas
-pub mod KeptLemmas
 pub mod LineLemmas
 pub mod NodeLemmas
 pub mod OwnedLemmas

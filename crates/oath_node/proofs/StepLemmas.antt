@@ -15,10 +15,10 @@ use Rattle.vote_core.specs.Voting.{Ballot, VoterState, Voted, accept, count_deny
 use Rattle.vote_core.specs.declared.message.Message.{Message}
 use Rattle.vote_core.specs.declared.message.Message.TheVariants.{Ask, Grant, Deny, Floor}
 use Rattle.vote_core.specs.declared.step.Step.{Step}
-use Rattle.oath_node.specs.Answers.{KeptAnswer, kept_with_all}
+use Rattle.answer_ring.specs.Answers.{KeptAnswer}
 use Rattle.oath_node.specs.Calls.{IsMade}
 use Rattle.oath_node.specs.Hosted.{running_state}
-use Rattle.oath_node.specs.Machine.{Beginning, Made, NodeState, Owner, answers_to_decisions, is_pending, made_by_proposal, made_by_vote, next_beginning, next_owner, owners_of_pending, quiet_made, reply_with, stopped_node}
+use Rattle.oath_node.specs.Machine.{answers_to_decisions, Beginning, is_pending, kept_with_all, Made, made_by_proposal, made_by_vote, next_beginning, next_owner, NodeState, Owner, owners_of_pending, quiet_made, reply_with, stopped_node}
 use Rattle.oath_node.specs.Outputs.{OutputsRecord, items_of, outputs_of}
 use Rattle.oath_node.specs.Parts.{FailsParts, Steps, StopsParts, state_in}
 use Rattle.oath_node.specs.declared.fault.NodeFault.{NodeFault}

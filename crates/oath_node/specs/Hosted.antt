@@ -11,7 +11,7 @@ use Rattle.vote_core.specs.Schedule.{Envelope}
 use Rattle.vote_core.specs.State.{VoterRecord, voter_of}
 use Rattle.vote_core.specs.Voting.{Ballot}
 use Rattle.vote_wire.specs.Datagram.{datagram_at}
-use Rattle.oath_node.specs.Answers.{KeptAnswer}
+use Rattle.answer_ring.specs.Answers.{KeptAnswer}
 use Rattle.oath_node.specs.Machine.{Config, Made, NodeEvent, NodeState, Owner, Client, Peer, Tick, is_pending, made_by_event}
 use Rattle.oath_node.specs.declared.event.Event.{Event}
 use Rattle.oath_node.specs.declared.event.Event.TheVariants.{Client as ClientEvent, Peer as PeerEvent, Tick as TickEvent}

@@ -22,7 +22,7 @@ use Rattle.vote_wire.specs.Request.{without_lf}
 use Rattle.vote_wire.specs.declared.answer.Answer.TheVariants.{BadLine, Reply as ReplyAnswer}
 use Rattle.vote_wire.specs.declared.answer.Outcome.{Outcome}
 use Rattle.vote_wire.specs.declared.answer.Outcome.TheVariants.{Accepted, Spent, Timeout}
-use Rattle.oath_node.specs.Answers.{KeptAnswer, kept_answer, kept_with, kept_with_all}
+use Rattle.answer_ring.specs.Answers.{KeptAnswer, kept_answer, kept_with}
 use Rattle.oath_node.specs.Rules.{Standing, Ruling, Outside, Again, Waiting, Denied, Wrong, Fitting, ruling}
 
 -- what is the same at all events and at all members
@@ -97,6 +97,11 @@ stopped_node x = record x { running = false }
 abbrev pub node_with_answer : ℕ → List ℕ → List ℕ → NodeState → NodeState
 node_with_answer client line text x =
     record x { answers = kept_with x.answers (record { client = client; line = line; text = text }) }
+
+-- these answers kept too, in order
+abbrev pub kept_with_all : List KeptAnswer → List KeptAnswer → List KeptAnswer
+kept_with_all kept [] = kept
+kept_with_all kept (answer ∷ more) = kept_with_all (kept_with kept answer) more
 
 -- ---- What a line meets
 

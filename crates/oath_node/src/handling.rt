@@ -3,7 +3,7 @@
 ghost use Rattle.std.specs.Prelude.{◌≡◌, ◌<◌, ◌≤◌, ◌↔◌, IfErr, IsTrue, None, false, length, nat_le};
 ghost use Rattle.floor_store.specs.Held.{Breaks, MayWrite};
 ghost use Rattle.floor_store.specs.Range.{IsSpan};
-ghost use Rattle.oath_node.specs.Answers.{kept_with};
+ghost use Rattle.answer_ring.specs.Answers.{kept_with};
 ghost use Rattle.oath_node.specs.Heard.{IsHeardAs};
 ghost use Rattle.oath_node.specs.Hosted.{envelope_at, event_of};
 ghost use Rattle.oath_node.specs.Machine.{content_with_failure, made_by_datagram, made_by_event, made_by_line, made_by_message, made_by_proposal, made_by_ruling, made_by_tick};
@@ -15,7 +15,6 @@ ghost use Rattle.otp_core.specs.Range.{IsMoment};
 ghost use Rattle.vote_core.specs.Calls.{FitsVoter, IsOther, IsStoreOf};
 ghost use Rattle.vote_core.specs.Rows.{row};
 
-use crate::answers::{Answers, KeptAnswer};
 use crate::event::Event;
 use crate::fault::NodeFault;
 use crate::outputs::Outputs;
@@ -23,6 +22,7 @@ use crate::owner::{Owner, is_waiting};
 use crate::parts::Parts;
 use crate::rules::{Verdict, examine, row_of};
 use crate::settling::{finish, line_of, text_of};
+use answer_ring::{Answers, answer_again, keep};
 use arrayvec::ArrayVec;
 use floor_store::{FloorStore, StoreFault};
 use otp_core::{Factor, Settings};
@@ -69,11 +69,7 @@ fn remember<'k>(
     ensures answers { answers.new ≡ kept_with answers.old
         (record { client = client; line = line.now; text = bytes.items }) }
 {
-    answers.put(KeptAnswer {
-        client,
-        line: line_of(line),
-        text: text_of(bytes.as_slice()),
-    });
+    keep(answers, client, line, bytes.as_slice());
     Outputs::reply(key, client, bytes)
 }
 
@@ -274,8 +270,8 @@ impl<S: FloorStore> Parts<S> {
             return Ok(Outputs::reply(key, client, bytes));
         };
         let line = without_lf(bytes);
-        if let Some(kept) = self.answers.find(client, line) {
-            return Ok(Outputs::reply(key, client, text_of(kept.text.as_slice())));
+        if let Some(text) = answer_again(&self.answers, client, line) {
+            return Ok(Outputs::reply(key, client, text_of(text)));
         }
         if is_waiting(self.owners.as_slice(), client, line) {
             return Ok(Outputs::nothing(key));

@@ -17,7 +17,6 @@
 //! ```
 #![tactic(auto)]
 
-mod answers;
 mod event;
 mod fault;
 mod handling;

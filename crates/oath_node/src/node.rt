@@ -5,11 +5,11 @@ ghost use Rattle.oath_node.specs.Calls.{Handles, IsOpened, IsRefused, Restarts};
 ghost use Rattle.oath_node.specs.Hosted.{event_of};
 ghost use Rattle.oath_node.specs.declared.fault.NodeFault.{NodeFault};
 
-use crate::answers::Answers;
 use crate::event::Event;
 use crate::fault::{NodeFault, OpenFault};
 use crate::outputs::Outputs;
 use crate::parts::Parts;
+use answer_ring::Answers;
 use arrayvec::ArrayVec;
 use floor_store::FloorStore;
 use otp_core::Settings;

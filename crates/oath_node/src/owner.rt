@@ -4,7 +4,7 @@ ghost use Rattle.std.specs.Option.{option_copied};
 ghost use Rattle.std.specs.Prelude.{◌≡◌};
 ghost use Rattle.oath_node.specs.Machine.{is_owned, owner_with as spec_owner_with};
 
-use crate::answers::MAX_LINE_LEN;
+use answer_ring::MAX_LINE_LEN;
 use arrayvec::ArrayVec;
 use std::marker::Model;
 use vote_wire::Nonce;

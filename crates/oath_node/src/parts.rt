@@ -1,5 +1,5 @@
-use crate::answers::Answers;
 use crate::owner::Owner;
+use answer_ring::Answers;
 use arrayvec::ArrayVec;
 use vote_core::{MAX_PENDING, Voter};
 

@@ -1,21 +1,20 @@
 //! What a voter's step leads to: replies to those whose proposals are decided, and answers to be kept.
 
 ghost use Rattle.std.specs.Prelude.{◌≡◌, ◌≤◌, length, map};
-ghost use Rattle.oath_node.specs.Answers.{kept_with_all};
-ghost use Rattle.oath_node.specs.Machine.{answers_to_decisions, last_factor_of as spec_last_factor_of, outcome_of as spec_outcome_of, owners_of_pending, reply_with};
+ghost use Rattle.oath_node.specs.Machine.{answers_to_decisions, kept_with_all, last_factor_of as spec_last_factor_of, outcome_of as spec_outcome_of, owners_of_pending, reply_with};
 ghost use Rattle.oath_node.specs.Outputs.{items_of};
 ghost use Rattle.vote_core.specs.State.{sent_by, voter_of};
 
-use crate::answers::{Answers, KeptAnswer, MAX_LINE_LEN};
 use crate::outputs::{Outputs, Reply};
 use crate::owner::{Owner, owner_with};
+use answer_ring::{Answers, MAX_LINE_LEN, keep};
 use arrayvec::ArrayVec;
 use floor_store::Pass;
 use otp_core::Factor;
 use vote_core::{Decision, MAX_PENDING, Step, Voter};
 use vote_wire::{ClusterKey, MAX_SENT_LEN, Outcome, write_reply};
 
-/// A line to be kept.
+/// A line that waits.
 pub(crate) fn line_of(bytes: &[u8]) -> ArrayVec<u8, MAX_LINE_LEN>
     requires { length bytes.now ≤ 256 }
     ensures { result.items ≡ bytes.now }
@@ -25,7 +24,7 @@ pub(crate) fn line_of(bytes: &[u8]) -> ArrayVec<u8, MAX_LINE_LEN>
     line
 }
 
-/// An answer to be kept, or to be given again.
+/// An answer that is given again.
 pub(crate) fn text_of(bytes: &[u8]) -> ArrayVec<u8, MAX_SENT_LEN>
     requires { length bytes.now ≤ 64 }
     ensures { result.items ≡ bytes.now }
@@ -73,11 +72,12 @@ fn settle(
         let (seq, decision) = *entry;
         if let Some(owner) = owner_with(owners, seq) {
             let bytes = write_reply(&owner.nonce, outcome_of(decision, pass));
-            answers.put(KeptAnswer {
-                client: owner.client,
-                line: line_of(owner.line.as_slice()),
-                text: text_of(bytes.as_slice()),
-            });
+            keep(
+                answers,
+                owner.client,
+                owner.line.as_slice(),
+                bytes.as_slice(),
+            );
             replies.push(Reply {
                 client: owner.client,
                 bytes,

@@ -1,6 +1,5 @@
 use Rattle.std.proofs.Common.{◌≡◌, ◌≤◌, ◌++◌, length, map, drop}
-use Rattle.oath_node.specs.Answers.{kept_with_all}
-use Rattle.oath_node.specs.Machine.{answers_to_decisions, reply_with}
+use Rattle.oath_node.specs.Machine.{answers_to_decisions, kept_with_all, reply_with}
 use Rattle.oath_node.proofs.settling.settle.Given as goal
 
 -- what was decided so far, and what the rest leads to

@@ -2,7 +2,7 @@ use Rattle.std.proofs.Common.{◌≡◌, ◌≤◌, ◌<◌, ℕ, Bool, true, fa
 use Rattle.vote_wire.specs.Answer.{answer_bytes}
 use Rattle.vote_wire.specs.Request.{request_at, without_lf}
 use Rattle.vote_wire.specs.declared.answer.Answer.TheVariants.{BadLine}
-use Rattle.oath_node.specs.Answers.{KeptAnswer, kept_answer}
+use Rattle.answer_ring.specs.Answers.{KeptAnswer, kept_answer}
 use Rattle.oath_node.specs.Machine.{Made, NodeState, Owner, is_owned, made_by_line, made_by_ruling, quiet_made, reply_made, ruling_at}
 use Rattle.oath_node.specs.Outputs.{OutputsRecord, reply_outputs}
 use Rattle.oath_node.specs.Parts.{Steps, state_in}
@@ -26,21 +26,21 @@ returns-in_default g c =
     (line_unread config old.voter.place c.args.client c.args.moment bytes (state_in held old) read) refl
     (c.reply.ensures ∙ ap (reply_outputs c.args.client) c.write_answer-bytes.ensures)
 
-pub returns-in-Some-find : goal.returns-in-Some-find
-returns-in-Some-find g c =
+pub returns-in-Some-answer_again : goal.returns-in-Some-answer_again
+returns-in-Some-answer_again g c =
     let held = g.S.FloorStore.held in
     let old = c.args.self.now in
     let config = config_of c.args.book.now c.args.settings in
     let bytes = c.args.bytes.now in
     let client = c.args.client in
-    let text = c.in-Some-find.kept.now.text in
+    let text = c.in-Some-answer_again.text.now in
     let read = sym c.read_line.ensures.exact ∙ c.in-Some.is in
     let kept : kept_answer old.answers client (without_lf bytes) ≡ Some text =
-    ap (λ (l : List ℕ). kept_answer old.answers client l) (sym c.without_lf-line.ensures) ∙ sym c.in-Some-find.ensures in
-    steps_told held c.args.key.now old (made_by_line config old.voter.place client c.args.moment bytes) c.reply-in-Some-find.result
+    ap (λ (l : List ℕ). kept_answer old.answers client l) (sym c.without_lf-line.ensures) ∙ sym c.in-Some-answer_again.ensures.value in
+    steps_told held c.args.key.now old (made_by_line config old.voter.place client c.args.moment bytes) c.reply-in-Some-answer_again.result
     (reply_made client text None (state_in held old))
     (line_again config old.voter.place client c.args.moment bytes (state_in held old) c.in-Some.request text read kept) refl
-    (c.reply-in-Some-find.ensures ∙ ap (reply_outputs client) (c.text_of.ensures ∙ c.as_slice.ensures.value ∙ ap (λ (k : KeptAnswer). k.text) c.kept.view_is))
+    (c.reply-in-Some-answer_again.ensures ∙ ap (reply_outputs client) c.text_of.ensures)
 
 pub returns-then-is_waiting : goal.returns-then-is_waiting
 returns-then-is_waiting g c =
@@ -51,10 +51,10 @@ returns-then-is_waiting g c =
     let client = c.args.client in
     let read = sym c.read_line.ensures.exact ∙ c.in-Some.is in
     let kept : kept_answer old.answers client (without_lf bytes) ≡ None =
-    ap (λ (l : List ℕ). kept_answer old.answers client l) (sym c.without_lf-line.ensures) ∙ sym c.in_default-find.ensures in
+    ap (λ (l : List ℕ). kept_answer old.answers client l) (sym c.without_lf-line.ensures) ∙ sym c.in_default-answer_again.ensures.value in
     let owned : is_owned old.owners.items client (without_lf bytes) ≡ true =
-    ap (λ (os : List Owner). is_owned os client (without_lf bytes)) (sym c.as_slice-2.ensures.value)
-    ∙ ap (λ (l : List ℕ). is_owned c.as_slice-2.result.now client l) (sym c.without_lf-line.ensures) ∙ sym c.is_waiting.ensures ∙ c.if-is_waiting.true in
+    ap (λ (os : List Owner). is_owned os client (without_lf bytes)) (sym c.as_slice.ensures.value)
+    ∙ ap (λ (l : List ℕ). is_owned c.as_slice.result.now client l) (sym c.without_lf-line.ensures) ∙ sym c.is_waiting.ensures ∙ c.if-is_waiting.true in
     steps_told held c.args.key.now old (made_by_line config old.voter.place client c.args.moment bytes) c.nothing.result (quiet_made (state_in held old))
     (line_waits config old.voter.place client c.args.moment bytes (state_in held old) c.in-Some.request read kept owned) refl c.nothing.ensures
 
@@ -75,10 +75,10 @@ same g c clean =
     let client = c.args.client in
     let read = sym c.read_line.ensures.exact ∙ c.in-Some.is in
     let kept : kept_answer old.answers client (without_lf bytes) ≡ None =
-    ap (λ (l : List ℕ). kept_answer old.answers client l) (sym c.without_lf-line.ensures) ∙ sym c.in_default-find.ensures in
+    ap (λ (l : List ℕ). kept_answer old.answers client l) (sym c.without_lf-line.ensures) ∙ sym c.in_default-answer_again.ensures.value in
     let owned : is_owned old.owners.items client (without_lf bytes) ≡ false =
-    ap (λ (os : List Owner). is_owned os client (without_lf bytes)) (sym c.as_slice-2.ensures.value)
-    ∙ ap (λ (l : List ℕ). is_owned c.as_slice-2.result.now client l) (sym c.without_lf-line.ensures) ∙ sym c.is_waiting.ensures ∙ c.if-is_waiting.false in
+    ap (λ (os : List Owner). is_owned os client (without_lf bytes)) (sym c.as_slice.ensures.value)
+    ∙ ap (λ (l : List ℕ). is_owned c.as_slice.result.now client l) (sym c.without_lf-line.ensures) ∙ sym c.is_waiting.ensures ∙ c.if-is_waiting.false in
     ap verdict_ruling (c.examine-verdict.ensures.value clean)
     ∙ ruled c.args.book.now c.args.settings content old.voter old.owners.items old.answers client c.args.moment bytes c.in-Some.request c.is_full-is_full.result
     read kept owned (c.is_full-is_full.ensures.full (c.requires.room clean))

@@ -1,0 +1,3 @@
+pub mod AnswerExamples
+pub mod AnswerIndex
+pub mod Answers
