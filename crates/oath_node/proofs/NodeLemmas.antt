@@ -1,6 +1,6 @@
 -- A call of a node's parts, as a call of the node.
-use Rattle.std.proofs.Common.{◌≡◌, ◌≢◌, ℕ, ◌^◌, ◌<◌, ◌≤◌, Bool, true, false, List, length, Option, Some, None, inl, inr, refl, sym, ap, subst, ◌∙◌}
-use Rattle.std.specs.Prelude.{Result, Ok, Err}
+use Rattle.std.proofs.Common.{◌≡◌, ◌≢◌, ℕ, ◌^◌, ◌<◌, ◌≤◌, Bool, true, false, List, length, Option, Some, None, inl, inr, refl, sym, ap, subst, ◌∙◌, arith}
+use Rattle.std.specs.Prelude.{◌⊎◌, Result, Ok, Err}
 use Rattle.otp_core.specs.Limits.{Limits}
 use Rattle.token_file.specs.Credential.{Credential}
 use Rattle.floor_store.specs.Fault.{IsCounted}
@@ -111,3 +111,10 @@ pub few_made : {S : Type 0} (held : S → Held) (book : List Credential) (limits
 few_made held book limits key old new event out place few h clean =
     subst (λ (o : OutputsRecord). length o.items ≤ 264) (sym (h.made clean).told)
     (outputs_few key (config_of book limits) old.voter.place (state_in held old) event place few)
+
+-- where no failure was counted, it was none
+pub fails_without : {S : Type 0} (held : S → Held) (old new : Hosted S) (event : NodeEvent) (fault : NodeFault) → FailsBy held old new event fault
+    → (held new.store).failures ≡ (held old.store).failures → (fault ≡ Stopped) ⊎ (fault ≡ Spent)
+fails_without held old new event (Store fault) h same = absurd (omega (arith, h.counted, same))
+fails_without held old new event Stopped h same = inl refl
+fails_without held old new event Spent h same = inr refl

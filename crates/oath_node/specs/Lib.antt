@@ -1,4 +1,5 @@
 pub mod Calls
+pub mod Cases
 pub mod Column
 pub mod Examples
 pub mod Gates

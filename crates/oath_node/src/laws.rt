@@ -1,17 +1,21 @@
-ghost use Rattle.std.specs.Prelude.{◌≡◌, ◌≤◌, ◌∷◌, [], ℕ, List, Some, None, codes, false, length, true};
+ghost use Rattle.std.specs.Prelude.{◌≡◌, ◌≤◌, ◌∷◌, ◌++◌, [], ℕ, List, Some, None, codes, false, length, replicate, true};
 ghost use Rattle.token_file.specs.declared.token.Password.TheVariants.{Equal, NoneAllowed, NotChecked};
 ghost use Rattle.admit_core.specs.Throttle.{Accepted as Passed, Failed};
+ghost use Rattle.oath_node.specs.Cases.{asking_node, config, content_with, datagram, denial, facts_of, first_line, full_node, grant, idle_node, line, node_with_kept, nothing_at_start, nothing_of_asking, rows_at_start, step_alone, step_among, told_at_start, told_of_asking};
 ghost use Rattle.oath_node.specs.Column.{column_fits};
 ghost use Rattle.oath_node.specs.Grounds.{HasGrounds, IsSameStanding};
-ghost use Rattle.oath_node.specs.Machine.{Client, Config, NodeEvent, NodeState, made_by_event, ruling_at};
+ghost use Rattle.oath_node.specs.Machine.{Client, Config, NodeEvent, NodeState, Peer, Tick, made_by_event, opened_node, restarted_node, ruling_at, stopped_node};
 ghost use Rattle.oath_node.specs.Outputs.{outputs_of};
 ghost use Rattle.oath_node.specs.Refusals.{IsRefusal, KeepsFloors, SparesToken};
 ghost use Rattle.oath_node.specs.Rules.{Standing, ruling};
 ghost use Rattle.otp_core.specs.Limits.{Limits};
 ghost use Rattle.token_file.specs.Credential.{Credential};
+ghost use Rattle.vote_core.specs.Cases.{free_row, pass, place, proposal};
 ghost use Rattle.vote_core.specs.NodeSet.{PlaceRecord};
 ghost use Rattle.vote_core.specs.Rows.{row};
 ghost use Rattle.vote_core.specs.State.{IsPlace};
+ghost use Rattle.vote_core.specs.Voting.{fresh_voter};
+ghost use Rattle.vote_core.specs.declared.message.Message.TheVariants.{Ask, Floor, Grant};
 ghost use Rattle.oath_node.specs.Examples.{IsJustifiedInRun, lines_of_a_run, outcome_of, silver_before, verdict_on};
 ghost use Rattle.vote_wire.specs.declared.answer.Outcome.TheVariants.{Clock, Exhausted, Invalid, Password, Throttled, Unknown};
 ghost use Rattle.oath_node.specs.declared.rules.Verdict.TheVariants.{BadLine, Fails, Proposes, Refused};
@@ -116,4 +120,72 @@ pub fn outputs_are_few()
     ensures { (key : List ℕ) (config : Config) (place : PlaceRecord) (x : NodeState) (event : NodeEvent)
         → IsPlace place → length x.voter.pending ≤ 32
         → length (outputs_of key place (made_by_event config place event x)).items ≤ 264 }
+{}
+
+/// What a node makes of some lines, messages and ticks, and how it is opened again.
+pub fn events_are_worked()
+    // Client lines: each kind of ruling.
+    ensures bad_line { step_alone (line (codes "CHECK")) (idle_node 0)
+        ≡ record nothing_at_start { replies = (7, codes "NO - BADLINE") ∷ [] } }
+    ensures again { step_alone (line (first_line ++ 10 ∷ [])) (node_with_kept (codes "OK a 9"))
+        ≡ told_at_start (codes "OK a 9") }
+    ensures another_client { step_alone (Client 8 100 first_line) (node_with_kept (codes "OK a 9"))
+        ≡ record nothing_at_start { replies = (8, codes "OK a 0") ∷ []; floors = 1 ∷ 3 ∷ 4611686018427387904 ∷ [];
+            kept = codes "OK a 9" ∷ codes "OK a 0" ∷ [] } }
+    ensures waiting { step_among (line first_line) (asking_node 0 []) ≡ nothing_of_asking }
+    ensures unknown { step_alone (line (codes "CHECK a lead 755224 -")) (idle_node 0)
+        ≡ told_at_start (codes "NO a UNKNOWN") }
+    ensures busy { step_among (line first_line) full_node
+        ≡ record (told_at_start (codes "NO a BUSY")) { pending = replicate 32 0 } }
+    ensures wrong { step_alone (line (codes "CHECK a silver 000000 -")) (idle_node 0)
+        ≡ record (told_at_start (codes "NO a INVALID")) { fails = 1 ∷ 0 ∷ 0 ∷ [] } }
+    ensures alone { step_alone (line first_line) (idle_node 0)
+        ≡ record (told_at_start (codes "OK a 0")) { floors = 1 ∷ 3 ∷ 4611686018427387904 ∷ [] } }
+    ensures among { step_among (line first_line) (idle_node 0) ≡ record nothing_of_asking {
+      sends = (2, Ask (proposal 1 1 0) 0 0 0) ∷ (3, Ask (proposal 1 1 0) 0 0 0) ∷ []; } }
+    ensures no_number { step_among (line first_line) (idle_node 4611686018427387904)
+        ≡ record nothing_at_start { running = false } }
+    ensures failed { facts_of (made_by_event config (place 1 1) (line (codes "CHECK a silver 000000 -")) (idle_node 0))
+        ≡ (None, None, Some (0, 100)) }
+    ensures begun { facts_of (made_by_event config (place 1 1) (line first_line) (idle_node 0))
+        ≡ (Some (record { proposal = proposal 1 1 0; token = 0; lo = 0; hi = 0 }), Some (pass 0 0 0 1 0), None) }
+
+    // Datagrams: what is heard, and what isn't.
+    ensures granted { step_among (datagram 2 2 1 grant) (asking_node 0 []) ≡ told_of_asking (codes "OK a 0") }
+    ensures accepted { facts_of (made_by_event config (place 1 3) (datagram 2 2 1 grant) (asking_node 0 []))
+        ≡ (None, Some (pass 0 0 0 1 0), None) }
+    ensures denied { step_among (datagram 3 3 1 (denial 1)) (asking_node 0 (2 ∷ []))
+        ≡ told_of_asking (codes "NO a SPENT") }
+    ensures asked { step_among (datagram 2 2 1 (Ask (proposal 2 1 0) 1 3 3)) (idle_node 0)
+        ≡ record nothing_at_start { sends = (2, Grant (proposal 2 1 0) 1 3 3) ∷ [];
+            floors = 0 ∷ 4 ∷ 4611686018427387904 ∷ []; } }
+    ensures floor { step_among (datagram 2 2 1 (Floor 1 9)) (idle_node 0)
+        ≡ record nothing_at_start { floors = 0 ∷ 9 ∷ 4611686018427387904 ∷ []; } }
+    ensures unread { step_among (Peer 2 None) (asking_node 0 []) ≡ nothing_of_asking }
+    ensures other_sender { step_among (datagram 2 3 1 grant) (asking_node 0 []) ≡ nothing_of_asking }
+    ensures other_receiver { step_among (datagram 2 2 3 grant) (asking_node 0 []) ≡ nothing_of_asking }
+    ensures own { step_among (datagram 1 1 1 (Floor 1 9)) (asking_node 0 []) ≡ nothing_of_asking }
+    ensures no_member { step_among (datagram 4 4 1 grant) (asking_node 0 []) ≡ nothing_of_asking }
+    ensures no_node { step_among (datagram 0 0 1 grant) (asking_node 0 []) ≡ nothing_of_asking }
+    ensures no_token { step_among (datagram 2 2 1 (Floor 3 9)) (asking_node 0 []) ≡ nothing_of_asking }
+
+    // Ticks, and a stopped node.
+    ensures late { step_among Tick (asking_node 7 []) ≡ record (told_of_asking (codes "NO a TIMEOUT")) {
+      sends = (2, Floor 0 1) ∷ (3, Floor 0 1) ∷ []; } }
+    ensures stopped { step_among (line first_line) (stopped_node (idle_node 0))
+        ≡ record nothing_at_start { running = false } }
+
+    // Opening and restart.
+    ensures restarted { restarted_node (asking_node 0 []) ≡ opened_node (asking_node 0 []).content }
+    ensures opened { opened_node (content_with (free_row 5 ∷ [])) ≡ record {
+      content = record (content_with (free_row 5 ∷ [])) { boot = 2 };
+      voter = fresh_voter;
+      owners = [];
+      answers = [];
+      running = true;
+    } }
+    ensures last_boot { restarted_node (record (idle_node 0) {
+      content = record (content_with rows_at_start) { boot = 4611686018427387903 }; })
+        ≡ record (idle_node 0) { content = record (content_with rows_at_start) { boot = 4611686018427387903 };
+            running = false; } }
 {}

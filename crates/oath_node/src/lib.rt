@@ -42,8 +42,8 @@ pub use fault::{NodeFault, OpenFault};
 pub use item::Item;
 pub use items::Items;
 pub use laws::{
-    columns_are_worked, outputs_are_few, promises_can_be_broken, refused_lines_change_gates_alone,
-    rules_are_worked, rulings_have_grounds, runs_are_worked,
+    columns_are_worked, events_are_worked, outputs_are_few, promises_can_be_broken,
+    refused_lines_change_gates_alone, rules_are_worked, rulings_have_grounds, runs_are_worked,
 };
 pub use node::Node;
 pub use outputs::Outputs;

@@ -1,6 +1,6 @@
 //! A node: it answers the lines of clients and the datagrams of the other members, over a store.
 
-ghost use Rattle.std.specs.Prelude.{◌≡◌, ◌≤◌, ◌↔◌, Err, IfErr, IfOk, false, length};
+ghost use Rattle.std.specs.Prelude.{◌≡◌, ◌⊎◌, ◌≤◌, ◌↔◌, Err, IfErr, IfOk, false, length};
 ghost use Rattle.oath_node.specs.Calls.{Handles, IsOpened, IsRefused, Restarts};
 ghost use Rattle.oath_node.specs.Hosted.{event_of};
 ghost use Rattle.oath_node.specs.declared.fault.NodeFault.{NodeFault};
@@ -136,6 +136,9 @@ impl<'b, S: FloorStore> Node<'b, S> {
         ensures handles { Handles S.held self.old self.new (event_of self.old.key event.entry) result }
         ensures few { IfOk result (λ outputs. (S.held self.new.store).is_clean → length outputs.items ≤ 264) }
         ensures stopped { result ≡ Err NodeFault.Stopped ↔ (self.old.running ≡ false) }
+        // Over a store that met no failure in the call only these two are answered.
+        ensures without_failure { (S.held self.new.store).failures ≡ (S.held self.old.store).failures
+            → IfErr result (λ fault. (fault ≡ NodeFault.Stopped) ⊎ (fault ≡ NodeFault.Spent)) }
     {
         if !self.is_running {
             return Err(NodeFault::Stopped);

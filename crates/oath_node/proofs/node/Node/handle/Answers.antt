@@ -5,7 +5,7 @@ use Rattle.vote_core.specs.State.{IsPlace, ballot_of}
 use Rattle.oath_node.specs.Calls.{Handles}
 use Rattle.oath_node.specs.Hosted.{Hosted, IsNode, event_of}
 use Rattle.oath_node.specs.Parts.{state_in}
-use Rattle.oath_node.proofs.NodeLemmas.{few_made, handles_err, node_after, node_of}
+use Rattle.oath_node.proofs.NodeLemmas.{fails_without, few_made, handles_err, node_after, node_of}
 use Rattle.oath_node.proofs.OwnerLemmas.{room_for}
 use Rattle.oath_node.proofs.node.Node.handle.Goals as goal
 
@@ -54,3 +54,9 @@ returns-in-Err-clause-handles g c =
     subst (λ (h : Hosted g.row.S.Denot). Handles held h stopped (event_of h.key c.args.event) (Err c.in-Err.fault)) c.self.view_is
     (subst (λ (b : Bool). Handles held (node_of book limits key old b) stopped (event_of key c.args.event) (Err c.in-Err.fault)) (sym c.if-not-self.false)
     (handles_err held book limits key old new (event_of key c.args.event) c.in-Err.fault (c.self.invariant.works c.if-not-self.false) c.in-Err.ensures))
+
+pub returns-in-Err-clause-without_failure : goal.returns-in-Err-clause-without_failure
+returns-in-Err-clause-without_failure g c =
+    let held = g.S.FloorStore.held in
+    let stopped = node_of c.self.inside.book.now c.self.inside.settings c.self.inside.key.now c.on_event.new.self false in
+    fails_without held c.args.self.now stopped (event_of c.args.self.now.key c.args.event) c.in-Err.fault (returns-in-Err-clause-handles g c).fails

@@ -1,0 +1,153 @@
+-- Worked steps of a node: what is seen of them, and the nodes that they start from. The codes are those of RFC 4226,
+-- Appendix D.
+use Rattle.std.specs.Prelude.{ℕ, ◌++◌, Bool, true, List, [], ◌∷◌, map, replicate, Option, Some, None, codes}
+use Rattle.floor_store.specs.Content.{Content}
+use Rattle.floor_store.specs.Records.{PassRecord, RowRecord}
+use Rattle.vote_core.specs.Cases.{BallotView, VoterView, ballot, free_row, pass, place, proposal, voter, voter_seen}
+use Rattle.vote_core.specs.NodeSet.{PlaceRecord}
+use Rattle.vote_core.specs.Schedule.{Envelope}
+use Rattle.vote_core.specs.Voting.{Ballot}
+use Rattle.vote_core.specs.declared.message.Message.{Message}
+use Rattle.vote_core.specs.declared.message.Message.TheVariants.{Ask, Deny, Floor, Grant}
+use Rattle.oath_node.specs.Answers.{KeptAnswer}
+use Rattle.oath_node.specs.Examples.{narrow_limits, three_tokens}
+use Rattle.oath_node.specs.Machine.{Beginning, Config, Made, NodeEvent, NodeState, Owner, Client, Peer, Tick, made_by_event}
+
+-- What is seen of a step: the replies by client, the messages by receiver, and of the state that is left the first free
+-- factor and the failures of each token, the numbers of the proposals that wait and whose owners wait, the kept texts
+-- and whether the node runs.
+pub record StepView : Type 0 where
+  pub replies : List (ℕ × List ℕ)
+  pub sends : List (ℕ × Message)
+  pub floors : List ℕ
+  pub fails : List ℕ
+  pub pending : List ℕ
+  pub owners : List ℕ
+  pub kept : List (List ℕ)
+  pub running : Bool
+
+-- what is seen of this step
+abbrev pub step_view : Made → StepView
+step_view made = record {
+  replies = map (λ reply. (reply.client, reply.bytes)) made.replies;
+  sends = made.sends;
+  floors = map (λ row. row.next) made.state.content.rows;
+  fails = map (λ row. row.gate.fails) made.state.content.rows;
+  pending = map (λ ballot. ballot.seq) made.state.voter.pending;
+  owners = map (λ owner. owner.seq) made.state.owners;
+  kept = map (λ answer. answer.text) made.state.answers;
+  running = made.state.running;
+}
+
+-- three tokens, a look-ahead of 5 and a range of 9
+abbrev pub config : Config
+config = record { book = three_tokens; limits = narrow_limits }
+
+-- silver at 0, gold at 3, and iron without a factor left
+abbrev pub rows_at_start : List RowRecord
+rows_at_start = free_row 0 ∷ free_row 3 ∷ free_row 4611686018427387904 ∷ []
+
+-- these rows at boot 1
+abbrev pub content_with : List RowRecord → Content
+content_with rows = record { rows = rows; boot = 1; last = None }
+
+-- a node at the start, with the next number
+abbrev pub idle_node : ℕ → NodeState
+idle_node seq = record {
+  content = content_with rows_at_start;
+  voter = voter_seen (voter [] seq 0);
+  owners = [];
+  answers = [];
+  running = true;
+}
+
+-- silver's first code
+abbrev pub first_line : List ℕ
+first_line = codes "CHECK a silver 755224 -"
+
+-- a node that has this answer to that line of client 7 kept
+abbrev pub node_with_kept : List ℕ → NodeState
+node_with_kept text =
+    record (idle_node 0) { answers = record { client = 7; line = first_line; text = text } ∷ [] }
+
+-- the ballot of proposal 0 of node 1 for silver's factor 0, after so many ticks, with these nodes that denied it
+abbrev pub first_ballot : ℕ → List ℕ → BallotView
+first_ballot age denying = ballot 0 0 0 0 age (1 ∷ []) denying
+
+-- node 1 of three after that line of client 7, with that ballot
+abbrev pub asking_node : ℕ → List ℕ → NodeState
+asking_node age denying = record {
+  content = content_with (record { next = 1; grant = Some (proposal 1 1 0, 0, 0); gate = record { fails = 0; until = 0 } }
+      ∷ free_row 3 ∷ free_row 4611686018427387904 ∷ []);
+  voter = voter_seen (voter (first_ballot age denying ∷ []) 1 0);
+  owners = record { seq = 0; client = 7; line = first_line; nonce = codes "a" } ∷ [];
+  answers = [];
+  running = true;
+}
+
+-- a node where 32 lines wait
+abbrev pub full_node : NodeState
+full_node = record (idle_node 32) { voter = voter_seen (voter (replicate 32 (first_ballot 0 [])) 32 0) }
+
+-- what is seen of a step of node 1 of three
+abbrev pub step_among : NodeEvent → NodeState → StepView
+step_among event x = step_view (made_by_event config (place 1 3) event x)
+
+-- what is seen of a step of a node alone
+abbrev pub step_alone : NodeEvent → NodeState → StepView
+step_alone event x = step_view (made_by_event config (place 1 1) event x)
+
+-- a line of client 7 at moment 100
+abbrev pub line : List ℕ → NodeEvent
+line text = Client 7 100 text
+
+-- a datagram from that member's address that says this
+abbrev pub datagram : ℕ → ℕ → ℕ → Message → NodeEvent
+datagram from sender receiver message =
+    Peer from (Some (record { sender = sender; receiver = receiver; message = message }))
+
+-- the grant of node 1's first proposal
+abbrev pub grant : Message
+grant = Grant (proposal 1 1 0) 0 0 0
+
+-- the denial of it, with silver's first free factor
+abbrev pub denial : ℕ → Message
+denial next = Deny (proposal 1 1 0) 0 next
+
+-- nothing is sent or replied by a node at the start, and nothing changes
+abbrev pub nothing_at_start : StepView
+nothing_at_start = record {
+  replies = [];
+  sends = [];
+  floors = 0 ∷ 3 ∷ 4611686018427387904 ∷ [];
+  fails = 0 ∷ 0 ∷ 0 ∷ [];
+  pending = [];
+  owners = [];
+  kept = [];
+  running = true;
+}
+
+-- the same of a node that asks
+abbrev pub nothing_of_asking : StepView
+nothing_of_asking = record nothing_at_start {
+  floors = 1 ∷ 3 ∷ 4611686018427387904 ∷ [];
+  pending = 0 ∷ [];
+  owners = 0 ∷ [];
+}
+
+-- a node at the start tells client 7 this text alone, and keeps it
+abbrev pub told_at_start : List ℕ → StepView
+told_at_start text = record nothing_at_start { replies = (7, text) ∷ []; kept = text ∷ [] }
+
+-- a node that asked tells client 7 this text alone, keeps it, and waits for nothing
+abbrev pub told_of_asking : List ℕ → StepView
+told_of_asking text = record nothing_of_asking {
+  replies = (7, text) ∷ [];
+  pending = [];
+  owners = [];
+  kept = text ∷ [];
+}
+
+-- what else is told of a step: the proposal that was begun, the pass, and the failure
+abbrev pub facts_of : Made → Option Beginning × Option PassRecord × Option (ℕ × ℕ)
+facts_of made = (made.began, made.pass, made.failed)
