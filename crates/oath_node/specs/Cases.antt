@@ -9,7 +9,7 @@ use Rattle.vote_core.specs.Schedule.{Envelope}
 use Rattle.vote_core.specs.Voting.{Ballot}
 use Rattle.vote_core.specs.declared.message.Message.{Message}
 use Rattle.vote_core.specs.declared.message.Message.TheVariants.{Ask, Deny, Floor, Grant}
-use Rattle.oath_node.specs.Answers.{KeptAnswer}
+use Rattle.answer_ring.specs.Answers.{KeptAnswer}
 use Rattle.oath_node.specs.Examples.{narrow_limits, three_tokens}
 use Rattle.oath_node.specs.Machine.{Beginning, Config, Made, NodeEvent, NodeState, Owner, Client, Peer, Tick, made_by_event}
 
