@@ -1,7 +1,5 @@
 -- What the calls of a node do to it and to its store.
-use Rattle.std.specs.Prelude.{◌≡◌, ℕ, ◌^◌, ◌<◌, ◌≤◌, true, false, List, length, Result, Ok, Err, IfOk, IfErr, OnOk, OnErr}
-use Rattle.otp_core.specs.Limits.{Limits}
-use Rattle.token_file.specs.Credential.{Credential}
+use Rattle.std.specs.Prelude.{◌≡◌, ℕ, ◌^◌, ◌<◌, true, false, List, Result, Ok, Err, IfOk, IfErr, OnOk, OnErr}
 use Rattle.floor_store.specs.Held.{Held, Breaks, MayWrite, RaisesBoot}
 use Rattle.floor_store.specs.declared.fault.StoreFault.{StoreFault}
 use Rattle.vote_core.specs.NodeSet.{PlaceRecord}

@@ -1,17 +1,14 @@
 -- Worked steps of a node: what is seen of them, and the nodes that they start from. The codes are those of RFC 4226,
 -- Appendix D.
-use Rattle.std.specs.Prelude.{ℕ, ◌++◌, Bool, true, List, [], ◌∷◌, map, replicate, Option, Some, None, codes}
+use Rattle.std.specs.Prelude.{ℕ, Bool, true, List, [], ◌∷◌, map, replicate, Option, Some, None, codes}
 use Rattle.floor_store.specs.Content.{Content}
 use Rattle.floor_store.specs.Records.{PassRecord, RowRecord}
-use Rattle.vote_core.specs.Cases.{BallotView, VoterView, ballot, free_row, pass, place, proposal, voter, voter_seen}
-use Rattle.vote_core.specs.NodeSet.{PlaceRecord}
-use Rattle.vote_core.specs.Schedule.{Envelope}
-use Rattle.vote_core.specs.Voting.{Ballot}
+use Rattle.vote_core.specs.Cases.{BallotView, ballot, free_row, open_row, place, proposal, voter, voter_seen}
 use Rattle.vote_core.specs.declared.message.Message.{Message}
-use Rattle.vote_core.specs.declared.message.Message.TheVariants.{Ask, Deny, Floor, Grant}
 use Rattle.answer_ring.specs.Answers.{KeptAnswer}
+use Rattle.vote_core.specs.declared.message.Message.TheVariants.{Deny, Grant}
 use Rattle.oath_node.specs.Examples.{narrow_limits, three_tokens}
-use Rattle.oath_node.specs.Machine.{Beginning, Config, Made, NodeEvent, NodeState, Owner, Client, Peer, Tick, made_by_event}
+use Rattle.oath_node.specs.Machine.{Beginning, Config, Made, NodeEvent, NodeState, Client, Peer, made_by_event}
 
 -- What is seen of a step: the replies by client, the messages by receiver, and of the state that is left the first free
 -- factor and the failures of each token, the numbers of the proposals that wait and whose owners wait, the kept texts
@@ -77,8 +74,7 @@ first_ballot age denying = ballot 0 0 0 0 age (1 ∷ []) denying
 -- node 1 of three after that line of client 7, with that ballot
 abbrev pub asking_node : ℕ → List ℕ → NodeState
 asking_node age denying = record {
-  content = content_with (record { next = 1; grant = Some (proposal 1 1 0, 0, 0); gate = record { fails = 0; until = 0 } }
-      ∷ free_row 3 ∷ free_row 4611686018427387904 ∷ []);
+  content = content_with (open_row 1 (proposal 1 1 0) 0 0 ∷ free_row 3 ∷ free_row 4611686018427387904 ∷ []);
   voter = voter_seen (voter (first_ballot age denying ∷ []) 1 0);
   owners = record { seq = 0; client = 7; line = first_line; nonce = codes "a" } ∷ [];
   answers = [];

@@ -24,9 +24,9 @@ IsRefusedBy Busy = Unit {0}
 IsRefusedBy Clock = Unit {0}
 IsRefusedBy Exhausted = Unit {0}
 
--- A line whose factors lo to hi are proposed, with its nonce: there is room for it; it is in the line grammar, at a moment
--- in range, for the user of a token that is open, with a password as its column says; and the factors are the least in
--- the window that fit.
+-- A line whose factors lo to hi are proposed, with its nonce: there is room for it; it is in the line grammar, at a
+-- moment in range, for the user of a token that is open, with a password as its column says; and the factors are the
+-- least in the window that fit.
 pub record IsFitting (book : List Credential) (limits : Limits) (standing : Standing) (moment : ℕ)
     (line nonce : List ℕ) (token lo hi : ℕ) : Type 0 where
   pub room : standing.is_full ≡ false

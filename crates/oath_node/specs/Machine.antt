@@ -1,6 +1,6 @@
--- The machine of a node. A client's line is answered by the rules. What the rules propose, and what comes from the other
--- members, goes to the node's voter, whose three calls are made here. A datagram stands as the envelope that its bytes
--- say, or as None where they are outside the peer format.
+-- The machine of a node. A client's line is answered by the rules. What the rules propose, and what comes from the
+-- other members, goes to the node's voter, whose three calls are made here. A datagram stands as the envelope that its
+-- bytes say, or as None where they are outside the peer format.
 use Rattle.std.specs.Prelude.{ℕ, ◌-◌, ◌^◌, ◌==◌, ◌&&◌, nat_le, nat_lt, not, Bool, true, false, if◌then◌else◌, List, [], ◌∷◌, ◌++◌, length, map, filter, Option, Some, None}
 use Rattle.std.specs.List.{flat_map, list_any}
 use Rattle.std.specs.Str.{bytes_eq}

@@ -1,5 +1,5 @@
--- The rules by which a line is answered. The first that applies decides: read upwards from `ruling`, or, where no answer
--- is kept and no line waits, from `verdict`.
+-- The rules by which a line is answered. The first that applies decides: read upwards from `ruling`, or, where no
+-- answer is kept and no line waits, from `verdict`.
 use Rattle.std.specs.Prelude.{ℕ, ◌^◌, ◌==◌, nat_lt, Bool, List, Option, Some, None, if◌then◌else◌, slice_get}
 use Rattle.otp_core.specs.Limits.{Limits}
 use Rattle.token_file.specs.Credential.{Credential, place_of}

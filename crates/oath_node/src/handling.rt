@@ -80,13 +80,7 @@ impl<S: FloorStore> Parts<S> {
         ensures { Steps S.held key.now self.old self.new (made_by_tick self.old.voter.place) result }
     {
         match self.voter.tick(&mut self.store) {
-            Ok(step) => Ok(finish(
-                key,
-                &self.voter,
-                &mut self.owners,
-                &mut self.answers,
-                step,
-            )),
+            Ok(step) => Ok(finish(key, &self.voter, &mut self.owners, &mut self.answers, step)),
             Err(VoteFault::Store(fault)) => Err(NodeFault::Store(fault)),
             Err(VoteFault::Spent) => unreachable!(),
         }
@@ -106,13 +100,7 @@ impl<S: FloorStore> Parts<S> {
             (made_by_message self.old.voter.place from message) result }
     {
         match self.voter.on_message(&mut self.store, from, message) {
-            Ok(step) => Ok(finish(
-                key,
-                &self.voter,
-                &mut self.owners,
-                &mut self.answers,
-                step,
-            )),
+            Ok(step) => Ok(finish(key, &self.voter, &mut self.owners, &mut self.answers, step)),
             Err(VoteFault::Store(fault)) => Err(NodeFault::Store(fault)),
             Err(VoteFault::Spent) => unreachable!(),
         }
@@ -173,13 +161,7 @@ impl<S: FloorStore> Parts<S> {
                     line: line_of(line),
                     nonce,
                 });
-                Ok(finish(
-                key,
-                &self.voter,
-                &mut self.owners,
-                &mut self.answers,
-                step,
-            ))
+                Ok(finish(key, &self.voter, &mut self.owners, &mut self.answers, step))
             }
             Err(VoteFault::Store(fault)) => Err(NodeFault::Store(fault)),
             Err(VoteFault::Spent) => Err(NodeFault::Spent),

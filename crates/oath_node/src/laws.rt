@@ -112,7 +112,7 @@ pub fn refused_lines_change_gates_alone()
         → IsRefusal (ruling_at config x client moment line)
         → SparesToken token (ruling_at config x client moment line)
         → (row (made_by_event config place (Client client moment line) x).state.content token).gate
-          ≡ (row x.content token).gate }
+        ≡ (row x.content token).gate }
 {}
 
 /// One event makes at most 264 datagrams and replies.
@@ -130,19 +130,27 @@ pub fn events_are_worked()
     ensures again { step_alone (line (first_line ++ 10 ∷ [])) (node_with_kept (codes "OK a 9"))
         ≡ told_at_start (codes "OK a 9") }
     ensures another_client { step_alone (Client 8 100 first_line) (node_with_kept (codes "OK a 9"))
-        ≡ record nothing_at_start { replies = (8, codes "OK a 0") ∷ []; floors = 1 ∷ 3 ∷ 4611686018427387904 ∷ [];
-            kept = codes "OK a 9" ∷ codes "OK a 0" ∷ [] } }
+        ≡ record nothing_at_start {
+          replies = (8, codes "OK a 0") ∷ [];
+          floors = 1 ∷ 3 ∷ 4611686018427387904 ∷ [];
+          kept = codes "OK a 9" ∷ codes "OK a 0" ∷ [];
+        } }
     ensures waiting { step_among (line first_line) (asking_node 0 []) ≡ nothing_of_asking }
     ensures unknown { step_alone (line (codes "CHECK a lead 755224 -")) (idle_node 0)
         ≡ told_at_start (codes "NO a UNKNOWN") }
     ensures busy { step_among (line first_line) full_node
+        ≡ record (told_at_start (codes "NO a BUSY")) { pending = replicate 32 0 } }
+    ensures clock_before_busy { step_among (Client 7 1099511627776 first_line) full_node
+        ≡ record (told_at_start (codes "NO a CLOCK")) { pending = replicate 32 0 } }
+    ensures busy_before_unknown { step_among (line (codes "CHECK a lead 755224 -")) full_node
         ≡ record (told_at_start (codes "NO a BUSY")) { pending = replicate 32 0 } }
     ensures wrong { step_alone (line (codes "CHECK a silver 000000 -")) (idle_node 0)
         ≡ record (told_at_start (codes "NO a INVALID")) { fails = 1 ∷ 0 ∷ 0 ∷ [] } }
     ensures alone { step_alone (line first_line) (idle_node 0)
         ≡ record (told_at_start (codes "OK a 0")) { floors = 1 ∷ 3 ∷ 4611686018427387904 ∷ [] } }
     ensures among { step_among (line first_line) (idle_node 0) ≡ record nothing_of_asking {
-      sends = (2, Ask (proposal 1 1 0) 0 0 0) ∷ (3, Ask (proposal 1 1 0) 0 0 0) ∷ []; } }
+      sends = (2, Ask (proposal 1 1 0) 0 0 0) ∷ (3, Ask (proposal 1 1 0) 0 0 0) ∷ [];
+    } }
     ensures no_number { step_among (line first_line) (idle_node 4611686018427387904)
         ≡ record nothing_at_start { running = false } }
     ensures failed { facts_of (made_by_event config (place 1 1) (line (codes "CHECK a silver 000000 -")) (idle_node 0))
@@ -157,10 +165,12 @@ pub fn events_are_worked()
     ensures denied { step_among (datagram 3 3 1 (denial 1)) (asking_node 0 (2 ∷ []))
         ≡ told_of_asking (codes "NO a SPENT") }
     ensures asked { step_among (datagram 2 2 1 (Ask (proposal 2 1 0) 1 3 3)) (idle_node 0)
-        ≡ record nothing_at_start { sends = (2, Grant (proposal 2 1 0) 1 3 3) ∷ [];
-            floors = 0 ∷ 4 ∷ 4611686018427387904 ∷ []; } }
+        ≡ record nothing_at_start {
+          sends = (2, Grant (proposal 2 1 0) 1 3 3) ∷ [];
+          floors = 0 ∷ 4 ∷ 4611686018427387904 ∷ [];
+        } }
     ensures floor { step_among (datagram 2 2 1 (Floor 1 9)) (idle_node 0)
-        ≡ record nothing_at_start { floors = 0 ∷ 9 ∷ 4611686018427387904 ∷ []; } }
+        ≡ record nothing_at_start { floors = 0 ∷ 9 ∷ 4611686018427387904 ∷ [] } }
     ensures unread { step_among (Peer 2 None) (asking_node 0 []) ≡ nothing_of_asking }
     ensures other_sender { step_among (datagram 2 3 1 grant) (asking_node 0 []) ≡ nothing_of_asking }
     ensures other_receiver { step_among (datagram 2 2 3 grant) (asking_node 0 []) ≡ nothing_of_asking }
@@ -171,7 +181,8 @@ pub fn events_are_worked()
 
     // Ticks, and a stopped node.
     ensures late { step_among Tick (asking_node 7 []) ≡ record (told_of_asking (codes "NO a TIMEOUT")) {
-      sends = (2, Floor 0 1) ∷ (3, Floor 0 1) ∷ []; } }
+      sends = (2, Floor 0 1) ∷ (3, Floor 0 1) ∷ [];
+    } }
     ensures stopped { step_among (line first_line) (stopped_node (idle_node 0))
         ≡ record nothing_at_start { running = false } }
 
@@ -185,7 +196,10 @@ pub fn events_are_worked()
       running = true;
     } }
     ensures last_boot { restarted_node (record (idle_node 0) {
-      content = record (content_with rows_at_start) { boot = 4611686018427387903 }; })
-        ≡ record (idle_node 0) { content = record (content_with rows_at_start) { boot = 4611686018427387903 };
-            running = false; } }
+      content = record (content_with rows_at_start) { boot = 4611686018427387903 };
+    })
+        ≡ record (idle_node 0) {
+          content = record (content_with rows_at_start) { boot = 4611686018427387903 };
+          running = false;
+        } }
 {}

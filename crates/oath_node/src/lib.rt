@@ -1,6 +1,24 @@
 //! A node of the validation server: it answers the lines of login services by the codes of its tokens, and
 //! accepts no code twice.
 //!
+//! A [`Node`] goes from bytes to bytes, over a store of its own. It sends nothing itself: each call of
+//! [`Node::handle`] takes one event and answers [`Outputs`], which say what is to be sent. What a caller owes,
+//! in this order:
+//!
+//! 1. Open each node on a store with a row for each token of the book ([`Node::open`]). All members of a
+//!    cluster have the same book, the same settings and the same key, each a place and a store of its own.
+//! 2. Hand in a datagram from the address of a member as [`Event::Peer`], any other as [`Event::Client`] with a
+//!    number for the client, by which its answers are told from those of others.
+//! 3. Send the outputs of a call only after it answered `Ok`: what it writes is kept by then.
+//! 4. Hand in an [`Event::Tick`] at regular times, so that lost messages are sent again, and a line that finds
+//!    no majority is answered at last.
+//! 5. After a fault the node is stopped. Restart it ([`Node::restart`]), or close it and mend its store.
+//!
+//! What comes from elsewhere may be lost, repeated, reordered or forged. A datagram without the tag of the
+//! cluster's key is dropped, and so is one that isn't for this node, or is from another member than it says.
+//!
+//! [`run_lines`] answers a list of lines at once, without votes:
+//!
 //! ```rust
 //! use oath_node::{ClientLine, run_lines};
 //! use otp_core::Settings;

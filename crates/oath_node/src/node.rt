@@ -148,7 +148,10 @@ impl<'b, S: FloorStore> Node<'b, S> {
         let place = self.parts.voter.place();
         let _me = place.me();
         let _members = place.n();
-        match self.parts.on_event(self.book, self.settings, self.key, event) {
+        match self
+            .parts
+            .on_event(self.book, self.settings, self.key, event)
+        {
             Ok(outputs) => Ok(outputs),
             Err(fault) => {
                 self.is_running = false;

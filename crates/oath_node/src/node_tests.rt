@@ -33,7 +33,7 @@ fn settings() -> Result<Settings, Fail> {
 }
 
 /// The key of a cluster that needs none.
-fn zeros() -> Result<ClusterKey, Fail> {
+pub(crate) fn zeros() -> Result<ClusterKey, Fail> {
     Ok(ClusterKey::new(&[0; 32]).ok_or("a key")?)
 }
 
@@ -41,7 +41,26 @@ fn book_of(alloc: Global, users: &[u8]) -> Result<(Book, Vec<Next>), Fail> {
     Ok(read_book(alloc, &mut FromRead::new(users), settings()?, 0)?)
 }
 
-/// A node over a store.
+/// A node over a store, with these settings.
+fn node_under<'b, S: FloorStore + Drop>(
+    alloc: Global,
+    book: &'b Book,
+    settings: Settings,
+    key: &'b ClusterKey,
+    store: S,
+    place: (u8, u8),
+) -> Result<Node<'b, S>, Fail> {
+    let place = Place::new(place.0, place.1).ok_or("a place")?;
+    if store.tokens() as usize != book.len() {
+        return Err("another number of tokens".into());
+    }
+    match Node::open(alloc, book, settings, place, key, store) {
+        Ok(node) => Ok(node),
+        Err((_, fault)) => Err(fault.into()),
+    }
+}
+
+/// A node over a store, with a look-ahead of 5 and a range of 9.
 fn node_over<'b, S: FloorStore + Drop>(
     alloc: Global,
     book: &'b Book,
@@ -50,14 +69,15 @@ fn node_over<'b, S: FloorStore + Drop>(
     me: u8,
     n: u8,
 ) -> Result<Node<'b, S>, Fail> {
-    let place = Place::new(me, n).ok_or("a place")?;
-    if store.tokens() as usize != book.len() {
-        return Err("another number of tokens".into());
+    node_under(alloc, book, settings()?, key, store, (me, n))
+}
+
+/// A store in memory with these first free factors.
+fn memory(alloc: Global, floors: &[Next]) -> Result<MemStore, Fail> {
+    if floors.len() > 10_000 {
+        return Err("too many tokens".into());
     }
-    match Node::open(alloc, book, settings()?, place, key, store) {
-        Ok(node) => Ok(node),
-        Err((_, fault)) => Err(fault.into()),
-    }
+    Ok(MemStore::new(alloc, floors)?)
 }
 
 /// A node over a fresh store in memory.
@@ -69,14 +89,22 @@ fn opened<'b>(
     me: u8,
     n: u8,
 ) -> Result<Node<'b, MemStore>, Fail> {
-    if floors.len() > 10_000 {
-        return Err("too many tokens".into());
-    }
-    node_over(alloc, book, key, MemStore::new(alloc, floors)?, me, n)
+    node_over(alloc, book, key, memory(alloc, floors)?, me, n)
+}
+
+/// A node alone, over a fresh store in memory, with these settings.
+pub(crate) fn opened_alone<'b>(
+    alloc: Global,
+    book: &'b Book,
+    settings: Settings,
+    key: &'b ClusterKey,
+    floors: &[Next],
+) -> Result<Node<'b, MemStore>, Fail> {
+    node_under(alloc, book, settings, key, memory(alloc, floors)?, (1, 1))
 }
 
 /// The text of the one item, which is a reply to this client; nothing where there is none.
-fn reply_to<S: FloorStore>(
+pub(crate) fn reply_to<S: FloorStore>(
     node: &mut Node<'_, S>,
     client: u64,
     moment: u64,
@@ -178,9 +206,9 @@ fn ask_bytes(rt: HostRuntime) -> Result<(), Fail> {
     Ok(())
 }
 
-/// The Ask with these bytes changed, each at its place, and the tag that it then has.
-fn changed(key: &ClusterKey, changes: &[(usize, u8)]) -> [u8; 59] {
-    let mut bytes = ASK;
+/// The datagram with these bytes changed, each at its place, and the tag that it then has.
+fn changed(key: &ClusterKey, datagram: &[u8; 59], changes: &[(usize, u8)]) -> [u8; 59] {
+    let mut bytes = *datagram;
     for &(place, new) in changes {
         if let Some(byte) = bytes.get_mut(place) {
             *byte = new;
@@ -196,10 +224,7 @@ fn changed(key: &ClusterKey, changes: &[(usize, u8)]) -> [u8; 59] {
 fn changed_asks(rt: HostRuntime) -> Result<(), Fail> {
     let (book, floors) = book_of(rt.alloc(), SILVER)?;
     let key = zeros()?;
-    if floors.len() > 10_000 {
-        return Err("too many tokens".into());
-    }
-    let store = FuseStore::new(MemStore::new(rt.alloc(), &floors)?, 100, false);
+    let store = FuseStore::new(memory(rt.alloc(), &floors)?, 100, false);
     let mut node = node_over(rt.alloc(), &book, &key, store, 2, 3)?;
     let rows: [&[(usize, u8)]; 9] = [
         &[(3, 5)],
@@ -213,7 +238,7 @@ fn changed_asks(rt: HostRuntime) -> Result<(), Fail> {
         &[(9, 1)],
     ];
     for changes in rows {
-        let bytes = changed(&key, changes);
+        let bytes = changed(&key, &ASK, changes);
         assert_eq!(rt; datagram_to(&mut node, 1, &bytes)?.len(), 0, "{changes:?}");
     }
     // The opening alone is written.
@@ -259,6 +284,68 @@ fn second_vote(rt: HostRuntime) -> Result<(), Fail> {
         reply_to(&mut node, 7, 1001, line)?.as_slice(),
         b"OK a 0".as_slice()
     );
+    Ok(())
+}
+
+/// A Grant of other factors, of another token, boot or number, or of a number that is decided, changes nothing.
+#[test]
+fn other_grants(rt: HostRuntime) -> Result<(), Fail> {
+    let (book, floors) = book_of(rt.alloc(), SILVER)?;
+    let key = zeros()?;
+    let store = FuseStore::new(memory(rt.alloc(), &floors)?, 100, false);
+    let mut node = node_over(rt.alloc(), &book, &key, store, 1, 3)?;
+    let line = b"CHECK a silver 755224 -".as_slice();
+    reply_to(&mut node, 7, 1000, line)?;
+    let rows: [&[(usize, u8)]; 5] = [
+        &[(34, 1), (42, 1)],
+        &[(42, 1)],
+        &[(9, 1)],
+        &[(18, 2)],
+        &[(26, 1)],
+    ];
+    for changes in rows {
+        let bytes = changed(&key, &GRANT, changes);
+        let event = Event::Peer {
+            from: 2,
+            bytes: &bytes,
+        };
+        assert_eq!(rt; node.handle(event)?.items().count(), 0, "{changes:?}");
+    }
+    let event = Event::Peer {
+        from: 2,
+        bytes: &GRANT,
+    };
+    assert_eq!(rt; node.handle(event)?.items().count(), 1);
+    let event = Event::Peer {
+        from: 3,
+        bytes: &changed(&key, &GRANT, &[(4, 3)]),
+    };
+    assert_eq!(rt; node.handle(event)?.items().count(), 0);
+    // The opening, the proposal and the acceptance are written.
+    assert_eq!(rt; node.close().passed(), 3);
+    Ok(())
+}
+
+/// A Deny with no factor left leaves none.
+#[test]
+fn denied_for_good(rt: HostRuntime) -> Result<(), Fail> {
+    let (book, floors) = book_of(rt.alloc(), SILVER)?;
+    let key = zeros()?;
+    let mut node = opened(rt.alloc(), &book, &key, &floors, 1, 3)?;
+    reply_to(&mut node, 7, 1000, b"CHECK a silver 755224 -")?;
+    let mut bytes = [0; 51];
+    bytes[..27].copy_from_slice(&GRANT[..27]);
+    bytes[3] = 3;
+    bytes[27] = 0x40;
+    let tag = tag(&key, &bytes[..35]);
+    bytes[35..].copy_from_slice(&tag);
+    let event = Event::Peer {
+        from: 2,
+        bytes: &bytes,
+    };
+    assert_eq!(rt; node.handle(event)?.items().count(), 0);
+    let text = reply_to(&mut node, 7, 1000, b"CHECK b silver 287082 -")?;
+    assert_eq!(rt; text.as_slice(), b"NO b EXHAUSTED".as_slice());
     Ok(())
 }
 
@@ -381,11 +468,8 @@ fn after_1024_lines(rt: HostRuntime) -> Result<(), Fail> {
 fn stopped_by_its_store(rt: HostRuntime) -> Result<(), Fail> {
     let alloc = rt.alloc();
     let (book, floors) = book_of(alloc, SILVER)?;
-    if floors.len() > 10_000 {
-        return Err("too many tokens".into());
-    }
     let key = zeros()?;
-    let store = FuseStore::new(MemStore::new(alloc, &floors)?, 1, false);
+    let store = FuseStore::new(memory(alloc, &floors)?, 1, false);
     let mut node = node_over(alloc, &book, &key, store, 1, 1)?;
     let line = b"CHECK 1 silver 755224 -".as_slice();
     let event = Event::Client {

@@ -71,11 +71,7 @@ impl<'k> Outputs<'k> {
     }
 
     /// One reply.
-    pub(crate) fn reply(
-        key: &'k ClusterKey,
-        client: u64,
-        bytes: ArrayVec<u8, MAX_SENT_LEN>,
-    ) -> Self
+    pub(crate) fn reply(key: &'k ClusterKey, client: u64, bytes: ArrayVec<u8, MAX_SENT_LEN>) -> Self
         ensures { result ≡ reply_outputs client bytes.items }
     {
         Outputs {

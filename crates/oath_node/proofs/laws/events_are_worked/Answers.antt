@@ -122,3 +122,11 @@ returns-clause-opened c = refl
 pub returns-clause-last_boot : goal.returns-clause-last_boot
 unfolding made_by_event made_while_running made_by_ruling made_by_proposal made_by_datagram propose propose_alone propose_among on_message on_ask on_grant count_grant accept on_deny raise count_deny on_floor tick code_at digits sha1_steps.first_words sha1_steps.schedule sha1_steps.rounds sha1_steps.compress sha1_steps.hash_after sha1_steps.digest_bytes sha1_steps.sha1
 returns-clause-last_boot c = refl
+
+pub returns-clause-clock_before_busy : goal.returns-clause-clock_before_busy
+unfolding made_by_event made_while_running made_by_ruling made_by_proposal made_by_datagram propose propose_alone propose_among on_message on_ask on_grant count_grant accept on_deny raise count_deny on_floor tick code_at digits sha1_steps.first_words sha1_steps.schedule sha1_steps.rounds sha1_steps.compress sha1_steps.hash_after sha1_steps.digest_bytes sha1_steps.sha1
+returns-clause-clock_before_busy c = refl
+
+pub returns-clause-busy_before_unknown : goal.returns-clause-busy_before_unknown
+unfolding made_by_event made_while_running made_by_ruling made_by_proposal made_by_datagram propose propose_alone propose_among on_message on_ask on_grant count_grant accept on_deny raise count_deny on_floor tick code_at digits sha1_steps.first_words sha1_steps.schedule sha1_steps.rounds sha1_steps.compress sha1_steps.hash_after sha1_steps.digest_bytes sha1_steps.sha1
+returns-clause-busy_before_unknown c = refl

@@ -24,7 +24,7 @@ returns-in-Ok g c =
     let began = Some (next_beginning old.voter.place c.args.token c.args.lo c.args.hi x) in
     let v = propose old.voter.place c.args.token c.args.lo c.args.hi x.content x.voter in
     let step : NodeState → Made = λ y. made_by_vote (y.owners ++ next_owner client line c.args.nonce y ∷ [])
-        (Some (next_beginning old.voter.place c.args.token c.args.lo c.args.hi y)) (propose old.voter.place c.args.token c.args.lo c.args.hi y.content y.voter) y in
+    (Some (next_beginning old.voter.place c.args.token c.args.lo c.args.hi y)) (propose old.voter.place c.args.token c.args.lo c.args.hi y.content y.voter) y in
     let new = running_state (held c.propose.new.store).content c.propose.new.self c.finish.new.owners.items c.finish.new.answers in
     let pushed : c.push.new.self.items ≡ x.owners ++ next_owner client line c.args.nonce x ∷ [] =
     c.push.ensures.items
@@ -57,7 +57,7 @@ returns-in-Err-Store g c =
     let v = propose old.voter.place c.args.token c.args.lo c.args.hi x.content x.voter in
     let votes = rw c.in-Err-Store.field-0-is at c.in-Err-Store.ensures.votes in
     let step : NodeState → Made = λ y. made_by_vote (y.owners ++ next_owner client line c.args.nonce y ∷ [])
-        (Some (next_beginning old.voter.place c.args.token c.args.lo c.args.hi y)) (propose old.voter.place c.args.token c.args.lo c.args.hi y.content y.voter) y in
+    (Some (next_beginning old.voter.place c.args.token c.args.lo c.args.hi y)) (propose old.voter.place c.args.token c.args.lo c.args.hi y.content y.voter) y in
     rw c.in-Err-Store.field-0-is
     (steps_same held key old _ step (made_by_proposal old.voter.place client line c.args.nonce c.args.token c.args.lo c.args.hi) (Err (Store c.in-Err-Store.fault))
     (λ _. sym (proposal_below old.voter.place client line c.args.nonce c.args.token c.args.lo c.args.hi x below))
