@@ -1,3 +1,6 @@
+ghost use Rattle.std.specs.Prelude.{◌≡◌};
+ghost use Rattle.oath_node.specs.declared.fault.OpenFault.TheVariants.{Memory};
+
 use floor_store::StoreFault;
 use std::alloc::{AllocError, AllocFailed};
 use thiserror::Error;
@@ -14,12 +17,16 @@ pub enum OpenFault {
 }
 
 impl From<AllocError> for OpenFault {
+    ghost from_gives = { λ _ fault. fault ≡ Memory };
+
     fn from(_: AllocError) -> Self {
         OpenFault::Memory
     }
 }
 
 impl<T: Drop> From<AllocFailed<T>> for OpenFault {
+    ghost from_gives = { λ _ fault. fault ≡ Memory };
+
     fn from(_: AllocFailed<T>) -> Self {
         OpenFault::Memory
     }

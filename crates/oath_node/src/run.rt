@@ -1,4 +1,4 @@
-ghost use Rattle.std.specs.Prelude.{◌≡◌, ℕ, length, IfOk, OnOk};
+ghost use Rattle.std.specs.Prelude.{◌≡◌, ℕ, length, IfErr, IfOk, OnOk};
 ghost use Rattle.admit_core.specs.Throttle.{SpacesFailures};
 ghost use Rattle.otp_core.specs.Acceptance.{HaveSingleUse, KeepRealTimeOrder};
 ghost use Rattle.oath_node.specs.Gates.{gates_after, gates_of, standing_by};
@@ -6,6 +6,7 @@ ghost use Rattle.oath_node.specs.Recording.{IsRecordable};
 ghost use Rattle.oath_node.specs.ReferenceServer.{floors_after, server_at, told_by};
 ghost use Rattle.oath_node.specs.Report.{AreJustified, acceptances_of, report_of, results_in, with_passes, with_told};
 ghost use Rattle.oath_node.specs.Rules.{verdict};
+ghost use Rattle.oath_node.specs.declared.fault.OpenFault.{OpenFault};
 
 use crate::fault::OpenFault;
 use crate::report::{LineAnswer, LinePass, LineReport};
@@ -69,6 +70,9 @@ pub fn run_lines(
     ensures entitled { IfOk result
         (λ report. AreJustified book.now settings floors.now lines.now report.passes) }
 
+    // Memory is the one refusal.
+    ensures refusal { IfErr result (λ fault. fault ≡ OpenFault.Memory) }
+
     // The failures of a token are far apart.
     ensures spaced { (token : ℕ) →
         SpacesFailures (results_in book.now settings floors.now lines.now token) }
@@ -91,7 +95,8 @@ fn take_lines(
 ) -> Result<LineReport, OpenFault>
     requires floors { length floors.old ≡ length book.now }
     requires gates { gates.old ≡ gates_of (server_at floors.old).front.results }
-    ensures { IfOk result (λ report. report ≡ report_of book.now settings floors.old lines.now) }
+    ensures report { IfOk result (λ report. report ≡ report_of book.now settings floors.old lines.now) }
+    ensures refusal { IfErr result (λ fault. fault ≡ OpenFault.Memory) }
 {
     gate_keeps_throttle();
     let mut report = LineReport::new(alloc);
@@ -130,6 +135,7 @@ fn take_line(
     ensures report { let moment = line.now.moment in
         let ruling = verdict book.now settings (standing_by floors.old gates.old moment) moment line.now.text in
         OnOk result (report.new ≡ with_told report.old number line.now.client (told_by ruling)) }
+    ensures refusal { IfErr result (λ fault. fault ≡ OpenFault.Memory) }
 {
     let verdict = judge(book, settings, floors, gates, line.moment, line.line);
     let answer = record_verdict(number, line.moment, verdict, floors, gates, report)?;
@@ -157,6 +163,7 @@ fn record_verdict(
     ensures gates { OnOk result (gates.new ≡ gates_after gates.old moment verdict) }
     ensures report { OnOk result (report.new ≡ with_passes report.old number (told_by verdict).accepted) }
     ensures answer { IfOk result (λ answer. answer ≡ (told_by verdict).answer) }
+    ensures refusal { IfErr result (λ fault. fault ≡ OpenFault.Memory) }
 {
     if let Verdict::Proposes { token, lo, hi, .. } = &verdict {
         report.push_pass(LinePass {
