@@ -199,8 +199,8 @@ pub(crate) fn take_verdict(
         Verdict::Proposes {
             nonce,
             token,
+            lo: _,
             hi,
-            ..
         } => {
             let place = token.value() as usize;
             floors[place] = Next::after(hi);

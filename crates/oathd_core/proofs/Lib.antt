@@ -1,3 +1,4 @@
 pub mod LineLemmas
-pub mod PartLemmas
 pub mod RunLemmas
+pub mod ServeLemmas
+pub mod UsersLemmas

@@ -1,5 +1,5 @@
 -- How a run ends.
-use Rattle.std.proofs.Common.{◌≡◌, ℕ, List, [], ◌∷◌, ◌++◌, Option, Some, None, refl, sym, ap}
+use Rattle.std.proofs.Common.{◌≡◌, ℕ, List, [], Option, sym, ap}
 use Rattle.std.specs.Prelude.{Result, Err}
 use Rattle.std.specs.Io.KnownBytes.{Appends}
 use Rattle.token_file.specs.UsersFile.{Import, book_of, instant_of}
@@ -27,11 +27,3 @@ refused_ends setup longest limit read CannotWrite old new h a = absurd h
 refused_ends setup longest limit read (InputLine number) old new h a = absurd h
 refused_ends setup longest limit read (BadKey key) old new h a = absurd h
 refused_ends setup longest limit read NotText old new h a = absurd h
-
-nothing_more : (xs : List ℕ) → xs ≡ xs ++ []
-nothing_more [] = refl
-nothing_more (x ∷ xs) = ap (λ (l : List ℕ). x ∷ l) (nothing_more xs)
-
-pub appends_nothing : (bytes : Option (List ℕ)) → Appends bytes bytes []
-appends_nothing None = tt
-appends_nothing (Some xs) = nothing_more xs

@@ -3,6 +3,8 @@ use Rattle.std.specs.Prelude.{ℕ}
 use Rattle.command_line.specs.declared.fault.OutsideFault.{OutsideFault}
 use Rattle.command_line.specs.declared.fault.OutsideFault.TheVariants as outside
 use Rattle.oathd_core.specs.declared.fault.Fault.{Fault}
+use Rattle.oathd_core.specs.declared.fault.InputFault.{InputFault}
+use Rattle.oathd_core.specs.declared.fault.InputFault.TheVariants as input
 use Rattle.oathd_core.specs.declared.fault.Fault.TheVariants.{Memory, CannotRead, CannotWrite, Users, InputLine, BadKey, NotText}
 
 -- the exit status: 2 where the words are wrong, 1 for the rest
@@ -20,6 +22,11 @@ abbrev pub outside_fault_of : OutsideFault → Fault
 outside_fault_of outside.Memory = Memory
 outside_fault_of outside.CannotWrite = CannotWrite
 outside_fault_of outside.NotText = NotText
+
+-- what a fault of the input is for a run
+abbrev pub input_fault_of : InputFault → Fault
+input_fault_of input.Memory = Memory
+input_fault_of input.CannotRead = CannotRead
 
 -- the memory, the input or the output failed, which no input makes
 abbrev pub IsOutside : Fault → Type 0

@@ -1,5 +1,5 @@
 -- The lines of an input that is read up to a limit, and its two parts.
-use Rattle.std.specs.Prelude.{◌≡◌, ℕ, ◌+◌, ◌==◌, nat_lt, not, Bool, true, false, if◌then◌else◌, List, [], ◌∷◌, length, take, drop, take_while, ◌++◌, Option, Some, None, codes}
+use Rattle.std.specs.Prelude.{◌≡◌, ◌⊎◌, ◌<◌, ◌≤◌, ℕ, ◌+◌, ◌==◌, nat_lt, not, Bool, false, if◌then◌else◌, List, [], ◌∷◌, length, take, drop, take_while, ◌++◌, Option, Some, None, codes, slice_index_or}
 use Rattle.std.specs.List.{flat_map, list_any, slice_split}
 use Rattle.std.specs.Str.{bytes_eq}
 use Rattle.oathd_core.specs.declared.input.NextLine.{NextLine}
@@ -28,10 +28,14 @@ lines_between is_cut (line ∷ next ∷ more) = Some line ∷ lines_between is_c
 abbrev pub lines_of : ℕ → List ℕ → List TextLine
 lines_of limit text = lines_between (nat_lt limit (length text)) (pieces_of (take limit text))
 
+-- whether a text is `%%`
+abbrev pub is_mark : List ℕ → Bool
+is_mark text = bytes_eq text (codes "%%")
+
 -- whether a line is `%%`
 abbrev pub is_marker : TextLine → Bool
 is_marker None = false
-is_marker (Some line) = bytes_eq line (codes "%%")
+is_marker (Some line) = is_mark line
 
 -- whether one of the lines is `%%`
 abbrev pub has_marker : List TextLine → Bool
@@ -54,21 +58,35 @@ line_bytes (Some line) = line ++ 10 ∷ []
 abbrev pub users_file : List TextLine → List ℕ → List ℕ
 users_file lines read = if has_marker lines then flat_map line_bytes (users_part lines) else read
 
--- lines with a `%%` among them are cut in two there: the bytes before it, how many lines these are, and
--- the lines behind it
-pub record AreSplit (lines : List TextLine) (users : List ℕ) (count : ℕ) (clients : List TextLine) : Type 0 where
-  pub marked : has_marker lines ≡ true
-  pub before : users ≡ flat_map line_bytes (users_part lines)
-  pub counted : count ≡ length (users_part lines)
-  pub behind : clients ≡ clients_part lines
+-- the text of a line, without the LF that ends it
+abbrev pub line_text : List ℕ → List ℕ
+line_text line = slice_index_or (pieces_of line) 0 []
 
--- what is read of an input: at most one byte more than the limit, which tells that there is more
-pub record InputRead : Type 0 where
-  pub bytes : List ℕ
-  pub limit : ℕ
+-- What stands next in a text is taken off, and this is the rest. Of the text so many bytes are within the limit, and so
+-- many of the rest. A line ends with an LF unless nothing stands behind it.
+abbrev pub IsNext : NextLine → List ℕ → ℕ → List ℕ → ℕ → List ℕ → Type 0
+IsNext Whole line room text left rest =
+    (lines_of room text ≡ Some (line_text line) ∷ lines_of left rest)
+    × ((line ≡ line_text line ++ 10 ∷ []) ⊎ (rest ≡ []))
+IsNext Cut line room text left rest = (lines_of room text ≡ None ∷ []) × (left ≡ 0)
+IsNext End line room text left rest = text ≡ []
 
--- what stands next in an input is taken off the lines that are left
-abbrev pub IsNext : NextLine → List TextLine → List TextLine → Type 0
-IsNext (Whole line) old new = old ≡ Some line.now ∷ new
-IsNext Cut old new = old ≡ None ∷ new
-IsNext End old new = (old ≡ []) × (new ≡ [])
+-- what stands next in a text is taken off, and what an input has left is the rest
+pub record TakesLine (found : NextLine) (line : List ℕ) (room : ℕ) (text : List ℕ) (left : ℕ)
+    (remaining : Option (List ℕ)) : Type 0 where
+  pub rest : List ℕ
+  pub remaining_is : remaining ≡ Some rest
+  pub parts : text ≡ line ++ rest
+  pub next : IsNext found line room text left rest
+
+-- a line has bytes, the LF among them, and nothing has none
+abbrev pub HasLine : NextLine → List ℕ → Type 0
+HasLine Whole line = 0 < length line
+HasLine Cut line = 0 < length line
+HasLine End line = line ≡ []
+
+-- a whole line takes some of the bytes that are within the limit
+abbrev pub HasRoom : NextLine → ℕ → ℕ → Type 0
+HasRoom Whole room left = left < room
+HasRoom Cut room left = left ≤ room
+HasRoom End room left = left ≤ room

@@ -5,3 +5,4 @@ pub mod Input
 pub mod Request
 pub mod Run
 pub mod Secret
+pub mod Users

@@ -3,13 +3,14 @@ use Rattle.std.specs.Prelude.{◌≡◌, ℕ, ◌+◌, List, [], map, length, ta
 use Rattle.std.specs.Io.KnownBytes.{Appends}
 use Rattle.command_line.specs.Line.{line_of}
 use Rattle.otp_core.specs.Limits.{Limits}
-use Rattle.oath_node.specs.ReferenceServer.{Line}
-use Rattle.oath_node.specs.Report.{report_of}
+use Rattle.oath_node.specs.ReferenceServer.{Line, Server}
+use Rattle.oath_node.specs.Report.{report_from, report_of}
 use Rattle.oath_node.specs.declared.report.LineAnswer.{LineAnswer}
 use Rattle.oathd_core.specs.Client.{LinesRead, client_lines}
 use Rattle.oathd_core.specs.Input.{TextLine, lines_of, users_file, users_part, clients_part}
 use Rattle.oathd_core.specs.declared.fault.Fault.{Fault}
 use Rattle.oathd_core.specs.declared.fault.Fault.TheVariants.{Memory, CannotRead, CannotWrite, Users, InputLine as BadLine}
+use Rattle.token_file.specs.Credential.{Credential}
 use Rattle.token_file.specs.UsersFile.{Import, book_of, instant_of, is_of_text}
 use Rattle.token_file.specs.declared.fault.FileFault.{FileFault}
 use Rattle.token_file.specs.declared.fault.LineFault.{LineFault}
@@ -28,6 +29,14 @@ bytes_of answer = answer.bytes.items
 -- the answers of one node to lines, from the first free factors of the import on
 abbrev pub answers_of : Limits → Import → List Line → List (List ℕ)
 answers_of limits import lines = map bytes_of (report_of import.book limits import.floors lines).answers
+
+-- the answers of the reference server in a state to lines
+abbrev pub answers_from : List Credential → Limits → Server → List Line → List (List ℕ)
+answers_from book limits server lines = map bytes_of (report_from book limits 0 server lines).answers
+
+-- the run of a server: the lines before the first bad one are answered. Private contracts alone cite it.
+abbrev pub run_of_server : List Credential → Limits → Server → LinesRead → Run
+run_of_server book limits server lines = Answered (answers_from book limits server lines.good) lines.bad
 
 -- the run over an import: the lines before the first bad one are answered
 abbrev pub run_of_lines : Limits → Import → LinesRead → Run
@@ -79,12 +88,27 @@ abbrev pub end_of : Run → Result Unit Fault
 end_of (Refused fault) = Err (Users fault)
 end_of (Answered answers bad) = end_at bad
 
--- The call ends as the run does, and has written what the run prints, no more and no less. Where
--- the memory or the input failed, in the midst of the users file too, nothing is written; where the
--- output failed, no more is said.
+-- the answers of a run to its first lines, of so many
+abbrev pub first_answers : ℕ → Run → List (List ℕ)
+first_answers count (Refused fault) = []
+first_answers count (Answered answers bad) = take count answers
+
+-- the answers of a run to some first lines are written, and nothing else
+pub record WritesFirst (run : Run) (old new : Option (List ℕ)) : Type 0 where
+  pub count : ℕ
+  pub written : Appends old new (printed_lines (first_answers count run))
+
+-- the users file of a run is taken
+abbrev pub IsTaken : Run → Type 0
+IsTaken (Refused fault) = ⊥
+IsTaken (Answered answers bad) = Unit {0}
+
+-- The call ends as the run does, and has written what the run prints, no more and no less. Where the memory failed,
+-- or the input behind a users file that is taken, the answers to some first lines are written; where the input failed
+-- in the midst of the users file, that is the file's fault; where the output failed, no more is said.
 abbrev pub EndsSo : Run → Result Unit Fault → Option (List ℕ) → Option (List ℕ) → Type 0
-EndsSo run (Err Memory) old new = Appends old new []
-EndsSo run (Err CannotRead) old new = Appends old new []
+EndsSo run (Err Memory) old new = WritesFirst run old new
+EndsSo run (Err CannotRead) old new = IsTaken run × WritesFirst run old new
 EndsSo run (Err CannotWrite) old new = Unit {0}
 EndsSo run (Err (Users fault)) old new =
     (IsTrue (is_of_text fault.kind) → Err (Users fault) ≡ end_of run) × Appends old new []

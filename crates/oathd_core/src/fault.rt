@@ -34,6 +34,15 @@ pub enum Fault {
     NotText,
 }
 
+/// Why an input is read no further.
+#[derive(Clone, Copy, Debug, PartialEq, Eq)]
+pub(crate) enum InputFault {
+    /// An allocation was refused.
+    Memory,
+    /// The reader failed.
+    CannotRead,
+}
+
 impl ProgramFault for Fault {
     ghost use Rattle.oathd_core.specs.Fault.{status_of};
 
@@ -62,6 +71,19 @@ impl From<OutsideFault> for Fault {
             OutsideFault::Memory => Fault::Memory,
             OutsideFault::CannotWrite => Fault::CannotWrite,
             OutsideFault::NotText => Fault::NotText,
+        }
+    }
+}
+
+impl From<InputFault> for Fault {
+    ghost use Rattle.oathd_core.specs.Fault.{input_fault_of};
+
+    ghost from_gives = { λ input fault. fault ≡ input_fault_of input };
+
+    fn from(fault: InputFault) -> Self {
+        match fault {
+            InputFault::Memory => Fault::Memory,
+            InputFault::CannotRead => Fault::CannotRead,
         }
     }
 }

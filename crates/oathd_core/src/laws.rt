@@ -104,8 +104,14 @@ pub fn promises_can_be_broken()
     ensures lost_answer { EndsSo answered (Err (InputLine 7)) (Some []) (Some (codes "OK 1 0\n")) → ⊥ }
     ensures other_line { EndsSo answered (Err (InputLine 8)) (Some []) (Some (codes "OK 1 0\nNO 2 INVALID\n")) → ⊥ }
     ensures overlooked { EndsSo answered (Ok tt) (Some []) (Some (codes "OK 1 0\nNO 2 INVALID\n")) → ⊥ }
-    ensures memory { EndsSo answered (Err Memory) (Some []) (Some (codes "OK 1 0\n")) → ⊥ }
-    ensures read { EndsSo answered (Err CannotRead) (Some []) (Some (codes "OK 1 0\n")) → ⊥ }
+    ensures first_answers { EndsSo answered (Err Memory) (Some []) (Some (codes "OK 1 0\n"))
+        × EndsSo answered (Err CannotRead) (Some []) (Some (codes "OK 1 0\n")) }
+    ensures memory { EndsSo answered (Err Memory) (Some []) (Some (codes "NO 2 INVALID\n")) → ⊥ }
+    ensures memory_more { EndsSo answered (Err Memory) (Some []) (Some (codes "OK 1 0\nNO 2 INVALID\n\n")) → ⊥ }
+    ensures memory_users { EndsSo (Refused (fault_at 2 MissingField)) (Err Memory) (Some []) (Some (codes "\n")) → ⊥ }
+    ensures read { EndsSo answered (Err CannotRead) (Some []) (Some (codes "NO 2 INVALID\n")) → ⊥ }
+    ensures read_more { EndsSo answered (Err CannotRead) (Some []) (Some (codes "OK 1 0\nNO 2 INVALID\n\n")) → ⊥ }
+    ensures read_users { EndsSo (Refused (fault_at 2 MissingField)) (Err CannotRead) (Some []) (Some []) → ⊥ }
     ensures users { EndsSo answered (Err (Users (fault_at 1 MissingField))) (Some []) (Some []) → ⊥ }
     ensures users_line { EndsSo (Refused (fault_at 2 MissingField)) (Err (Users (fault_at 1 MissingField)))
         (Some []) (Some []) → ⊥ }

@@ -23,6 +23,7 @@ mod request;
 mod secret;
 #[cfg(test)]
 mod tests;
+mod users;
 
 pub use fault::Fault;
 pub use laws::{

@@ -1,89 +1,97 @@
-ghost use Rattle.std.specs.Prelude.{◌≡◌, ◌++◌, ◌∷◌, [], map, length, IfSome, IfOk, IfErr, OnOk, Ok};
+ghost use Rattle.std.specs.Prelude.{◌≡◌, IfErr, IfSome, List, OnOk};
 ghost use Rattle.std.specs.Io.KnownBytes.{Appends};
+ghost use Rattle.command_line.specs.Line.{line_of};
+ghost use Rattle.otp_core.specs.Limits.{Limits};
 ghost use Rattle.otp_core.specs.Range.{IsMoment};
-ghost use Rattle.oathd_core.specs.Run.{EndsSo, RefusesUsers, bytes_of, printed_lines, run_of, run_read};
-ghost use Rattle.token_file.specs.UsersFile.{book_of, import_of, instant_of};
+ghost use Rattle.token_file.specs.Credential.{Credential};
+ghost use Rattle.oath_node.specs.ReferenceServer.{Server};
+ghost use Rattle.oath_node.specs.Serving.{IsServing};
+ghost use Rattle.oathd_core.specs.Client.{client_lines};
+ghost use Rattle.oathd_core.specs.Input.{lines_of};
+ghost use Rattle.oathd_core.specs.Run.{EndsSo, run_of, run_of_server, run_read};
 
-use crate::client::read_client_lines;
+use crate::client::read_client_line;
 use crate::fault::Fault;
-use crate::input::Input;
+use crate::input::{Input, NextLine, text_of};
+use crate::users::UsersFile;
 use command_line::write_line;
-use oath_node::{LineAnswer, run_lines};
-use otp_core::{Next, Settings};
+use oath_node::LineServer;
+use otp_core::Settings;
 use std::alloc::Global;
-use std::io::{Read, Write};
-use token_file::{Book, FromRead, read_book};
+use std::io::{BufRead, BufReader, Read, Write};
+use token_file::read_book;
 
-/// Writes each answer on a line of its own.
-fn write_answers<W: Write>(writer: &mut W, answers: &[LineAnswer]) -> Result<(), Fault>
-    ensures written { OnOk result
-        (Appends (W.contents writer.old) (W.contents writer.new) (printed_lines (map bytes_of answers.now))) }
+/// Writes an answer on a line of its own, and flushes it.
+fn write_answer<W: Write>(writer: &mut W, answer: &[u8]) -> Result<(), Fault>
+    ensures written { OnOk result (Appends (W.contents writer.old) (W.contents writer.new) (line_of answer.now)) }
     ensures fault { IfErr result (λ fault. fault ≡ Fault.CannotWrite) }
 {
-    for answer in answers {
-        write_line(writer, &answer.bytes)?;
-    }
-    Ok(())
+    write_line(writer, answer)?;
+    writer.flush().map_err(|_| Fault::CannotWrite)
 }
 
-/// The book of a users file, and the first free factor of each token.
-fn read_users(
+/// Answers the lines that are left of an input, of which the first has this number, each before the next one is
+/// read, up to the first bad one.
+fn answer_lines<B: BufRead + Drop, W: Write>(
     alloc: Global,
-    file: &[u8],
-    settings: Settings,
-    moment: u64,
-) -> Result<(Book, Vec<Next>), Fault>
-    requires { IsMoment moment }
-    ensures book { IfOk result (λ read. book_of 16777216 (instant_of settings moment) file.now
-        ≡ Ok (import_of read.0 read.1.items)) }
-    ensures floors { IfOk result (λ read. length read.1.items ≡ length read.0) }
-    ensures fault { IfErr result (RefusesUsers (book_of 16777216 (instant_of settings moment) file.now)) }
+    server: &mut LineServer<'_>,
+    mut input: Input<B>,
+    first: u64,
+    writer: &mut W,
+) -> Result<(), Fault>
+    ensures { (book : List Credential) (limits : Limits) (state : Server) → IsServing server.old book limits state →
+        IfSome (B.remaining input.reader) (λ text. EndsSo
+        (run_of_server book limits state (client_lines first (lines_of input.room text)))
+        result (W.contents writer.old) (W.contents writer.new)) }
 {
-    let mut source = FromRead::new(file);
-    match read_book(alloc, &mut source, settings, moment) {
-        Ok(read) => Ok(read),
-        Err(fault) => Err(Fault::Users(fault)),
+    let mut line = Vec::new(alloc);
+    for number in first..u64::MAX {
+        match input.next_line(&mut line)? {
+            NextLine::End => return Ok(()),
+            NextLine::Cut => return Err(Fault::InputLine(number)),
+            NextLine::Whole => match read_client_line(text_of(&line)) {
+                Some(line) => write_answer(writer, &server.answer(&line))?,
+                None => return Err(Fault::InputLine(number)),
+            },
+        }
     }
+    // No input has so many lines.
+    Err(Fault::Memory)
 }
 
-/// Answers the lines of an input by one node over its users file, and writes each answer on a line of its
-/// own. Where a line is bad, the answers to the lines before it are written.
-#[tactic(auto, using(crate::proofs::RunLemmas::refused_ends))]
-fn serve_input<W: Write>(
+/// Reads the users file of an input, and answers the lines behind it.
+fn serve_input<B: BufRead + Drop, W: Write>(
     alloc: Global,
     settings: Settings,
     moment: u64,
-    input: &Input,
+    input: Input<B>,
     writer: &mut W,
 ) -> Result<(), Fault>
     requires { IsMoment moment }
-    ensures ends { EndsSo
-        (run_read (record { limits = settings; moment = moment }) 16777216 input.now.limit input.now.bytes)
-        result (W.contents writer.old) (W.contents writer.new) }
+    ensures ends { IfSome (B.remaining input.reader) (λ text.
+        EndsSo (run_read (record { limits = settings; moment = moment }) 16777216 input.room text)
+        result (W.contents writer.old) (W.contents writer.new)) }
 {
-    let parts = input.parts();
-    let (book, floors) = match read_users(alloc, parts.users, settings, moment) {
+    let mut users = UsersFile::new(alloc, input);
+    let (book, floors) = match read_book(alloc, &mut users, settings, moment) {
         Ok(read) => read,
-        Err(fault) => return Err(fault),
+        Err(fault) => return Err(users.fault(fault)),
     };
-    let clients = read_client_lines(alloc, parts.clients, parts.first)?;
-    let report = run_lines(alloc, &book, settings, &floors, &clients.good)?;
-    write_answers(writer, report.answers())?;
-    match clients.bad {
-        None => Ok(()),
-        Some(number) => Err(Fault::InputLine(number)),
-    }
+    let (clients, first) = users.into_clients()?;
+    let mut server = LineServer::new(alloc, &book, settings, &floors)?;
+    answer_lines(alloc, &mut server, clients, first, writer)
 }
 
-/// Reads a users file, a line `%%` and lines of clients, answers the lines by one node, and writes each answer
-/// on a line of its own. Each line of a client is its number, the moment and its request, with single spaces
-/// between. At most `limit` bytes are read, and one more, which tells that the input goes on: then the line that
-/// the limit cuts is bad. The users are imported at the moment given, in seconds since 1970-01-01 00:00:00 UTC,
-/// 0 to 1099511627775. The writer is not flushed.
+/// Reads a users file, a line `%%` and lines of clients, answers each line by one node before the next one is read,
+/// and writes each answer on a line of its own and flushes it. Each line of a client is its number, the moment and
+/// its request, with single spaces between. At most `limit` bytes are read, and one more, which tells that the input
+/// goes on: then the line that the limit cuts is bad. The users are imported at the moment given, in seconds since
+/// 1970-01-01 00:00:00 UTC, 0 to 1099511627775. Of the input a piece of 8,192 bytes and one line are held.
 ///
 /// # Errors
-/// `Users` where the users file has a fault, and then nothing is written; `InputLine` at the first bad line, after
-/// the answers to the lines before it; `Memory` and `CannotRead`, with nothing written; `CannotWrite`.
+/// `Users` where the users file has a fault, or the input fails in its midst, and then nothing is written;
+/// `InputLine` at the first bad line, and `CannotRead` where the input fails later, after the answers to the lines
+/// before; `Memory`; `CannotWrite`.
 pub fn serve_lines<R: Read, W: Write>(
     alloc: Global,
     settings: Settings,
@@ -97,6 +105,9 @@ pub fn serve_lines<R: Read, W: Write>(
         EndsSo (run_of (record { limits = settings; moment = moment }) 16777216 limit text)
         result (W.contents writer.old) (W.contents writer.new)) }
 {
-    let input = Input::read(alloc, reader, limit)?;
-    serve_input(alloc, settings, moment, &input, writer)
+    let part = reader.take(u64::from(limit) + 1);
+    let Ok(held) = BufReader::new(alloc, part) else {
+        return Err(Fault::Memory);
+    };
+    serve_input(alloc, settings, moment, Input::new(held, limit), writer)
 }

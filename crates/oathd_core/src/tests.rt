@@ -3,6 +3,7 @@ use command_line::{OutsideFault, ProgramFault};
 use otp_core::Settings;
 use secret_text::SecretFault;
 use std::alloc::{AllocError, Global};
+use std::cell::Cell;
 use std::io::{self, ErrorKind, Read, Write};
 use std::test::Fail;
 use token_file::{FileFault, LineFault};
@@ -12,7 +13,22 @@ fn has_text(alloc: Global, fault: Fault, text: &str) -> Result<bool, AllocError>
     Ok(format!(in alloc; "{fault}")?.as_str() == text)
 }
 
-/// Whether a run over an input prints this, and ends with a fault of this text, or well where that is empty.
+/// A reader that gives at most so many bytes of a text at once.
+#[derive(Drop)]
+struct Pieces<'a> {
+    text: &'a [u8],
+    size: usize,
+}
+
+impl Read for Pieces<'_> {
+    fn read(&mut self, buf: &mut [u8]) -> io::Result<usize> {
+        let len = buf.len().min(self.size);
+        self.text.read(&mut buf[..len])
+    }
+}
+
+/// Whether a run over an input, whole and in pieces, prints this, and ends with a fault of this text, or well where
+/// that is empty.
 fn ends_so(
     alloc: Global,
     settings: Settings,
@@ -22,14 +38,19 @@ fn ends_so(
     printed: &str,
     text: &str,
 ) -> Result<bool, AllocError> {
-    let mut reader = input;
-    let mut written = Vec::new(alloc);
     let moment = u64::from(moment);
-    let ends = match serve_lines(alloc, settings, moment, limit, &mut reader, &mut written) {
-        Ok(()) => text.is_empty(),
-        Err(fault) => has_text(alloc, fault, text)?,
-    };
-    Ok(ends && written.as_slice() == printed.as_bytes())
+    for size in [1, 7, 4096, input.len() + 1] {
+        let mut reader = Pieces { text: input, size };
+        let mut written = Vec::new(alloc);
+        let ends = match serve_lines(alloc, settings, moment, limit, &mut reader, &mut written) {
+            Ok(()) => text.is_empty(),
+            Err(fault) => has_text(alloc, fault, text)?,
+        };
+        if !ends || written.as_slice() != printed.as_bytes() {
+            return Ok(false);
+        }
+    }
+    Ok(true)
 }
 
 /// A run as it is documented: what follows the users file, and what is printed.
@@ -237,6 +258,26 @@ fn fails_where_the_writer_does(rt: HostRuntime) {
     }
 }
 
+/// A writer that can't be flushed.
+#[derive(Drop)]
+struct Unflushed;
+
+impl Write for Unflushed {
+    fn write(&mut self, bytes: &[u8]) -> io::Result<usize> {
+        Ok(bytes.len())
+    }
+
+    fn flush(&mut self) -> io::Result<()> {
+        Err(ErrorKind::Other.into())
+    }
+}
+
+#[test]
+fn fails_where_the_flush_does(rt: HostRuntime) {
+    let mut reader: &[u8] = b"%%\n7 1 x\n";
+    assert!(rt; served(rt.alloc(), &mut reader, &mut Unflushed) == Err(Fault::CannotWrite));
+}
+
 /// A reader that gives a front of a text and then fails.
 #[derive(Drop)]
 struct Failing<'a> {
@@ -253,18 +294,113 @@ impl Read for Failing<'_> {
     }
 }
 
+/// Behind the users file the answers stand, and in its midst the first fault is told.
 #[test]
 fn fails_where_the_reader_does(rt: HostRuntime) {
-    for (kind, fault) in [
-        (ErrorKind::Other, Fault::CannotRead),
-        (ErrorKind::OutOfMemory, Fault::Memory),
+    let memory = ErrorKind::OutOfMemory;
+    let cannot_read = |line| Fault::Users(FileFault {
+        line,
+        kind: LineFault::Read,
+    });
+    let missing = Fault::Users(FileFault {
+        line: 1,
+        kind: LineFault::MissingField,
+    });
+    let answers = "NO - BADLINE\nNO - BADLINE\n";
+    for (text, kind, printed, fault) in [
+        ("%%\n", ErrorKind::Other, "", Fault::CannotRead),
+        (
+            "%%\n7 1 x\n7 1 y\n",
+            ErrorKind::Other,
+            answers,
+            Fault::CannotRead,
+        ),
+        (
+            "%%\n7 1 x\n7 1 y\n7 1",
+            ErrorKind::Other,
+            answers,
+            Fault::CannotRead,
+        ),
+        ("%%\n7 1 x\n7 1 y\n", memory, answers, Fault::Memory),
+        ("", ErrorKind::Other, "", cannot_read(1)),
+        ("HOTP a - 00\nHOTP b", ErrorKind::Other, "", cannot_read(2)),
+        ("#\n#\n%%", ErrorKind::Other, "", cannot_read(3)),
+        ("HOTP a -\nHOTP b", ErrorKind::Other, "", missing),
+        ("HOTP a - 00\nHOTP b", memory, "", Fault::Memory),
+        ("HOTP a -\nHOTP b", memory, "", missing),
     ] {
-        let text = b"HOTP a - 00\n%%\n7 1 x\n";
+        let mut reader = Failing {
+            text: text.as_bytes(),
+            kind,
+        };
         let mut written = Vec::new(rt.alloc());
-        let end = served(rt.alloc(), &mut Failing { text, kind }, &mut written);
-        assert!(rt; end == Err(fault));
-        assert!(rt; written.is_empty());
+        let end = served(rt.alloc(), &mut reader, &mut written);
+        assert!(rt; end == Err(fault), "{text}");
+        assert!(rt; written.as_slice() == printed.as_bytes(), "{text}");
     }
+}
+
+/// A reader each of whose lines is asked for only when so many bytes were written and flushed.
+#[derive(Drop)]
+struct Dialog<'a> {
+    lines: &'a [(&'static str, usize)],
+    flushed: &'a Cell<usize>,
+}
+
+impl Read for Dialog<'_> {
+    fn read(&mut self, buf: &mut [u8]) -> io::Result<usize> {
+        let Some((first, rest)) = self.lines.split_first() else {
+            return Ok(0);
+        };
+        if self.flushed.get() != first.1 {
+            return Err(ErrorKind::Other.into());
+        }
+        self.lines = rest;
+        first.0.as_bytes().read(buf)
+    }
+}
+
+/// A writer that tells how many bytes were written before it was flushed.
+#[derive(Drop)]
+struct Counted<'a> {
+    written: usize,
+    flushed: &'a Cell<usize>,
+}
+
+impl Write for Counted<'_> {
+    fn write(&mut self, bytes: &[u8]) -> io::Result<usize> {
+        self.written = self.written.saturating_add(bytes.len());
+        Ok(bytes.len())
+    }
+
+    fn flush(&mut self) -> io::Result<()> {
+        self.flushed.set(self.written);
+        Ok(())
+    }
+}
+
+/// A line is answered, and the answer flushed, before the next line is asked for.
+#[test]
+fn answers_each_line_as_it_comes(rt: HostRuntime) {
+    let flushed = Cell::new(0);
+    let lines = [
+        ("HOTP a - 00\n", 0),
+        ("%%\n", 0),
+        ("7 1 x\n", 0),
+        ("7 1 CHECK 1 b 755224 -\n", 13),
+        ("7 1 x", 26),
+        ("\n", 26),
+    ];
+    let mut reader = Dialog {
+        lines: &lines,
+        flushed: &flushed,
+    };
+    let mut writer = Counted {
+        written: 0,
+        flushed: &flushed,
+    };
+    assert!(rt; served(rt.alloc(), &mut reader, &mut writer) == Ok(()));
+    assert!(rt; flushed.get() == 39);
 }
 
 /// The text of each fault, and the exit status of a run that ends so.

@@ -1,10 +1,54 @@
 use Rattle.std.proofs.Common.{ℕ, List, subst}
-use Rattle.token_file.specs.UsersFile.{book_of, instant_of}
-use Rattle.oathd_core.specs.Run.{RefusesUsers}
-use Rattle.oathd_core.proofs.RunLemmas.{appends_nothing, refused_ends}
+use Rattle.std.specs.Prelude.{Result}
+use Rattle.std.proofs.lemmas.Option.{IfSome_then}
+use Rattle.token_file.specs.UsersFile.{Import}
+use Rattle.oath_node.specs.ReferenceServer.{server_at}
+use Rattle.oath_node.specs.Serving.{IsServing}
+use Rattle.oathd_core.specs.Run.{EndsSo, Setup, run_read}
+use Rattle.oathd_core.specs.declared.fault.Fault.{Fault}
+use Rattle.oathd_core.specs.declared.fault.InputFault.TheVariants as input
+use Rattle.oathd_core.proofs.ServeLemmas.{failed_behind, handed_on, memory_ends_any, refused_or_memory, served_behind}
 use Rattle.oathd_core.proofs.lines.serve_input.Goals as goal
 
 pub returns-in-Err : goal.returns-in-Err
 returns-in-Err g c =
-    let refuses = subst (λ (users : List ℕ). RefusesUsers (book_of _ (instant_of c.args.settings c.args.moment) users) c.in-Err.fault) c.parts-parts.ensures.users c.in-Err.ensures.fault in
-    record { ends = refused_ends (record { limits = c.args.settings; moment = c.args.moment }) _ c.args.input.now.limit c.args.input.now.bytes c.in-Err.fault _ _ refuses (appends_nothing _) }
+    let setup : Setup = record { limits = c.args.settings; moment = c.args.moment } in
+    record {
+      ends = refused_or_memory setup 16777216 c.args.input.room (g.B.Read.remaining c.args.input.reader) _ c.in-Err.fault c.fault.result
+          (g.W.Write.contents c.args.writer.now) c.new-users.ensures.left c.in-Err.ensures.fault c.fault.ensures;
+    }
+
+pub returns-in_err-clients : goal.returns-in_err-clients
+returns-in_err-clients g c =
+    let setup : Setup = record { limits = c.args.settings; moment = c.args.moment } in
+    let import : Import = record { book = c.in-Ok.read.0; floors = c.in-Ok.read.1.items } in
+    let f = c.in_err-clients.field-0.0 in
+    let out = g.W.Write.contents c.args.writer.now in
+    let a = g.B.Read.remaining c.args.input.reader in
+    record {
+      ends = IfSome_then a (failed_behind setup 16777216 c.args.input.room a _ import c.new-users.ensures.left c.in-Ok.ensures.book f out)
+          (λ text h. handed_on c.from_residual.result f (λ (r : Result Unit Fault). EndsSo (run_read setup 16777216 c.args.input.room text) r out out) c.from_residual.ensures.1 h);
+    }
+
+pub returns-in_err-server : goal.returns-in_err-server
+returns-in_err-server g c =
+    let setup : Setup = record { limits = c.args.settings; moment = c.args.moment } in
+    let out = g.W.Write.contents c.args.writer.now in
+    let a = g.B.Read.remaining c.args.input.reader in
+    record {
+      ends = IfSome_then a (memory_ends_any a (run_read setup 16777216 c.args.input.room) out)
+          (λ text h. handed_on c.from_residual-in_err-server.result input.Memory (λ (r : Result Unit Fault). EndsSo (run_read setup 16777216 c.args.input.room text) r out out)
+          c.from_residual-in_err-server.ensures.1 h);
+    }
+
+pub returns : goal.returns
+returns g c =
+    let setup : Setup = record { limits = c.args.settings; moment = c.args.moment } in
+    let import : Import = record { book = c.in-Ok.read.0; floors = c.in-Ok.read.1.items } in
+    let a = g.B.Read.remaining c.args.input.reader in
+    let serving = subst (λ (fs : List ℕ). IsServing c.in_ok-server.server c.in-Ok.read.0 c.args.settings (server_at fs)) c.deref.ensures.value c.in_ok-server.ensures in
+    record {
+      ends = served_behind setup 16777216 c.args.input.room a _ import c.new-users.ensures.left c.in-Ok.ensures.book _ _ c.in_ok-clients.first c.in_ok-clients.clients.room
+          (g.B.Read.remaining c.in_ok-clients.clients.reader) c.answer_lines.result (g.W.Write.contents c.args.writer.now) (g.W.Write.contents c.answer_lines.new.writer)
+          c.new-users.ensures.clients c.in-Ok.ensures.behind c.in_ok-clients.ensures (c.answer_lines.ensures import.book setup.limits (server_at import.floors) serving);
+    }

@@ -1,14 +1,33 @@
-use Rattle.std.proofs.Common.{subst}
-use Rattle.std.proofs.lemmas.Option.{IfSome_then}
-use Rattle.token_file.specs.declared.reading.TheConstants.{MAX_FILE_LEN}
-use Rattle.oathd_core.specs.Input.{InputRead}
-use Rattle.oathd_core.specs.Run.{EndsSo, run_read}
+use Rattle.std.proofs.Common.{◌≡◌, ◌+◌, ℕ, List, Option, IfSome, take, ap, subst, ◌∙◌}
+use Rattle.std.specs.Option.{option_map}
+use Rattle.std.specs.Io.Buffered.{reader_buffer, reader_capacity, reader_inner, reader_remaining}
+use Rattle.std.specs.Io.Take.{take_remaining}
+use Rattle.oathd_core.specs.Run.{EndsSo, Setup, run_of, run_read}
+use Rattle.oathd_core.proofs.ServeLemmas.{held_none, memory_ends_any, of_front}
 use Rattle.oathd_core.proofs.lines.serve_lines.Goals as goal
+
+pub returns-in_default : goal.returns-in_default
+returns-in_default g c =
+    let setup : Setup = record { limits = c.args.settings; moment = c.args.moment } in
+    record { ends = memory_ends_any (g.R.Read.remaining c.args.reader.now) (run_of setup 16777216 c.args.limit) (g.W.Write.contents c.args.writer.now) }
 
 pub returns : goal.returns
 returns g c =
+    let setup : Setup = record { limits = c.args.settings; moment = c.args.moment } in
+    let known = g.R.Read.remaining c.args.reader.now in
+    let held = c.in-Ok.held in
+    let n = c.args.limit + 1 in
+    let left = take_remaining (λ r. g.R.Read.remaining r.now) in
+    let limited : c.take-part.result.limit ≡ n = c.take-part.ensures.limit ∙ ap (λ (k : ℕ). k + 1) c.from.ensures in
+    let all : reader_remaining left c.new-2.result.reader ≡ option_map (take n) known =
+    ap (reader_remaining left) c.new-2.ensures.reader
+    ∙ held_none (reader_capacity held) (reader_buffer held) (left (reader_inner held)) c.in-Ok.ensures.capacity c.in-Ok.ensures.empty
+    ∙ ap left c.in-Ok.ensures.inner
+    ∙ ap (λ (k : ℕ). option_map (take k) (g.R.Read.remaining c.take-part.result.inner.now)) limited
+    ∙ ap (λ r. option_map (take n) (g.R.Read.remaining r.now)) c.take-part.ensures.inner in
+    let ends = subst (λ (k : ℕ). IfSome (reader_remaining left c.new-2.result.reader) (λ text. EndsSo (run_read setup 16777216 k text) c.serve_input.result
+    (g.W.Write.contents c.args.writer.now) (g.W.Write.contents c.serve_input.new.writer))) c.new-2.ensures.room c.serve_input.ensures.ends in
     record {
-      ends = IfSome_then (g.R.Read.remaining c.args.reader.now) c.in_ok-input.ensures.bytes
-          (λ text read. subst (λ (input : InputRead). EndsSo (run_read (record { limits = c.args.settings; moment = c.args.moment }) MAX_FILE_LEN input.limit input.bytes)
-          c.serve_input.result (g.W.Write.contents c.args.writer.now) (g.W.Write.contents c.serve_input.new.writer)) read c.serve_input.ensures.ends);
+      ends = of_front known (reader_remaining left c.new-2.result.reader) n (λ (text : List ℕ). EndsSo (run_read setup 16777216 c.args.limit text) c.serve_input.result
+          (g.W.Write.contents c.args.writer.now) (g.W.Write.contents c.serve_input.new.writer)) all ends;
     }

@@ -1,0 +1,192 @@
+ghost use Rattle.std.specs.Prelude.{◌≡◌, ◌+◌, ◌<◌, ◌^◌, ◌≤◌, [], drop, length, min, take, IfOk, IfSome, false, true};
+ghost use Rattle.std.specs.Io.KnownBytes.{Keeps};
+ghost use Rattle.std.specs.Option.{option_map};
+ghost use Rattle.token_file.specs.Source.{Stays};
+ghost use Rattle.oathd_core.specs.Input.{is_mark, line_text};
+
+use crate::fault::{Fault, InputFault};
+use crate::input::{Input, NextLine, is_marker, text_of};
+use std::alloc::Global;
+use std::io::BufRead;
+use token_file::{FileFault, LineFault, Pulled, Source};
+
+/// How far the users file of an input is read.
+#[derive(Clone, Copy, Debug, PartialEq, Eq)]
+pub(crate) enum Stage {
+    /// Lines of it may follow.
+    Users,
+    /// The line `%%` was taken off, or the input ended before one.
+    Clients,
+    /// The input failed.
+    Failed(InputFault),
+}
+
+/// The users file of an input, as a source. It ends before the first line that is `%%`, and what follows that
+/// line is left unread.
+#[derive(Drop)]
+pub(crate) struct UsersFile<B> {
+    input: Input<B>,
+    /// What is not yet pulled of the line that was taken off last, or what was read of a line until the input
+    /// failed.
+    line: Vec<u8>,
+    /// How many lines within the limit were taken off.
+    taken: u64,
+    stage: Stage,
+    ghost counted: { taken + input.room < 2 ^ 33 },
+}
+
+/// Removes so many bytes from the front.
+fn remove_front(bytes: &mut Vec<u8>, count: usize)
+    requires { count ≤ length bytes.old.items }
+    ensures { bytes.new.items ≡ drop count bytes.old.items }
+{
+    let len = bytes.len();
+    bytes.as_mut_slice().copy_within(count..len, 0);
+    bytes.truncate(len - count);
+}
+
+/// Moves as many bytes as both have room for from the front of the line to the front of the buffer.
+fn move_front(line: &mut Vec<u8>, buffer: &mut [u8]) -> usize
+    ensures count { result ≡ min (length line.old.items) (length buffer.old) }
+    ensures moved { take result buffer.new ≡ take result line.old.items }
+    ensures line { line.new.items ≡ drop result line.old.items }
+    ensures len { length buffer.new ≡ length buffer.old }
+{
+    let count = line.len().min(buffer.len());
+    buffer[..count].copy_from_slice(&line[..count]);
+    remove_front(line, count);
+    count
+}
+
+/// What follows a line that was taken off, which is cleared where it is `%%`.
+fn stage_behind(line: &mut Vec<u8>) -> Stage
+    ensures marked { is_mark (line_text line.old.items) ≡ true
+        → (result ≡ Stage.Clients) × (line.new.items ≡ []) }
+    ensures unmarked { is_mark (line_text line.old.items) ≡ false
+        → (result ≡ Stage.Users) × (line.new.items ≡ line.old.items) }
+{
+    if is_marker(text_of(line)) {
+        line.clear();
+        Stage::Clients
+    } else {
+        Stage::Users
+    }
+}
+
+impl<B: BufRead + Drop> UsersFile<B> {
+    ghost use Rattle.std.specs.Prelude.{◌⊎◌};
+    ghost use Rattle.oathd_core.specs.Input.{lines_of};
+    ghost use Rattle.oathd_core.specs.Users.{HasClients, IsFilled, clients_behind, is_failed, users_text};
+
+    /// The users file at the front of an input.
+    pub(crate) fn new(alloc: Global, input: Input<B>) -> Self
+        ensures left { ⟦<UsersFile<B> as Source>⟧.left result
+            ≡ option_map (users_text input.room) (B.remaining input.reader) }
+        ensures clients { ⟦<UsersFile<B> as Source>⟧.behind result
+            ≡ option_map (λ text. clients_behind 0 (lines_of input.room text)) (B.remaining input.reader) }
+    {
+        UsersFile {
+            input,
+            line: Vec::new(alloc),
+            taken: 0,
+            stage: Stage::Users,
+        }
+    }
+
+    /// Takes the next line off the input, of which nothing is left to be pulled.
+    fn take_next(&mut self)
+        requires stage { self.old.stage ≡ Stage.Users }
+        requires line { self.old.line.items ≡ [] }
+        ensures left { Keeps (⟦<UsersFile<B> as Source>⟧.left self.old) (⟦<UsersFile<B> as Source>⟧.left self.new) }
+        ensures clients { Stays (⟦<UsersFile<B> as Source>⟧.behind self.old) (⟦<UsersFile<B> as Source>⟧.behind self.new) }
+        ensures some { IsFilled self.new.stage self.new.line.items }
+    {
+        let next = match self.input.next_line(&mut self.line) {
+            Ok(next) => next,
+            Err(fault) => {
+                self.stage = Stage::Failed(fault);
+                return;
+            }
+        };
+        match next {
+            NextLine::Whole => {
+                self.taken += 1;
+                self.stage = stage_behind(&mut self.line);
+            }
+            NextLine::Cut => {}
+            NextLine::End => self.stage = Stage::Clients,
+        }
+    }
+
+    /// Takes the next line off where nothing is left to be pulled, and lines may follow.
+    fn fill(&mut self)
+        ensures left { Keeps (⟦<UsersFile<B> as Source>⟧.left self.old) (⟦<UsersFile<B> as Source>⟧.left self.new) }
+        ensures clients { Stays (⟦<UsersFile<B> as Source>⟧.behind self.old) (⟦<UsersFile<B> as Source>⟧.behind self.new) }
+        ensures some { IsFilled self.new.stage self.new.line.items }
+        ensures failed { is_failed self.old.stage ≡ true → is_failed self.new.stage ≡ true }
+    {
+        match self.stage {
+            Stage::Users => {
+                if self.line.is_empty() {
+                    self.take_next();
+                }
+            }
+            Stage::Clients | Stage::Failed(_) => {}
+        }
+    }
+
+    /// What ends a run that this fault of the users file ends.
+    pub(crate) fn fault(&self, fault: FileFault) -> Fault
+        ensures { (result ≡ Fault.Memory) ⊎ (result ≡ Fault.Users fault) }
+    {
+        match self.stage {
+            Stage::Failed(InputFault::Memory) if fault.kind == LineFault::Read => Fault::Memory,
+            _ => Fault::Users(fault),
+        }
+    }
+
+    /// The rest of the input, and the number of its first line. What is left of the users file is passed over.
+    pub(crate) fn into_clients(mut self) -> Result<(Input<B>, u64), InputFault>
+        ensures { IfOk result (λ found. IfSome (⟦<UsersFile<B> as Source>⟧.behind self)
+            (λ clients. HasClients clients found.1 found.0.room (B.remaining found.0.reader))) }
+    {
+        for _ in 0..u64::MAX {
+            match self.stage {
+                Stage::Users => {
+                    self.line.clear();
+                    self.take_next();
+                }
+                Stage::Clients => {
+                    let first = self.taken + 1;
+                    return Ok((self.input, first));
+                }
+                Stage::Failed(fault) => return Err(fault),
+            }
+        }
+        // No memory holds so many lines.
+        Err(InputFault::Memory)
+    }
+}
+
+impl<B: BufRead + Drop> Source for UsersFile<B> {
+    ghost use Rattle.std.specs.Option.{option_map};
+    ghost use Rattle.oathd_core.specs.Client.{LinesRead};
+    ghost use Rattle.oathd_core.specs.Users.{clients_left, is_failed, users_left};
+
+    ghost left = { λ users. option_map (users_left users.stage users.input.room users.line.items) (B.remaining users.input.reader) };
+
+    ghost Behind = { LinesRead };
+
+    ghost behind = { λ users.
+        option_map (clients_left users.stage users.taken users.input.room users.line.items) (B.remaining users.input.reader) };
+
+    ghost has_failed = { λ users. is_failed users.stage };
+
+    fn pull(&mut self, buffer: &mut [u8]) -> Pulled {
+        self.fill();
+        match self.stage {
+            Stage::Failed(_) => Pulled::Failed,
+            Stage::Users | Stage::Clients => Pulled::Bytes(move_front(&mut self.line, buffer)),
+        }
+    }
+}
