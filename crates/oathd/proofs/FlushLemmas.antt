@@ -3,7 +3,7 @@ use Rattle.std.proofs.Common.{◌≡◌, ℕ, List, Option, Some, None, Result, 
 use Rattle.std.specs.Prelude.{IsOk, IfErr, OnOk, ◌⊎◌}
 use Rattle.std.specs.Io.KnownBytes.{Appends, Keeps}
 use Rattle.oathd_core.specs.Request.{EndsAsAsked}
-use Rattle.oathd_core.specs.Run.{EndsSo, Run}
+use Rattle.oathd_core.specs.Run.{EndsSo, Run, WritesFirst}
 use Rattle.oathd_core.specs.Secret.{EndsWithText}
 use Rattle.oathd_core.specs.declared.fault.Fault.{Fault}
 use Rattle.oathd_core.specs.declared.fault.Fault.TheVariants.{BadKey, CannotRead, CannotWrite, InputLine, Memory, NotText, Users}
@@ -16,10 +16,13 @@ appends_kept (Some text) None new bytes a k = absurd a
 appends_kept (Some text) (Some more) None bytes a k = absurd k
 appends_kept (Some text) (Some more) (Some most) bytes a k = k ∙ a
 
+first_kept : (run : Run) (old mid new : Option (List ℕ)) → WritesFirst run old mid → Keeps mid new → WritesFirst run old new
+first_kept run old mid new h k = record { count = h.count; written = appends_kept old mid new _ h.written k }
+
 run_kept : (run : Run) (end : Result Unit Fault) (old mid new : Option (List ℕ)) → EndsSo run end old mid → Keeps mid new → EndsSo run end old new
 run_kept run (Ok one) old mid new h k = (h.0, appends_kept old mid new _ h.1 k)
-run_kept run (Err Memory) old mid new h k = appends_kept old mid new _ h k
-run_kept run (Err CannotRead) old mid new h k = appends_kept old mid new _ h k
+run_kept run (Err Memory) old mid new h k = first_kept run old mid new h k
+run_kept run (Err CannotRead) old mid new h k = (h.0, first_kept run old mid new h.1 k)
 run_kept run (Err CannotWrite) old mid new h k = tt
 run_kept run (Err (Users fault)) old mid new h k = (h.0, appends_kept old mid new _ h.1 k)
 run_kept run (Err (InputLine number)) old mid new h k = (h.0, appends_kept old mid new _ h.1 k)

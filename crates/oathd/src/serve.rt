@@ -7,8 +7,8 @@ use oathd_core::{Fault, Request, run};
 use std::alloc::Global;
 use std::io::{BufWriter, Read, Write};
 
-/// Does what is asked for, over an output that holds back what it is given. It is flushed at the end, whatever
-/// that is.
+/// Does what is asked for, over an output that holds back what it is given until it is flushed. That happens
+/// behind each answer to a line, so that an answer is one write, and at the end, whatever that is.
 fn perform<R: Read, O: Write>(
     alloc: Global,
     request: &Request<'_>,
