@@ -1,5 +1,5 @@
 -- Lines of clients are answered one after another.
-use Rattle.std.proofs.Common.{cond, ◌≡◌, ℕ, ◌+◌, ◌<◌, List, [], ◌∷◌, ◌++◌, length, take, Option, Some, None, IfSome, refl, sym, ap, subst, ◌∙◌, inl, inr}
+use Rattle.std.proofs.Common.{cond, ◌≡◌, ℕ, ◌+◌, List, [], ◌∷◌, ◌++◌, length, take, Option, Some, None, IfSome, refl, sym, ap, subst, ◌∙◌, inl, inr}
 use Rattle.std.specs.Prelude.{◌==◌, ◌⊎◌, map, Result, Ok, Err, IsErrAnd, IsTrue}
 use Rattle.std.specs.Option.{option_map}
 use Rattle.std.specs.Io.KnownBytes.{Appends, prepend_known}
@@ -21,8 +21,8 @@ use Rattle.oath_node.specs.Report.{report_from}
 use Rattle.oath_node.specs.Serving.{IsAnswered, IsServing, Serving}
 use Rattle.oathd_core.specs.Client.{LinesRead, client_line_of, client_lines, with_line}
 use Rattle.oathd_core.specs.Fault.{input_fault_of}
-use Rattle.oathd_core.specs.Input.{TakesLine, TextLine, line_text, lines_of}
-use Rattle.oathd_core.specs.Run.{Run, Answered, Refused, EndsSo, IsTaken, RefusesUsers, Setup, WritesFirst, answers_from, bytes_of, clients_of, end_at, first_answers, output_of, printed_lines, run_of_lines, run_of_server, run_of_users, run_read}
+use Rattle.oathd_core.specs.Input.{TakesLine, line_text, lines_of}
+use Rattle.oathd_core.specs.Run.{Run, Answered, Refused, EndsSo, IsTaken, Setup, WritesFirst, answers_from, bytes_of, clients_of, end_at, printed_lines, run_of_lines, run_of_server, run_of_users, run_read}
 use Rattle.oathd_core.specs.Users.{HasClients, clients_behind, users_text}
 use Rattle.oathd_core.specs.declared.fault.Fault.{Fault}
 use Rattle.oathd_core.specs.declared.fault.Fault.TheVariants as fault

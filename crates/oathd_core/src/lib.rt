@@ -20,6 +20,7 @@ mod input;
 mod laws;
 mod lines;
 mod request;
+mod retry;
 mod secret;
 #[cfg(test)]
 mod tests;

@@ -13,6 +13,7 @@ ghost use Rattle.oathd_core.specs.Run.{EndsSo, run_of, run_of_server, run_read};
 use crate::client::read_client_line;
 use crate::fault::Fault;
 use crate::input::{Input, NextLine, text_of};
+use crate::retry::Retrying;
 use crate::users::UsersFile;
 use command_line::write_line;
 use oath_node::LineServer;
@@ -105,7 +106,7 @@ pub fn serve_lines<R: Read, W: Write>(
         EndsSo (run_of (record { limits = settings; moment = moment }) 16777216 limit text)
         result (W.contents writer.old) (W.contents writer.new)) }
 {
-    let part = reader.take(u64::from(limit) + 1);
+    let part = Retrying::new(reader).take(u64::from(limit) + 1);
     let Ok(held) = BufReader::new(alloc, part) else {
         return Err(Fault::Memory);
     };

@@ -340,6 +340,48 @@ fn fails_where_the_reader_does(rt: HostRuntime) {
     }
 }
 
+/// A reader that is interrupted so often before each byte that it gives.
+#[derive(Drop)]
+struct Interrupted<'a> {
+    text: &'a [u8],
+    count: u32,
+    left: u32,
+}
+
+impl Read for Interrupted<'_> {
+    fn read(&mut self, buf: &mut [u8]) -> io::Result<usize> {
+        if self.left > 0 {
+            self.left -= 1;
+            return Err(ErrorKind::Interrupted.into());
+        }
+        self.left = self.count;
+        let len = buf.len().min(1);
+        self.text.read(&mut buf[..len])
+    }
+}
+
+/// 64 interrupted reads in a row are tried again.
+#[test]
+fn tries_interrupted_reads_again(rt: HostRuntime) {
+    let fault = Fault::Users(FileFault {
+        line: 1,
+        kind: LineFault::Read,
+    });
+    for (count, printed, end) in [(64, "NO - BADLINE\n", Ok(())), (65, "", Err(fault))] {
+        let mut reader = Interrupted {
+            text: b"%%\n7 1 x\n",
+            count,
+            left: count,
+        };
+        let mut written = Vec::new(rt.alloc());
+        assert!(rt;
+            served(rt.alloc(), &mut reader, &mut written) == end,
+            "{count}"
+        );
+        assert!(rt; written.as_slice() == printed.as_bytes(), "{count}");
+    }
+}
+
 /// A reader each of whose lines is asked for only when so many bytes were written and flushed.
 #[derive(Drop)]
 struct Dialog<'a> {

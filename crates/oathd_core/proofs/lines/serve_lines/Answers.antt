@@ -1,4 +1,4 @@
-use Rattle.std.proofs.Common.{◌≡◌, ◌+◌, ℕ, List, Option, IfSome, take, ap, subst, ◌∙◌}
+use Rattle.std.proofs.Common.{◌≡◌, ◌+◌, ℕ, List, IfSome, take, ap, subst, ◌∙◌}
 use Rattle.std.specs.Option.{option_map}
 use Rattle.std.specs.Io.Buffered.{reader_buffer, reader_capacity, reader_inner, reader_remaining}
 use Rattle.std.specs.Io.Take.{take_remaining}
@@ -17,17 +17,18 @@ returns g c =
     let known = g.R.Read.remaining c.args.reader.now in
     let held = c.in-Ok.held in
     let n = c.args.limit + 1 in
-    let left = take_remaining (λ r. g.R.Read.remaining r.now) in
+    let left = take_remaining (λ r. g.R.Read.remaining r.reader.now) in
     let limited : c.take-part.result.limit ≡ n = c.take-part.ensures.limit ∙ ap (λ (k : ℕ). k + 1) c.from.ensures in
-    let all : reader_remaining left c.new-2.result.reader ≡ option_map (take n) known =
-    ap (reader_remaining left) c.new-2.ensures.reader
+    let all : reader_remaining left c.new-3.result.reader ≡ option_map (take n) known =
+    ap (reader_remaining left) c.new-3.ensures.reader
     ∙ held_none (reader_capacity held) (reader_buffer held) (left (reader_inner held)) c.in-Ok.ensures.capacity c.in-Ok.ensures.empty
     ∙ ap left c.in-Ok.ensures.inner
-    ∙ ap (λ (k : ℕ). option_map (take k) (g.R.Read.remaining c.take-part.result.inner.now)) limited
-    ∙ ap (λ r. option_map (take n) (g.R.Read.remaining r.now)) c.take-part.ensures.inner in
-    let ends = subst (λ (k : ℕ). IfSome (reader_remaining left c.new-2.result.reader) (λ text. EndsSo (run_read setup 16777216 k text) c.serve_input.result
-    (g.W.Write.contents c.args.writer.now) (g.W.Write.contents c.serve_input.new.writer))) c.new-2.ensures.room c.serve_input.ensures.ends in
+    ∙ ap (λ (k : ℕ). option_map (take k) (g.R.Read.remaining c.take-part.result.inner.reader.now)) limited
+    ∙ ap (λ r. option_map (take n) (g.R.Read.remaining r.reader.now)) c.take-part.ensures.inner
+    ∙ ap (λ r. option_map (take n) (g.R.Read.remaining r.now)) c.new.ensures in
+    let ends = subst (λ (k : ℕ). IfSome (reader_remaining left c.new-3.result.reader) (λ text. EndsSo (run_read setup 16777216 k text) c.serve_input.result
+    (g.W.Write.contents c.args.writer.now) (g.W.Write.contents c.serve_input.new.writer))) c.new-3.ensures.room c.serve_input.ensures.ends in
     record {
-      ends = of_front known (reader_remaining left c.new-2.result.reader) n (λ (text : List ℕ). EndsSo (run_read setup 16777216 c.args.limit text) c.serve_input.result
+      ends = of_front known (reader_remaining left c.new-3.result.reader) n (λ (text : List ℕ). EndsSo (run_read setup 16777216 c.args.limit text) c.serve_input.result
           (g.W.Write.contents c.args.writer.now) (g.W.Write.contents c.serve_input.new.writer)) all ends;
     }
