@@ -15,7 +15,7 @@ use Rattle.token_file.specs.Source.{OfText, Stays}
 use Rattle.token_file.specs.UsersFile.{Import, book_of, instant_of, is_of_text}
 use Rattle.token_file.specs.declared.fault.FileFault.{FileFault}
 use Rattle.token_file.specs.declared.fault.LineFault.{LineFault}
-use Rattle.oath_node.specs.Answer.{answer_bytes}
+use Rattle.vote_wire.specs.Answer.{answer_bytes}
 use Rattle.oath_node.specs.ReferenceServer.{Line, Server, server_at, service_of}
 use Rattle.oath_node.specs.Report.{report_from}
 use Rattle.oath_node.specs.Serving.{IsAnswered, IsServing, Serving}
