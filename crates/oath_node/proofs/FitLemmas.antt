@@ -1,12 +1,12 @@
 -- What the rules propose is a span, and free.
-use Rattle.std.proofs.Common.{◌≡◌, ℕ, ◌+◌, ◌^◌, ◌≤◌, ◌<◌, false, Option, Some, None, refl, sym, subst, arith, List}
+use Rattle.std.proofs.Common.{◌≡◌, ℕ, ◌^◌, ◌≤◌, ◌<◌, false, Option, Some, None, refl, arith, List}
 use Rattle.std.specs.Prelude.{◌==◌, nat_lt, slice_get}
 use Rattle.std.proofs.lemmas.Bool.{cond_both, lt-ltb, le-ltb}
 use Rattle.otp_core.specs.Limits.{Limits}
 use Rattle.token_file.specs.Credential.{Credential, place_of}
 use Rattle.token_file.specs.declared.token.Kind.{Kind}
 use Rattle.token_file.specs.declared.token.Kind.TheVariants.{Event, Time30, Time60}
-use Rattle.admit_core.specs.Fit.{Submission, Check, Resync, Fits, IsLeastFit, least_fit, reach_of}
+use Rattle.admit_core.specs.Fit.{Submission, Check, Resync, Fits, least_fit, reach_of}
 use Rattle.admit_core.specs.Window.{InWindow}
 use Rattle.floor_store.specs.Range.{IsSpan}
 use Rattle.oath_node.specs.Column.{column_fits}

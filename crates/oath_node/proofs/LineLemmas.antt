@@ -1,10 +1,10 @@
 -- What the rules make of a line, step by step.
-use Rattle.std.proofs.Common.{◌≡◌, ℕ, ◌≤◌, ◌<◌, Bool, true, false, List, length, map, Option, Some, None, refl, sym, ap, ◌∙◌, arith}
+use Rattle.std.proofs.Common.{◌≡◌, ℕ, Bool, true, false, List, length, Some, None, refl, sym, ap, ◌∙◌}
 use Rattle.std.specs.Prelude.{nat_le}
 use Rattle.std.proofs.lemmas.List.{length-map}
 use Rattle.otp_core.specs.Limits.{Limits}
 use Rattle.token_file.specs.Credential.{Credential}
-use Rattle.vote_core.specs.State.{BallotRecord, VoterRecord, ballot_of}
+use Rattle.vote_core.specs.State.{VoterRecord, ballot_of}
 use Rattle.floor_store.specs.Content.{Content}
 use Rattle.vote_wire.specs.Request.{Request, request_at, without_lf}
 use Rattle.answer_ring.specs.Answers.{KeptAnswer, kept_answer}
@@ -14,7 +14,7 @@ use Rattle.oath_node.proofs.PeerLemmas.{config_of}
 use Rattle.vote_core.specs.NodeSet.{PlaceRecord}
 use Rattle.vote_wire.specs.Answer.{answer_bytes}
 use Rattle.vote_wire.specs.declared.answer.Answer.TheVariants.{BadLine}
-use Rattle.oath_node.specs.Machine.{Config, NodeState, Owner, is_owned, made_by_line, made_by_ruling, quiet_made, reply_made, ruling_at, standing_at}
+use Rattle.oath_node.specs.Machine.{Config, NodeState, Owner, is_owned, made_by_line, made_by_ruling, quiet_made, reply_made, ruling_at}
 use Rattle.oath_node.specs.Rules.{Ruling, Outside, Again, Waiting, request_verdict, verdict_ruling}
 
 unread : (config : Config) (x : NodeState) (client moment : ℕ) (bytes : List ℕ) → request_at bytes ≡ None

@@ -1,16 +1,15 @@
 -- A call of a node's parts, as a call of the node.
-use Rattle.std.proofs.Common.{◌≡◌, ◌≢◌, ℕ, ◌^◌, ◌<◌, ◌≤◌, Bool, true, false, List, length, Option, Some, None, inl, inr, refl, sym, ap, subst, ◌∙◌, arith}
+use Rattle.std.proofs.Common.{◌≡◌, ℕ, ◌<◌, ◌≤◌, Bool, true, false, List, length, Option, None, inl, inr, refl, sym, ap, subst, ◌∙◌, arith}
 use Rattle.std.specs.Prelude.{◌⊎◌, Result, Ok, Err}
 use Rattle.otp_core.specs.Limits.{Limits}
 use Rattle.token_file.specs.Credential.{Credential}
 use Rattle.floor_store.specs.Fault.{IsCounted}
 use Rattle.floor_store.specs.Held.{Held}
 use Rattle.floor_store.specs.declared.fault.StoreFault.{StoreFault}
-use Rattle.vote_core.specs.NodeSet.{PlaceRecord}
 use Rattle.vote_core.specs.State.{IsPlace}
-use Rattle.oath_node.specs.Calls.{FailsBy, Handles, MeetsFailure}
+use Rattle.oath_node.specs.Calls.{FailsBy, Handles}
 use Rattle.oath_node.specs.Hosted.{Hosted, IsNode, IsOwned}
-use Rattle.oath_node.specs.Machine.{Config, NodeEvent, made_by_event}
+use Rattle.oath_node.specs.Machine.{NodeEvent, made_by_event}
 use Rattle.oath_node.specs.Outputs.{OutputsRecord}
 use Rattle.oath_node.specs.Parts.{FailsParts, Steps, state_in}
 use Rattle.oath_node.specs.declared.fault.NodeFault.{NodeFault}

@@ -1,5 +1,5 @@
 -- After each event each line that waits still has a proposal of its own.
-use Rattle.std.proofs.Common.{◌≡◌, ℕ, ◌+◌, ◌-◌, ◌^◌, ◌≤◌, Bool, true, false, cond, List, [], ◌∷◌, ◌++◌, Option, Some, None, refl, sym, ap, subst, ◌∙◌, arith}
+use Rattle.std.proofs.Common.{◌≡◌, ℕ, ◌+◌, ◌-◌, ◌^◌, Bool, true, false, cond, List, [], ◌∷◌, ◌++◌, Option, Some, None, refl, sym, subst, ◌∙◌}
 use Rattle.std.specs.Prelude.{◌==◌, nat_le, nat_lt}
 use Rattle.std.proofs.lemmas.Bool.{cond_both}
 use Rattle.floor_store.specs.Content.{Content}
@@ -15,7 +15,7 @@ use Rattle.oath_node.specs.Hosted.{AreApart, IsOwned}
 use Rattle.oath_node.specs.Calls.{IsProposal, IsProposing}
 use Rattle.oath_node.specs.Machine.{Beginning, Config, Made, NodeEvent, Client, Peer, Tick, NodeState, Owner, is_heard, is_pending, made_by_datagram, made_by_event, made_by_line, made_by_message, made_by_proposal, made_by_ruling, made_by_tick, made_by_vote, made_while_running, next_beginning, next_owner, quiet_made, ruling_at, stopped_node}
 use Rattle.oath_node.specs.Rules.{Ruling, Outside, Again, Waiting, Denied, Wrong, Fitting}
-use Rattle.oath_node.proofs.OwnerLemmas.{apart_filter, apart_more, apart_push, pending_filter}
+use Rattle.oath_node.proofs.OwnerLemmas.{apart_filter, apart_push, pending_filter}
 use Rattle.vote_wire.specs.Request.{without_lf}
 
 -- ---- the number of the next proposal

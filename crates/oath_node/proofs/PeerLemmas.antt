@@ -1,20 +1,19 @@
 -- Which datagrams of members are heard.
-use Rattle.std.proofs.Common.{◌≡◌, ℕ, ◌<◌, ◌≤◌, Bool, true, false, eqb, leb, ltb, List, length, Option, Some, None, refl, sym, ap, subst, ◌∙◌, arith}
+use Rattle.std.proofs.Common.{◌≡◌, ℕ, ◌<◌, ◌≤◌, Bool, true, false, List, length, Some, None, refl, sym, ◌∙◌, arith}
 use Rattle.std.specs.Prelude.{◌&&◌, ◌==◌, nat_le, nat_lt, not}
 use Rattle.std.proofs.lemmas.Bool.{and_from, and_parts, eq-eqb, eqb-false, eqb-true, le-leb, leb-true, lt-ltb, ltb-true, ne_eqb, not-true, not_from_false}
 use Rattle.otp_core.specs.Limits.{Limits}
 use Rattle.token_file.specs.Credential.{Credential}
-use Rattle.vote_core.specs.Calls.{FitsVoter, IsOther}
+use Rattle.vote_core.specs.Calls.{FitsVoter}
 use Rattle.vote_core.specs.NodeSet.{PlaceRecord}
 use Rattle.vote_core.specs.Schedule.{Envelope}
-use Rattle.vote_core.specs.Voting.{on_message}
 use Rattle.vote_core.specs.declared.message.Message.{Message}
 use Rattle.vote_core.specs.declared.message.Message.TheVariants.{Ask, Grant, Deny, Floor}
 use Rattle.vote_wire.specs.Body.{HasSpelling}
 use Rattle.vote_wire.specs.Datagram.{datagram_at}
 use Rattle.oath_node.specs.Heard.{IsHeardAs}
 use Rattle.oath_node.specs.Hosted.{envelope_at}
-use Rattle.oath_node.specs.Machine.{Config, Made, NodeState, is_heard, made_by_datagram, made_by_message, quiet_made, token_of}
+use Rattle.oath_node.specs.Machine.{Config, NodeState, is_heard, made_by_datagram, made_by_message, quiet_made, token_of}
 
 abbrev pub config_of : List Credential → Limits → Config
 config_of book limits = record { book = book; limits = limits }

@@ -1,11 +1,10 @@
 -- A refused line leaves all but a gate.
-use Rattle.std.proofs.Common.{◌≡◌, ◌≢◌, ℕ, zero, suc, List, [], ◌∷◌, length, get_or, set, None, refl, sym, ap, subst, ◌∙◌}
-use Rattle.std.specs.Prelude.{Option}
+use Rattle.std.proofs.Common.{◌≡◌, ◌≢◌, ℕ, zero, suc, List, [], ◌∷◌, get_or, set, refl, ap}
 use Rattle.std.proofs.lemmas.Bool.{cond_both}
 use Rattle.std.proofs.lemmas.List.{length-set}
 use Rattle.admit_core.specs.Gate.{GateRecord}
 use Rattle.floor_store.specs.Content.{Content}
-use Rattle.floor_store.specs.Records.{RowRecord, ProposalRecord}
+use Rattle.floor_store.specs.Records.{RowRecord}
 use Rattle.vote_core.specs.NodeSet.{PlaceRecord}
 use Rattle.vote_core.specs.Rows.{no_row, row, row_with_gate}
 use Rattle.vote_core.specs.Schedule.{content_with_gate}

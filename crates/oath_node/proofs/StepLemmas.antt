@@ -1,12 +1,12 @@
 -- A step of the voter, as a step of the machine; and a step of the parts by another name.
-use Rattle.std.proofs.Common.{◌≡◌, ℕ, ◌-◌, ◌^◌, ◌<◌, Bool, true, false, List, [], ◌∷◌, ◌++◌, map, Option, Some, None, inl, inr, refl, sym, ap, subst, ◌∙◌, arith}
-use Rattle.std.specs.Prelude.{◌==◌, ◌||◌, ◌⊎◌, nat_le, nat_lt, Result, Ok, Err, IfOk, IfErr, OnOk, OnErr}
+use Rattle.std.proofs.Common.{◌≡◌, ℕ, ◌-◌, ◌^◌, ◌<◌, Bool, true, false, List, [], ◌∷◌, ◌++◌, map, Option, Some, None, inl, refl, sym, ap, subst, ◌∙◌, arith}
+use Rattle.std.specs.Prelude.{◌==◌, ◌||◌, ◌⊎◌, nat_le, nat_lt, Result, Ok, Err, OnOk, OnErr}
 use Rattle.std.specs.List.{list_any}
 use Rattle.std.specs.Option.{option_map}
 use Rattle.std.proofs.lemmas.Bool.{cond_both, lt-ltb, le-ltb}
 use Rattle.floor_store.specs.Content.{Content}
-use Rattle.floor_store.specs.Held.{Held, Makes, MayWrite, OldOrNew}
-use Rattle.floor_store.specs.Records.{PassRecord, ProposalRecord}
+use Rattle.floor_store.specs.Held.{Held, MayWrite, OldOrNew}
+use Rattle.floor_store.specs.Records.{ProposalRecord}
 use Rattle.otp_core.specs.Acceptance.{majority_of, size}
 use Rattle.vote_core.specs.NodeSet.{PlaceRecord, with_node}
 use Rattle.vote_core.specs.Rows.{row}
@@ -20,7 +20,7 @@ use Rattle.oath_node.specs.Calls.{IsMade}
 use Rattle.oath_node.specs.Hosted.{running_state}
 use Rattle.oath_node.specs.Machine.{answers_to_decisions, Beginning, is_pending, kept_with_all, Made, made_by_proposal, made_by_vote, next_beginning, next_owner, NodeState, Owner, owners_of_pending, quiet_made, reply_with, stopped_node}
 use Rattle.oath_node.specs.Outputs.{OutputsRecord, items_of, outputs_of}
-use Rattle.oath_node.specs.Parts.{FailsParts, Steps, StopsParts, state_in}
+use Rattle.oath_node.specs.Parts.{FailsParts, Steps, state_in}
 use Rattle.oath_node.specs.declared.fault.NodeFault.{NodeFault}
 use Rattle.oath_node.specs.declared.fault.NodeFault.TheVariants.{Store, Stopped, Spent}
 use Rattle.oath_node.specs.declared.parts.Parts.{Parts}

@@ -6,7 +6,6 @@ use Rattle.token_file.specs.Credential.{Credential}
 use Rattle.floor_store.specs.Content.{Content}
 use Rattle.floor_store.specs.Held.{Held}
 use Rattle.vote_core.specs.Calls.{IsStoreOf}
-use Rattle.vote_core.specs.NodeSet.{PlaceRecord}
 use Rattle.vote_core.specs.Schedule.{Envelope}
 use Rattle.vote_core.specs.State.{VoterRecord, voter_of}
 use Rattle.vote_core.specs.Voting.{Ballot}

@@ -1,4 +1,4 @@
-use Rattle.std.proofs.Common.{◌≡◌, length, None, Some, refl, sym, ◌∙◌, rules}
+use Rattle.std.proofs.Common.{◌≡◌, length, None, Some, refl, sym, ◌∙◌}
 use Rattle.vote_wire.specs.Datagram.{datagram_at}
 use Rattle.oath_node.specs.Heard.{IsHeardAs}
 use Rattle.oath_node.specs.Hosted.{envelope_at}

@@ -1,10 +1,10 @@
-use Rattle.std.proofs.Common.{◌≡◌, ◌≢◌, ℕ, ◌^◌, ◌<◌, ◌≤◌, ◌++◌, [], ◌∷◌, List, None, Some, Ok, Err, refl, sym, ap, subst, ◌∙◌, arith}
+use Rattle.std.proofs.Common.{◌≡◌, ◌≢◌, ℕ, ◌^◌, ◌<◌, ◌++◌, [], ◌∷◌, List, Some, Ok, Err, refl, sym, ap, subst, ◌∙◌, arith}
 use Rattle.vote_core.specs.Voting.{propose}
 use Rattle.oath_node.specs.Calls.{IsMade}
 use Rattle.oath_node.specs.Hosted.{running_state}
 use Rattle.oath_node.specs.Machine.{Made, NodeState, Owner, made_by_proposal, made_by_vote, next_beginning, next_owner}
 use Rattle.oath_node.specs.Parts.{state_in}
-use Rattle.oath_node.specs.declared.fault.NodeFault.TheVariants.{Store, Spent}
+use Rattle.oath_node.specs.declared.fault.NodeFault.TheVariants.{Store}
 use Rattle.oath_node.proofs.StepLemmas.{finished, may_write_err, may_write_ok, propose_begun, proposal_below, proposal_spent, steps_same, steps_spent}
 use Rattle.oath_node.proofs.parts.Parts.propose.Goals as goal
 
