@@ -386,19 +386,20 @@ fn tries_interrupted_reads_again(rt: HostRuntime) {
 #[derive(Drop)]
 struct Dialog<'a> {
     lines: &'a [(&'static str, usize)],
+    given: usize,
     flushed: &'a Cell<usize>,
 }
 
 impl Read for Dialog<'_> {
     fn read(&mut self, buf: &mut [u8]) -> io::Result<usize> {
-        let Some((first, rest)) = self.lines.split_first() else {
+        let Some(&(text, flushed)) = self.lines.get(self.given) else {
             return Ok(0);
         };
-        if self.flushed.get() != first.1 {
+        if self.flushed.get() != flushed {
             return Err(ErrorKind::Other.into());
         }
-        self.lines = rest;
-        first.0.as_bytes().read(buf)
+        self.given = self.given.saturating_add(1);
+        text.as_bytes().read(buf)
     }
 }
 
@@ -435,6 +436,7 @@ fn answers_each_line_as_it_comes(rt: HostRuntime) {
     ];
     let mut reader = Dialog {
         lines: &lines,
+        given: 0,
         flushed: &flushed,
     };
     let mut writer = Counted {
