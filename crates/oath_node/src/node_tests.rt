@@ -206,6 +206,17 @@ fn ask_bytes(rt: HostRuntime) -> Result<(), Fail> {
     Ok(())
 }
 
+/// The datagram with the tag that it should have.
+fn tagged(key: &ClusterKey, mut datagram: [u8; 59]) -> [u8; 59] {
+    let tag = tag(key, &datagram[..datagram.len().min(43)]);
+    for (place, &new) in (43..).zip(&tag) {
+        if let Some(byte) = datagram.get_mut(place) {
+            *byte = new;
+        }
+    }
+    datagram
+}
+
 /// The datagram with these bytes changed, each at its place, and the tag that it then has.
 fn changed(key: &ClusterKey, datagram: &[u8; 59], changes: &[(usize, u8)]) -> [u8; 59] {
     let mut bytes = *datagram;
@@ -214,9 +225,7 @@ fn changed(key: &ClusterKey, datagram: &[u8; 59], changes: &[(usize, u8)]) -> [u
             *byte = new;
         }
     }
-    let tag = tag(key, &bytes[..43]);
-    bytes[43..].copy_from_slice(&tag);
-    bytes
+    tagged(key, bytes)
 }
 
 /// An Ask that is none, or that isn't for node 2 of three from node 1 about the one token, changes nothing.
