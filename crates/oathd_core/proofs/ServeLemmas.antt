@@ -1,6 +1,6 @@
 -- Lines of clients are answered one after another.
 use Rattle.std.proofs.Common.{cond, ◌≡◌, ℕ, ◌+◌, List, [], ◌∷◌, ◌++◌, length, take, Option, Some, None, IfSome, refl, sym, ap, subst, ◌∙◌, inl, inr}
-use Rattle.std.specs.Prelude.{◌==◌, ◌⊎◌, map, Result, Ok, Err, IsErrAnd, IsTrue}
+use Rattle.std.specs.Prelude.{◌==◌, ◌⊎◌, map, Result, Ok, Err, IfErr, IsErrAnd, IsTrue}
 use Rattle.std.specs.Option.{option_map}
 use Rattle.std.specs.Io.KnownBytes.{Appends, prepend_known}
 use Rattle.std.proofs.KnownBytes.{Appends-nil, Appends-trans}
@@ -12,9 +12,10 @@ use Rattle.command_line.specs.Line.{line_of}
 use Rattle.otp_core.specs.Limits.{Limits}
 use Rattle.token_file.specs.Credential.{Credential}
 use Rattle.token_file.specs.Source.{OfText, Stays}
-use Rattle.token_file.specs.UsersFile.{Import, book_of, instant_of, is_of_text}
+use Rattle.token_file.specs.UsersFile.{Import, IsCutOff, book_of, instant_of, is_of_text}
 use Rattle.token_file.specs.declared.fault.FileFault.{FileFault}
 use Rattle.token_file.specs.declared.fault.LineFault.{LineFault}
+use Rattle.token_file.specs.declared.fault.LineFault.TheVariants.{Read}
 use Rattle.vote_wire.specs.Answer.{answer_bytes}
 use Rattle.oath_node.specs.ReferenceServer.{Line, Server, server_at, service_of}
 use Rattle.oath_node.specs.Report.{report_from}
@@ -22,7 +23,7 @@ use Rattle.oath_node.specs.Serving.{IsAnswered, IsServing, Serving}
 use Rattle.oathd_core.specs.Client.{LinesRead, client_line_of, client_lines, with_line}
 use Rattle.oathd_core.specs.Fault.{input_fault_of}
 use Rattle.oathd_core.specs.Input.{TakesLine, line_text, lines_of}
-use Rattle.oathd_core.specs.Run.{Run, Answered, Refused, EndsSo, IsTaken, Setup, WritesFirst, answers_from, bytes_of, clients_of, end_at, printed_lines, run_of_lines, run_of_server, run_of_users, run_read}
+use Rattle.oathd_core.specs.Run.{Run, Answered, Refused, EndsSo, IsBehindUsers, IsCutSo, IsTaken, Setup, WritesFirst, answers_from, bytes_of, clients_of, end_at, printed_lines, run_of_lines, run_of_server, run_of_users, run_read}
 use Rattle.oathd_core.specs.Users.{HasClients, clients_behind, users_text}
 use Rattle.oathd_core.specs.declared.fault.Fault.{Fault}
 use Rattle.oathd_core.specs.declared.fault.Fault.TheVariants as fault
@@ -266,3 +267,38 @@ of_front a b n P is h = at a (subst (λ (o : Option (List ℕ)). IfSome o P) is 
     at : (o : Option (List ℕ)) → IfSome (option_map (take n) o) P → IfSome o (λ text. P (take n text))
     at None h = tt
     at (Some text) h = h
+
+-- ---- where the input fails in the midst of the users file
+
+pub input_behind : (f : InputFault) → IsBehindUsers (input_fault_of f)
+input_behind input.Memory = tt
+input_behind input.CannotRead = tt
+
+behind_is_no_cut : (setup : Setup) (longest room : ℕ) (text : List ℕ) (f : Fault) → IsBehindUsers f → IsCutSo setup longest room text f
+behind_is_no_cut setup longest room text (fault.Users f) h = absurd h
+behind_is_no_cut setup longest room text fault.Memory h = tt
+behind_is_no_cut setup longest room text fault.CannotRead h = tt
+behind_is_no_cut setup longest room text fault.CannotWrite h = tt
+behind_is_no_cut setup longest room text (fault.InputLine number) h = tt
+behind_is_no_cut setup longest room text (fault.BadKey key) h = tt
+behind_is_no_cut setup longest room text fault.NotText h = tt
+
+pub no_cut : (setup : Setup) (longest room : ℕ) (a : Option (List ℕ)) (f : Fault) → IsBehindUsers f → IfSome a (λ text. IsCutSo setup longest room text f)
+no_cut setup longest room None f h = tt
+no_cut setup longest room (Some text) f h = behind_is_no_cut setup longest room text f h
+
+pub cut_or_memory : (setup : Setup) (longest room : ℕ) (a left : Option (List ℕ)) (f : FileFault) (end : Fault)
+    → left ≡ option_map (users_text room) a
+    → (f.kind ≡ Read → OfText left (λ text. IsCutOff Read longest (instant_of setup.limits setup.moment) text f.line))
+    → ((end ≡ fault.Memory) ⊎ (end ≡ fault.Users f)) → IfSome a (λ text. IsCutSo setup longest room text end)
+cut_or_memory setup longest room None left f end is cut which = tt
+cut_or_memory setup longest room (Some text) left f end is cut which =
+    let here = λ (k : f.kind ≡ Read). subst (λ (o : Option (List ℕ)). OfText o (λ t. IsCutOff Read longest (instant_of setup.limits setup.moment) t f.line)) is (cut k) in
+    elim which [
+      | inl e ↦ subst (λ (x : Fault). IsCutSo setup longest room text x) (sym e) tt
+      | inr e ↦ subst (λ (x : Fault). IsCutSo setup longest room text x) (sym e) here
+    ]
+
+pub err_then : (r : Result Unit Fault) (P Q : Fault → Type 0) → IfErr r P → ((f : Fault) → P f → Q f) → IfErr r Q
+err_then (Ok one) P Q h k = tt
+err_then (Err f) P Q h k = k f h

@@ -11,9 +11,10 @@ use Rattle.oathd_core.specs.Input.{TextLine, lines_of, users_file, users_part, c
 use Rattle.oathd_core.specs.declared.fault.Fault.{Fault}
 use Rattle.oathd_core.specs.declared.fault.Fault.TheVariants.{Memory, CannotRead, CannotWrite, Users, InputLine as BadLine}
 use Rattle.token_file.specs.Credential.{Credential}
-use Rattle.token_file.specs.UsersFile.{Import, book_of, instant_of, is_of_text}
+use Rattle.token_file.specs.UsersFile.{Import, IsCutOff, book_of, instant_of, is_of_text}
 use Rattle.token_file.specs.declared.fault.FileFault.{FileFault}
 use Rattle.token_file.specs.declared.fault.LineFault.{LineFault}
+use Rattle.token_file.specs.declared.fault.LineFault.TheVariants.{Read}
 
 -- what a run over one input comes to
 pub data Run : Type 0 where
@@ -118,3 +119,15 @@ EndsSo run result old new = (result ≡ end_of run) × Appends old new (output_o
 abbrev pub RefusesUsers : Result Import (ℕ × LineFault) → Fault → Type 0
 RefusesUsers import (Users fault) = IsTrue (is_of_text fault.kind) → import ≡ Err (fault.line, fault.kind)
 RefusesUsers import _ = ⊥
+
+-- Where the input fails in the midst of a users file, the fault names the line that was being read, and what was read
+-- before has no fault.
+abbrev pub IsCutSo : Setup → ℕ → ℕ → List ℕ → Fault → Type 0
+IsCutSo setup longest limit read (Users fault) = fault.kind ≡ Read
+    → IsCutOff Read longest (instant_of setup.limits setup.moment) (users_file (lines_of limit read) read) fault.line
+IsCutSo setup longest limit read fault = Unit {0}
+
+-- a fault is none of a users file. Private contracts alone cite it.
+abbrev pub IsBehindUsers : Fault → Type 0
+IsBehindUsers (Users fault) = ⊥
+IsBehindUsers fault = Unit {0}

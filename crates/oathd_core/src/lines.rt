@@ -1,4 +1,4 @@
-ghost use Rattle.std.specs.Prelude.{◌≡◌, IfErr, IfSome, List, OnOk};
+ghost use Rattle.std.specs.Prelude.{◌≡◌, ◌+◌, IfErr, IfSome, List, OnOk, take};
 ghost use Rattle.std.specs.Io.KnownBytes.{Appends};
 ghost use Rattle.command_line.specs.Line.{line_of};
 ghost use Rattle.otp_core.specs.Limits.{Limits};
@@ -8,7 +8,7 @@ ghost use Rattle.oath_node.specs.ReferenceServer.{Server};
 ghost use Rattle.oath_node.specs.Serving.{IsServing};
 ghost use Rattle.oathd_core.specs.Client.{client_lines};
 ghost use Rattle.oathd_core.specs.Input.{lines_of};
-ghost use Rattle.oathd_core.specs.Run.{EndsSo, run_of, run_of_server, run_read};
+ghost use Rattle.oathd_core.specs.Run.{EndsSo, IsBehindUsers, IsCutSo, run_of, run_of_server, run_read};
 
 use crate::client::read_client_line;
 use crate::fault::Fault;
@@ -40,10 +40,11 @@ fn answer_lines<B: BufRead + Drop, W: Write>(
     first: u64,
     writer: &mut W,
 ) -> Result<(), Fault>
-    ensures { (book : List Credential) (limits : Limits) (state : Server) → IsServing server.old book limits state →
+    ensures ends { (book : List Credential) (limits : Limits) (state : Server) → IsServing server.old book limits state →
         IfSome (B.remaining input.reader) (λ text. EndsSo
         (run_of_server book limits state (client_lines first (lines_of input.room text)))
         result (W.contents writer.old) (W.contents writer.new)) }
+    ensures behind { IfErr result IsBehindUsers }
 {
     let mut line = Vec::new(alloc);
     for number in first..u64::MAX {
@@ -72,6 +73,8 @@ fn serve_input<B: BufRead + Drop, W: Write>(
     ensures ends { IfSome (B.remaining input.reader) (λ text.
         EndsSo (run_read (record { limits = settings; moment = moment }) 16777216 input.room text)
         result (W.contents writer.old) (W.contents writer.new)) }
+    ensures cut { IfErr result (λ fault. IfSome (B.remaining input.reader)
+        (λ text. IsCutSo (record { limits = settings; moment = moment }) 16777216 input.room text fault)) }
 {
     let mut users = UsersFile::new(alloc, input);
     let (book, floors) = match read_book(alloc, &mut users, settings, moment) {
@@ -105,6 +108,8 @@ pub fn serve_lines<R: Read, W: Write>(
     ensures ends { IfSome (R.remaining reader.old) (λ text.
         EndsSo (run_of (record { limits = settings; moment = moment }) 16777216 limit text)
         result (W.contents writer.old) (W.contents writer.new)) }
+    ensures cut { IfErr result (λ fault. IfSome (R.remaining reader.old) (λ text.
+        IsCutSo (record { limits = settings; moment = moment }) 16777216 limit (take (limit + 1) text) fault)) }
 {
     let part = Retrying::new(reader).take(u64::from(limit) + 1);
     let Ok(held) = BufReader::new(alloc, part) else {

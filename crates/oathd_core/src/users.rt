@@ -97,8 +97,10 @@ impl<B: BufRead + Drop> UsersFile<B> {
     fn take_next(&mut self)
         requires stage { self.old.stage ≡ Stage.Users }
         requires line { self.old.line.items ≡ [] }
-        ensures left { Keeps (⟦<UsersFile<B> as Source>⟧.left self.old) (⟦<UsersFile<B> as Source>⟧.left self.new) }
-        ensures clients { Stays (⟦<UsersFile<B> as Source>⟧.behind self.old) (⟦<UsersFile<B> as Source>⟧.behind self.new) }
+        ensures left { Keeps (⟦<UsersFile<B> as Source>⟧.left self.old)
+            (⟦<UsersFile<B> as Source>⟧.left self.new) }
+        ensures clients { Stays (⟦<UsersFile<B> as Source>⟧.behind self.old)
+            (⟦<UsersFile<B> as Source>⟧.behind self.new) }
         ensures some { IsFilled self.new.stage self.new.line.items }
     {
         let next = match self.input.next_line(&mut self.line) {
@@ -120,8 +122,10 @@ impl<B: BufRead + Drop> UsersFile<B> {
 
     /// Takes the next line off where nothing is left to be pulled, and lines may follow.
     fn fill(&mut self)
-        ensures left { Keeps (⟦<UsersFile<B> as Source>⟧.left self.old) (⟦<UsersFile<B> as Source>⟧.left self.new) }
-        ensures clients { Stays (⟦<UsersFile<B> as Source>⟧.behind self.old) (⟦<UsersFile<B> as Source>⟧.behind self.new) }
+        ensures left { Keeps (⟦<UsersFile<B> as Source>⟧.left self.old)
+            (⟦<UsersFile<B> as Source>⟧.left self.new) }
+        ensures clients { Stays (⟦<UsersFile<B> as Source>⟧.behind self.old)
+            (⟦<UsersFile<B> as Source>⟧.behind self.new) }
         ensures some { IsFilled self.new.stage self.new.line.items }
         ensures failed { is_failed self.old.stage ≡ true → is_failed self.new.stage ≡ true }
     {
@@ -173,12 +177,14 @@ impl<B: BufRead + Drop> Source for UsersFile<B> {
     ghost use Rattle.oathd_core.specs.Client.{LinesRead};
     ghost use Rattle.oathd_core.specs.Users.{clients_left, is_failed, users_left};
 
-    ghost left = { λ users. option_map (users_left users.stage users.input.room users.line.items) (B.remaining users.input.reader) };
+    ghost left = { λ users.
+        option_map (users_left users.stage users.input.room users.line.items) (B.remaining users.input.reader) };
 
     ghost Behind = { LinesRead };
 
     ghost behind = { λ users.
-        option_map (clients_left users.stage users.taken users.input.room users.line.items) (B.remaining users.input.reader) };
+        option_map (clients_left users.stage users.taken users.input.room users.line.items)
+        (B.remaining users.input.reader) };
 
     ghost has_failed = { λ users. is_failed users.stage };
 

@@ -1,18 +1,18 @@
 use Rattle.std.proofs.Common.{◌≡◌, ℕ, List, Some, None, IfSome, ap, subst, ◌∙◌}
-use Rattle.std.specs.Prelude.{Result}
+use Rattle.std.specs.Prelude.{IfErr, Result}
 use Rattle.std.specs.Io.KnownBytes.{Appends}
 use Rattle.std.proofs.lemmas.Option.{IfSome_then}
 use Rattle.command_line.specs.Line.{line_of}
 use Rattle.oathd_core.specs.Client.{client_line_of, client_lines}
 use Rattle.oathd_core.specs.Input.{TakesLine, line_text, lines_of}
-use Rattle.oathd_core.specs.Run.{EndsSo, run_of_server}
+use Rattle.oathd_core.specs.Run.{EndsSo, IsBehindUsers, run_of_server}
 use Rattle.oathd_core.specs.declared.fault.Fault.{Fault}
 use Rattle.oathd_core.specs.declared.fault.InputFault.TheVariants as input
-use Rattle.oathd_core.proofs.ServeLemmas.{answering_next, ends_all, ends_bad, ends_cut, ends_failed, handed_on}
+use Rattle.oathd_core.proofs.ServeLemmas.{answering_next, ends_all, ends_bad, ends_cut, ends_failed, handed_on, input_behind}
 use Rattle.oathd_core.proofs.lines.answer_lines.Goals as goal
 
-pub returns-in_err-next_line : goal.returns-in_err-next_line
-returns-in_err-next_line g c = λ book limits s serving.
+pub returns-in_err-next_line-clause-ends : goal.returns-in_err-next_line-clause-ends
+returns-in_err-next_line-clause-ends g c = λ book limits s serving.
     let f = c.in_err-next_line.field-0.0 in
     let old = g.W.Write.contents c.args.writer.now in
     let new = g.W.Write.contents c.loop-number.writer in
@@ -21,8 +21,8 @@ returns-in_err-next_line g c = λ book limits s serving.
     (λ (r : Result Unit Fault). EndsSo (run_of_server book limits s (client_lines c.args.first (lines_of c.args.input.room text))) r old new) c.from_residual.ensures.1
     (ends_failed book limits _ _ c.loop-number.server c.loop-number.number c.loop-number.input.room (g.B.Read.remaining c.loop-number.input.reader) old new h f))
 
-pub returns-in-End : goal.returns-in-End
-returns-in-End g c = λ book limits s serving.
+pub returns-in-End-clause-ends : goal.returns-in-End-clause-ends
+returns-in-End-clause-ends g c = λ book limits s serving.
     let a = g.B.Read.remaining c.loop-number.input.reader in
     let b = g.B.Read.remaining c.next_line.new.self.reader in
     let line = c.next_line.new.line.items in
@@ -31,8 +31,8 @@ returns-in-End g c = λ book limits s serving.
     (λ text h. ends_all book limits _ _ c.loop-number.server c.loop-number.number c.loop-number.input.room a (g.W.Write.contents c.args.writer.now)
     (g.W.Write.contents c.loop-number.writer) h line c.next_line.new.self.room b takes)
 
-pub returns-in-Cut : goal.returns-in-Cut
-returns-in-Cut g c = λ book limits s serving.
+pub returns-in-Cut-clause-ends : goal.returns-in-Cut-clause-ends
+returns-in-Cut-clause-ends g c = λ book limits s serving.
     let a = g.B.Read.remaining c.loop-number.input.reader in
     let b = g.B.Read.remaining c.next_line.new.self.reader in
     let line = c.next_line.new.line.items in
@@ -41,8 +41,8 @@ returns-in-Cut g c = λ book limits s serving.
     (λ text h. ends_cut book limits _ _ c.loop-number.server c.loop-number.number c.loop-number.input.room a (g.W.Write.contents c.args.writer.now)
     (g.W.Write.contents c.loop-number.writer) h line c.next_line.new.self.room b takes)
 
-pub returns-in-None : goal.returns-in-None
-returns-in-None g c = λ book limits s serving.
+pub returns-in-None-clause-ends : goal.returns-in-None-clause-ends
+returns-in-None-clause-ends g c = λ book limits s serving.
     let a = g.B.Read.remaining c.loop-number.input.reader in
     let b = g.B.Read.remaining c.next_line.new.self.reader in
     let line = c.next_line.new.line.items in
@@ -66,8 +66,13 @@ loop-number-preserved g c = λ book limits s serving.
     (λ text h. answering_next book limits _ _ c.loop-number.server c.loop-number.number c.loop-number.input.room a (g.W.Write.contents c.args.writer.now)
     mid h line c.next_line.new.self.room b takes c.in-Some.line is c.answer.new.self c.answer.result.items c.answer.ensures new written)
 
-pub returns : goal.returns
-returns g c = λ book limits s serving.
+pub returns-clause-ends : goal.returns-clause-ends
+returns-clause-ends g c = λ book limits s serving.
     IfSome_then (g.B.Read.remaining c.args.input.reader) (c.loop-number.invariant book limits s serving)
     (λ text h. ends_failed book limits _ _ c.loop-number.server c.loop-number.number c.loop-number.input.room (g.B.Read.remaining c.loop-number.input.reader)
     (g.W.Write.contents c.args.writer.now) (g.W.Write.contents c.loop-number.writer) h input.Memory)
+
+pub returns-in_err-next_line-clause-behind : goal.returns-in_err-next_line-clause-behind
+returns-in_err-next_line-clause-behind g c =
+    let f = c.in_err-next_line.field-0.0 in
+    handed_on c.from_residual.result f (λ (r : Result Unit Fault). IfErr r IsBehindUsers) c.from_residual.ensures.1 (input_behind f)

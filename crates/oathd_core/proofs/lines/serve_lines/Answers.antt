@@ -2,14 +2,21 @@ use Rattle.std.proofs.Common.{◌≡◌, ◌+◌, ℕ, List, IfSome, take, ap, s
 use Rattle.std.specs.Option.{option_map}
 use Rattle.std.specs.Io.Buffered.{reader_buffer, reader_capacity, reader_inner, reader_remaining}
 use Rattle.std.specs.Io.Take.{take_remaining}
-use Rattle.oathd_core.specs.Run.{EndsSo, Setup, run_of, run_read}
-use Rattle.oathd_core.proofs.ServeLemmas.{held_none, memory_ends_any, of_front}
+use Rattle.std.proofs.lemmas.Option.{IfSome_then}
+use Rattle.oathd_core.specs.Fault.{input_fault_of}
+use Rattle.oathd_core.specs.declared.fault.InputFault.TheVariants as input
+use Rattle.oathd_core.specs.Run.{EndsSo, IsCutSo, Setup, run_of, run_read}
+use Rattle.oathd_core.proofs.ServeLemmas.{err_then, held_none, memory_ends_any, no_cut, of_front}
 use Rattle.oathd_core.proofs.lines.serve_lines.Goals as goal
 
 pub returns-in_default : goal.returns-in_default
 returns-in_default g c =
     let setup : Setup = record { limits = c.args.settings; moment = c.args.moment } in
-    record { ends = memory_ends_any (g.R.Read.remaining c.args.reader.now) (run_of setup 16777216 c.args.limit) (g.W.Write.contents c.args.writer.now) }
+    let known = g.R.Read.remaining c.args.reader.now in
+    record {
+      ends = memory_ends_any known (run_of setup 16777216 c.args.limit) (g.W.Write.contents c.args.writer.now);
+      cut = IfSome_then known (no_cut setup 16777216 c.args.limit known (input_fault_of input.Memory) tt) (λ text h. tt);
+    }
 
 pub returns : goal.returns
 returns g c =
@@ -31,4 +38,8 @@ returns g c =
     record {
       ends = of_front known (reader_remaining left c.new-3.result.reader) n (λ (text : List ℕ). EndsSo (run_read setup 16777216 c.args.limit text) c.serve_input.result
           (g.W.Write.contents c.args.writer.now) (g.W.Write.contents c.serve_input.new.writer)) all ends;
+      cut = err_then c.serve_input.result (λ x. IfSome (reader_remaining left c.new-3.result.reader) (λ text. IsCutSo setup 16777216 c.new-3.result.room text x))
+          (λ x. IfSome known (λ text. IsCutSo setup 16777216 c.args.limit (take n text) x)) c.serve_input.ensures.cut
+          (λ x h. of_front known (reader_remaining left c.new-3.result.reader) n (λ (text : List ℕ). IsCutSo setup 16777216 c.args.limit text x) all
+          (subst (λ (k : ℕ). IfSome (reader_remaining left c.new-3.result.reader) (λ text. IsCutSo setup 16777216 k text x)) c.new-3.ensures.room h));
     }
