@@ -40,8 +40,8 @@ fn answer_lines<B: BufRead + Drop, W: Write>(
     first: u64,
     writer: &mut W,
 ) -> Result<(), Fault>
-    ensures ends { (book : List Credential) (limits : Limits) (state : Server) → IsServing server.old book limits state →
-        IfSome (B.remaining input.reader) (λ text. EndsSo
+    ensures ends { (book : List Credential) (limits : Limits) (state : Server)
+        → IsServing server.old book limits state → IfSome (B.remaining input.reader) (λ text. EndsSo
         (run_of_server book limits state (client_lines first (lines_of input.room text)))
         result (W.contents writer.old) (W.contents writer.new)) }
     ensures behind { IfErr result IsBehindUsers }
