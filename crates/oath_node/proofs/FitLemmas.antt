@@ -14,7 +14,7 @@ use Rattle.oath_node.specs.Recording.{IfProposes}
 use Rattle.oath_node.specs.Rules.{Standing, fit_verdict, remaining_verdict, open_verdict, token_verdict, request_verdict}
 use Rattle.oath_node.specs.declared.rules.Verdict.{Verdict}
 use Rattle.oath_node.specs.declared.rules.Verdict.TheVariants.{BadLine, Refused, Fails, Proposes}
-use Rattle.oath_node.proofs.VerdictLemmas.{FitLaw}
+use Rattle.oath_node.proofs.GroundLemmas.{FitLaw}
 use Rattle.vote_wire.specs.Request.{Request}
 use Rattle.vote_wire.specs.declared.answer.Outcome.TheVariants.{Exhausted, Password, Throttled}
 

@@ -1,6 +1,6 @@
 -- What becomes of a line has its grounds.
 use Rattle.std.proofs.Common.{◌≡◌, ℕ, ◌^◌, ◌≤◌, Bool, false, cond, List, length, Option, Some, None, refl, ap, ◌∙◌, arith}
-use Rattle.std.specs.Prelude.{◌==◌, nat_lt, slice_get}
+use Rattle.std.specs.Prelude.{◌==◌, ◌↔◌, nat_lt, slice_get}
 use Rattle.std.proofs.lemmas.Bool.{cond_both, ltb-true, ltb-false}
 use Rattle.std.proofs.lemmas.Option.{slice_get_within}
 use Rattle.otp_core.specs.Limits.{Limits}
@@ -8,7 +8,7 @@ use Rattle.otp_core.specs.Range.{IsMoment}
 use Rattle.token_file.specs.Credential.{Credential, place_of}
 use Rattle.token_file.specs.declared.token.Kind.{Kind}
 use Rattle.token_file.specs.declared.token.Kind.TheVariants.{Event, Time30, Time60}
-use Rattle.admit_core.specs.Fit.{Submission, Check, Resync, Fits, least_fit, reach_of}
+use Rattle.admit_core.specs.Fit.{Submission, Check, Resync, Fits, IsLeastFit, least_fit, reach_of}
 use Rattle.admit_core.specs.Password.{PasswordFits}
 use Rattle.admit_core.specs.Window.{InWindow}
 use Rattle.floor_store.specs.Range.{IsSpan}
@@ -22,7 +22,11 @@ use Rattle.oath_node.specs.declared.rules.Verdict.TheVariants.{Refused, Fails}
 use Rattle.oath_node.proofs.BookLemmas.{place_named}
 use Rattle.oath_node.proofs.ColumnLemmas.{decides_column}
 use Rattle.vote_wire.proofs.RequestLemmas.{line_of_request}
-use Rattle.oath_node.proofs.VerdictLemmas.{FitLaw}
+
+-- what is found is the least fit: a law of admit_core
+abbrev pub FitLaw : Type 0
+FitLaw = (c : Credential) (limits : Limits) (next moment : ℕ) (s : Submission) (lo hi : ℕ)
+    → (least_fit c limits next moment s ≡ Some (lo, hi)) ↔ IsLeastFit c limits next moment s lo hi
 
 -- a request in the grammar, at a moment in range, for the user of a token that is open, with room for one more
 record IsAdmissible (book : List Credential) (s : Standing) (moment : ℕ) (line : List ℕ) (r : Request) (token : ℕ) (c : Credential) : Type 0 where

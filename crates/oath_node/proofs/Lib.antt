@@ -1,8 +1,8 @@
+pub mod AloneLemmas
 pub mod BookLemmas
 pub mod BoundLemmas
 pub mod ColumnLemmas
 pub mod FitLemmas
-pub mod GateLemmas
 pub mod GroundLemmas
 pub mod LineLemmas
 pub mod NodeLemmas

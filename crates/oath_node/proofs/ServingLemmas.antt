@@ -1,50 +1,106 @@
 -- A line leads from a state of the reference server to the next one.
-use Rattle.std.proofs.Common.{◌≡◌, ℕ, List, length, replicate, sym, ap, ◌∙◌}
+use Rattle.std.proofs.Common.{◌≡◌, ℕ, ◌+◌, ◌^◌, ◌<◌, List, [], ◌∷◌, length, replicate, Option, Some, None, refl, sym, ap, subst, ◌∙◌, arith, ◌≤◌, true, false}
+use Rattle.std.specs.Map.Iter.{TakesFirst}
+use Rattle.std.specs.Option.{option_map}
 use Rattle.otp_core.specs.Limits.{Limits}
 use Rattle.token_file.specs.Credential.{Credential}
-use Rattle.admit_core.specs.Gate.{GateRecord, clear_gate}
-use Rattle.vote_wire.specs.Answer.{answer_bytes}
-use Rattle.oath_node.specs.Gates.{gates_of, gates_after, standing_by}
-use Rattle.oath_node.specs.ReferenceServer.{Server, Line, floors_after, server_at, standing_of, told_by}
-use Rattle.oath_node.specs.Rules.{verdict}
-use Rattle.oath_node.specs.Serving.{IsAnswered, IsServing, Serving}
-use Rattle.oath_node.specs.declared.rules.Verdict.{Verdict}
-use Rattle.oath_node.proofs.GateLemmas.{GateLaw, gates_after_same, gates_of-none, verdict_same}
+use Rattle.admit_core.specs.Gate.{clear_gate}
+use Rattle.floor_store.specs.Content.{Content, opening_content}
+use Rattle.floor_store.specs.Held.{Held}
+use Rattle.vote_core.specs.NodeSet.{PlaceRecord}
+use Rattle.oath_node.specs.Alone.{IsAlone, ServesAlone, alone_place, floors_in, gates_in, gates_of, span_of}
+use Rattle.oath_node.specs.Calls.{FailsBy, IsMade}
+use Rattle.oath_node.specs.Hosted.{Hosted, IsSameNode, config_of}
+use Rattle.oath_node.specs.Machine.{Client, Config, Made, NodeEvent, NodeState, made_by_event, opened_node}
+use Rattle.oath_node.specs.Outputs.{OutputsRecord, items_of}
+use Rattle.oath_node.specs.ReferenceServer.{Line, Server, server_at, service_of}
+use Rattle.oath_node.specs.Serving.{IsServing, state_in_memory}
+use Rattle.oath_node.specs.declared.fault.NodeFault.{NodeFault}
+use Rattle.oath_node.specs.declared.fault.NodeFault.TheVariants.{Store, Stopped, Spent}
+use Rattle.oath_node.specs.declared.item.Item.{Item}
+use Rattle.oath_node.specs.declared.item.Item.TheVariants.{Datagram, Reply}
 
--- what the rules make of a line, by what is held
-abbrev pub held_verdict : Serving → Line → Verdict
-held_verdict held line = verdict held.book held.limits (standing_by held.floors held.gates line.moment) line.moment line.text
+-- what the law of a lone node says of each line
+abbrev pub AloneLaw : Type 0
+AloneLaw = (config : Config) (count : ℕ) (x : NodeState) (server : Server) (line : Line) → IsAlone count x server
+    → (made_by_event config alone_place (Client line.client line.moment line.text) x).state.running ≡ true
+    → ServesAlone count (made_by_event config alone_place (Client line.client line.moment line.text) x) line (service_of config.book config.limits server line)
 
-same_verdict : (held : Serving) (book : List Credential) (limits : Limits) (s : Server) (l : Line) → IsServing held book limits s
-    → held_verdict held l ≡ verdict book limits (standing_of s l.moment) l.moment l.text
-same_verdict held book limits s l h =
-    ap (λ (b : List Credential). verdict b held.limits (standing_by held.floors held.gates l.moment) l.moment l.text) h.book_is
-    ∙ ap (λ (ls : Limits). verdict book ls (standing_by held.floors held.gates l.moment) l.moment l.text) h.limits_are
-    ∙ ap (λ (fs : List ℕ). verdict book limits (standing_by fs held.gates l.moment) l.moment l.text) h.floors_are
-    ∙ ap (λ (gs : List GateRecord). verdict book limits (standing_by s.floors gs l.moment) l.moment l.text) h.gates_are
-    ∙ verdict_same book limits s l.moment l.text
+-- the step of a node over a store in memory on a line
+abbrev pub made_of_line : Hosted Content → Line → Made
+made_of_line node line = made_by_event (config_of node) node.voter.place (Client line.client line.moment line.text) (state_in_memory node)
 
-pub answered : GateLaw → (held : Serving) (l : Line) (v : Verdict) (floors : List ℕ) (gates : List GateRecord) (bytes : List ℕ)
-    → v ≡ held_verdict held l → floors ≡ floors_after held.floors v → gates ≡ gates_after held.gates l.moment v
-    → bytes ≡ answer_bytes (told_by v).answer
-    → (book : List Credential) (limits : Limits) (s : Server) → IsServing held book limits s
-    → IsAnswered (record { book = held.book; limits = held.limits; floors = floors; gates = gates }) book limits s l bytes
-answered law held l v floors gates bytes is floors_next gates_next told book limits s h =
-    let same = is ∙ same_verdict held book limits s l h in
+pub served : AloneLaw → (node : Hosted Content) (book : List Credential) (limits : Limits) (count : ℕ) (server : Server) (line : Line)
+    → IsServing node book limits count server → (made_of_line node line).state.running ≡ true
+    → ServesAlone count (made_of_line node line) line (service_of book limits server line)
+served law node book limits count server line h on =
+    let x = state_in_memory node in
+    let event = Client line.client line.moment line.text in
+    let config : Config = record { book = book; limits = limits } in
+    let same : made_of_line node line ≡ made_by_event config alone_place event x =
+    ap (λ (b : List Credential). made_by_event (record { book = b; limits = node.limits }) node.voter.place event x) h.book_is
+    ∙ ap (λ (l : Limits). made_by_event (record { book = book; limits = l }) node.voter.place event x) h.limits_are
+    ∙ ap (λ (p : PlaceRecord). made_by_event config p event x) h.place_is in
+    subst (λ (m : Made). ServesAlone count m line (service_of book limits server line)) (sym same)
+    (law config count x server line h.alone (subst (λ (m : Made). m.state.running ≡ true) same on))
+
+-- what the outputs of a line are, and the node that it leaves
+pub record IsGiven (new : Hosted Content) (book : List Credential) (limits : Limits) (count : ℕ) (server : Server) (line : Line) (outputs : OutputsRecord) : Type 0 where
+  pub items : outputs.items ≡ Reply line.client (record { items = (service_of book limits server line).told.bytes }) ∷ []
+  pub pass : option_map span_of outputs.pass ≡ (service_of book limits server line).told.accepted
+  pub serving : IsServing new book limits (count + 1) (service_of book limits server line).server
+
+pub given : AloneLaw → (old new : Hosted Content) (line : Line) (outputs : OutputsRecord)
+    → IsMade old.key old.voter.place (made_of_line old line) outputs (state_in_memory new) → IsSameNode old new → new.running ≡ true
+    → (book : List Credential) (limits : Limits) (count : ℕ) (server : Server) → IsServing old book limits count server
+    → IsGiven new book limits count server line outputs
+given law old new line outputs made same runs book limits count server h =
+    let on : (made_of_line old line).state.running ≡ true = ap (λ (x : NodeState). x.running) (sym made.left) ∙ runs in
+    let s = served law old book limits count server line h on in
+    let m = made_of_line old line in
+    let me = old.voter.place.me in
     record {
-      answer = told ∙ ap (λ (x : Verdict). answer_bytes (told_by x).answer) same;
+      items = ap (λ (o : OutputsRecord). o.items) made.told ∙ ap (λ sends. items_of old.key me sends m.replies) s.sends
+          ∙ ap (λ replies. items_of old.key me [] replies) s.replies;
+      pass = ap (λ (o : OutputsRecord). option_map span_of o.pass) made.told ∙ s.pass;
       serving = record {
-        book_is = h.book_is;
-        limits_are = h.limits_are;
-        floors_are = floors_next ∙ ap (λ (fs : List ℕ). floors_after fs v) h.floors_are ∙ ap (λ (x : Verdict). floors_after s.floors x) same;
-        gates_are = gates_next ∙ ap (λ (gs : List GateRecord). gates_after gs l.moment v) h.gates_are
-            ∙ ap (λ (x : Verdict). gates_after (gates_of s.front.results) l.moment x) same
-            ∙ gates_after_same law s.front.results l.moment (verdict book limits (standing_of s l.moment) l.moment l.text);
+        book_is = same.book ∙ h.book_is;
+        limits_are = same.limits ∙ h.limits_are;
+        place_is = same.place ∙ h.place_is;
+        alone = subst (λ (x : NodeState). IsAlone (count + 1) x (service_of book limits server line).server) (sym made.left) s.state;
       };
     }
 
--- the gates of a server to which no line came
-pub gates_at_start : (floors : List ℕ) (gate : GateRecord) (gates : List GateRecord) → gate ≡ clear_gate
-    → gates ≡ replicate (length floors) gate → gates ≡ gates_of (server_at floors).front.results
-gates_at_start floors gate gates clear all =
-    all ∙ ap (λ (g : GateRecord). replicate (length floors) g) clear ∙ sym (gates_of-none (length floors))
+-- a store that was just made
+floors_at_start : (floors : List ℕ) → floors_in (opening_content floors) ≡ floors
+floors_at_start [] = refl
+floors_at_start (f ∷ fs) = ap (λ xs. f ∷ xs) (floors_at_start fs)
+
+gates_at_start : (floors : List ℕ) → gates_in (opening_content floors) ≡ gates_of (replicate (length floors) [])
+gates_at_start [] = refl
+gates_at_start (f ∷ fs) = ap (λ gates. clear_gate ∷ gates) (gates_at_start fs)
+
+pub alone_at_start : (floors : List ℕ) → IsAlone 0 (opened_node (opening_content floors)) (server_at floors)
+alone_at_start floors = record {
+  running = refl;
+  pending = refl;
+  owners = refl;
+  answers = refl;
+  floors = floors_at_start floors;
+  gates = gates_at_start floors;
+  begun = omega arith;
+}
+
+-- the first item is taken
+pub first_taken : (items rest : List Item) (taken : Option Item) (item : Item) → TakesFirst (λ x. x) items taken rest → items ≡ item ∷ [] → taken ≡ Some item
+first_taken items rest None item h e = let none : items ≡ [] = h.0 in absurd cc
+first_taken items rest (Some x) item h e = let some : items ≡ x ∷ rest = h in let same : x ≡ item = cc in ap Some same
+
+pub same_bytes : (client other : ℕ) (a b : _) → Some (Reply client a) ≡ Some (Reply other b) → a ≡ b
+same_bytes client other a b e = cc
+
+pub no_datagram : (to client : ℕ) (a b : _) → Some (Datagram to a) ≡ Some (Reply client b) → ⊥
+no_datagram to client a b e = cc
+
+pub no_end : (client : ℕ) (b : _) → None ≡ Some (Reply client b) → ⊥
+no_end client b e = cc

@@ -1,6 +1,6 @@
 -- Worked cases: what the rules make of lines, and what one server answers. The codes are those of RFC 4226,
 -- Appendix D.
-use Rattle.std.specs.Prelude.{ℕ, zero, suc, false, List, [], ◌∷◌, map, None, codes}
+use Rattle.std.specs.Prelude.{ℕ, zero, suc, false, List, [], ◌∷◌, ◌++◌, map, None, codes}
 use Rattle.admit_core.specs.Throttle.{Result}
 use Rattle.hmac_core.specs.declared.hash.Hash.TheVariants.{Sha1}
 use Rattle.otp_core.specs.Limits.{Limits}
@@ -9,7 +9,7 @@ use Rattle.token_file.specs.Credential.{Credential}
 use Rattle.token_file.specs.declared.token.Kind.TheVariants.{Event}
 use Rattle.token_file.specs.declared.token.Password.{Password}
 use Rattle.token_file.specs.declared.token.Password.TheVariants.{NoneAllowed, NotChecked, Equal}
-use Rattle.oath_node.specs.ReferenceServer.{Line, server_after, server_at}
+use Rattle.oath_node.specs.ReferenceServer.{Line, Server, server_after, server_at}
 use Rattle.oath_node.specs.Report.{IsJustified, floor_before, report_of, results_before}
 use Rattle.oath_node.specs.Rules.{Standing, verdict}
 use Rattle.oath_node.specs.declared.report.LinePass.{LinePass}
@@ -74,6 +74,16 @@ lines_of_a_run =
     ∷ line_at 107 (codes "RESYNC e gold 287082 359152 pw") ∷ line_at 108 (codes "CHECK")
     ∷ line_at 109 (codes "CHECK f lead 755224 -") ∷ line_at 110 (codes "CHECK g gold 254676 -") ∷ []
 
+-- Silver is right. The same line comes again, outside the range of moments and with an LF; then from another client; then
+-- with two other nonces, of which the first comes too early, twice; and a line that is none.
+abbrev pub lines_given_again : List Line
+lines_given_again =
+    line_at 100 (codes "CHECK 1 silver 755224 -")
+    ∷ line_at 1099511627776 (codes "CHECK 1 silver 755224 -" ++ 10 ∷ [])
+    ∷ record { client = 8; moment = 60; text = codes "CHECK 1 silver 755224 -" }
+    ∷ line_at 64 (codes "CHECK 2 silver 755224 -") ∷ line_at 65 (codes "CHECK 2 silver 755224 -")
+    ∷ line_at 65 (codes "CHECK 3 silver 755224 -") ∷ line_at 65 (codes "CHECK") ∷ []
+
 -- a look-ahead of 1 and a range of 2
 abbrev pub narrowest_limits : Limits
 narrowest_limits = record { look_ahead = 1; skew = 0; range = 2 }
@@ -86,11 +96,19 @@ pub record Outcome : Type 0 where
   pub floors : List ℕ
   pub results : List (List Result)
 
+-- the server after these lines, from factor 0 on
+abbrev pub server_of : List Line → Server
+server_of lines = server_after three_tokens narrowest_limits (server_at (0 ∷ 0 ∷ 0 ∷ [])) lines
+
+-- the clients and the texts of the answers that a server keeps, the oldest first
+abbrev pub kept_in : Server → List (ℕ × List ℕ)
+kept_in server = map (λ answer. (answer.client, answer.text)) server.front.answers
+
 -- what these lines come to, from factor 0 on
 abbrev pub outcome_of : List Line → Outcome
 outcome_of lines =
     let report = report_of three_tokens narrowest_limits (0 ∷ 0 ∷ 0 ∷ []) lines in
-    let server = server_after three_tokens narrowest_limits (server_at (0 ∷ 0 ∷ 0 ∷ [])) lines in
+    let server = server_of lines in
     record {
       answers = map (λ answer. (answer.line, answer.client, answer.bytes.items)) report.answers;
       passes = report.passes;

@@ -1,8 +1,8 @@
+pub mod Alone
 pub mod Calls
 pub mod Cases
 pub mod Column
 pub mod Examples
-pub mod Gates
 pub mod Grounds
 pub mod Heard
 pub mod Hosted

@@ -1,19 +1,20 @@
--- One server with one first free factor for each token, which answers each line at once at a front end.
--- Nothing is voted on, sent or waited for.
+-- One server with one first free factor for each token, which answers each line at once at a front end, and keeps its
+-- last answers there to give them again. Nothing is voted on, sent or waited for.
 use Rattle.std.specs.Prelude.{ℕ, ◌+◌, false, List, [], ◌∷◌, length, replicate, Option, Some, None, slice_index, slice_index_or, slice_set}
 use Rattle.otp_core.specs.Limits.{Limits}
 use Rattle.token_file.specs.Credential.{Credential}
 use Rattle.admit_core.specs.Throttle.{Result, Failed, Accepted as Passed, wait_after}
-use Rattle.oath_node.specs.Rules.{Standing, verdict}
-use Rattle.oath_node.specs.declared.rules.Verdict.{Verdict}
-use Rattle.oath_node.specs.declared.rules.Verdict.TheVariants.{BadLine, Refused, Fails, Proposes}
-use Rattle.vote_wire.specs.declared.answer.Answer.{Answer}
-use Rattle.vote_wire.specs.declared.answer.Answer.TheVariants.{BadLine as BadLineAnswer, Reply}
+use Rattle.answer_ring.specs.Answers.{KeptAnswer, kept_answer, kept_with}
+use Rattle.vote_wire.specs.Answer.{answer_bytes}
+use Rattle.vote_wire.specs.Request.{without_lf}
+use Rattle.vote_wire.specs.declared.answer.Answer.TheVariants.{BadLine, Reply}
 use Rattle.vote_wire.specs.declared.answer.Outcome.TheVariants.{Accepted}
+use Rattle.oath_node.specs.Rules.{Standing, Ruling, Outside, Again, Waiting, Denied, Wrong, Fitting, ruling}
 
--- a front end: the results of each token there, the newest first
+-- a front end: the results of each token there, the newest first, and the last answers
 pub record Front : Type 0 where
   pub results : List (List Result)
+  pub answers : List KeptAnswer
 
 -- the first free factor of each token, which all front ends share, and the front end that answers;
 -- tokens go by their places in the book
@@ -21,9 +22,10 @@ pub record Server : Type 0 where
   pub floors : List ℕ
   pub front : Front
 
--- no token has a result yet
+-- no token has a result yet, and no answer is kept
 abbrev pub server_at : List ℕ → Server
-server_at floors = record { floors = floors; front = record { results = replicate (length floors) [] } }
+server_at floors =
+    record { floors = floors; front = record { results = replicate (length floors) []; answers = [] } }
 
 -- a client's line, and the moment at which it came
 pub record Line : Type 0 where
@@ -37,9 +39,9 @@ pub record Span : Type 0 where
   pub lo : ℕ
   pub hi : ℕ
 
--- what a line is told, and what was accepted with it
+-- what a line is told, as bytes, and what was accepted with it
 pub record Told : Type 0 where
-  pub answer : Answer
+  pub bytes : List ℕ
   pub accepted : Option Span
 
 -- what a line leads to: the server after it, and what is told
@@ -55,61 +57,95 @@ floor_of server token = slice_index server.floors token
 abbrev pub results_of : Server → ℕ → List Result
 results_of server token = slice_index_or server.front.results token []
 
--- no answer is kept and no line waits; the wait is that of the results, by the throttle's definition
-abbrev pub standing_of : Server → ℕ → Standing
-standing_of server moment = record {
-  kept = None;
+-- what the rules ask of the server: no line waits, and the wait is that of the results, by the throttle's definition
+abbrev pub standing_of : Server → Line → Standing
+standing_of server line = record {
+  kept = kept_answer server.front.answers line.client (without_lf line.text);
   is_waiting = false;
   is_full = false;
   next = floor_of server;
-  wait = λ token. wait_after (results_of server token) moment;
+  wait = λ token. wait_after (results_of server token) line.moment;
 }
 
--- what a verdict tells: `OK` with the last factor for a proposal, which is accepted, and otherwise a refusal
-abbrev pub told_by : Verdict → Told
-told_by BadLine = record { answer = BadLineAnswer; accepted = None }
-told_by (Refused nonce outcome) = record { answer = Reply nonce outcome; accepted = None }
-told_by (Fails nonce outcome token) = record { answer = Reply nonce outcome; accepted = None }
-told_by (Proposes nonce token lo hi) = record {
-  answer = Reply nonce (Accepted hi);
+-- what the rules make of a line
+abbrev pub ruling_of_line : List Credential → Limits → Server → Line → Ruling
+ruling_of_line book limits server line = ruling book limits (standing_of server line) line.moment line.text
+
+-- What a ruling tells: `OK` with the last factor for a proposal, which is accepted, and otherwise a refusal or a kept
+-- answer. No line waits here, so nothing is ever told of one that does.
+abbrev pub told_by : Ruling → Told
+told_by Outside = record { bytes = answer_bytes BadLine; accepted = None }
+told_by (Again text) = record { bytes = text; accepted = None }
+told_by Waiting = record { bytes = []; accepted = None }
+told_by (Denied nonce outcome) = record { bytes = answer_bytes (Reply nonce outcome); accepted = None }
+told_by (Wrong nonce outcome token) = record { bytes = answer_bytes (Reply nonce outcome); accepted = None }
+told_by (Fitting nonce token lo hi) = record {
+  bytes = answer_bytes (Reply nonce (Accepted hi));
   accepted = Some (record { token = token; lo = lo; hi = hi });
 }
 
 -- an acceptance uses the factors up, and nothing else changes a floor
-abbrev pub floors_after : List ℕ → Verdict → List ℕ
-floors_after floors BadLine = floors
-floors_after floors (Refused nonce outcome) = floors
-floors_after floors (Fails nonce outcome token) = floors
-floors_after floors (Proposes nonce token lo hi) = slice_set floors token (hi + 1)
+abbrev pub floors_after : List ℕ → Ruling → List ℕ
+floors_after floors Outside = floors
+floors_after floors (Again text) = floors
+floors_after floors Waiting = floors
+floors_after floors (Denied nonce outcome) = floors
+floors_after floors (Wrong nonce outcome token) = floors
+floors_after floors (Fitting nonce token lo hi) = slice_set floors token (hi + 1)
 
 -- with one result more for a token
 abbrev pub with_result : List (List Result) → ℕ → Result → List (List Result)
 with_result results token result = slice_set results token (result ∷ slice_index_or results token [])
 
 -- a failure and an acceptance are results, and nothing else is
-abbrev pub results_after : List (List Result) → ℕ → Verdict → List (List Result)
-results_after results moment BadLine = results
-results_after results moment (Refused nonce outcome) = results
-results_after results moment (Fails nonce outcome token) = with_result results token (Failed moment)
-results_after results moment (Proposes nonce token lo hi) = with_result results token Passed
+abbrev pub results_after : List (List Result) → ℕ → Ruling → List (List Result)
+results_after results moment Outside = results
+results_after results moment (Again text) = results
+results_after results moment Waiting = results
+results_after results moment (Denied nonce outcome) = results
+results_after results moment (Wrong nonce outcome token) = with_result results token (Failed moment)
+results_after results moment (Fitting nonce token lo hi) = with_result results token Passed
 
--- what a verdict at a moment leads to
-abbrev pub service_by : Server → ℕ → Verdict → Service
-service_by server moment verdict = record {
+-- with one answer more, to a line, which is kept without an LF at its end
+abbrev pub with_answer_to : Line → List ℕ → List KeptAnswer → List KeptAnswer
+with_answer_to line text answers =
+    kept_with answers (record { client = line.client; line = without_lf line.text; text = text })
+
+-- all answers are kept but that to a bad line; one that is given again changes nothing
+abbrev pub answers_after : List KeptAnswer → Line → Ruling → List KeptAnswer
+answers_after answers line Outside = answers
+answers_after answers line (Again text) = answers
+answers_after answers line Waiting = answers
+answers_after answers line (Denied nonce outcome) = with_answer_to line (answer_bytes (Reply nonce outcome)) answers
+answers_after answers line (Wrong nonce outcome token) =
+    with_answer_to line (answer_bytes (Reply nonce outcome)) answers
+answers_after answers line (Fitting nonce token lo hi) =
+    with_answer_to line (answer_bytes (Reply nonce (Accepted hi))) answers
+
+-- what a ruling on a line leads to
+abbrev pub service_by : Server → Line → Ruling → Service
+service_by server line ruling = record {
   server = record {
-    floors = floors_after server.floors verdict;
-    front = record { results = results_after server.front.results moment verdict };
+    floors = floors_after server.floors ruling;
+    front = record {
+      results = results_after server.front.results line.moment ruling;
+      answers = answers_after server.front.answers line ruling;
+    };
   };
-  told = told_by verdict;
+  told = told_by ruling;
 }
 
 -- what a line leads to: the rules decide, by the server as it stands
 abbrev pub service_of : List Credential → Limits → Server → Line → Service
-service_of book limits server line =
-    service_by server line.moment (verdict book limits (standing_of server line.moment) line.moment line.text)
+service_of book limits server line = service_by server line (ruling_of_line book limits server line)
 
 -- the server after these lines
 unfoldable pub server_after : List Credential → Limits → Server → List Line → Server
 server_after book limits server [] = server
 server_after book limits server (line ∷ lines) =
     server_after book limits (service_of book limits server line).server lines
+
+-- the server after a restart of its front end, which forgets the answers and nothing else
+abbrev pub restarted_server : Server → Server
+restarted_server server =
+    record { floors = server.floors; front = record { results = server.front.results; answers = [] } }

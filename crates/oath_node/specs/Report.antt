@@ -5,10 +5,8 @@ use Rattle.otp_core.specs.Limits.{Limits}
 use Rattle.token_file.specs.Credential.{Credential}
 use Rattle.admit_core.specs.Entitled.{IsEntitled}
 use Rattle.admit_core.specs.Throttle.{Result}
-use Rattle.vote_wire.specs.Answer.{answer_bytes}
 use Rattle.oath_node.specs.ReferenceServer.{Server, Line, Span, Told, Service, floor_of, results_of, service_of, server_after, server_at}
 use Rattle.vote_wire.specs.Request.{Request, IsLine}
-use Rattle.vote_wire.specs.declared.answer.Answer.{Answer}
 use Rattle.oath_node.specs.declared.report.LinePass.{LinePass}
 use Rattle.oath_node.specs.declared.report.LineAnswer.{LineAnswer}
 
@@ -23,18 +21,18 @@ passes_at number None = []
 passes_at number (Some span) = record { began = number; token = span.token; lo = span.lo; hi = span.hi } ∷ []
 
 -- what the line of a number, which a client sent, is answered
-abbrev pub answer_at : ℕ → ℕ → Answer → LineAnswer
-answer_at number client answer = record {
+abbrev pub answer_at : ℕ → ℕ → List ℕ → LineAnswer
+answer_at number client bytes = record {
   line = number;
   client = client;
-  bytes = record { items = answer_bytes answer };
+  bytes = record { items = bytes };
 }
 
 -- what the line of this number was told comes before the rest
 abbrev pub told_before : ℕ → Line → Told → Report → Report
 told_before number line told rest = record {
   passes = passes_at number told.accepted ++ rest.passes;
-  answers = answer_at number line.client told.answer ∷ rest.answers;
+  answers = answer_at number line.client told.bytes ∷ rest.answers;
 }
 
 -- the report of lines that are numbered from a number on
@@ -122,5 +120,5 @@ with_passes report number accepted = record {
 abbrev pub with_told : Report → ℕ → ℕ → Told → Report
 with_told report number client told = record {
   passes = report.passes ++ passes_at number told.accepted;
-  answers = report.answers ++ answer_at number client told.answer ∷ [];
+  answers = report.answers ++ answer_at number client told.bytes ∷ [];
 }

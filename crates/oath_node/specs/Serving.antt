@@ -1,28 +1,38 @@
 -- A server that is asked line by line, beside the reference server.
-use Rattle.std.specs.Prelude.{◌≡◌, ℕ, List}
+use Rattle.std.specs.Prelude.{◌≡◌, ℕ, ◌+◌, ◌^◌, ◌≤◌, List, Result, IfErr, IfOk, OnOk}
 use Rattle.otp_core.specs.Limits.{Limits}
 use Rattle.token_file.specs.Credential.{Credential}
-use Rattle.admit_core.specs.Gate.{GateRecord}
-use Rattle.vote_wire.specs.Answer.{answer_bytes}
-use Rattle.oath_node.specs.Gates.{gates_of}
+use Rattle.floor_store.specs.Content.{Content}
+use Rattle.vote_core.specs.State.{voter_of}
+use Rattle.oath_node.specs.Alone.{IsAlone, alone_place}
+use Rattle.oath_node.specs.Hosted.{Hosted}
+use Rattle.oath_node.specs.Machine.{NodeState}
 use Rattle.oath_node.specs.ReferenceServer.{Line, Server, service_of}
+use Rattle.oath_node.specs.declared.fault.NodeFault.{NodeFault}
 
--- what a server holds
-pub record Serving : Type 0 where
-  pub book : List Credential
-  pub limits : Limits
-  pub floors : List ℕ
-  pub gates : List GateRecord
+-- the machine of a node over a store in memory
+abbrev pub state_in_memory : Hosted Content → NodeState
+state_in_memory node = record {
+  content = node.store;
+  voter = voter_of node.voter;
+  owners = node.owners;
+  answers = node.answers;
+  running = node.running;
+}
 
--- what is held is this state of the reference server over a book: its first free factors, and the gates of its results
-pub record IsServing (held : Serving) (book : List Credential) (limits : Limits) (server : Server) : Type 0 where
-  pub book_is : held.book ≡ book
-  pub limits_are : held.limits ≡ limits
-  pub floors_are : held.floors ≡ server.floors
-  pub gates_are : held.gates ≡ gates_of server.front.results
+-- the node, which is alone, is this state of the reference server over a book, after so many lines
+pub record IsServing (node : Hosted Content) (book : List Credential) (limits : Limits) (count : ℕ)
+    (server : Server) : Type 0 where
+  pub book_is : node.book ≡ book
+  pub limits_are : node.limits ≡ limits
+  pub place_is : node.voter.place ≡ alone_place
+  pub alone : IsAlone count (state_in_memory node) server
 
--- a line is answered with these bytes, as the reference server answers it, and what is held is its state afterwards
-pub record IsAnswered (held : Serving) (book : List Credential) (limits : Limits) (server : Server) (line : Line)
-    (bytes : List ℕ) : Type 0 where
-  pub answer : bytes ≡ answer_bytes (service_of book limits server line).told.answer
-  pub serving : IsServing held book limits (service_of book limits server line).server
+-- An answer has these bytes, as the reference server answers the line, and the node is its next state. The first 2^62
+-- lines are answered.
+pub record IsAnswered {A : Type 0} (node : Hosted Content) (book : List Credential) (limits : Limits) (count : ℕ)
+    (server : Server) (line : Line) (bytes_in : A → List ℕ) (result : Result A NodeFault) : Type 0 where
+  pub answer : IfOk result (λ value. bytes_in value ≡ (service_of book limits server line).told.bytes)
+  pub serving : OnOk result
+      (IsServing node book limits (count + 1) (service_of book limits server line).server)
+  pub refused : IfErr result (λ fault. 2 ^ 62 ≤ count)

@@ -1,11 +1,13 @@
-ghost use Rattle.std.specs.Prelude.{◌≡◌, ◌≤◌, ◌∷◌, ◌++◌, [], ℕ, List, Some, None, codes, false, length, replicate, true};
+ghost use Rattle.std.specs.Prelude.{◌≡◌, ◌<◌, ◌≤◌, ◌^◌, ◌∷◌, ◌++◌, [], ℕ, List, Some, None, codes, false, length, replicate, true};
 ghost use Rattle.token_file.specs.declared.token.Password.TheVariants.{Equal, NoneAllowed, NotChecked};
 ghost use Rattle.admit_core.specs.Throttle.{Accepted as Passed, Failed};
 ghost use Rattle.oath_node.specs.Cases.{asking_node, config, content_with, datagram, denial, facts_of, first_line, full_node, grant, idle_node, line, node_with_kept, nothing_at_start, nothing_of_asking, rows_at_start, step_alone, step_among, told_at_start, told_of_asking};
+ghost use Rattle.oath_node.specs.Alone.{IsAlone, ServesAlone, alone_place};
 ghost use Rattle.oath_node.specs.Column.{column_fits};
 ghost use Rattle.oath_node.specs.Grounds.{HasGrounds, IsSameStanding};
 ghost use Rattle.oath_node.specs.Machine.{Client, Config, NodeEvent, NodeState, Peer, Tick, made_by_event, opened_node, restarted_node, ruling_at, stopped_node};
 ghost use Rattle.oath_node.specs.Outputs.{outputs_of};
+ghost use Rattle.oath_node.specs.ReferenceServer.{Line, Server, restarted_server, service_of};
 ghost use Rattle.oath_node.specs.Refusals.{IsRefusal, KeepsFloors, SparesToken};
 ghost use Rattle.oath_node.specs.Rules.{Standing, ruling};
 ghost use Rattle.otp_core.specs.Limits.{Limits};
@@ -16,11 +18,11 @@ ghost use Rattle.vote_core.specs.Rows.{row};
 ghost use Rattle.vote_core.specs.State.{IsPlace};
 ghost use Rattle.vote_core.specs.Voting.{fresh_voter};
 ghost use Rattle.vote_core.specs.declared.message.Message.TheVariants.{Ask, Floor, Grant};
-ghost use Rattle.oath_node.specs.Examples.{IsJustifiedInRun, lines_of_a_run, outcome_of, silver_before, verdict_on};
+ghost use Rattle.oath_node.specs.Examples.{IsJustifiedInRun, kept_in, lines_given_again, lines_of_a_run, outcome_of, server_of, silver_before, verdict_on};
 ghost use Rattle.vote_wire.specs.declared.answer.Outcome.TheVariants.{Clock, Exhausted, Invalid, Password, Throttled, Unknown};
 ghost use Rattle.oath_node.specs.declared.rules.Verdict.TheVariants.{BadLine, Fails, Proposes, Refused};
 
-use admit_core::least_fit_is_least;
+use admit_core::{gate_keeps_throttle, least_fit_is_least};
 
 /// What the rules make of some lines: the first rule that applies decides.
 pub fn rules_are_worked()
@@ -77,6 +79,25 @@ pub fn runs_are_worked()
     ensures before_any { silver_before 0 ≡ (0, []) }
     ensures before_accepted { silver_before 2 ≡ (0, Failed 100 ∷ []) }
     ensures after_accepted { silver_before 3 ≡ (2, Passed ∷ Failed 100 ∷ []) }
+{}
+
+/// An answer is given again to the same client and line, at any moment, and changes nothing; all answers but that
+/// to a bad line are kept, until the front end is restarted.
+pub fn answers_are_given_again()
+    ensures outcome { outcome_of lines_given_again ≡ record {
+      answers = (0, 7, codes "OK 1 0") ∷ (1, 7, codes "OK 1 0") ∷ (2, 8, codes "NO 1 INVALID")
+          ∷ (3, 7, codes "NO 2 THROTTLED 1") ∷ (4, 7, codes "NO 2 THROTTLED 1") ∷ (5, 7, codes "NO 3 INVALID")
+          ∷ (6, 7, codes "NO - BADLINE") ∷ [];
+      passes = record { began = 0; token = 0; lo = 0; hi = 0 } ∷ [];
+      floors = 1 ∷ 0 ∷ 0 ∷ [];
+      results = (Failed 65 ∷ Failed 60 ∷ Passed ∷ []) ∷ [] ∷ [] ∷ [];
+    } }
+    ensures kept { kept_in (server_of lines_given_again) ≡ (7, codes "OK 1 0") ∷ (8, codes "NO 1 INVALID")
+        ∷ (7, codes "NO 2 THROTTLED 1") ∷ (7, codes "NO 3 INVALID") ∷ [] }
+    ensures restarted { restarted_server (server_of lines_given_again) ≡ record {
+      floors = 1 ∷ 0 ∷ 0 ∷ [];
+      front = record { results = (Failed 65 ∷ Failed 60 ∷ Passed ∷ []) ∷ [] ∷ [] ∷ []; answers = [] };
+    } }
 {}
 
 /// What is said of an acceptance of that run can be broken: by another token, another factor, a line that is none or
@@ -203,3 +224,20 @@ pub fn events_are_worked()
           running = false;
         } }
 {}
+
+/// A node that is alone goes on running for the first 2^62 lines. While it does it answers each line as the reference
+/// server does: it sends nothing, gives the server's one reply, and is left in the server's next state.
+pub fn one_node_answers_as_the_server()
+    ensures runs { (config : Config) (count : ℕ) (x : NodeState) (server : Server) (line : Line)
+        → IsAlone count x server → count < 2 ^ 62
+        → (made_by_event config alone_place (Client line.client line.moment line.text) x).state.running ≡ true }
+    ensures serves { (config : Config) (count : ℕ) (x : NodeState) (server : Server) (line : Line)
+        → IsAlone count x server
+        → (made_by_event config alone_place (Client line.client line.moment line.text) x).state.running ≡ true
+        → ServesAlone count
+        (made_by_event config alone_place (Client line.client line.moment line.text) x) line
+        (service_of config.book config.limits server line) }
+{
+    gate_keeps_throttle();
+    least_fit_is_least();
+}

@@ -5,17 +5,16 @@ ghost use Rattle.floor_store.specs.Range.{IsSpan};
 ghost use Rattle.otp_core.specs.Range.{IsFactor, IsMoment};
 ghost use Rattle.vote_core.specs.Rows.{row as row_in};
 ghost use Rattle.vote_wire.specs.Codes.{submission_of};
-ghost use Rattle.oath_node.specs.Gates.{gate_of, standing_by};
 ghost use Rattle.oath_node.specs.Recording.{IfProposes, IsRecordable, standing_in};
 ghost use Rattle.oath_node.specs.Rules as spec;
 
 use admit_core::{
-    Gate, find_check, find_resync, least_fit_is_least, password_fits, resync_window, window,
+    find_check, find_resync, least_fit_is_least, password_fits, resync_window, window,
 };
 use floor_store::{FloorStore, Row, StoreFault};
 use otp_core::{FACTORS_END, Factor, MOMENTS_END, Next, Settings};
 use token_file::{Book, Token, TokenId};
-use vote_wire::{Codes, Line, Nonce, Outcome, read_line};
+use vote_wire::{Codes, Line, Nonce, Outcome};
 
 /// What the rules make of a line.
 #[derive(Debug, Drop)]
@@ -33,64 +32,6 @@ pub(crate) enum Verdict {
         lo: Factor,
         hi: Factor,
     },
-}
-
-/// What the rules make of a line, by the first free factors and the gates of the tokens.
-pub(crate) fn judge(
-    book: &Book,
-    settings: Settings,
-    floors: &[Next],
-    gates: &[Gate],
-    moment: u64,
-    line: &[u8],
-) -> Verdict
-    requires floors { length floors.now ≡ length book.now }
-    requires gates { length gates.now ≡ length book.now }
-    ensures value { result
-        ≡ spec.verdict book.now settings (standing_by floors.now gates.now moment) moment line.now }
-    ensures recordable { IsRecordable (length book.now) moment result }
-{
-    match read_line(line) {
-        Some(request) => request_verdict(book, settings, floors, gates, moment, request),
-        None => Verdict::BadLine,
-    }
-}
-
-/// The moment, the user, and whether the token is open.
-fn request_verdict(
-    book: &Book,
-    settings: Settings,
-    floors: &[Next],
-    gates: &[Gate],
-    moment: u64,
-    request: Line<'_>,
-) -> Verdict
-    requires floors { length floors.now ≡ length book.now }
-    requires gates { length gates.now ≡ length book.now }
-    ensures value { result
-        ≡ spec.request_verdict book.now settings (standing_by floors.now gates.now moment) moment request.entry }
-    ensures recordable { IsRecordable (length book.now) moment result }
-{
-    if moment >= MOMENTS_END {
-        return Verdict::Refused(request.to_nonce(), Outcome::Clock);
-    }
-    let Some(id) = book.find(request.user()) else {
-        return Verdict::Refused(request.to_nonce(), Outcome::Unknown);
-    };
-    let wait = wait_at(gates, id, moment);
-    if wait > 0 {
-        return Verdict::Refused(request.to_nonce(), Outcome::Throttled(wait));
-    }
-    let next = floors[id.value() as usize];
-    open_verdict(book.token(id), id, next, settings, moment, request)
-}
-
-/// How many seconds are left until a token is open.
-fn wait_at(gates: &[Gate], id: TokenId, moment: u64) -> u64
-    requires { id < length gates.now }
-    ensures { result ≡ (gate_of gates.now id).until - moment }
-{
-    gates[id.value() as usize].wait(moment)
 }
 
 /// The password, the factors that are left, and the window, at a token that is open.

@@ -1,23 +1,26 @@
-ghost use Rattle.std.specs.Prelude.{◌≡◌, ℕ, length, IfErr, IfOk, OnOk};
+ghost use Rattle.std.specs.Option.{option_map};
+ghost use Rattle.std.specs.Prelude.{◌≡◌, ◌+◌, ℕ, length, IfErr, IfOk, List, OnOk};
 ghost use Rattle.admit_core.specs.Throttle.{SpacesFailures};
 ghost use Rattle.otp_core.specs.Acceptance.{HaveSingleUse, KeepRealTimeOrder};
-ghost use Rattle.oath_node.specs.Gates.{gates_after, gates_of, standing_by};
-ghost use Rattle.oath_node.specs.Recording.{IsRecordable};
-ghost use Rattle.oath_node.specs.ReferenceServer.{floors_after, server_at, told_by};
+ghost use Rattle.otp_core.specs.Limits.{Limits};
+ghost use Rattle.token_file.specs.Credential.{Credential};
+ghost use Rattle.oath_node.specs.Alone.{span_of};
+ghost use Rattle.oath_node.specs.ReferenceServer.{Server, server_at, service_of};
 ghost use Rattle.oath_node.specs.Report.{AreJustified, acceptances_of, report_of, results_in, with_passes, with_told};
-ghost use Rattle.oath_node.specs.Rules.{verdict};
+ghost use Rattle.oath_node.specs.Serving.{IsServing};
 ghost use Rattle.oath_node.specs.declared.fault.OpenFault.{OpenFault};
 
 use crate::fault::OpenFault;
 use crate::report::{LineAnswer, LinePass, LineReport};
-use crate::rules::{Verdict, judge};
-use admit_core::{Gate, failures_are_spaced, gate_keeps_throttle, least_fit_is_least};
+use crate::server::LineServer;
+use admit_core::{failures_are_spaced, least_fit_is_least};
+use floor_store::Pass;
 use otp_core::{Next, Settings};
 use std::alloc::Global;
 use std::fmt;
 use std::marker::Model;
-use token_file::Book;
-use vote_wire::{Answer, Outcome, write_answer};
+use token_file::{Book, TokenId};
+use vote_wire::ClusterKey;
 
 /// A client's line: the client's number, the moment at which it came, in seconds since 1970-01-01
 /// 00:00:00 UTC, and its bytes.
@@ -79,133 +82,70 @@ pub fn run_lines(
 {
     failures_are_spaced();
     least_fit_is_least();
-    let mut next = Vec::from_slice(alloc, floors)?;
-    let mut gates = vec![in alloc; Gate::default(); floors.len()]?;
-    take_lines(alloc, book, settings, &mut next, &mut gates, lines)
+    let key = ClusterKey::new(&[0; 32]).unwrap();
+    let mut server = LineServer::new(alloc, book, settings, &key, floors)?;
+    take_lines(alloc, &mut server, lines)
 }
 
-/// Takes the lines in order, and what they lead to, into the floors, the gates and a report.
+/// Asks the server the lines in order.
 fn take_lines(
     alloc: Global,
-    book: &Book,
-    settings: Settings,
-    floors: &mut [Next],
-    gates: &mut [Gate],
+    server: &mut LineServer<'_>,
     lines: &[ClientLine<'_>],
 ) -> Result<LineReport, OpenFault>
-    requires floors { length floors.old ≡ length book.now }
-    requires gates { gates.old ≡ gates_of (server_at floors.old).front.results }
-    ensures report { IfOk result (λ report. report ≡ report_of book.now settings floors.old lines.now) }
+    ensures report { (book : List Credential) (limits : Limits) (floors : List ℕ)
+        → IsServing server.old book limits 0 (server_at floors)
+        → IfOk result (λ report. report ≡ report_of book limits floors lines.now) }
     ensures refusal { IfErr result (λ fault. fault ≡ OpenFault.Memory) }
 {
-    gate_keeps_throttle();
     let mut report = LineReport::new(alloc);
     for (number, line) in lines.iter().enumerate() {
-        take_line(
-            book,
-            settings,
-            number as u64,
-            line,
-            floors,
-            gates,
-            &mut report,
-        )?;
+        take_line(server, number as u64, line, &mut report)?;
     }
     Ok(report)
 }
 
-/// Takes the line of a number, and what it leads to, into the floors, the gates and the report.
+/// Asks the server the line of a number, and takes what it tells into the report. No memory holds the answers to
+/// 2^62 lines.
 fn take_line(
-    book: &Book,
-    settings: Settings,
+    server: &mut LineServer<'_>,
     number: u64,
     line: &ClientLine<'_>,
-    floors: &mut [Next],
-    gates: &mut [Gate],
     report: &mut LineReport,
 ) -> Result<(), OpenFault>
-    requires floors { length floors.old ≡ length book.now }
-    requires gates { length gates.old ≡ length book.now }
-    ensures floors { let moment = line.now.moment in
-        let ruling = verdict book.now settings (standing_by floors.old gates.old moment) moment line.now.text in
-        OnOk result (floors.new ≡ floors_after floors.old ruling) }
-    ensures gates { let moment = line.now.moment in
-        let ruling = verdict book.now settings (standing_by floors.old gates.old moment) moment line.now.text in
-        OnOk result (gates.new ≡ gates_after gates.old moment ruling) }
-    ensures report { let moment = line.now.moment in
-        let ruling = verdict book.now settings (standing_by floors.old gates.old moment) moment line.now.text in
-        OnOk result (report.new ≡ with_told report.old number line.now.client (told_by ruling)) }
+    ensures server { (book : List Credential) (limits : Limits) (before : Server)
+        → IsServing server.old book limits number before
+        → OnOk result (IsServing server.new book limits (number + 1) (service_of book limits before line.now).server) }
+    ensures report { (book : List Credential) (limits : Limits) (before : Server)
+        → IsServing server.old book limits number before
+        → OnOk result (report.new ≡ with_told report.old number line.now.client
+        (service_of book limits before line.now).told) }
     ensures refusal { IfErr result (λ fault. fault ≡ OpenFault.Memory) }
 {
-    let verdict = judge(book, settings, floors, gates, line.moment, line.line);
-    let answer = record_verdict(number, line.moment, verdict, floors, gates, report)?;
+    let Ok((bytes, pass)) = server.serve(line) else {
+        return Err(OpenFault::Memory);
+    };
+    record_pass(number, pass, report)?;
     report.push_answer(LineAnswer {
         line: number,
         client: line.client,
-        bytes: write_answer(&answer),
+        bytes,
     })?;
     Ok(())
 }
 
-/// Takes what the rules made of the line of a number into the floors, the gates and the passes, and
-/// gives the answer.
-fn record_verdict(
-    number: u64,
-    moment: u64,
-    verdict: Verdict,
-    floors: &mut [Next],
-    gates: &mut [Gate],
-    report: &mut LineReport,
-) -> Result<Answer, OpenFault>
-    requires recordable { IsRecordable (length floors.old) moment verdict }
-    requires gates { length gates.old ≡ length floors.old }
-    ensures floors { OnOk result (floors.new ≡ floors_after floors.old verdict) }
-    ensures gates { OnOk result (gates.new ≡ gates_after gates.old moment verdict) }
-    ensures report { OnOk result (report.new ≡ with_passes report.old number (told_by verdict).accepted) }
-    ensures answer { IfOk result (λ answer. answer ≡ (told_by verdict).answer) }
+/// Takes what was accepted with the line of a number into the report.
+fn record_pass(number: u64, pass: Option<Pass>, report: &mut LineReport) -> Result<(), OpenFault>
+    ensures report { OnOk result (report.new ≡ with_passes report.old number (option_map span_of pass)) }
     ensures refusal { IfErr result (λ fault. fault ≡ OpenFault.Memory) }
 {
-    if let Verdict::Proposes { token, lo, hi, .. } = &verdict {
+    if let Some(pass) = pass {
         report.push_pass(LinePass {
             began: number,
-            token: *token,
-            lo: *lo,
-            hi: *hi,
+            token: TokenId::new(pass.token()).unwrap(),
+            lo: pass.lo(),
+            hi: pass.hi(),
         })?;
     }
-    Ok(take_verdict(moment, verdict, floors, gates))
-}
-
-/// Takes what the rules made of a line into the floors and the gates, and gives the answer.
-pub(crate) fn take_verdict(
-    moment: u64,
-    verdict: Verdict,
-    floors: &mut [Next],
-    gates: &mut [Gate],
-) -> Answer
-    requires recordable { IsRecordable (length floors.old) moment verdict }
-    requires gates { length gates.old ≡ length floors.old }
-    ensures floors { floors.new ≡ floors_after floors.old verdict }
-    ensures gates { gates.new ≡ gates_after gates.old moment verdict }
-    ensures answer { result ≡ (told_by verdict).answer }
-{
-    match verdict {
-        Verdict::BadLine => Answer::BadLine,
-        Verdict::Refused(nonce, outcome) => Answer::Reply(nonce, outcome),
-        Verdict::Fails(nonce, outcome, token) => {
-            gates[token.value() as usize].fail(moment);
-            Answer::Reply(nonce, outcome)
-        }
-        Verdict::Proposes {
-            nonce,
-            token,
-            lo: _,
-            hi,
-        } => {
-            let place = token.value() as usize;
-            floors[place] = Next::after(hi);
-            gates[place].clear();
-            Answer::Reply(nonce, Outcome::Accepted(hi))
-        }
-    }
+    Ok(())
 }

@@ -1,82 +1,116 @@
-ghost use Rattle.std.specs.Prelude.{◌≡◌, length, IfOk, List};
+ghost use Rattle.std.specs.Option.{option_map};
+ghost use Rattle.std.specs.Prelude.{◌≡◌, ℕ, length, IfErr, IfOk, List};
 ghost use Rattle.otp_core.specs.Limits.{Limits};
 ghost use Rattle.token_file.specs.Credential.{Credential};
-ghost use Rattle.oath_node.specs.ReferenceServer.{Server, server_at};
+ghost use Rattle.oath_node.specs.Alone.{span_of};
+ghost use Rattle.oath_node.specs.ReferenceServer.{Server, server_at, service_of};
 ghost use Rattle.oath_node.specs.Serving.{IsAnswered, IsServing};
+ghost use Rattle.oath_node.specs.declared.fault.OpenFault.{OpenFault};
 
-use crate::fault::OpenFault;
-use crate::rules::judge;
-use crate::run::{ClientLine, take_verdict};
-use admit_core::{Gate, gate_keeps_throttle};
+use crate::event::Event;
+use crate::fault::{NodeFault, OpenFault};
+use crate::item::Item;
+use crate::laws::one_node_answers_as_the_server;
+use crate::node::Node;
+use crate::run::ClientLine;
 use arrayvec::ArrayVec;
+use floor_store::{MemStore, Pass};
 use otp_core::{Next, Settings};
 use std::alloc::Global;
 use std::marker::Model;
-use token_file::Book;
-use vote_wire::{MAX_SENT_LEN, write_answer};
+use token_file::{Book, MAX_TOKENS};
+use vote_core::Place;
+use vote_wire::{ClusterKey, MAX_SENT_LEN};
 
-/// A server over the tokens of a book, which answers each line when it is asked.
+/// A server over the tokens of a book, which answers each line when it is asked: a node that is alone, over a store
+/// in memory.
 #[derive(Drop)]
 pub struct LineServer<'b> {
-    book: &'b Book,
-    settings: Settings,
-    floors: Vec<Next>,
-    gates: Vec<Gate>,
+    node: Node<'b, MemStore>,
 }
 
 impl<'b> Model for LineServer<'b> {
-    ghost use Rattle.std.specs.Prelude.{◌≡◌, length};
-    ghost use Rattle.oath_node.specs.Serving.{Serving};
+    ghost use Rattle.floor_store.specs.Content.{Content};
+    ghost use Rattle.oath_node.specs.Hosted.{Hosted};
 
-    ghost Value = { Serving };
+    ghost Value = { Hosted Content };
 
-    ghost view = { λ server. record {
-      book = server.book.now;
-      limits = server.settings;
-      floors = server.floors.items;
-      gates = server.gates.items;
-    } };
-
-    ghost invariant = { λ server. (length server.floors.items ≡ length server.book.now)
-        × (length server.gates.items ≡ length server.book.now) };
+    ghost view = { λ server. server.node };
 }
 
 impl<'b> LineServer<'b> {
-    /// A server with these first free factors, of which there is one for each token of the book, and with no
-    /// failures before. The one refusal is that memory ran out.
+    /// A server with these first free factors, of which there is one for each token of the book, with no
+    /// failures before, and no answer kept. It has no members to hear under the key. The one refusal is that
+    /// memory ran out.
     pub fn new(
         alloc: Global,
         book: &'b Book,
         settings: Settings,
+        key: &'b ClusterKey,
         floors: &[Next],
     ) -> Result<Self, OpenFault>
         requires { length floors.now ≡ length book.now }
-        ensures { IfOk result (λ server. IsServing server book.now settings (server_at floors.now)) }
+        ensures serving { IfOk result (λ server. IsServing server book.now settings 0 (server_at floors.now)) }
+        ensures refusal { IfErr result (λ fault. fault ≡ OpenFault.Memory) }
     {
-        let gates = vec![in alloc; Gate::default(); floors.len()]?;
-        Ok(LineServer {
-            book,
-            settings,
-            floors: Vec::from_slice(alloc, floors)?,
-            gates,
-        })
+        if floors.len() > MAX_TOKENS {
+            return Err(OpenFault::Memory);
+        }
+        let Ok(store) = MemStore::new(alloc, floors) else {
+            return Err(OpenFault::Memory);
+        };
+        let place = Place::new(1, 1).unwrap();
+        match Node::open(alloc, book, settings, place, key, store) {
+            Ok(node) => Ok(LineServer { node }),
+            // A store that was just made is at boot 0.
+            Err(_) => Err(OpenFault::Memory),
+        }
     }
 
-    /// The answer to a line, in 1 to 64 bytes without a line end. It takes no memory.
-    pub fn answer(&mut self, line: &ClientLine<'_>) -> ArrayVec<u8, MAX_SENT_LEN>
-        ensures { (book : List Credential) (limits : Limits) (server : Server)
-            → IsServing self.old book limits server → IsAnswered self.new book limits server line.now result.items }
+    /// The answer to a line, in 1 to 64 bytes without a line end: one that was kept for this client and line, or
+    /// what the rules say. It takes no memory.
+    ///
+    /// # Errors
+    /// `Spent` where a line is right but 2^62 were accepted before, and then `Stopped`. The first 2^62 lines are
+    /// answered.
+    pub fn answer(&mut self, line: &ClientLine<'_>) -> Result<ArrayVec<u8, MAX_SENT_LEN>, NodeFault>
+        ensures { (book : List Credential) (limits : Limits) (count : ℕ) (server : Server)
+            → IsServing self.old book limits count server
+            → IsAnswered self.new book limits count server line.now (λ bytes. bytes.items) result }
     {
-        gate_keeps_throttle();
-        let verdict = judge(
-            self.book,
-            self.settings,
-            &self.floors,
-            &self.gates,
-            line.moment,
-            line.line,
-        );
-        let answer = take_verdict(line.moment, verdict, &mut self.floors, &mut self.gates);
-        write_answer(&answer)
+        match self.serve(line) {
+            Ok((bytes, _)) => Ok(bytes),
+            Err(fault) => Err(fault),
+        }
+    }
+
+    /// The answer to a line, and the pass where it is accepted.
+    pub(crate) fn serve(
+        &mut self,
+        line: &ClientLine<'_>,
+    ) -> Result<(ArrayVec<u8, MAX_SENT_LEN>, Option<Pass>), NodeFault>
+        ensures answer { (book : List Credential) (limits : Limits) (count : ℕ) (server : Server)
+            → IsServing self.old book limits count server
+            → IsAnswered self.new book limits count server line.now (λ told. told.0.items) result }
+        ensures pass { (book : List Credential) (limits : Limits) (count : ℕ) (server : Server)
+            → IsServing self.old book limits count server
+            → IfOk result (λ told. option_map span_of told.1
+            ≡ (service_of book limits server line.now).told.accepted) }
+    {
+        one_node_answers_as_the_server();
+        let event = Event::Client {
+            client: line.client,
+            moment: line.moment,
+            line: line.line,
+        };
+        let outputs = match self.node.handle(event) {
+            Ok(outputs) => outputs,
+            Err(fault) => return Err(fault),
+        };
+        match outputs.items().next() {
+            Some(Item::Reply { bytes, .. }) => Ok((bytes, outputs.pass())),
+            Some(Item::Datagram { .. }) => Err(NodeFault::Stopped),
+            None => Err(NodeFault::Stopped),
+        }
     }
 }

@@ -1,12 +1,19 @@
-use Rattle.std.proofs.Common.{refl}
-use Rattle.oath_node.proofs.ServingLemmas.{gates_at_start}
+use Rattle.std.proofs.Common.{◌≡◌, sym, ap, subst, ◌∙◌}
+use Rattle.std.specs.Prelude.{IfSome}
+use Rattle.oath_node.specs.Alone.{IsAlone, alone_place}
+use Rattle.oath_node.specs.Machine.{opened_node}
+use Rattle.oath_node.specs.ReferenceServer.{server_at}
+use Rattle.oath_node.proofs.ServingLemmas.{alone_at_start}
 use Rattle.oath_node.proofs.server.LineServer.new.Goals as goal
 
-pub returns : goal.returns
-returns c = record {
-  book_is = refl;
-  limits_are = refl;
-  floors_are = c.in_ok-from_slice.ensures.items;
-  gates_are = gates_at_start c.args.floors.now c.default.result c.in_ok-gates.gates.items c.default.ensures
-      (c.in_ok-gates.ensures.items_if_clones_equal (λ y same. same));
-}
+pub returns-in-Ok-open-clause-serving : goal.returns-in-Ok-open-clause-serving
+returns-in-Ok-open-clause-serving c =
+    let floors = c.args.floors.now in
+    let opened = c.in-Ok-open.ensures.opened.state tt ∙ ap opened_node c.in-Ok.ensures.opening in
+    let place = subst (λ found. IfSome found (λ p. p ≡ alone_place)) c.unwrap-place.ensures c.new-2.ensures.value in
+    record {
+      book_is = c.in-Ok-open.ensures.book;
+      limits_are = c.in-Ok-open.ensures.limits;
+      place_is = c.in-Ok-open.ensures.place ∙ place;
+      alone = subst (λ x. IsAlone 0 x (server_at floors)) (sym opened) (alone_at_start floors);
+    }

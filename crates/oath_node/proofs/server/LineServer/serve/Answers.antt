@@ -1,0 +1,55 @@
+use Rattle.std.proofs.Common.{◌≡◌, ◌^◌, ◌<◌, ℕ, List, Some, sym, ap, subst, ◌∙◌}
+use Rattle.std.specs.Option.{option_map}
+use Rattle.std.specs.Prelude.{IfOk}
+use Rattle.otp_core.specs.Limits.{Limits}
+use Rattle.token_file.specs.Credential.{Credential}
+use Rattle.oath_node.specs.Alone.{span_of}
+use Rattle.oath_node.specs.ReferenceServer.{Line, Server, service_of}
+use Rattle.oath_node.specs.Serving.{IsAnswered, IsServing}
+use Rattle.oath_node.specs.declared.item.Item.TheVariants.{Reply}
+use Rattle.oath_node.proofs.ServingLemmas.{IsGiven, first_taken, given, no_datagram, no_end, same_bytes}
+use Rattle.oath_node.proofs.server.LineServer.serve.Goals as goal
+use Rattle.oath_node.proofs.server.LineServer.serve.Goals.{in-Some-Reply, in-Some-Datagram, in-None}
+
+told : (c : goal.Joined-next) (book : List Credential) (limits : Limits) (count : ℕ) (server : Server)
+    → IsServing c.args.self.now book limits count server → IsGiven c.handle.new.self book limits count server c.args.line.now c.in-Ok.outputs
+told c book limits count server h =
+    let node = c.self.inside.node in
+    let line : Line = record { client = c.line.inside.client; moment = c.line.inside.moment; text = c.line.inside.line.now } in
+    subst (λ (l : Line). IsGiven c.handle.new.self book limits count server l c.in-Ok.outputs) c.line.view_is
+    (given c.one_node_answers_as_the_server.ensures.serves node c.handle.new.self line c.in-Ok.outputs
+    (c.in-Ok.ensures.handles.made tt) c.in-Ok.ensures.handles.same c.in-Ok.ensures.handles.runs.1 book limits count server
+    (subst (λ x. IsServing x book limits count server) (sym c.self.view_is) h))
+
+-- the item that is taken is the server's reply
+taken : (c : goal.Joined-next) (book : List Credential) (limits : Limits) (count : ℕ) (server : Server)
+    → IsServing c.args.self.now book limits count server
+    → c.next.result ≡ Some (Reply c.args.line.now.client (record { items = (service_of book limits server c.args.line.now).told.bytes }))
+taken c book limits count server h =
+    first_taken c.items.result c.next.new.self c.next.result _ c.next.ensures.steps (c.items.ensures ∙ (told c book limits count server h).items)
+
+pub returns-clause-answer : goal.returns-clause-answer
+returns-clause-answer c = λ book limits count server h.
+    let here = taken c book limits count server h in
+    let new = c.handle.new.self in
+    let line = c.args.line.now in
+    elim c.match-next.branch [
+      | in-Some-Reply w ↦ subst (λ r. IsAnswered new book limits count server line (λ told. told.0.items) r) (sym w.result-is) (record {
+        answer = ap (λ b. b.items) (same_bytes w.in-Some-Reply.field-0-0 _ w.in-Some-Reply.bytes _ (ap (λ x. Some x) (sym w.in-Some-Reply.field-0-is) ∙ sym w.in-Some-Reply.is ∙ here));
+        serving = (told c book limits count server h).serving;
+        refused = tt;
+      })
+      | in-Some-Datagram w ↦ absurd (no_datagram _ _ _ _ (ap (λ x. Some x) (sym w.in-Some-Datagram.field-0-is) ∙ sym w.in-Some-Datagram.is ∙ here))
+      | in-None w ↦ absurd (no_end _ _ (sym w.in-None.is ∙ here))
+    ]
+
+pub returns-clause-pass : goal.returns-clause-pass
+returns-clause-pass c = λ book limits count server h.
+    let here = taken c book limits count server h in
+    let accepted = (service_of book limits server c.args.line.now).told.accepted in
+    elim c.match-next.branch [
+      | in-Some-Reply w ↦ subst (λ r. IfOk r (λ told. option_map span_of told.1 ≡ accepted)) (sym w.result-is)
+          (ap (option_map span_of) w.pass.ensures ∙ (told c book limits count server h).pass)
+      | in-Some-Datagram w ↦ absurd (no_datagram _ _ _ _ (ap (λ x. Some x) (sym w.in-Some-Datagram.field-0-is) ∙ sym w.in-Some-Datagram.is ∙ here))
+      | in-None w ↦ absurd (no_end _ _ (sym w.in-None.is ∙ here))
+    ]
