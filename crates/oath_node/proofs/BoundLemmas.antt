@@ -1,5 +1,5 @@
 -- How much one event sends and replies.
-use Rattle.std.proofs.Common.{◌≡◌, ◌≢◌, ℕ, zero, suc, ◌+◌, ◌*◌, ◌-◌, ◌^◌, ◌≤◌, Bool, true, false, cond, eqb, List, [], ◌∷◌, ◌++◌, length, map, Option, Some, None, refl, sym, ap, subst, ◌∙◌, inl, inr, arith, length-append}
+use Rattle.std.proofs.Common.{◌≡◌, ℕ, zero, suc, ◌+◌, ◌*◌, ◌-◌, ◌^◌, ◌≤◌, Bool, true, false, cond, List, [], ◌∷◌, ◌++◌, length, map, Option, Some, None, refl, ap, ◌∙◌, inl, inr, arith, length-append}
 use Rattle.std.specs.Prelude.{◌==◌, filter, nat_le, nat_lt, not}
 use Rattle.std.specs.List.{flat_map}
 use Rattle.std.proofs.lemmas.Bool.{cond_both, cases_eq, eq-eqb}
@@ -19,9 +19,8 @@ use Rattle.vote_core.specs.declared.message.Message.TheVariants.{Ask, Grant, Den
 use Rattle.vote_core.specs.declared.step.Decision.{Decision}
 use Rattle.vote_core.specs.declared.step.Decision.TheVariants.{Timeout}
 use Rattle.vote_wire.specs.Request.{without_lf}
-use Rattle.answer_ring.specs.Answers.{KeptAnswer}
 use Rattle.oath_node.specs.Machine.{Beginning, Config, Made, NodeEvent, Client, Peer, Tick, NodeState, Owner, answer_to_decision, answers_to_decisions, is_heard, made_by_datagram, made_by_event, made_by_message, made_by_proposal, made_by_ruling, made_by_vote, made_while_running, next_beginning, next_owner, owner_with, quiet_made, reply_with, ruling_at, stopped_node}
-use Rattle.oath_node.specs.Outputs.{datagram_item, items_of, outputs_of, reply_item}
+use Rattle.oath_node.specs.Outputs.{datagram_item, outputs_of, reply_item}
 use Rattle.oath_node.specs.Rules.{Ruling, Outside, Again, Waiting, Denied, Wrong, Fitting}
 
 filter_le : {X : Type 0} (p : X → Bool) (xs : List X) → length (filter p xs) ≤ length xs

@@ -1,22 +1,19 @@
 -- A line leads from a state of the reference server to the next one.
-use Rattle.std.proofs.Common.{◌≡◌, ℕ, ◌+◌, ◌^◌, ◌<◌, List, [], ◌∷◌, length, replicate, Option, Some, None, refl, sym, ap, subst, ◌∙◌, arith, ◌≤◌, true, false}
+use Rattle.std.proofs.Common.{◌≡◌, ℕ, ◌+◌, List, [], ◌∷◌, length, replicate, Option, Some, None, refl, sym, ap, subst, ◌∙◌, arith, true}
 use Rattle.std.specs.Map.Iter.{TakesFirst}
 use Rattle.std.specs.Option.{option_map}
 use Rattle.otp_core.specs.Limits.{Limits}
 use Rattle.token_file.specs.Credential.{Credential}
 use Rattle.admit_core.specs.Gate.{clear_gate}
 use Rattle.floor_store.specs.Content.{Content, opening_content}
-use Rattle.floor_store.specs.Held.{Held}
 use Rattle.vote_core.specs.NodeSet.{PlaceRecord}
 use Rattle.oath_node.specs.Alone.{IsAlone, ServesAlone, alone_place, floors_in, gates_in, gates_of, span_of}
-use Rattle.oath_node.specs.Calls.{FailsBy, IsMade}
+use Rattle.oath_node.specs.Calls.{IsMade}
 use Rattle.oath_node.specs.Hosted.{Hosted, IsSameNode, config_of}
-use Rattle.oath_node.specs.Machine.{Client, Config, Made, NodeEvent, NodeState, made_by_event, opened_node}
+use Rattle.oath_node.specs.Machine.{Client, Config, Made, NodeState, made_by_event, opened_node}
 use Rattle.oath_node.specs.Outputs.{OutputsRecord, items_of}
 use Rattle.oath_node.specs.ReferenceServer.{Line, Server, server_at, service_of}
 use Rattle.oath_node.specs.Serving.{IsServing, state_in_memory}
-use Rattle.oath_node.specs.declared.fault.NodeFault.{NodeFault}
-use Rattle.oath_node.specs.declared.fault.NodeFault.TheVariants.{Store, Stopped, Spent}
 use Rattle.oath_node.specs.declared.item.Item.{Item}
 use Rattle.oath_node.specs.declared.item.Item.TheVariants.{Datagram, Reply}
 

@@ -5,7 +5,6 @@ use Rattle.floor_store.specs.Content.{Content}
 use Rattle.floor_store.specs.Records.{PassRecord, RowRecord}
 use Rattle.vote_core.specs.Cases.{BallotView, ballot, free_row, open_row, place, proposal, voter, voter_seen}
 use Rattle.vote_core.specs.declared.message.Message.{Message}
-use Rattle.answer_ring.specs.Answers.{KeptAnswer}
 use Rattle.vote_core.specs.declared.message.Message.TheVariants.{Deny, Grant}
 use Rattle.oath_node.specs.Examples.{narrow_limits, three_tokens}
 use Rattle.oath_node.specs.Machine.{Beginning, Config, Made, NodeEvent, NodeState, Client, Peer, made_by_event}

@@ -10,8 +10,12 @@ use Rattle.oath_node.specs.Machine.{NodeState}
 use Rattle.oath_node.specs.ReferenceServer.{Line, Server, service_of}
 use Rattle.oath_node.specs.declared.fault.NodeFault.{NodeFault}
 
--- the machine of a node over a store in memory
-abbrev pub state_in_memory : Hosted Content → NodeState
+-- what a server is: a node over a store in memory
+abbrev pub Serving : Type 0
+Serving = Hosted Content
+
+-- the machine of such a node
+abbrev pub state_in_memory : Serving → NodeState
 state_in_memory node = record {
   content = node.store;
   voter = voter_of node.voter;
@@ -21,16 +25,23 @@ state_in_memory node = record {
 }
 
 -- the node, which is alone, is this state of the reference server over a book, after so many lines
-pub record IsServing (node : Hosted Content) (book : List Credential) (limits : Limits) (count : ℕ)
+pub record IsServing (node : Serving) (book : List Credential) (limits : Limits) (count : ℕ)
     (server : Server) : Type 0 where
   pub book_is : node.book ≡ book
   pub limits_are : node.limits ≡ limits
   pub place_is : node.voter.place ≡ alone_place
   pub alone : IsAlone count (state_in_memory node) server
 
+-- the node is a state of the reference server over some book, after so many lines
+pub record IsServerAfter (node : Serving) (count : ℕ) : Type 0 where
+  pub book : List Credential
+  pub limits : Limits
+  pub server : Server
+  pub serving : IsServing node book limits count server
+
 -- An answer has these bytes, as the reference server answers the line, and the node is its next state. The first 2^62
 -- lines are answered.
-pub record IsAnswered {A : Type 0} (node : Hosted Content) (book : List Credential) (limits : Limits) (count : ℕ)
+pub record IsAnswered {A : Type 0} (node : Serving) (book : List Credential) (limits : Limits) (count : ℕ)
     (server : Server) (line : Line) (bytes_in : A → List ℕ) (result : Result A NodeFault) : Type 0 where
   pub answer : IfOk result (λ value. bytes_in value ≡ (service_of book limits server line).told.bytes)
   pub serving : OnOk result

@@ -1,4 +1,4 @@
-use Rattle.std.proofs.Common.{◌<◌, ◌^◌, ap, ◌∙◌, arith}
+use Rattle.std.proofs.Common.{ap, ◌∙◌}
 use Rattle.oath_node.specs.ReferenceServer.{Line, service_of}
 use Rattle.oath_node.specs.Report.{with_told}
 use Rattle.oath_node.proofs.RunLemmas.{told_with}

@@ -1,11 +1,11 @@
-use Rattle.std.proofs.Common.{◌≡◌, ◌≤◌, ◌<◌, ℕ, Bool, true, false, List, length, None, Some, Option, refl, sym, ap, subst, ◌∙◌}
+use Rattle.std.proofs.Common.{◌≡◌, ◌<◌, ℕ, true, false, List, length, None, Some, refl, sym, ap, ◌∙◌}
 use Rattle.vote_wire.specs.Answer.{answer_bytes}
 use Rattle.vote_wire.specs.Request.{request_at, without_lf}
 use Rattle.vote_wire.specs.declared.answer.Answer.TheVariants.{BadLine}
-use Rattle.answer_ring.specs.Answers.{KeptAnswer, kept_answer}
-use Rattle.oath_node.specs.Machine.{Made, NodeState, Owner, is_owned, made_by_line, made_by_ruling, quiet_made, reply_made, ruling_at}
-use Rattle.oath_node.specs.Outputs.{OutputsRecord, reply_outputs}
-use Rattle.oath_node.specs.Parts.{Steps, state_in}
+use Rattle.answer_ring.specs.Answers.{kept_answer}
+use Rattle.oath_node.specs.Machine.{Owner, is_owned, made_by_line, made_by_ruling, quiet_made, reply_made, ruling_at}
+use Rattle.oath_node.specs.Outputs.{reply_outputs}
+use Rattle.oath_node.specs.Parts.{state_in}
 use Rattle.oath_node.specs.Rules.{Ruling, verdict_ruling}
 use Rattle.oath_node.proofs.FitLemmas.{proposes_less}
 use Rattle.oath_node.proofs.LineLemmas.{line_unread, line_again, line_waits, ruled}
