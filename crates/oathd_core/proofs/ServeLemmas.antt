@@ -1,5 +1,5 @@
 -- Lines of clients are answered one after another.
-use Rattle.std.proofs.Common.{cond, ◌≡◌, ℕ, ◌+◌, List, [], ◌∷◌, ◌++◌, length, take, Option, Some, None, IfSome, refl, sym, ap, subst, ◌∙◌, inl, inr}
+use Rattle.std.proofs.Common.{cond, ◌≡◌, ◌≤◌, ℕ, ◌+◌, List, [], ◌∷◌, ◌++◌, length, take, Option, Some, None, IfSome, refl, sym, ap, subst, ◌∙◌, inl, inr}
 use Rattle.std.specs.Prelude.{◌==◌, ◌⊎◌, map, Result, Ok, Err, IfErr, IsErrAnd, IsTrue}
 use Rattle.std.specs.Option.{option_map}
 use Rattle.std.specs.Io.KnownBytes.{Appends, prepend_known}
@@ -16,10 +16,9 @@ use Rattle.token_file.specs.UsersFile.{Import, IsCutOff, book_of, instant_of, is
 use Rattle.token_file.specs.declared.fault.FileFault.{FileFault}
 use Rattle.token_file.specs.declared.fault.LineFault.{LineFault}
 use Rattle.token_file.specs.declared.fault.LineFault.TheVariants.{Read}
-use Rattle.vote_wire.specs.Answer.{answer_bytes}
 use Rattle.oath_node.specs.ReferenceServer.{Line, Server, server_at, service_of}
 use Rattle.oath_node.specs.Report.{report_from}
-use Rattle.oath_node.specs.Serving.{IsAnswered, IsServing, Serving}
+use Rattle.oath_node.specs.Serving.{IsServerAfter, IsServing, Serving}
 use Rattle.oathd_core.specs.Client.{LinesRead, client_line_of, client_lines, with_line}
 use Rattle.oathd_core.specs.Fault.{input_fault_of}
 use Rattle.oathd_core.specs.Input.{TakesLine, line_text, lines_of}
@@ -42,15 +41,15 @@ answers_numbered : (book : List Credential) (limits : Limits) (m n : ℕ) (s : S
 unfolding report_from
 answers_numbered book limits m n s [] = refl
 answers_numbered book limits m n s (l ∷ ls) =
-    ap (λ (xs : List (List ℕ)). answer_bytes (service_of book limits s l).told.answer ∷ xs)
+    ap (λ (xs : List (List ℕ)). (service_of book limits s l).told.bytes ∷ xs)
     (answers_numbered book limits (m + 1) (n + 1) (service_of book limits s l).server ls)
 
 answers_more : (book : List Credential) (limits : Limits) (s : Server) (l : Line) (ls : List Line)
     → answers_from book limits s (l ∷ ls)
-    ≡ answer_bytes (service_of book limits s l).told.answer ∷ answers_from book limits (service_of book limits s l).server ls
+    ≡ (service_of book limits s l).told.bytes ∷ answers_from book limits (service_of book limits s l).server ls
 unfolding report_from
 answers_more book limits s l ls =
-    ap (λ (xs : List (List ℕ)). answer_bytes (service_of book limits s l).told.answer ∷ xs)
+    ap (λ (xs : List (List ℕ)). (service_of book limits s l).told.bytes ∷ xs)
     (answers_numbered book limits (0 + 1) 0 (service_of book limits s l).server ls)
 
 answers_none : (book : List Credential) (limits : Limits) (s : Server) → answers_from book limits s [] ≡ []
@@ -60,6 +59,14 @@ answers_none book limits s = refl
 printed_more : (done : List (List ℕ)) (answer : List ℕ) → printed_lines (done ++ answer ∷ []) ≡ printed_lines done ++ line_of answer
 printed_more done answer = flat_map-append line_of done (answer ∷ []) ∙ ap (λ (l : List ℕ). printed_lines done ++ l) (append-nil (line_of answer))
 
+-- ---- no input has too many lines
+
+-- so many lines are answered that each took a byte off the room that there was
+pub record HasAnsweredFew (held : Serving) (room whole : ℕ) : Type 0 where
+  pub count : ℕ
+  pub server : IsServerAfter held count
+  pub few : count + room ≤ whole
+
 -- ---- before the line of a number
 
 -- some answers are written, and those to the lines that are left are the rest of these, up to this bad line
@@ -67,20 +74,28 @@ pub record IsAnswering (book : List Credential) (limits : Limits) (answers : Lis
     (number room : ℕ) (left old new : Option (List ℕ)) : Type 0 where
   pub text : List ℕ
   pub left_is : left ≡ Some text
+  pub count : ℕ
   pub server : Server
-  pub serving : IsServing held book limits server
+  pub serving : IsServing held book limits count server
   pub done : List (List ℕ)
   pub written : Appends old new (printed_lines done)
   pub answers_are : done ++ answers_from book limits server (client_lines number (lines_of room text)).good ≡ answers
   pub bad_is : (client_lines number (lines_of room text)).bad ≡ bad
 
+-- a line is answered with these bytes, and what is held is the server after it
+pub record IsAnsweredSo (held : Serving) (book : List Credential) (limits : Limits) (count : ℕ) (server : Server) (line : Line)
+    (bytes : List ℕ) : Type 0 where
+  pub answer : bytes ≡ (service_of book limits server line).told.bytes
+  pub serving : IsServing held book limits (count + 1) (service_of book limits server line).server
+
 pub answering_start : (book : List Credential) (limits : Limits) (s : Server) (held : Serving) (number room : ℕ) (left out : Option (List ℕ))
-    → IsServing held book limits s → IfSome left (λ text. IsAnswering book limits
+    → IsServing held book limits 0 s → IfSome left (λ text. IsAnswering book limits
     (answers_from book limits s (client_lines number (lines_of room text)).good) (client_lines number (lines_of room text)).bad held number room left out out)
 answering_start book limits s held number room None out serving = tt
 answering_start book limits s held number room (Some text) out serving = record {
   text = text;
   left_is = refl;
+  count = 0;
   server = s;
   serving = serving;
   done = [];
@@ -94,19 +109,21 @@ module _ (book : List Credential) (limits : Limits) (answers : List (List ℕ)) 
   pub answering_next : (mid : Option (List ℕ)) (h : IsAnswering book limits answers bad held number room left old mid)
       (line : List ℕ) (room' : ℕ) (left' : Option (List ℕ)) → IfSome left (λ text. TakesLine Whole line room text room' left')
       → (l : Line) → Some l ≡ client_line_of (line_text line) → (held' : Serving) (bytes : List ℕ)
-      → ((book : List Credential) (limits : Limits) (s : Server) → IsServing held book limits s → IsAnswered held' book limits s l bytes)
+      → ((count : ℕ) (s : Server) → IsServing held book limits count s
+      → IsAnsweredSo held' book limits count s l bytes)
       → (new : Option (List ℕ)) → Appends mid new (line_of bytes)
       → IsAnswering book limits answers bad held' (number + 1) room' left' old new
   answering_next mid h line room' left' takes l is held' bytes answers_line new written =
       let k : TakesLine Whole line room h.text room' left' = subst (λ (o : Option (List ℕ)). IfSome o (λ text. TakesLine Whole line room text room' left')) h.left_is takes in
       let rest = client_lines (number + 1) (lines_of room' k.rest) in
-      let answered = answers_line book limits h.server h.serving in
+      let answered = answers_line h.count h.server h.serving in
       let server = (service_of book limits h.server l).server in
       let read : client_lines number (lines_of room h.text) ≡ record { good = l ∷ rest.good; bad = rest.bad } =
       ap (client_lines number) k.next.0 ∙ ap (λ (o : Option Line). with_line number o rest) (sym is) in
       record {
         text = k.rest;
         left_is = k.remaining_is;
+        count = h.count + 1;
         server = server;
         serving = answered.serving;
         done = h.done ++ bytes ∷ [];

@@ -1,4 +1,4 @@
-ghost use Rattle.std.specs.Prelude.{◌≡◌, ◌↔◌, ◌-◌, ◌≤◌, length, IfSome, IfOk, OnOk, OnErr, IsTrue};
+ghost use Rattle.std.specs.Prelude.{◌≡◌, ◌↔◌, ◌-◌, ◌<◌, ◌≤◌, ◌^◌, length, IfSome, IfOk, OnOk, OnErr, IsTrue};
 ghost use Rattle.std.specs.Io.BufRead.{DropsThrough, take_through};
 ghost use Rattle.std.specs.Io.KnownBytes.{Consumes};
 ghost use Rattle.oathd_core.specs.Input.{HasLine, HasRoom, TakesLine, is_mark, line_text};
@@ -61,6 +61,14 @@ impl<B: BufRead> Input<B> {
             reader,
             room: limit,
         }
+    }
+
+    /// How many bytes of it are within the limit.
+    pub(crate) fn room(&self) -> u32
+        ensures value { result ≡ self.now.room }
+        ensures range { result < 2 ^ 32 }
+    {
+        self.room
     }
 
     /// Takes the bytes up to the next LF off, or all where there is none, and tells whether they are within the

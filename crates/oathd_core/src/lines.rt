@@ -1,11 +1,11 @@
-ghost use Rattle.std.specs.Prelude.{◌≡◌, ◌+◌, IfErr, IfSome, List, OnOk, take};
+ghost use Rattle.std.specs.Prelude.{◌≡◌, ◌+◌, ℕ, IfErr, IfSome, List, OnOk, take};
 ghost use Rattle.std.specs.Io.KnownBytes.{Appends};
 ghost use Rattle.command_line.specs.Line.{line_of};
 ghost use Rattle.otp_core.specs.Limits.{Limits};
 ghost use Rattle.otp_core.specs.Range.{IsMoment};
 ghost use Rattle.token_file.specs.Credential.{Credential};
 ghost use Rattle.oath_node.specs.ReferenceServer.{Server};
-ghost use Rattle.oath_node.specs.Serving.{IsServing};
+ghost use Rattle.oath_node.specs.Serving.{IsServerAfter, IsServing};
 ghost use Rattle.oathd_core.specs.Client.{client_lines};
 ghost use Rattle.oathd_core.specs.Input.{lines_of};
 ghost use Rattle.oathd_core.specs.Run.{EndsSo, IsBehindUsers, IsCutSo, run_of, run_of_server, run_read};
@@ -21,6 +21,7 @@ use otp_core::Settings;
 use std::alloc::Global;
 use std::io::{BufRead, BufReader, Read, Write};
 use token_file::read_book;
+use vote_wire::ClusterKey;
 
 /// Writes an answer on a line of its own, and flushes it.
 fn write_answer<W: Write>(writer: &mut W, answer: &[u8]) -> Result<(), Fault>
@@ -40,19 +41,26 @@ fn answer_lines<B: BufRead + Drop, W: Write>(
     first: u64,
     writer: &mut W,
 ) -> Result<(), Fault>
+    requires { IsServerAfter server.old 0 }
     ensures ends { (book : List Credential) (limits : Limits) (state : Server)
-        → IsServing server.old book limits state → IfSome (B.remaining input.reader) (λ text. EndsSo
+        → IsServing server.old book limits 0 state → IfSome (B.remaining input.reader) (λ text. EndsSo
         (run_of_server book limits state (client_lines first (lines_of input.room text)))
         result (W.contents writer.old) (W.contents writer.new)) }
     ensures behind { IfErr result IsBehindUsers }
 {
+    // Each line takes a byte of the room at least, so that there are fewer than 2^32.
+    let _room = input.room();
     let mut line = Vec::new(alloc);
     for number in first..u64::MAX {
         match input.next_line(&mut line)? {
             NextLine::End => return Ok(()),
             NextLine::Cut => return Err(Fault::InputLine(number)),
             NextLine::Whole => match read_client_line(text_of(&line)) {
-                Some(line) => write_answer(writer, &server.answer(&line))?,
+                Some(line) => match server.answer(&line) {
+                    Ok(answer) => write_answer(writer, &answer)?,
+                    // It isn't refused before 2^62 lines.
+                    Err(_) => unreachable!(),
+                },
                 None => return Err(Fault::InputLine(number)),
             },
         }
@@ -61,11 +69,13 @@ fn answer_lines<B: BufRead + Drop, W: Write>(
     Err(Fault::Memory)
 }
 
-/// Reads the users file of an input, and answers the lines behind it.
+/// Reads the users file of an input, and answers the lines behind it by a node that has no members to hear under
+/// the key.
 fn serve_input<B: BufRead + Drop, W: Write>(
     alloc: Global,
     settings: Settings,
     moment: u64,
+    key: &ClusterKey,
     input: Input<B>,
     writer: &mut W,
 ) -> Result<(), Fault>
@@ -82,13 +92,14 @@ fn serve_input<B: BufRead + Drop, W: Write>(
         Err(fault) => return Err(users.fault(fault)),
     };
     let (clients, first) = users.into_clients()?;
-    let mut server = LineServer::new(alloc, &book, settings, &floors)?;
+    let mut server = LineServer::new(alloc, &book, settings, key, &floors)?;
     answer_lines(alloc, &mut server, clients, first, writer)
 }
 
 /// Reads a users file, a line `%%` and lines of clients, answers each line by one node before the next one is read,
-/// and writes each answer on a line of its own and flushes it. Each line of a client is its number, the moment and
-/// its request, with single spaces between. At most `limit` bytes are read, and one more, which tells that the input
+/// and writes each answer on a line of its own and flushes it. The node keeps its last 1,024 answers, but those to bad
+/// lines, and gives one again to the same client and line. Each line of a client is its number, the moment and its
+/// request, with single spaces between. At most `limit` bytes are read, and one more, which tells that the input
 /// goes on: then the line that the limit cuts is bad. The users are imported at the moment given, in seconds since
 /// 1970-01-01 00:00:00 UTC, 0 to 1099511627775. Of the input a piece of 8,192 bytes and one line are held.
 ///
@@ -115,5 +126,13 @@ pub fn serve_lines<R: Read, W: Write>(
     let Ok(held) = BufReader::new(alloc, part) else {
         return Err(Fault::Memory);
     };
-    serve_input(alloc, settings, moment, Input::new(held, limit), writer)
+    let key = ClusterKey::new(&[0; 32]).unwrap();
+    serve_input(
+        alloc,
+        settings,
+        moment,
+        &key,
+        Input::new(held, limit),
+        writer,
+    )
 }

@@ -54,7 +54,7 @@ returns g c =
     let setup : Setup = record { limits = c.args.settings; moment = c.args.moment } in
     let import : Import = record { book = c.in-Ok.read.0; floors = c.in-Ok.read.1.items } in
     let a = g.B.Read.remaining c.args.input.reader in
-    let serving = subst (λ (fs : List ℕ). IsServing c.in_ok-server.server c.in-Ok.read.0 c.args.settings (server_at fs)) c.deref.ensures.value c.in_ok-server.ensures in
+    let serving = subst (λ (fs : List ℕ). IsServing c.in_ok-server.server c.in-Ok.read.0 c.args.settings 0 (server_at fs)) c.deref.ensures.value c.in_ok-server.ensures.serving in
     record {
       ends = served_behind setup 16777216 c.args.input.room a _ import c.new-users.ensures.left c.in-Ok.ensures.book _ _ c.in_ok-clients.first c.in_ok-clients.clients.room
           (g.B.Read.remaining c.in_ok-clients.clients.reader) c.answer_lines.result (g.W.Write.contents c.args.writer.now) (g.W.Write.contents c.answer_lines.new.writer)
