@@ -76,6 +76,9 @@ pub fn runs_are_worked()
     ensures answered { run_at_most 99 99 (codes "#\n%%\n7 1 CHECK 1 a 755224 -\n7 1 x\n7 1\n7 1 x\n")
         ≡ Answered (codes "NO 1 UNKNOWN" ∷ codes "NO - BADLINE" ∷ []) (Some 5) }
     ensures refused { run_at_most 99 99 (codes "#\nHOTP a -\n%%\n7 1 x\n") ≡ Refused (fault_at 2 MissingField) }
+    ensures again { run_at_most 199 299 (codes "HOTP silver pw 3132333435363738393031323334353637383930\n%%\n"
+        ++ codes "7 100 CHECK 1 silver 755224 -\n7 101 CHECK 1 silver 755224 -\n8 102 CHECK 1 silver 755224 -\n")
+        ≡ Answered (codes "NO 1 PASSWORD" ∷ codes "NO 1 PASSWORD" ∷ codes "NO 1 THROTTLED 3" ∷ []) None }
     ensures longest { run_at_most 2 99 (codes "#\n%%\n7 1 x\n") ≡ Answered (codes "NO - BADLINE" ∷ []) None }
     ensures too_long { run_at_most 1 99 (codes "#\n%%\n7 1 x\n") ≡ Refused (fault_at 1 FileTooLong) }
     ensures to_the_limit { run_at_most 2 2 (codes "##") ≡ Answered [] None }

@@ -122,6 +122,15 @@ fn answers_lines(rt: HostRuntime) -> Result<(), Fail> {
             "NO 1 INVALID\nNO 2 THROTTLED 1\nNO 3 INVALID\nNO 4 THROTTLED 1\nOK 5 2\nNO 6 INVALID\n\
             NO 7 THROTTLED 1\nOK 8 3\n",
         ),
+        // the answer is given again to the same client and line, at any moment, and to no other
+        (
+            ahead,
+            0,
+            "HOTP silver - 3132333435363738393031323334353637383930\n%%\n\
+            7 100 CHECK 1 silver 755224 -\n7 1099511627776 CHECK 1 silver 755224 -\n\
+            8 100 CHECK 1 silver 755224 -\n7 103 CHECK 2 silver 755224 -\n7 105 CHECK 1 silver 755224 -\n",
+            "OK 1 0\nOK 1 0\nNO 1 INVALID\nNO 2 THROTTLED 2\nOK 1 0\n",
+        ),
         // nobody is known, and each line is answered
         (
             usual,
