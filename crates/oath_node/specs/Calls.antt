@@ -31,9 +31,9 @@ IsProposal (Fitting nonce token lo hi) = Unit {0}
 
 -- the event is a line for which the rules propose factors
 abbrev pub IsProposing : Config → NodeState → NodeEvent → Type 0
-IsProposing config x (Client client moment line) = IsProposal (ruling_at config x client moment line)
-IsProposing config x (Peer from read) = ⊥
-IsProposing config x Tick = ⊥
+IsProposing config node (Client client moment line) = IsProposal (ruling_at config node client moment line)
+IsProposing config node (Peer from read) = ⊥
+IsProposing config node Tick = ⊥
 
 -- The event is a line whose factors are proposed, and no number is left for the proposal. Nothing changes, but that the
 -- node stops.

@@ -86,11 +86,11 @@ full_node = record (idle_node 32) { voter = voter_seen (voter (replicate 32 (fir
 
 -- what is seen of a step of node 1 of three
 abbrev pub step_among : NodeEvent → NodeState → StepView
-step_among event x = step_view (made_by_event config (place 1 3) event x)
+step_among event node = step_view (made_by_event config (place 1 3) event node)
 
 -- what is seen of a step of a node alone
 abbrev pub step_alone : NodeEvent → NodeState → StepView
-step_alone event x = step_view (made_by_event config (place 1 1) event x)
+step_alone event node = step_view (made_by_event config (place 1 1) event node)
 
 -- a line of client 7 at moment 100
 abbrev pub line : List ℕ → NodeEvent

@@ -74,8 +74,8 @@ lines_of_a_run =
     ∷ line_at 107 (codes "RESYNC e gold 287082 359152 pw") ∷ line_at 108 (codes "CHECK")
     ∷ line_at 109 (codes "CHECK f lead 755224 -") ∷ line_at 110 (codes "CHECK g gold 254676 -") ∷ []
 
--- Silver is right. The same line comes again, outside the range of moments and with an LF; then from another client; then
--- with two other nonces, of which the first comes too early, twice; and a line that is none.
+-- Silver is right. The same line comes again, outside the range of moments and with an LF; then from another client;
+-- then with two other nonces, of which the first comes too early, twice; and a line that is none.
 abbrev pub lines_given_again : List Line
 lines_given_again =
     line_at 100 (codes "CHECK 1 silver 755224 -")

@@ -82,9 +82,9 @@ ArePending ballots [] = Unit {0}
 ArePending ballots (owner ∷ owners) = (is_pending ballots owner.seq ≡ true) × ArePending ballots owners
 
 -- each line that waits has a proposal of its own
-pub record IsOwned (x : NodeState) : Type 0 where
-  pub apart : AreApart x.voter.seq x.owners
-  pub pending : ArePending x.voter.pending x.owners
+pub record IsOwned (node : NodeState) : Type 0 where
+  pub apart : AreApart node.voter.seq node.owners
+  pub pending : ArePending node.voter.pending node.owners
 
 -- What holds of every node. Of one that is stopped this is only that its store has a row for each token.
 pub record IsNode {S : Type 0} (held : S → Held) (node : Hosted S) : Type 0 where

@@ -76,12 +76,12 @@ pub record Made : Type 0 where
 
 -- nothing is sent or replied
 abbrev pub quiet_made : NodeState → Made
-quiet_made x = record { state = x; sends = []; replies = []; began = None; pass = None; failed = None }
+quiet_made node = record { state = node; sends = []; replies = []; began = None; pass = None; failed = None }
 
 -- one reply, and at most a failure
 abbrev pub reply_made : ℕ → List ℕ → Option (ℕ × ℕ) → NodeState → Made
-reply_made client bytes failed x = record {
-  state = x;
+reply_made client bytes failed node = record {
+  state = node;
   sends = [];
   replies = record { client = client; bytes = bytes } ∷ [];
   began = None;
@@ -91,12 +91,12 @@ reply_made client bytes failed x = record {
 
 -- the node, which runs no more
 abbrev pub stopped_node : NodeState → NodeState
-stopped_node x = record x { running = false }
+stopped_node node = record node { running = false }
 
 -- the node with one kept answer more
 abbrev pub node_with_answer : ℕ → List ℕ → List ℕ → NodeState → NodeState
-node_with_answer client line text x =
-    record x { answers = kept_with x.answers (record { client = client; line = line; text = text }) }
+node_with_answer client line text node =
+    record node { answers = kept_with node.answers (record { client = client; line = line; text = text }) }
 
 -- these answers kept too, in order
 abbrev pub kept_with_all : List KeptAnswer → List KeptAnswer → List KeptAnswer
@@ -112,18 +112,18 @@ is_owned owners client line =
 
 -- what the rules ask of a node, for the line of this client and this moment
 abbrev pub standing_at : NodeState → ℕ → ℕ → List ℕ → Standing
-standing_at x client moment line = record {
-  kept = kept_answer x.answers client line;
-  is_waiting = is_owned x.owners client line;
-  is_full = nat_le 32 (length x.voter.pending);
-  next = λ token. (row x.content token).next;
-  wait = λ token. (row x.content token).gate.until - moment;
+standing_at node client moment line = record {
+  kept = kept_answer node.answers client line;
+  is_waiting = is_owned node.owners client line;
+  is_full = nat_le 32 (length node.voter.pending);
+  next = λ token. (row node.content token).next;
+  wait = λ token. (row node.content token).gate.until - moment;
 }
 
 -- what becomes of a client's line, as it came
 abbrev pub ruling_at : Config → NodeState → ℕ → ℕ → List ℕ → Ruling
-ruling_at config x client moment text =
-    ruling config.book config.limits (standing_at x client moment (without_lf text)) moment text
+ruling_at config node client moment text =
+    ruling config.book config.limits (standing_at node client moment (without_lf text)) moment text
 
 -- ---- A failure
 
@@ -137,7 +137,7 @@ content_with_failure token moment content = content_with_gate token (gate_with_f
 
 -- the node with a failure of the token
 abbrev pub node_with_failure : ℕ → ℕ → NodeState → NodeState
-node_with_failure token moment x = record x { content = content_with_failure token moment x.content }
+node_with_failure token moment node = record node { content = content_with_failure token moment node.content }
 
 -- ---- A call of the voter
 
@@ -186,15 +186,15 @@ reply_with answer = record { client = answer.client; bytes = answer.text }
 -- What a call of the voter makes of a node with these owners: it sends what the voter sends, and answers what the voter
 -- decided. These answers are kept.
 abbrev pub made_by_vote : List Owner → Option Beginning → Voted → NodeState → Made
-made_by_vote owners began voted x =
+made_by_vote owners began voted node =
     let told = answers_to_decisions owners voted.pass voted.decisions in
     record {
       state = record {
         content = voted.content;
         voter = voted.voter;
         owners = owners_of_pending voted.voter.pending owners;
-        answers = kept_with_all x.answers told;
-        running = x.running;
+        answers = kept_with_all node.answers told;
+        running = node.running;
       };
       sends = voted.sends;
       replies = map reply_with told;
@@ -207,41 +207,41 @@ made_by_vote owners began voted x =
 
 -- the node's next proposal, for these factors of the token
 abbrev pub next_beginning : PlaceRecord → ℕ → ℕ → ℕ → NodeState → Beginning
-next_beginning place token lo hi x =
-    record { proposal = proposal_of place x.content x.voter; token = token; lo = lo; hi = hi }
+next_beginning place token lo hi node =
+    record { proposal = proposal_of place node.content node.voter; token = token; lo = lo; hi = hi }
 
 -- the owner of the node's next proposal
 abbrev pub next_owner : ℕ → List ℕ → List ℕ → NodeState → Owner
-next_owner client line nonce x = record { seq = x.voter.seq; client = client; line = line; nonce = nonce }
+next_owner client line nonce node = record { seq = node.voter.seq; client = client; line = line; nonce = nonce }
 
 -- the factors of the token are proposed for the line of a client; with no number left the node stops
 unfoldable pub made_by_proposal : PlaceRecord → ℕ → List ℕ → List ℕ → ℕ → ℕ → ℕ → NodeState → Made
-made_by_proposal place client line nonce token lo hi x =
-    let owners = x.owners ++ next_owner client line nonce x ∷ [] in
-    let voted = propose place token lo hi x.content x.voter in
-    if nat_lt x.voter.seq (2 ^ 62)
-    then made_by_vote owners (Some (next_beginning place token lo hi x)) voted x
-    else quiet_made (stopped_node x)
+made_by_proposal place client line nonce token lo hi node =
+    let owners = node.owners ++ next_owner client line nonce node ∷ [] in
+    let voted = propose place token lo hi node.content node.voter in
+    if nat_lt node.voter.seq (2 ^ 62)
+    then made_by_vote owners (Some (next_beginning place token lo hi node)) voted node
+    else quiet_made (stopped_node node)
 
 -- what a ruling on the line of a client makes of the node; all answers but that to a bad line are kept
 unfoldable pub made_by_ruling : PlaceRecord → ℕ → ℕ → List ℕ → Ruling → NodeState → Made
-made_by_ruling place client moment line Outside x = reply_made client (answer_bytes BadLine) None x
-made_by_ruling place client moment line (Again text) x = reply_made client text None x
-made_by_ruling place client moment line Waiting x = quiet_made x
-made_by_ruling place client moment line (Denied nonce outcome) x =
+made_by_ruling place client moment line Outside node = reply_made client (answer_bytes BadLine) None node
+made_by_ruling place client moment line (Again text) node = reply_made client text None node
+made_by_ruling place client moment line Waiting node = quiet_made node
+made_by_ruling place client moment line (Denied nonce outcome) node =
     let text = answer_bytes (ReplyAnswer nonce outcome) in
-    reply_made client text None (node_with_answer client line text x)
-made_by_ruling place client moment line (Wrong nonce outcome token) x =
+    reply_made client text None (node_with_answer client line text node)
+made_by_ruling place client moment line (Wrong nonce outcome token) node =
     let text = answer_bytes (ReplyAnswer nonce outcome) in
     reply_made client text (Some (token, moment))
-    (node_with_answer client line text (node_with_failure token moment x))
-made_by_ruling place client moment line (Fitting nonce token lo hi) x =
-    made_by_proposal place client line nonce token lo hi x
+    (node_with_answer client line text (node_with_failure token moment node))
+made_by_ruling place client moment line (Fitting nonce token lo hi) node =
+    made_by_proposal place client line nonce token lo hi node
 
 -- what a client's line makes of the node, as it came
 abbrev pub made_by_line : Config → PlaceRecord → ℕ → ℕ → List ℕ → NodeState → Made
-made_by_line config place client moment text x =
-    made_by_ruling place client moment (without_lf text) (ruling_at config x client moment text) x
+made_by_line config place client moment text node =
+    made_by_ruling place client moment (without_lf text) (ruling_at config node client moment text) node
 
 -- ---- A member's datagram
 
@@ -262,31 +262,31 @@ is_heard config place from envelope =
 
 -- what the message of another member makes of the node
 abbrev pub made_by_message : PlaceRecord → ℕ → Message → NodeState → Made
-made_by_message place from message x =
-    made_by_vote x.owners None (on_message place from message x.content x.voter) x
+made_by_message place from message node =
+    made_by_vote node.owners None (on_message place from message node.content node.voter) node
 
 -- what a datagram makes of the node: what is outside the format and what is not heard is dropped
 unfoldable pub made_by_datagram : Config → PlaceRecord → ℕ → Option Envelope → NodeState → Made
-made_by_datagram config place from None x = quiet_made x
-made_by_datagram config place from (Some envelope) x =
-    if is_heard config place from envelope then made_by_message place from envelope.message x else quiet_made x
+made_by_datagram config place from None node = quiet_made node
+made_by_datagram config place from (Some envelope) node =
+    if is_heard config place from envelope then made_by_message place from envelope.message node else quiet_made node
 
 -- ---- Each event
 
 -- what a tick makes of the node
 abbrev pub made_by_tick : PlaceRecord → NodeState → Made
-made_by_tick place x = made_by_vote x.owners None (tick place x.content x.voter) x
+made_by_tick place node = made_by_vote node.owners None (tick place node.content node.voter) node
 
 -- what an event makes of a node that runs
 unfoldable pub made_while_running : Config → PlaceRecord → NodeEvent → NodeState → Made
-made_while_running config place (Client client moment text) x = made_by_line config place client moment text x
-made_while_running config place (Peer from read) x = made_by_datagram config place from read x
-made_while_running config place Tick x = made_by_tick place x
+made_while_running config place (Client client moment text) node = made_by_line config place client moment text node
+made_while_running config place (Peer from read) node = made_by_datagram config place from read node
+made_while_running config place Tick node = made_by_tick place node
 
 -- what an event makes of a node: nothing of one that is stopped
 unfoldable pub made_by_event : Config → PlaceRecord → NodeEvent → NodeState → Made
-made_by_event config place event x =
-    if x.running then made_while_running config place event x else quiet_made x
+made_by_event config place event node =
+    if node.running then made_while_running config place event node else quiet_made node
 
 -- ---- Opening and restart
 
@@ -302,4 +302,4 @@ opened_node content = record {
 
 -- a node that is opened again; at the last boot it stops
 abbrev pub restarted_node : NodeState → NodeState
-restarted_node x = if nat_lt x.content.boot last_boot then opened_node x.content else stopped_node x
+restarted_node node = if nat_lt node.content.boot last_boot then opened_node node.content else stopped_node node

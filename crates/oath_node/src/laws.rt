@@ -125,22 +125,22 @@ pub fn rulings_have_grounds()
 /// A line that is refused leaves each first free factor, each grant, the boot and the last pass as they were,
 /// and each gate but that of a token that fails.
 pub fn refused_lines_change_gates_alone()
-    ensures floors { (config : Config) (place : PlaceRecord) (x : NodeState) (client moment : ℕ) (line : List ℕ)
-        → IsRefusal (ruling_at config x client moment line)
-        → KeepsFloors x.content (made_by_event config place (Client client moment line) x).state.content }
-    ensures gates { (config : Config) (place : PlaceRecord) (x : NodeState) (client moment : ℕ) (line : List ℕ)
+    ensures floors { (config : Config) (place : PlaceRecord) (node : NodeState) (client moment : ℕ) (line : List ℕ)
+        → IsRefusal (ruling_at config node client moment line)
+        → KeepsFloors node.content (made_by_event config place (Client client moment line) node).state.content }
+    ensures gates { (config : Config) (place : PlaceRecord) (node : NodeState) (client moment : ℕ) (line : List ℕ)
         (token : ℕ)
-        → IsRefusal (ruling_at config x client moment line)
-        → SparesToken token (ruling_at config x client moment line)
-        → (row (made_by_event config place (Client client moment line) x).state.content token).gate
-        ≡ (row x.content token).gate }
+        → IsRefusal (ruling_at config node client moment line)
+        → SparesToken token (ruling_at config node client moment line)
+        → (row (made_by_event config place (Client client moment line) node).state.content token).gate
+        ≡ (row node.content token).gate }
 {}
 
 /// One event makes at most 264 datagrams and replies.
 pub fn outputs_are_few()
-    ensures { (key : List ℕ) (config : Config) (place : PlaceRecord) (x : NodeState) (event : NodeEvent)
-        → IsPlace place → length x.voter.pending ≤ 32
-        → length (outputs_of key place (made_by_event config place event x)).items ≤ 264 }
+    ensures { (key : List ℕ) (config : Config) (place : PlaceRecord) (node : NodeState) (event : NodeEvent)
+        → IsPlace place → length node.voter.pending ≤ 32
+        → length (outputs_of key place (made_by_event config place event node)).items ≤ 264 }
 {}
 
 /// What a node makes of some lines, messages and ticks, and how it is opened again.
@@ -228,14 +228,14 @@ pub fn events_are_worked()
 /// A node that is alone goes on running for the first 2^62 lines. While it does it answers each line as the reference
 /// server does: it sends nothing, gives the server's one reply, and is left in the server's next state.
 pub fn one_node_answers_as_the_server()
-    ensures runs { (config : Config) (count : ℕ) (x : NodeState) (server : Server) (line : Line)
-        → IsAlone count x server → count < 2 ^ 62
-        → (made_by_event config alone_place (Client line.client line.moment line.text) x).state.running ≡ true }
-    ensures serves { (config : Config) (count : ℕ) (x : NodeState) (server : Server) (line : Line)
-        → IsAlone count x server
-        → (made_by_event config alone_place (Client line.client line.moment line.text) x).state.running ≡ true
+    ensures runs { (config : Config) (count : ℕ) (node : NodeState) (server : Server) (line : Line)
+        → IsAlone count node server → count < 2 ^ 62
+        → (made_by_event config alone_place (Client line.client line.moment line.text) node).state.running ≡ true }
+    ensures serves { (config : Config) (count : ℕ) (node : NodeState) (server : Server) (line : Line)
+        → IsAlone count node server
+        → (made_by_event config alone_place (Client line.client line.moment line.text) node).state.running ≡ true
         → ServesAlone count
-        (made_by_event config alone_place (Client line.client line.moment line.text) x) line
+        (made_by_event config alone_place (Client line.client line.moment line.text) node) line
         (service_of config.book config.limits server line) }
 {
     gate_keeps_throttle();

@@ -53,6 +53,7 @@ impl<'b> LineServer<'b> {
         ensures serving { IfOk result (λ server. IsServing server book.now settings 0 (server_at floors.now)) }
         ensures refusal { IfErr result (λ fault. fault ≡ OpenFault.Memory) }
     {
+        // No book has more tokens.
         if floors.len() > MAX_TOKENS {
             return Err(OpenFault::Memory);
         }
@@ -62,8 +63,7 @@ impl<'b> LineServer<'b> {
         let place = Place::new(1, 1).unwrap();
         match Node::open(alloc, book, settings, place, key, store) {
             Ok(node) => Ok(LineServer { node }),
-            // A store that was just made is at boot 0.
-            Err(_) => Err(OpenFault::Memory),
+            Err((_, fault)) => Err(fault),
         }
     }
 
@@ -109,6 +109,7 @@ impl<'b> LineServer<'b> {
         };
         match outputs.items().next() {
             Some(Item::Reply { bytes, .. }) => Ok((bytes, outputs.pass())),
+            // A node that is alone gives one reply.
             Some(Item::Datagram { .. }) => Err(NodeFault::Stopped),
             None => Err(NodeFault::Stopped),
         }

@@ -1,9 +1,10 @@
 use Rattle.std.proofs.Common.{◌≡◌, sym, ap, subst, ◌∙◌}
 use Rattle.std.specs.Prelude.{IfSome}
 use Rattle.oath_node.specs.Alone.{IsAlone, alone_place}
+use Rattle.oath_node.specs.Calls.{IsRefused}
 use Rattle.oath_node.specs.Machine.{opened_node}
 use Rattle.oath_node.specs.ReferenceServer.{server_at}
-use Rattle.oath_node.proofs.ServingLemmas.{alone_at_start}
+use Rattle.oath_node.proofs.ServingLemmas.{alone_at_start, held_in_memory, opens_in_memory}
 use Rattle.oath_node.proofs.server.LineServer.new.Goals as goal
 
 pub returns-in-Ok-open-clause-serving : goal.returns-in-Ok-open-clause-serving
@@ -17,3 +18,8 @@ returns-in-Ok-open-clause-serving c =
       place_is = c.in-Ok-open.ensures.place ∙ place;
       alone = subst (λ x. IsAlone 0 x (server_at floors)) (sym opened) (alone_at_start floors);
     }
+
+pub returns-clause-refusal : goal.returns-clause-refusal
+returns-clause-refusal c =
+    opens_in_memory c.args.floors.now c.in-Err.field-0-0 c.in-Err.fault
+    (subst (λ store. IsRefused held_in_memory store c.in-Err.field-0-0 c.in-Err.fault) c.in-Ok.ensures.opening c.in-Err.ensures.refused)
