@@ -17,7 +17,8 @@
 //! What comes from elsewhere may be lost, repeated, reordered or forged. A datagram without the tag of the
 //! cluster's key is dropped, and so is one that isn't for this node, or is from another member than it says.
 //!
-//! [`run_lines`] answers a list of lines at once, without votes:
+//! A node that is alone needs no votes. [`LineServer`] is one that answers each line when it is asked, and
+//! [`run_lines`] has one answer a list of lines:
 //!
 //! ```rust
 //! use oath_node::{ClientLine, run_lines};

@@ -49,9 +49,10 @@ impl<'a> fmt::Debug for ClientLine<'a> {
     }
 }
 
-/// Answers the lines in order, one answer for each, from these first free factors on, of which there is
-/// one for each token of the book, and with no failures before. The one refusal is that memory ran out, and
-/// then there is no report.
+/// Answers the lines in order by a node that is alone, one answer for each, from these first free factors on, of
+/// which there is one for each token of the book, with no failures before and no answer kept. Of its last 1,024
+/// answers one is given again to the same client and line, at any moment. The one refusal is that memory ran out,
+/// and then there is no report.
 pub fn run_lines(
     alloc: Global,
     book: &Book,

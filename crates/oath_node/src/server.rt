@@ -30,10 +30,9 @@ pub struct LineServer<'b> {
 }
 
 impl<'b> Model for LineServer<'b> {
-    ghost use Rattle.floor_store.specs.Content.{Content};
-    ghost use Rattle.oath_node.specs.Hosted.{Hosted};
+    ghost use Rattle.oath_node.specs.Serving.{Serving};
 
-    ghost Value = { Hosted Content };
+    ghost Value = { Serving };
 
     ghost view = { λ server. server.node };
 }
