@@ -1,0 +1,111 @@
+-- Which acceptance an OK belongs to, and which OK an acceptance has.
+use Rattle.std.specs.Prelude.{◌≡◌, ℕ, ◌<◌, ◌≤◌, true, false, List, take, Option, Some, None, slice_get, codes}
+use Rattle.otp_core.specs.Acceptance.{Acceptance}
+use Rattle.otp_core.specs.Range.{IsFactor}
+use Rattle.vote_wire.specs.Answer.{answer_bytes}
+use Rattle.vote_wire.specs.Field.{IsNonce}
+use Rattle.vote_wire.specs.Request.{Request, IsLine, without_lf}
+use Rattle.vote_wire.specs.declared.answer.Answer.TheVariants.{Reply}
+use Rattle.vote_wire.specs.declared.answer.Outcome.TheVariants.{Accepted}
+use Rattle.cluster_sim.specs.World.{Act, Says, Deliver, Ticks, Noise, WorldEvent, Happens, Cut, Restart, Told}
+
+-- a reply begins as an OK
+abbrev pub IsOk : List ℕ → Type 0
+IsOk bytes = take 3 bytes ≡ codes "OK "
+
+-- the OK with this nonce and this last factor
+abbrev pub ok_bytes : List ℕ → ℕ → List ℕ
+ok_bytes nonce hi = answer_bytes (Reply nonce (Accepted hi))
+
+-- a text in the line grammar with this nonce, which without an LF at its end is this line
+pub record IsTextOf (line nonce text : List ℕ) : Type 0 where
+  pub request : Request
+  pub grammar : IsLine text request
+  pub nonce_is : nonce ≡ request.nonce
+  pub line_is : without_lf text ≡ line
+
+-- the act is this line of the client at the node, with this nonce
+abbrev pub IsAskedBy : ℕ → ℕ → List ℕ → List ℕ → Act → Type 0
+IsAskedBy node client line nonce (Says at by moment text) = (at ≡ node) × (by ≡ client) × IsTextOf line nonce text
+IsAskedBy node client line nonce (Deliver at k) = ⊥
+IsAskedBy node client line nonce (Ticks at) = ⊥
+IsAskedBy node client line nonce (Noise at from read) = ⊥
+
+-- the event is that act, or a stop inside it that kept its change
+abbrev pub IsAskedIn : ℕ → ℕ → List ℕ → List ℕ → Option WorldEvent → Type 0
+IsAskedIn node client line nonce None = ⊥
+IsAskedIn node client line nonce (Some (Happens act)) = IsAskedBy node client line nonce act
+IsAskedIn node client line nonce (Some (Cut true act)) = IsAskedBy node client line nonce act
+IsAskedIn node client line nonce (Some (Cut false act)) = ⊥
+IsAskedIn node client line nonce (Some (Restart at)) = ⊥
+
+-- the event is that client sending the line at the node, an LF at its end aside
+abbrev pub IsSaidIn : ℕ → ℕ → List ℕ → Option WorldEvent → Type 0
+IsSaidIn node client line (Some (Happens (Says at by moment text))) =
+    (at ≡ node) × (by ≡ client) × (without_lf text ≡ line)
+IsSaidIn node client line _ = ⊥
+
+-- What was told is the OK of an acceptance of its node: the line with which that began came from its client, with its
+-- nonce. If it ended in an earlier event, the client sent that line again.
+pub record BelongsToPass (events : List WorldEvent) (passes : List Acceptance) (told : Told) : Type 0 where
+  pub place : ℕ
+  pub pass : Acceptance
+  pub is_pass : slice_get passes place ≡ Some pass
+  pub node : pass.node ≡ told.node
+  pub ended : pass.ended ≤ told.event
+  pub line : List ℕ
+  pub nonce : List ℕ
+  pub asked : IsAskedIn told.node told.client line nonce (slice_get events pass.began)
+  pub bytes : told.bytes ≡ ok_bytes nonce pass.hi
+  pub again : pass.ended < told.event → IsSaidIn told.node told.client line (slice_get events told.event)
+
+-- each reply that begins as an OK belongs to an acceptance
+abbrev pub TellTruth : List WorldEvent → List Acceptance → List Told → Type 0
+TellTruth events passes answers =
+    (i : ℕ) (told : Told) → slice_get answers i ≡ Some told → IsOk told.bytes → BelongsToPass events passes told
+
+-- There is an acceptance at the node of a reply with this last factor, whose line came from its client with this nonce.
+-- If it ended in an earlier event, the client sent that line again.
+pub record IsPassOf (events : List WorldEvent) (passes : List Acceptance) (told : Told) (nonce : List ℕ)
+    (hi : ℕ) : Type 0 where
+  pub place : ℕ
+  pub pass : Acceptance
+  pub is_pass : slice_get passes place ≡ Some pass
+  pub node : pass.node ≡ told.node
+  pub ended : pass.ended ≤ told.event
+  pub last : pass.hi ≡ hi
+  pub line : List ℕ
+  pub asked : IsAskedIn told.node told.client line nonce (slice_get events pass.began)
+  pub again : pass.ended < told.event → IsSaidIn told.node told.client line (slice_get events told.event)
+
+-- each OK with a nonce and a factor has its acceptance
+abbrev pub NamePasses : List WorldEvent → List Acceptance → List Told → Type 0
+NamePasses events passes answers =
+    (i : ℕ) (told : Told) (nonce : List ℕ) (hi : ℕ) → slice_get answers i ≡ Some told → IsNonce nonce → IsFactor hi
+    → told.bytes ≡ ok_bytes nonce hi → IsPassOf events passes told nonce hi
+
+-- the client with whose line an acceptance began is told its OK in the event in which it ended
+pub record HasAnswer (events : List WorldEvent) (answers : List Told) (pass : Acceptance) : Type 0 where
+  pub place : ℕ
+  pub answer : Told
+  pub is_told : slice_get answers place ≡ Some answer
+  pub event : answer.event ≡ pass.ended
+  pub node : answer.node ≡ pass.node
+  pub line : List ℕ
+  pub nonce : List ℕ
+  pub asked : IsAskedIn pass.node answer.client line nonce (slice_get events pass.began)
+  pub bytes : answer.bytes ≡ ok_bytes nonce pass.hi
+
+-- it is told, unless the node stopped in that event
+abbrev pub IsAnsweredIn : List WorldEvent → List Told → Acceptance → Option WorldEvent → Type 0
+IsAnsweredIn events answers pass None = ⊥
+IsAnsweredIn events answers pass (Some (Happens act)) = HasAnswer events answers pass
+IsAnsweredIn events answers pass (Some (Cut true act)) = Unit {0}
+IsAnsweredIn events answers pass (Some (Cut false act)) = ⊥
+IsAnsweredIn events answers pass (Some (Restart node)) = ⊥
+
+-- each acceptance has its OK so
+abbrev pub AreAnswered : List WorldEvent → List Told → List Acceptance → Type 0
+AreAnswered events answers passes =
+    (i : ℕ) (pass : Acceptance) → slice_get passes i ≡ Some pass
+    → IsAnsweredIn events answers pass (slice_get events pass.ended)

@@ -1,0 +1,195 @@
+-- What the simulation keeps of a run, and what it is in the world.
+use Rattle.std.specs.Prelude.{◌≡◌, ℕ, suc, Bool, if◌then◌else◌, List, [], ◌∷◌, ◌++◌, length, map, Option, Some, None, slice_get}
+use Rattle.floor_store.specs.Content.{Content}
+use Rattle.floor_store.specs.Held.{Held}
+use Rattle.floor_store.specs.Records.{ProposalRecord, PassRecord}
+use Rattle.otp_core.specs.Acceptance.{Acceptance}
+use Rattle.vote_core.specs.NodeSet.{PlaceRecord}
+use Rattle.vote_core.specs.Schedule.{Envelope, began_in, is_member}
+use Rattle.vote_core.specs.Voting.{same_proposal}
+use Rattle.vote_wire.specs.Body.{HasSpelling}
+use Rattle.vote_wire.specs.Datagram.{datagram_bytes}
+use Rattle.oath_node.specs.Hosted.{Hosted, envelope_at, state_of}
+use Rattle.oath_node.specs.Machine.{Config, NodeEvent, NodeState, made_by_event}
+use Rattle.oath_node.specs.Outputs.{OutputsRecord, no_outputs, outputs_of}
+use Rattle.oath_node.specs.declared.item.Item.{Item}
+use Rattle.oath_node.specs.declared.item.Item.TheVariants.{Datagram, Reply}
+use Rattle.cluster_sim.specs.World.{World, Told, Act as WorldAct, Says, Deliver, Ticks, Noise, WorldEvent as Event, Happens, Cut, Restart, begun_in, passes_in, with_state, with_told_of}
+use Rattle.cluster_sim.specs.declared.script.Act.{Act}
+use Rattle.cluster_sim.specs.declared.script.Act.TheVariants.{Client as ClientAct, Deliver as DeliverAct, Tick as TickAct, Noise as NoiseAct}
+use Rattle.cluster_sim.specs.declared.script.WorldEvent.{WorldEvent}
+use Rattle.cluster_sim.specs.declared.script.WorldEvent.TheVariants.{Happens as HappensEvent, Cut as CutEvent, Restart as RestartEvent}
+
+-- a datagram, and the node that sent it
+pub record Letter : Type 0 where
+  pub sender : ℕ
+  pub bytes : List ℕ
+
+-- a proposal, and the event in which it was begun
+pub record StartRecord : Type 0 where
+  pub proposal : ProposalRecord
+  pub event : ℕ
+
+-- all that was sent, begun, accepted and told, each in order
+pub record JournalRecord : Type 0 where
+  pub sent : List Letter
+  pub starts : List StartRecord
+  pub passes : List Acceptance
+  pub answers : List Told
+
+-- ---- What a node's outputs make of the journal
+
+-- the event of the last start of the proposal, or else this one
+abbrev pub start_event_from : ℕ → List StartRecord → ProposalRecord → ℕ
+start_event_from began [] proposal = began
+start_event_from began (start ∷ starts) proposal =
+    start_event_from (if same_proposal proposal start.proposal then start.event else began) starts proposal
+
+-- the event of the last start of the proposal
+abbrev pub start_event : List StartRecord → ProposalRecord → ℕ
+start_event starts proposal = start_event_from 0 starts proposal
+
+-- the starts, with what was begun in this event
+abbrev pub starts_with_begun : ℕ → Option ProposalRecord → List StartRecord → List StartRecord
+starts_with_begun event None starts = starts
+starts_with_begun event (Some proposal) starts = starts ++ record { proposal = proposal; event = event } ∷ []
+
+-- the acceptances, with that of the pass that the node wrote in this event
+abbrev pub passes_with_pass : List StartRecord → ℕ → ℕ → Option PassRecord → List Acceptance → List Acceptance
+passes_with_pass starts event node None passes = passes
+passes_with_pass starts event node (Some pass) passes =
+    passes ++ record {
+      began = start_event starts (record { node = node; boot = pass.boot; seq = pass.seq });
+      ended = event;
+      node = node;
+      token = pass.token;
+      lo = pass.lo;
+      hi = pass.hi;
+    } ∷ []
+
+-- the journal with what the node began and accepted in this event
+abbrev pub journal_with_note : ℕ → ℕ → Option ProposalRecord → Option PassRecord → JournalRecord → JournalRecord
+journal_with_note event node begun pass journal =
+    let starts = starts_with_begun event begun journal.starts in
+    record journal { starts = starts; passes = passes_with_pass starts event node pass journal.passes }
+
+-- the datagrams among the items of the node
+abbrev pub sent_items : ℕ → List Item → List Letter
+sent_items node [] = []
+sent_items node (Datagram to bytes ∷ items) = record { sender = node; bytes = bytes.items } ∷ sent_items node items
+sent_items node (Reply client bytes ∷ items) = sent_items node items
+
+-- its replies, in this event
+abbrev pub told_items : ℕ → ℕ → List Item → List Told
+told_items event node [] = []
+told_items event node (Datagram to bytes ∷ items) = told_items event node items
+told_items event node (Reply client bytes ∷ items) =
+    record { event = event; node = node; client = client; bytes = bytes.items } ∷ told_items event node items
+
+-- the journal with what the node sent and told in this event
+abbrev pub journal_with_told : ℕ → ℕ → List Item → JournalRecord → JournalRecord
+journal_with_told event node items journal = record journal {
+  sent = journal.sent ++ sent_items node items;
+  answers = journal.answers ++ told_items event node items;
+}
+
+-- the journal with what the node put out in this event; what it sent and told is taken in, or lost
+abbrev pub journal_with : ℕ → ℕ → Bool → OutputsRecord → JournalRecord → JournalRecord
+journal_with event node is_told outputs journal =
+    let noted = journal_with_note event node outputs.begun outputs.pass journal in
+    if is_told then journal_with_told event node outputs.items noted else noted
+
+-- the journal with what the node put out, if anything
+abbrev pub journal_with_outputs : ℕ → ℕ → Bool → Option OutputsRecord → JournalRecord → JournalRecord
+journal_with_outputs event node is_told None journal = journal
+journal_with_outputs event node is_told (Some outputs) journal = journal_with event node is_told outputs journal
+
+-- ---- What the simulation is in the world
+
+-- an envelope as a datagram under the key
+abbrev pub letter_of : List ℕ → Envelope → Letter
+letter_of key envelope = record {
+  sender = envelope.sender;
+  bytes = datagram_bytes key envelope.sender envelope.receiver envelope.message;
+}
+
+-- what is to be seen of a store in memory
+abbrev pub memory_held : Content → Held
+memory_held content =
+    record { content = content; fault = None; failures = 0; is_clean = Unit {0}; leaves = λ left. left ≡ content }
+
+-- a node over its store in memory is the one of the world in this state, at this place
+pub record IsHost (config : Config) (key : List ℕ) (at : PlaceRecord) (x : NodeState)
+    (host : Hosted Content) : Type 0 where
+  pub state : state_of memory_held host ≡ x
+  pub book : host.book ≡ config.book
+  pub limits : host.limits ≡ config.limits
+  pub key_is : host.key ≡ key
+  pub place : host.voter.place ≡ at
+
+-- nothing was put out, or these outputs were
+abbrev pub IsPutOut : Option OutputsRecord → OutputsRecord → Type 0
+IsPutOut None made = made ≡ no_outputs
+IsPutOut (Some outputs) made = outputs ≡ made
+
+-- the node of number k + 1 of the world is the one at place k
+abbrev pub AreHosts : Config → List ℕ → ℕ → (ℕ → NodeState) → List (Hosted Content) → Type 0
+AreHosts config key n nodes hosts =
+    (k : ℕ) (host : Hosted Content) → slice_get hosts k ≡ Some host
+    → IsHost config key (record { me = suc k; n = n }) (nodes (suc k)) host
+
+-- the journal has all that is of the world but its nodes
+pub record IsRecorded (key : List ℕ) (world : World) (journal : JournalRecord) : Type 0 where
+  pub sent : journal.sent ≡ map (letter_of key) world.sent
+  pub starts : (proposal : ProposalRecord)
+      → began_in (begun_in world.history proposal) ≡ start_event journal.starts proposal
+  pub passes : journal.passes ≡ passes_in world.history
+  pub answers : journal.answers ≡ world.told
+
+-- the nodes of a simulation, and what it keeps
+pub record SimulationRecord : Type 0 where
+  pub nodes : List (Hosted Content)
+  pub journal : JournalRecord
+
+-- a simulation is this world
+pub record IsRun (config : Config) (key : List ℕ) (world : World) (simulation : SimulationRecord) : Type 0 where
+  pub n : world.n ≡ length simulation.nodes
+  pub hosts : AreHosts config key world.n world.nodes simulation.nodes
+  pub recorded : IsRecorded key world simulation.journal
+
+-- what an event makes a node put out: nothing where it is no member
+abbrev pub outputs_at : Config → List ℕ → ℕ → (ℕ → NodeState) → ℕ → NodeEvent → OutputsRecord
+outputs_at config key n nodes node event =
+    let place : PlaceRecord = record { me = node; n = n } in
+    if is_member n node then outputs_of key place (made_by_event config place event (nodes node)) else no_outputs
+
+-- the nodes after an event at one of them
+abbrev pub nodes_after : Config → ℕ → (ℕ → NodeState) → ℕ → NodeEvent → ℕ → NodeState
+nodes_after config n nodes node event =
+    let place : PlaceRecord = record { me = node; n = n } in
+    if is_member n node then with_state node (made_by_event config place event (nodes node)).state nodes else nodes
+
+-- the new world, with what was sent and told since the old one, or without
+abbrev pub told_world : Bool → World → World → World
+told_world is_told old new = if is_told then new else with_told_of old new
+
+-- each datagram that was sent reads as it was meant
+abbrev pub AreSpelled : World → Type 0
+AreSpelled world =
+    (k : ℕ) (envelope : Envelope) → slice_get world.sent k ≡ Some envelope
+    → HasSpelling envelope.sender envelope.receiver envelope.message
+
+-- ---- Scripts
+
+-- an act of a script, its bytes read under the key
+abbrev pub act_of : List ℕ → Act → WorldAct
+act_of key (ClientAct node client moment line) = Says node client moment line.now
+act_of key (DeliverAct node k) = Deliver node k
+act_of key (TickAct node) = Ticks node
+act_of key (NoiseAct node from bytes) = Noise node from (envelope_at key bytes.now)
+
+-- an event of a script, its bytes read under the key
+abbrev pub event_of : List ℕ → WorldEvent → Event
+event_of key (HappensEvent act) = Happens (act_of key act)
+event_of key (CutEvent kept act) = Cut kept (act_of key act)
+event_of key (RestartEvent node) = Restart node

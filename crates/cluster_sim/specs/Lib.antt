@@ -1,0 +1,9 @@
+pub mod Answered
+pub mod Examples
+pub mod FrontEnds
+pub mod Journal
+pub mod Justified
+pub mod Refinement
+pub mod Results
+pub mod SingleNode
+pub mod World

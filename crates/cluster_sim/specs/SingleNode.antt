@@ -1,0 +1,66 @@
+-- One node, and the server with one front end, over the same events.
+use Rattle.std.specs.Prelude.{ℕ, suc, ◌==◌, true, false, if◌then◌else◌, List, [], ◌∷◌, ◌++◌, Option, Some, None, slice_index_or}
+use Rattle.oath_node.specs.Machine.{Config}
+use Rattle.cluster_sim.specs.FrontEnds.{Server, served_line, server_with_restarted}
+use Rattle.cluster_sim.specs.World.{Act, Says, Deliver, Ticks, Noise, WorldEvent, Happens, Cut, Restart, Told}
+
+-- the server after an act: nothing but lines reaches it
+abbrev pub server_after_act : Config → Act → Server → Server
+server_after_act config (Says node client moment text) server =
+    if node == 1 then (served_line config server 1 client moment text).server else server
+server_after_act config (Deliver node k) server = server
+server_after_act config (Ticks node) server = server
+server_after_act config (Noise node from read) server = server
+
+-- where an act is; nowhere where it delivers, since nothing was ever sent
+abbrev pub front_of : Act → ℕ
+front_of (Says node client moment text) = node
+front_of (Deliver node k) = 0
+front_of (Ticks node) = node
+front_of (Noise node from read) = node
+
+-- the server after a restart of this front end, if it is the one that there is
+abbrev pub server_after_restart : ℕ → Server → Server
+server_after_restart node server = if node == 1 then server_with_restarted 1 server else server
+
+-- The server after an event. A stop inside an act that keeps its change is the act, its answer lost, and a restart;
+-- another one is a restart.
+abbrev pub server_after_event : Config → WorldEvent → Server → Server
+server_after_event config (Happens act) server = server_after_act config act server
+server_after_event config (Cut true act) server =
+    server_after_restart (front_of act) (server_after_act config act server)
+server_after_event config (Cut false act) server = server_after_restart (front_of act) server
+server_after_event config (Restart node) server = server_after_restart node server
+
+-- what the client is told in this event, if anything
+abbrev pub told_answer : ℕ → ℕ → Option (List ℕ) → List Told
+told_answer event client None = []
+told_answer event client (Some bytes) = record { event = event; node = 1; client = client; bytes = bytes } ∷ []
+
+-- what is told in an act, in this event
+abbrev pub answers_to_act : Config → ℕ → Act → Server → List Told
+answers_to_act config event (Says node client moment text) server =
+    if node == 1 then told_answer event client (served_line config server 1 client moment text).reply else []
+answers_to_act config event (Deliver node k) server = []
+answers_to_act config event (Ticks node) server = []
+answers_to_act config event (Noise node from read) server = []
+
+-- what is told in the event of that number
+abbrev pub answers_to_event : Config → ℕ → WorldEvent → Server → List Told
+answers_to_event config event (Happens act) server = answers_to_act config event act server
+answers_to_event config event (Cut kept act) server = []
+answers_to_event config event (Restart node) server = []
+
+-- the answers to these events, the first of which has this number
+unfoldable pub reference_answers : Config → ℕ → List WorldEvent → Server → List Told
+reference_answers config first [] server = []
+reference_answers config first (event ∷ events) server =
+    answers_to_event config first event server
+    ++ reference_answers config (suc first) events (server_after_event config event server)
+
+-- the server with these first free factors, and no results or answers yet
+abbrev pub opening_server : List ℕ → Server
+opening_server floors = record {
+  floors = λ token. slice_index_or floors token 0;
+  fronts = λ place. record { results = λ token. []; answers = [] };
+}

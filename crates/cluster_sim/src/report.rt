@@ -1,0 +1,95 @@
+ghost use Rattle.std.specs.Prelude.{◌≡◌, ◌++◌, ◌∷◌, [], OnOk};
+
+use arrayvec::ArrayVec;
+use otp_core::Factor;
+use std::marker::Model;
+use vote_wire::MAX_SENT_LEN;
+
+/// An accepted submission: the events in which it began and was accepted, the node, the number of the
+/// token, and its first and its last factor.
+#[derive(Clone, Copy, Debug, PartialEq, Eq)]
+pub struct WorldPass {
+    pub began: u64,
+    pub ended: u64,
+    pub node: u8,
+    pub token: u32,
+    pub lo: Factor,
+    pub hi: Factor,
+}
+
+impl Model for WorldPass {
+    ghost use Rattle.otp_core.specs.Acceptance.{Acceptance};
+
+    ghost Value = { Acceptance };
+
+    ghost view = { λ p. record { began = p.began; ended = p.ended; node = p.node; token = p.token; lo = p.lo; hi = p.hi } };
+
+    ghost inverse = { λ v. record { began = v.began; ended = v.ended; node = v.node; token = v.token; lo = v.lo; hi = v.hi } };
+}
+
+/// What a client was told: in which event, by which node, and the bytes without a line end.
+#[derive(Debug, Drop)]
+pub struct WorldAnswer {
+    pub event: u64,
+    pub node: u8,
+    pub client: u64,
+    pub bytes: ArrayVec<u8, MAX_SENT_LEN>,
+}
+
+impl Model for WorldAnswer {
+    ghost use Rattle.cluster_sim.specs.World.{Told};
+
+    ghost Value = { Told };
+
+    ghost view = { λ a. record { event = a.event; node = a.node; client = a.client; bytes = a.bytes.items } };
+}
+
+/// What a run tells: what was accepted and what was told, each in order, and how many datagrams were
+/// sent.
+#[derive(Debug, Drop)]
+pub struct Report {
+    passes: Vec<WorldPass>,
+    answers: Vec<WorldAnswer>,
+    sent: u64,
+}
+
+impl Model for Report {
+    ghost use Rattle.cluster_sim.specs.World.{ReportValue};
+
+    ghost Value = { ReportValue };
+
+    ghost view = { λ r. record { passes = r.passes.items; answers = r.answers.items; sent = r.sent } };
+}
+
+impl Report {
+    pub(crate) fn new(passes: Vec<WorldPass>, answers: Vec<WorldAnswer>, sent: u64) -> Self
+        ensures { result ≡ record { passes = passes.items; answers = answers.items; sent = sent } }
+    {
+        Report {
+            passes,
+            answers,
+            sent,
+        }
+    }
+
+    /// What was accepted, in order of acceptance.
+    pub fn passes(&self) -> &[WorldPass]
+        ensures { result.now ≡ self.now.passes }
+    {
+        &self.passes
+    }
+
+    /// What was told.
+    pub fn answers(&self) -> &[WorldAnswer]
+        ensures { result.now ≡ self.now.answers }
+    {
+        &self.answers
+    }
+
+    /// How many datagrams were sent.
+    pub fn sent(&self) -> u64
+        ensures { result ≡ self.now.sent }
+    {
+        self.sent
+    }
+}
