@@ -3,9 +3,14 @@
 #![tactic(auto)]
 
 mod fault;
+mod laws;
 mod report;
 mod script;
 
 pub use fault::SimFault;
+pub use laws::{
+    answers_belong_to_passes, busy_script_is_worked, one_node_is_the_reference, scripts_are_worked,
+    world_is_safe,
+};
 pub use report::{Report, WorldAnswer, WorldPass};
 pub use script::{Act, WorldEvent};

@@ -1,0 +1,15 @@
+pub mod Acts
+pub mod Events
+pub mod Gates
+pub mod BelowLaws
+pub mod Lines
+pub mod Lone
+pub mod OkLemmas
+pub mod Owners
+pub mod Reports
+pub mod Runs
+pub mod Shape
+pub mod Sizes
+pub mod Tells
+pub mod VoteGates
+pub mod VoteSteps

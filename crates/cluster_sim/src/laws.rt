@@ -1,0 +1,118 @@
+ghost use Rattle.std.specs.Prelude.{◌≡◌, ◌+◌, ◌<◌, ◌^◌, List, [], ◌∷◌, ℕ, codes, false, length, true};
+ghost use Rattle.admit_core.specs.Throttle.{SpacesFailures};
+ghost use Rattle.otp_core.specs.Acceptance.{HaveSingleUse, KeepRealTimeOrder};
+ghost use Rattle.vote_core.specs.Safety.{HaveMajority};
+ghost use Rattle.oath_node.specs.Machine.{Config};
+ghost use Rattle.vote_wire.specs.declared.answer.Outcome.TheVariants.{Accepted, Busy, Clock, Exhausted, Invalid, Password, Spent, Throttled, Timeout, Unknown};
+ghost use Rattle.cluster_sim.specs.Answered.{AreAnswered, NamePasses, TellTruth};
+ghost use Rattle.cluster_sim.specs.Examples.{alone, config, eight_ticks, exhausted, five, four, fresh_token, gate_survives_restart, letter_lines, many_floors, many_users, nothing_happens, old_grants, one_voter_twice, acceptance, password_column, refusal_again, report_with, resynchronization, line_at, second_factor_elsewhere, span_against_one, split_two_to_two, stop_after_the_commit, three, told_outcome, told_bad_line, two_submissions, with_password};
+ghost use Rattle.cluster_sim.specs.Justified.{AreJustified};
+ghost use Rattle.cluster_sim.specs.Results.{results_of};
+ghost use Rattle.cluster_sim.specs.SingleNode.{reference_answers, opening_server};
+ghost use Rattle.cluster_sim.specs.World.{WorldEvent, floor_before, passes_of, report_of};
+
+use admit_core::{failures_are_spaced, gate_keeps_throttle};
+use oath_node::rulings_have_grounds;
+use vote_core::votes_are_safe;
+
+/// Over every list of events, for every book and limits, from every opening floors of any number of nodes: what
+/// is accepted is safe and justified, and failures are far apart.
+pub fn world_is_safe()
+    ensures single_use { (config : Config) (floors : List (List ℕ)) (events : List WorldEvent) →
+        HaveSingleUse (passes_of config floors events) }
+    ensures in_order { (config : Config) (floors : List (List ℕ)) (events : List WorldEvent) →
+        KeepRealTimeOrder (passes_of config floors events) }
+    ensures majority { (config : Config) (floors : List (List ℕ)) (events : List WorldEvent) →
+        HaveMajority (length floors) (floor_before config floors events) (passes_of config floors events) }
+    ensures justified { (config : Config) (floors : List (List ℕ)) (events : List WorldEvent) →
+        AreJustified config floors events (passes_of config floors events) }
+    ensures spaced { (config : Config) (floors : List (List ℕ)) (events : List WorldEvent) (node token : ℕ) →
+        SpacesFailures (results_of config floors events node token) }
+{
+    votes_are_safe();
+    rulings_have_grounds();
+    gate_keeps_throttle();
+    failures_are_spaced();
+}
+
+/// Over every list of events: each `OK` belongs to a pass of the node that tells it, with its last factor, whose line
+/// came from the same client with its nonce; no other reply begins as an `OK`; and each pass that wasn't accepted in
+/// a stop has its `OK`.
+pub fn answers_belong_to_passes()
+    ensures told { (config : Config) (floors : List (List ℕ)) (events : List WorldEvent) →
+        let report = report_of config floors events in NamePasses events report.passes report.answers }
+    ensures no_other { (config : Config) (floors : List (List ℕ)) (events : List WorldEvent) →
+        let report = report_of config floors events in TellTruth events report.passes report.answers }
+    ensures answered { (config : Config) (floors : List (List ℕ)) (events : List WorldEvent) →
+        let report = report_of config floors events in AreAnswered events report.answers report.passes }
+{
+    votes_are_safe();
+    rulings_have_grounds();
+    gate_keeps_throttle();
+}
+
+/// Over every list of events that uses up neither boots nor numbers, one node alone answers as the server with one
+/// front end does.
+pub fn one_node_is_the_reference()
+    ensures { (config : Config) (floors : List ℕ) (events : List WorldEvent) → 1 + length events < 2 ^ 62 →
+        (report_of config (floors ∷ []) events).answers
+        ≡ reference_answers config 0 events (opening_server floors) }
+{
+    rulings_have_grounds();
+    gate_keeps_throttle();
+}
+
+/// Some scripts, worked through with the codes of RFC 4226, Appendix D.
+pub fn scripts_are_worked()
+    ensures two_submissions { report_of config three two_submissions
+        ≡ report_with (acceptance 0 4 1 0 0 ∷ []) (told_outcome 4 1 7 (codes "a") (Accepted 0)
+        ∷ told_outcome 7 2 8 (codes "b") Spent ∷ []) 7 }
+    ensures split { report_of config four split_two_to_two
+        ≡ report_with [] (told_outcome 9 1 7 (codes "a") Spent ∷ told_outcome 13 2 8 (codes "b") Spent ∷ []) 12 }
+    ensures stop_kept { report_of config three (stop_after_the_commit true)
+        ≡ report_with (acceptance 0 5 1 0 0 ∷ []) (told_outcome 5 1 7 (codes "a") (Accepted 0) ∷ []) 6 }
+    ensures stop_lost { report_of config three (stop_after_the_commit false)
+        ≡ report_with (acceptance 0 5 1 0 0 ∷ []) (told_outcome 5 1 7 (codes "a") (Accepted 0) ∷ []) 6 }
+    ensures old_grants { report_of config three old_grants
+        ≡ report_with (acceptance 6 8 1 1 1 ∷ []) (told_outcome 5 1 7 (codes "a") Invalid
+        ∷ told_outcome 8 1 7 (codes "c") (Accepted 1) ∷ []) 6 }
+    ensures timeout { report_of config three eight_ticks
+        ≡ report_with [] (told_outcome 8 1 7 (codes "a") Timeout ∷ []) 32 }
+    ensures elsewhere { report_of config three second_factor_elsewhere
+        ≡ report_with (acceptance 0 2 1 0 0 ∷ acceptance 3 5 2 1 1 ∷ [])
+        (told_outcome 2 1 7 (codes "a") (Accepted 0) ∷ told_outcome 5 2 8 (codes "b") (Accepted 1) ∷ []) 6 }
+    ensures one_voter_twice { report_of config five one_voter_twice
+        ≡ report_with (acceptance 0 5 1 0 0 ∷ []) (told_outcome 5 1 7 (codes "a") (Accepted 0) ∷ []) 6 }
+    ensures span_against_one { report_of config three span_against_one
+        ≡ report_with (acceptance 0 4 1 0 0 ∷ []) (told_outcome 4 1 7 (codes "a") (Accepted 0)
+        ∷ told_outcome 7 2 8 (codes "b") Spent ∷ []) 7 }
+    ensures nothing_happens { report_of config three nothing_happens
+        ≡ report_with (acceptance 0 8 1 0 0 ∷ []) (told_outcome 9 1 7 (codes "a") Invalid ∷ []) 3 }
+    ensures fresh_token { report_of config alone fresh_token
+        ≡ report_with (acceptance 0 0 1 0 0 ∷ acceptance 6 6 1 2 2 ∷ [])
+        (told_outcome 0 1 7 (codes "1") (Accepted 0) ∷ told_outcome 1 1 7 (codes "2") Invalid
+        ∷ told_outcome 2 1 7 (codes "1") (Accepted 0) ∷ told_outcome 3 1 8 (codes "1") (Throttled 1)
+        ∷ told_outcome 4 1 8 (codes "3") Invalid ∷ told_outcome 5 1 7 (codes "4") (Throttled 1)
+        ∷ told_outcome 6 1 7 (codes "5") (Accepted 2) ∷ told_outcome 7 1 7 (codes "6") Unknown
+        ∷ told_bad_line 8 1 7 ∷ told_outcome 9 1 7 (codes "8") Clock ∷ []) 0 }
+    ensures refusal_again { report_of config alone refusal_again
+        ≡ report_with (acceptance 2 2 1 0 0 ∷ []) (told_outcome 0 1 7 (codes "1") Invalid
+        ∷ told_outcome 1 1 7 (codes "1") Invalid ∷ told_outcome 2 1 7 (codes "2") (Accepted 0) ∷ []) 0 }
+    ensures resynchronization { report_of config alone resynchronization
+        ≡ report_with (acceptance 1 1 1 7 8 ∷ []) (told_outcome 0 1 7 (codes "4") Invalid
+        ∷ told_outcome 1 1 7 (codes "5") (Accepted 8) ∷ []) 0 }
+    ensures gate_survives_restart { report_of config alone gate_survives_restart
+        ≡ report_with (acceptance 3 3 1 0 0 ∷ []) (told_outcome 0 1 7 (codes "1") Invalid
+        ∷ told_outcome 2 1 7 (codes "1") (Throttled 1) ∷ told_outcome 3 1 7 (codes "3") (Accepted 0) ∷ []) 0 }
+    ensures password_column { report_of with_password alone password_column
+        ≡ report_with (acceptance 1 1 1 0 0 ∷ []) (told_outcome 0 1 7 (codes "1") Password
+        ∷ told_outcome 1 1 7 (codes "2") (Accepted 0) ∷ []) 0 }
+    ensures exhausted { report_of config exhausted (line_at 1 7 100 (codes "CHECK 1 silver 755224 -") ∷ [])
+        ≡ report_with [] (told_outcome 0 1 7 (codes "1") Exhausted ∷ []) 0 }
+{}
+
+/// Of 33 submissions at once the first 32 wait, and the last is told that the node is busy.
+pub fn busy_script_is_worked()
+    ensures { report_of many_users many_floors (letter_lines 33)
+        ≡ report_with [] (told_outcome 32 1 7 (codes "n") Busy ∷ []) 64 }
+{}
