@@ -13,3 +13,5 @@ pub mod Sizes
 pub mod Tells
 pub mod VoteGates
 pub mod VoteSteps
+mod Starts
+mod Hosts

@@ -132,6 +132,12 @@ abbrev pub IsPutOut : Option OutputsRecord → OutputsRecord → Type 0
 IsPutOut None made = made ≡ no_outputs
 IsPutOut (Some outputs) made = outputs ≡ made
 
+-- a node that was handed an event in this state, and what that put out
+pub record IsHanded (config : Config) (key : List ℕ) (at : PlaceRecord) (x : NodeState) (event : NodeEvent)
+    (host : Hosted Content) (outputs : Option OutputsRecord) : Type 0 where
+  pub left : IsHost config key at (made_by_event config at event x).state host
+  pub put_out : IsPutOut outputs (outputs_of key at (made_by_event config at event x))
+
 -- the node of number k + 1 of the world is the one at place k
 abbrev pub AreHosts : Config → List ℕ → ℕ → (ℕ → NodeState) → List (Hosted Content) → Type 0
 AreHosts config key n nodes hosts =
@@ -168,6 +174,12 @@ abbrev pub nodes_after : Config → ℕ → (ℕ → NodeState) → ℕ → Node
 nodes_after config n nodes node event =
     let place : PlaceRecord = record { me = node; n = n } in
     if is_member n node then with_state node (made_by_event config place event (nodes node)).state nodes else nodes
+
+-- the nodes of a world, one of which was handed an event, if there is that one, and what that put out
+pub record IsAsked (config : Config) (key : List ℕ) (n : ℕ) (nodes : ℕ → NodeState) (node : ℕ) (event : NodeEvent)
+    (hosts : List (Hosted Content)) (outputs : Option OutputsRecord) : Type 0 where
+  pub left : AreHosts config key n (nodes_after config n nodes node event) hosts
+  pub put_out : IsPutOut outputs (outputs_at config key n nodes node event)
 
 -- the new world, with what was sent and told since the old one, or without
 abbrev pub told_world : Bool → World → World → World

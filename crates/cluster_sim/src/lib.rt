@@ -3,6 +3,8 @@
 #![tactic(auto)]
 
 mod fault;
+mod hosting;
+mod journal;
 mod laws;
 mod report;
 mod script;

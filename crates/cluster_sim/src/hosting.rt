@@ -1,0 +1,29 @@
+//! A node over a store in memory is the machine of the world.
+
+ghost use Rattle.std.specs.Prelude.{ℕ, List};
+ghost use Rattle.vote_core.specs.NodeSet.{PlaceRecord};
+ghost use Rattle.oath_node.specs.Hosted.{event_of};
+ghost use Rattle.oath_node.specs.Machine.{Config, NodeState, restarted_node};
+ghost use Rattle.cluster_sim.specs.Journal.{IsHanded, IsHost};
+
+use floor_store::MemStore;
+use oath_node::{Event, Node, Outputs};
+
+/// What an event makes of a node, or `None` where it makes nothing.
+pub(crate) fn hand<'b>(node: &mut Node<'b, MemStore>, event: Event<'_>) -> Option<Outputs<'b>>
+    ensures { (config : Config) (key : List ℕ) (place : PlaceRecord) (x : NodeState) → IsHost config key place x node.old
+        → IsHanded config key place x (event_of key event.entry) node.new result }
+{
+    match node.handle(event) {
+        Ok(outputs) => Some(outputs),
+        Err(_) => None,
+    }
+}
+
+/// A new boot of a node; at the last one it stops.
+pub(crate) fn reopen(node: &mut Node<'_, MemStore>)
+    ensures { (config : Config) (key : List ℕ) (place : PlaceRecord) (x : NodeState) → IsHost config key place x node.old
+        → IsHost config key place (restarted_node x) node.new }
+{
+    let _ = node.restart();
+}

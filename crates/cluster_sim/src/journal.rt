@@ -1,0 +1,179 @@
+//! What all nodes sent, began, accepted and told.
+
+ghost use Rattle.std.specs.Prelude.{◌≡◌, ◌++◌, ◌≤◌, [], IfNone, IfSome, None, OnOk, Some, slice_get};
+ghost use Rattle.cluster_sim.specs.Journal.{journal_with_note, journal_with_told, sent_items, start_event, told_items};
+
+use crate::report::{WorldAnswer, WorldPass};
+use arrayvec::ArrayVec;
+use floor_store::{Pass, Proposal};
+use oath_node::{Item, Items, Outputs};
+use std::alloc::{AllocError, Global};
+use std::marker::Model;
+use vote_wire::MAX_SENT_LEN;
+
+/// A datagram, and the node that sent it.
+#[derive(Debug, Drop)]
+pub(crate) struct Datagram {
+    pub(crate) from: u8,
+    pub(crate) bytes: ArrayVec<u8, MAX_SENT_LEN>,
+}
+
+impl Model for Datagram {
+    ghost use Rattle.cluster_sim.specs.Journal.{Letter};
+
+    ghost Value = { Letter };
+
+    ghost view = { λ datagram. record { sender = datagram.from; bytes = datagram.bytes.items } };
+}
+
+/// A proposal, and the event in which it was begun.
+#[derive(Clone, Copy, Debug)]
+pub(crate) struct Start {
+    pub(crate) proposal: Proposal,
+    pub(crate) event: u64,
+}
+
+impl Model for Start {
+    ghost use Rattle.cluster_sim.specs.Journal.{StartRecord};
+
+    ghost Value = { StartRecord };
+
+    ghost view = { λ start. record { proposal = start.proposal; event = start.event } };
+
+    ghost inverse = { λ start. record { proposal = start.proposal; event = start.event } };
+}
+
+/// What all nodes sent, began, accepted and told, each in order.
+#[derive(Debug, Drop)]
+pub(crate) struct Journal {
+    pub(crate) sent: Vec<Datagram>,
+    pub(crate) starts: Vec<Start>,
+    pub(crate) passes: Vec<WorldPass>,
+    pub(crate) answers: Vec<WorldAnswer>,
+}
+
+impl Model for Journal {
+    ghost use Rattle.cluster_sim.specs.Journal.{JournalRecord};
+
+    ghost Value = { JournalRecord };
+
+    ghost view = { λ journal. record {
+      sent = journal.sent.items;
+      starts = journal.starts.items;
+      passes = journal.passes.items;
+      answers = journal.answers.items;
+    } };
+}
+
+/// The event in which a proposal was begun last, or 0. It looks at the newest first.
+fn start_event_of(starts: &[Start], proposal: Proposal) -> u64
+    ensures { result ≡ start_event starts.now proposal }
+{
+    for place in (0..starts.len()).rev() {
+        let start = starts[place];
+        if proposal == start.proposal {
+            return start.event;
+        }
+    }
+    0
+}
+
+impl Journal {
+    /// With nothing in it.
+    pub(crate) fn new(alloc: Global) -> Self
+        ensures { result ≡ record { sent = []; starts = []; passes = []; answers = [] } }
+    {
+        Journal {
+            sent: Vec::new(alloc),
+            starts: Vec::new(alloc),
+            passes: Vec::new(alloc),
+            answers: Vec::new(alloc),
+        }
+    }
+
+    /// The datagram that was sent as number `k`, from 0 on.
+    pub(crate) fn datagram(&self, k: u64) -> Option<&Datagram>
+        ensures some { IfSome result (λ datagram. slice_get self.now.sent k ≡ Some datagram.now) }
+        ensures none { IfNone result (slice_get self.now.sent k ≡ None) }
+    {
+        self.sent.get(k as usize)
+    }
+
+    /// Takes in what a node began and accepted in an event.
+    pub(crate) fn note(
+        &mut self,
+        event: u64,
+        node: u8,
+        begun: Option<Proposal>,
+        pass: Option<Pass>,
+    ) -> Result<(), AllocError>
+        requires first { 1 ≤ node }
+        requires last { node ≤ 9 }
+        ensures { OnOk result (self.new ≡ journal_with_note event node begun pass self.old) }
+    {
+        if let Some(proposal) = begun {
+            self.starts.push(Start { proposal, event })?;
+        }
+        if let Some(pass) = pass {
+            if let Some(proposal) = Proposal::new(node, pass.boot(), pass.seq()) {
+                let began = start_event_of(self.starts.as_slice(), proposal);
+                self.passes.push(WorldPass {
+                    began,
+                    ended: event,
+                    node,
+                    token: pass.token(),
+                    lo: pass.lo(),
+                    hi: pass.hi(),
+                })?;
+            }
+        }
+        Ok(())
+    }
+
+    /// Takes in what a node sent and told in an event.
+    pub(crate) fn tell(
+        &mut self,
+        event: u64,
+        node: u8,
+        outputs: &Outputs<'_>,
+    ) -> Result<(), AllocError>
+        ensures { OnOk result (self.new ≡ journal_with_told event node outputs.now.items self.old) }
+    {
+        tell_items(
+            &mut self.sent,
+            &mut self.answers,
+            event,
+            node,
+            outputs.items(),
+        )
+    }
+}
+
+/// Takes the items of a node, in an event, into the datagrams and the answers.
+fn tell_items(
+    sent: &mut Vec<Datagram>,
+    answers: &mut Vec<WorldAnswer>,
+    event: u64,
+    node: u8,
+    items: Items<'_>,
+) -> Result<(), AllocError>
+    ensures sent { OnOk result (sent.new.items ≡ sent.old.items ++ sent_items node items.entry) }
+    ensures answers { OnOk result (answers.new.items ≡ answers.old.items ++ told_items event node items.entry) }
+{
+    for item in items {
+        match item {
+            Item::Datagram { to: _, bytes } => {
+                sent.push(Datagram { from: node, bytes })?;
+            }
+            Item::Reply { client, bytes } => {
+                answers.push(WorldAnswer {
+                    event,
+                    node,
+                    client,
+                    bytes,
+                })?;
+            }
+        }
+    }
+    Ok(())
+}
