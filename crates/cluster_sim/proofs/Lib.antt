@@ -15,3 +15,7 @@ pub mod VoteGates
 pub mod VoteSteps
 mod Starts
 mod Hosts
+mod Records
+mod HostLemmas
+mod Delivered
+mod Spelled

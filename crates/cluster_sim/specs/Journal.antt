@@ -1,5 +1,5 @@
 -- What the simulation keeps of a run, and what it is in the world.
-use Rattle.std.specs.Prelude.{◌≡◌, ℕ, suc, Bool, if◌then◌else◌, List, [], ◌∷◌, ◌++◌, length, map, Option, Some, None, slice_get}
+use Rattle.std.specs.Prelude.{◌≡◌, ℕ, suc, Bool, if◌then◌else◌, List, [], ◌∷◌, ◌++◌, length, map, Option, Some, None, Result, OnOk, slice_get}
 use Rattle.floor_store.specs.Content.{Content}
 use Rattle.floor_store.specs.Held.{Held}
 use Rattle.floor_store.specs.Records.{ProposalRecord, PassRecord}
@@ -14,7 +14,7 @@ use Rattle.oath_node.specs.Machine.{Config, NodeEvent, NodeState, made_by_event}
 use Rattle.oath_node.specs.Outputs.{OutputsRecord, no_outputs, outputs_of}
 use Rattle.oath_node.specs.declared.item.Item.{Item}
 use Rattle.oath_node.specs.declared.item.Item.TheVariants.{Datagram, Reply}
-use Rattle.cluster_sim.specs.World.{World, Told, Act as WorldAct, Says, Deliver, Ticks, Noise, WorldEvent as Event, Happens, Cut, Restart, begun_in, passes_in, with_state, with_told_of}
+use Rattle.cluster_sim.specs.World.{World, Told, Act as WorldAct, Says, Deliver, Ticks, Noise, WorldEvent as Event, Happens, Cut, Restart, begun_in, passes_in, with_state, with_told_of, world_after_act, world_after_turn}
 use Rattle.cluster_sim.specs.declared.script.Act.{Act}
 use Rattle.cluster_sim.specs.declared.script.Act.TheVariants.{Client as ClientAct, Deliver as DeliverAct, Tick as TickAct, Noise as NoiseAct}
 use Rattle.cluster_sim.specs.declared.script.WorldEvent.{WorldEvent}
@@ -185,11 +185,27 @@ pub record IsAsked (config : Config) (key : List ℕ) (n : ℕ) (nodes : ℕ →
 abbrev pub told_world : Bool → World → World → World
 told_world is_told old new = if is_told then new else with_told_of old new
 
+-- the world after this happened at a node in this event, with what it sent and told, or without
+abbrev pub told_turn : Bool → ℕ → ℕ → Option NodeEvent → Config → World → World
+told_turn is_told event node what config world = told_world is_told world (world_after_turn config event node what world)
+
+-- the world after an act in this event, with what it sent and told, or without
+abbrev pub told_act : Bool → ℕ → WorldAct → Config → World → World
+told_act is_told event act config world = told_world is_told world (world_after_act config event act world)
+
 -- each datagram that was sent reads as it was meant
 abbrev pub AreSpelled : World → Type 0
 AreSpelled world =
     (k : ℕ) (envelope : Envelope) → slice_get world.sent k ≡ Some envelope
     → HasSpelling envelope.sender envelope.receiver envelope.message
+
+-- A call on a simulation. Whatever world it was, in which each datagram reads as it was meant, it is afterwards what the
+-- call makes of that world, unless memory ran out.
+abbrev pub Plays : {A E : Type 0} → List ℕ → (Config → World → World) → SimulationRecord → SimulationRecord
+    → Result A E → Type 0
+Plays key makes old new result =
+    (config : Config) (world : World) → IsRun config key world old → AreSpelled world
+    → OnOk result (IsRun config key (makes config world) new)
 
 -- ---- Scripts
 

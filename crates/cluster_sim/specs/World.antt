@@ -64,11 +64,15 @@ abbrev pub delivered_event : Option Envelope → Option NodeEvent
 delivered_event None = None
 delivered_event (Some envelope) = Some (Peer envelope.sender (Some envelope))
 
+-- bytes that say this, or nothing, say an envelope of the node
+abbrev pub is_from : ℕ → Option Envelope → Bool
+is_from node None = false
+is_from node (Some envelope) = envelope.sender == node
+
 -- Any bytes are noise but those that say, under the key, an envelope of the node from whose address they come. Those are
--- not handed in: whatever was not sent before would be a forgery with the cluster's own key. What is noise the node drops.
+-- not handed in: they would be forged with the cluster's own key, or sent before. What is noise the node drops.
 abbrev pub noise_event : ℕ → Option Envelope → Option NodeEvent
-noise_event from None = Some (Peer from None)
-noise_event from (Some envelope) = if envelope.sender == from then None else Some (Peer from (Some envelope))
+noise_event from read = if is_from from read then None else Some (Peer from read)
 
 -- what happens at the node in an act, if anything does
 abbrev pub node_event_of : List Envelope → Act → Option NodeEvent

@@ -8,6 +8,7 @@ mod journal;
 mod laws;
 mod report;
 mod script;
+mod simulation;
 
 pub use fault::SimFault;
 pub use laws::{

@@ -1,0 +1,277 @@
+//! Nodes over stores in memory, and what each event makes of them.
+
+ghost use Rattle.std.specs.Prelude.{◌≡◌, ◌+◌, ◌<◌, ◌≤◌, ℕ, List, IfNone, IfSome, OnOk, Some, false, length, map, slice_get, true};
+ghost use Rattle.vote_core.specs.Schedule.{is_member};
+ghost use Rattle.oath_node.specs.Hosted.{envelope_at, event_of as node_event_of};
+ghost use Rattle.oath_node.specs.Machine.{Config, NodeState};
+ghost use Rattle.cluster_sim.specs.Journal.{AreHosts, IsAsked, IsRun, JournalRecord, Plays, act_of, event_of, journal_with_outputs, letter_of, told_act, told_turn};
+ghost use Rattle.cluster_sim.specs.World as spec;
+ghost use Rattle.cluster_sim.specs.World.{Cut, Deliver, Noise, World, node_of, world_after_event, world_after_restart};
+
+use crate::hosting::{hand, reopen};
+use crate::journal::Journal;
+use crate::script::{Act, WorldEvent};
+use floor_store::MemStore;
+use oath_node::{Event, Node, Outputs};
+use std::alloc::AllocError;
+use vote_wire::{ClusterKey, one_spelling, read_message};
+
+/// The place of a node among so many.
+fn index_of(len: usize, node: u64) -> Option<usize>
+    ensures place { IfSome result (λ k. k + 1 ≡ node) }
+    ensures within { IfSome result (λ k. k < len) }
+    ensures member { IfSome result (λ k. is_member len node ≡ true) }
+    ensures none { IfNone result (is_member len node ≡ false) }
+{
+    if 1 <= node && node <= len as u64 {
+        Some((node - 1) as usize)
+    } else {
+        None
+    }
+}
+
+/// Hands an event to a node, if there is that one.
+fn ask<'b>(nodes: &mut [Node<'b, MemStore>], node: u64, event: Event<'_>) -> Option<Outputs<'b>>
+    ensures asks { (config : Config) (key : List ℕ) (n : ℕ) (x : ℕ → NodeState)
+        → n ≡ length nodes.old → AreHosts config key n x nodes.old
+        → IsAsked config key n x node (node_event_of key event.entry) nodes.new result }
+    ensures len { length nodes.new ≡ length nodes.old }
+    ensures member { IfSome result (λ _. is_member (length nodes.old) node ≡ true) }
+{
+    let index = index_of(nodes.len(), node)?;
+    hand(&mut nodes[index], event)
+}
+
+/// Takes what a node put out in an event into the journal.
+fn take(
+    journal: &mut Journal,
+    event: u64,
+    node: u64,
+    is_told: bool,
+    outputs: &Option<Outputs<'_>>,
+) -> Result<(), AllocError>
+    requires { IfSome outputs.now (λ _. is_member 9 node ≡ true) }
+    ensures { OnOk result (journal.new ≡ journal_with_outputs event node is_told outputs.now journal.old) }
+{
+    if let Some(outputs) = outputs {
+        let node = node as u8;
+        journal.note(event, node, outputs.begun(), outputs.pass())?;
+        if is_told {
+            journal.tell(event, node, outputs)?;
+        }
+    }
+    Ok(())
+}
+
+/// Hands an event to a node, and takes what it puts out into the journal.
+fn turn(
+    nodes: &mut [Node<'_, MemStore>],
+    journal: &mut Journal,
+    event: u64,
+    node: u64,
+    is_told: bool,
+    what: Event<'_>,
+) -> Result<(), AllocError>
+    requires { length nodes.old ≤ 9 }
+    ensures plays { (key : List ℕ) → Plays key (told_turn is_told event node (Some (node_event_of key what.entry)))
+        (record { nodes = nodes.old; journal = journal.old }) (record { nodes = nodes.new; journal = journal.new }) result }
+    ensures len { length nodes.new ≡ length nodes.old }
+{
+    let outputs = ask(nodes, node, what);
+    take(journal, event, node, is_told, &outputs)
+}
+
+/// Hands the datagram of a number to a node.
+fn deliver(
+    nodes: &mut [Node<'_, MemStore>],
+    journal: &mut Journal,
+    event: u64,
+    node: u64,
+    k: u64,
+    is_told: bool,
+) -> Result<(), AllocError>
+    requires { length nodes.old ≤ 9 }
+    ensures plays { (key : List ℕ) → Plays key (told_act is_told event (Deliver node k))
+        (record { nodes = nodes.old; journal = journal.old }) (record { nodes = nodes.new; journal = journal.new }) result }
+    ensures len { length nodes.new ≡ length nodes.old }
+{
+    one_spelling();
+    let Some(datagram) = journal.datagram(k) else {
+        return Ok(());
+    };
+    let what = Event::Peer {
+        from: datagram.from,
+        bytes: datagram.bytes.as_slice(),
+    };
+    let outputs = ask(nodes, node, what);
+    take(journal, event, node, is_told, &outputs)
+}
+
+/// Whether bytes are a datagram of this node under the key.
+fn is_from(key: &ClusterKey, node: u64, bytes: &[u8]) -> bool
+    ensures { result ≡ spec.is_from node (envelope_at key.now bytes.now) }
+{
+    match read_message(key, bytes) {
+        Some((sender, _, _)) => u64::from(sender) == node,
+        None => false,
+    }
+}
+
+/// Hands bytes to a node that come from an address, if they are noise.
+fn disturb(
+    nodes: &mut [Node<'_, MemStore>],
+    journal: &mut Journal,
+    key: &ClusterKey,
+    event: u64,
+    node: u64,
+    from: u64,
+    bytes: &[u8],
+    is_told: bool,
+) -> Result<(), AllocError>
+    requires { length nodes.old ≤ 9 }
+    ensures plays { Plays key.now (told_act is_told event (Noise node from (envelope_at key.now bytes.now)))
+        (record { nodes = nodes.old; journal = journal.old }) (record { nodes = nodes.new; journal = journal.new }) result }
+    ensures len { length nodes.new ≡ length nodes.old }
+{
+    if is_from(key, from, bytes) {
+        return Ok(());
+    }
+    let Ok(from) = u8::try_from(from) else {
+        return Ok(());
+    };
+    turn(
+        nodes,
+        journal,
+        event,
+        node,
+        is_told,
+        Event::Peer { from, bytes },
+    )
+}
+
+/// Does an act in an event. What the node sends and replies is told, or lost.
+fn perform(
+    nodes: &mut [Node<'_, MemStore>],
+    journal: &mut Journal,
+    key: &ClusterKey,
+    event: u64,
+    act: Act<'_>,
+    is_told: bool,
+) -> Result<(), AllocError>
+    requires { length nodes.old ≤ 9 }
+    ensures plays { Plays key.now (told_act is_told event (act_of key.now act.entry))
+        (record { nodes = nodes.old; journal = journal.old }) (record { nodes = nodes.new; journal = journal.new }) result }
+    ensures len { length nodes.new ≡ length nodes.old }
+{
+    match act {
+        Act::Client {
+            node,
+            client,
+            moment,
+            line,
+        } => turn(
+            nodes,
+            journal,
+            event,
+            node,
+            is_told,
+            Event::Client {
+                client,
+                moment,
+                line,
+            },
+        ),
+        Act::Deliver { node, k } => deliver(nodes, journal, event, node, k, is_told),
+        Act::Tick { node } => turn(nodes, journal, event, node, is_told, Event::Tick),
+        Act::Noise { node, from, bytes } => {
+            disturb(nodes, journal, key, event, node, from, bytes, is_told)
+        }
+    }
+}
+
+/// The node that a stop inside an act restarts.
+fn target_of(journal: &Journal, act: Act<'_>) -> Option<u64>
+    ensures { (key : List ℕ) (world : World) → journal.now.sent ≡ map (letter_of key) world.sent
+        → result ≡ node_of (act_of key act.entry) world }
+{
+    match act {
+        Act::Client { node, .. } => Some(node),
+        Act::Tick { node } => Some(node),
+        Act::Noise { node, .. } => Some(node),
+        Act::Deliver { node, k } => journal.datagram(k).map(|_| node),
+    }
+}
+
+/// Restarts a node, if there is that one.
+fn reopen_at(nodes: &mut [Node<'_, MemStore>], node: u64)
+    ensures restarts { (config : Config) (key : List ℕ) (world : World) (journal : JournalRecord)
+        → IsRun config key world (record { nodes = nodes.old; journal = journal })
+        → IsRun config key (world_after_restart (Some node) world) (record { nodes = nodes.new; journal = journal }) }
+    ensures len { length nodes.new ≡ length nodes.old }
+{
+    if let Some(index) = index_of(nodes.len(), node) {
+        reopen(&mut nodes[index]);
+    }
+}
+
+/// Restarts a node, if one is named.
+fn reopen_if(nodes: &mut [Node<'_, MemStore>], node: Option<u64>)
+    ensures restarts { (config : Config) (key : List ℕ) (world : World) (journal : JournalRecord)
+        → IsRun config key world (record { nodes = nodes.old; journal = journal })
+        → IsRun config key (world_after_restart node world) (record { nodes = nodes.new; journal = journal }) }
+    ensures len { length nodes.new ≡ length nodes.old }
+{
+    if let Some(node) = node {
+        reopen_at(nodes, node);
+    }
+}
+
+/// Stops a node inside an act.
+fn cut(
+    nodes: &mut [Node<'_, MemStore>],
+    journal: &mut Journal,
+    key: &ClusterKey,
+    event: u64,
+    kept: bool,
+    act: Act<'_>,
+) -> Result<(), AllocError>
+    requires { length nodes.old ≤ 9 }
+    ensures plays { Plays key.now
+        (λ (config : Config) (world : World). world_after_event config event (Cut kept (act_of key.now act.entry)) world)
+        (record { nodes = nodes.old; journal = journal.old }) (record { nodes = nodes.new; journal = journal.new }) result }
+    ensures len { length nodes.new ≡ length nodes.old }
+{
+    let target = target_of(journal, act);
+    if kept {
+        perform(nodes, journal, key, event, act, false)?;
+        reopen_if(nodes, target);
+        Ok(())
+    } else {
+        reopen_if(nodes, target);
+        Ok(())
+    }
+}
+
+/// Lets the event of a number happen.
+pub(crate) fn happen(
+    nodes: &mut [Node<'_, MemStore>],
+    journal: &mut Journal,
+    key: &ClusterKey,
+    number: u64,
+    event: WorldEvent<'_>,
+) -> Result<(), AllocError>
+    requires { length nodes.old ≤ 9 }
+    ensures plays { Plays key.now
+        (λ (config : Config) (world : World). world_after_event config number (event_of key.now event.entry) world)
+        (record { nodes = nodes.old; journal = journal.old }) (record { nodes = nodes.new; journal = journal.new }) result }
+    ensures len { length nodes.new ≡ length nodes.old }
+{
+    match event {
+        WorldEvent::Happens(act) => perform(nodes, journal, key, number, act, true),
+        WorldEvent::Cut { kept, act } => cut(nodes, journal, key, number, kept, act),
+        WorldEvent::Restart { node } => {
+            reopen_at(nodes, node);
+            Ok(())
+        }
+    }
+}
