@@ -19,3 +19,5 @@ mod Records
 mod HostLemmas
 mod Delivered
 mod Spelled
+mod Opening
+mod Played

@@ -1,5 +1,5 @@
 -- What the simulation keeps of a run, and what it is in the world.
-use Rattle.std.specs.Prelude.{◌≡◌, ℕ, suc, Bool, if◌then◌else◌, List, [], ◌∷◌, ◌++◌, length, map, Option, Some, None, Result, OnOk, slice_get}
+use Rattle.std.specs.Prelude.{◌≡◌, ℕ, suc, Bool, if◌then◌else◌, List, [], ◌∷◌, ◌++◌, length, map, take, Option, Some, None, Result, OnOk, slice_get}
 use Rattle.floor_store.specs.Content.{Content}
 use Rattle.floor_store.specs.Held.{Held}
 use Rattle.floor_store.specs.Records.{ProposalRecord, PassRecord}
@@ -14,7 +14,7 @@ use Rattle.oath_node.specs.Machine.{Config, NodeEvent, NodeState, made_by_event}
 use Rattle.oath_node.specs.Outputs.{OutputsRecord, no_outputs, outputs_of}
 use Rattle.oath_node.specs.declared.item.Item.{Item}
 use Rattle.oath_node.specs.declared.item.Item.TheVariants.{Datagram, Reply}
-use Rattle.cluster_sim.specs.World.{World, Told, Act as WorldAct, Says, Deliver, Ticks, Noise, WorldEvent as Event, Happens, Cut, Restart, begun_in, passes_in, with_state, with_told_of, world_after_act, world_after_turn}
+use Rattle.cluster_sim.specs.World.{World, Told, Act as WorldAct, Says, Deliver, Ticks, Noise, WorldEvent as Event, Happens, Cut, Restart, begun_in, passes_in, with_state, with_told_of, world_after_act, world_after_events, world_after_turn}
 use Rattle.cluster_sim.specs.declared.script.Act.{Act}
 use Rattle.cluster_sim.specs.declared.script.Act.TheVariants.{Client as ClientAct, Deliver as DeliverAct, Tick as TickAct, Noise as NoiseAct}
 use Rattle.cluster_sim.specs.declared.script.WorldEvent.{WorldEvent}
@@ -36,6 +36,10 @@ pub record JournalRecord : Type 0 where
   pub starts : List StartRecord
   pub passes : List Acceptance
   pub answers : List Told
+
+-- nothing yet
+abbrev pub no_journal : JournalRecord
+no_journal = record { sent = []; starts = []; passes = []; answers = [] }
 
 -- ---- What a node's outputs make of the journal
 
@@ -198,6 +202,10 @@ abbrev pub AreSpelled : World → Type 0
 AreSpelled world =
     (k : ℕ) (envelope : Envelope) → slice_get world.sent k ≡ Some envelope
     → HasSpelling envelope.sender envelope.receiver envelope.message
+
+-- each datagram that is sent up to any of these events reads as it was meant
+abbrev pub AreSpelledAlong : Config → List Event → World → Type 0
+AreSpelledAlong config events world = (k : ℕ) → AreSpelled (world_after_events config 0 (take k events) world)
 
 -- A call on a simulation. Whatever world it was, in which each datagram reads as it was meant, it is afterwards what the
 -- call makes of that world, unless memory ran out.

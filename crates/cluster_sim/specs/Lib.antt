@@ -5,5 +5,6 @@ pub mod Journal
 pub mod Justified
 pub mod Refinement
 pub mod Results
+pub mod Run
 pub mod SingleNode
 pub mod World

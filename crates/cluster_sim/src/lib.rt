@@ -7,6 +7,7 @@ mod hosting;
 mod journal;
 mod laws;
 mod report;
+mod run;
 mod script;
 mod simulation;
 

@@ -1,0 +1,13 @@
+use Rattle.std.proofs.Common.{map}
+use Rattle.oath_node.specs.Machine.{Config}
+use Rattle.cluster_sim.specs.Journal.{AreSpelledAlong, IsRun, event_of}
+use Rattle.cluster_sim.specs.World.{World}
+use Rattle.cluster_sim.proofs.Played.{IsPlayed}
+use Rattle.cluster_sim.proofs.run.play.Given as goal
+
+-- from whatever world it began, so many events have happened
+abbrev pub invariant-loop-number : goal.invariant-loop-number
+invariant-loop-number l =
+    (config : Config) (world : World) → AreSpelledAlong config (map (event_of l.key) l.events) world
+    → IsRun config l.key world (record { nodes = l.initial.nodes; journal = l.initial.journal })
+    → IsPlayed config l.key (map (event_of l.key) l.events) world l.number (record { nodes = l.nodes; journal = l.journal })
