@@ -21,3 +21,5 @@ mod Delivered
 mod Spelled
 mod Opening
 mod Played
+mod Floors
+mod Reporting

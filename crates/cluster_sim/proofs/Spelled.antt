@@ -1,5 +1,5 @@
 -- Whatever happens, each datagram that a node sends is in the peer format.
-use Rattle.std.proofs.Common.{◌≡◌, ◌≢◌, ℕ, zero, suc, ◌+◌, ◌-◌, ◌^◌, ◌<◌, ◌≤◌, Bool, true, false, cond, not, ◌&&◌, ⊎_elim, List, [], ◌∷◌, ◌++◌, length, map, Option, Some, None, refl, sym, ap, ◌∙◌, subst, arith, eqb, leb, ltb}
+use Rattle.std.proofs.Common.{◌≡◌, ◌≢◌, ℕ, zero, suc, ◌+◌, ◌-◌, ◌^◌, ◌<◌, ◌≤◌, Bool, true, false, cond, not, ◌&&◌, ⊎_elim, List, [], ◌∷◌, ◌++◌, length, map, Option, Some, None, refl, sym, ap, ◌∙◌, subst, arith, eqb, leb, ltb, take}
 use Rattle.std.specs.Prelude.{filter}
 use Rattle.std.specs.List.{slice_get}
 use Rattle.std.proofs.lemmas.Bool.{cond_both, eqb-true, eqb-false, and_parts, not-true, ltb-true, leb-true}
@@ -15,13 +15,13 @@ use Rattle.otp_core.specs.Range.{IsFactor}
 use Rattle.token_file.specs.declared.token.Kind.{Kind}
 use Rattle.token_file.specs.declared.token.Kind.TheVariants.{Event, Time30, Time60}
 use Rattle.vote_core.specs.NodeSet.{PlaceRecord, members, others, with_node}
-use Rattle.vote_core.specs.Rows.{row_with_clear_gate, granted_row, row_with_next, row}
+use Rattle.vote_core.specs.Rows.{no_row, row_with_clear_gate, granted_row, row_with_next, row}
 use Rattle.vote_core.specs.Schedule.{Envelope, envelope_from, is_member, last_boot, opening_rows}
 use Rattle.vote_core.specs.State.{IsPlace}
 use Rattle.vote_core.specs.Voting.{Ballot, VoterState, Voted, accept, reply_step, has_answered, asks_again, count_deny, count_grant, with_denying, denied_one, floor_sends, fresh_voter, with_granting, granted_one, is_grant, is_young, of_this_boot, older_ballot, on_ask, on_deny, on_floor, on_grant, on_message, quiet_step, pass_of, with_pending, proposal_of, propose, propose_alone, propose_among, raise, remove, replace, tick, to_each}
 use Rattle.vote_core.specs.declared.message.Message.{Message}
 use Rattle.vote_core.specs.declared.message.Message.TheVariants.{Ask, Grant, Deny, Floor}
-use Rattle.vote_core.proofs.Basics.{Each, each_append, each_filter, each_flat_map, each_get, each_map, each_weaker, put_size, row_cases}
+use Rattle.vote_core.proofs.Basics.{Each, each_append, each_filter, each_flat_map, each_get, each_get_or, each_map, opening_size, each_weaker, put_size, row_cases}
 use Rattle.vote_core.proofs.Lists.{deny_found, each_remove, each_replace, find_each, grant_fits}
 use Rattle.vote_wire.specs.Body.{HasEnds, HasSpelling, IsDenialOf, IsVoteOn}
 use Rattle.vote_wire.specs.Request.{without_lf}
@@ -29,8 +29,8 @@ use Rattle.oath_node.specs.Grounds.{HasGrounds, IsFitting}
 use Rattle.oath_node.specs.Machine.{Config, Made, NodeEvent, NodeState, Owner, Client, Peer, Tick, made_by_event, made_by_datagram, made_by_ruling, gate_with_failure, stopped_node, is_heard, made_while_running, opened_node, made_by_proposal, quiet_made, restarted_node, ruling_at, standing_at, made_by_vote}
 use Rattle.vote_core.specs.Schedule.{content_with_gate}
 use Rattle.oath_node.specs.Rules.{Ruling, Outside, Again, Waiting, Denied, Wrong, Fitting}
-use Rattle.cluster_sim.specs.World.{World, Act, Says, Deliver, Ticks, Noise, WorldEvent, Happens, Cut, Restart, world_after_act, delivered_event, world_after_event, world_with_made, node_of, noise_event, place_at, world_after_restart, with_state, world_after_turn, with_told_of}
-use Rattle.cluster_sim.specs.Journal.{AreSpelled}
+use Rattle.cluster_sim.specs.World.{World, floor_at, opening_world, world_after_events, Act, Says, Deliver, Ticks, Noise, WorldEvent, Happens, Cut, Restart, world_after_act, delivered_event, world_after_event, world_with_made, node_of, noise_event, place_at, world_after_restart, with_state, world_after_turn, with_told_of}
+use Rattle.cluster_sim.specs.Journal.{AreSpelled, AreSpelledAlong}
 use Rattle.cluster_sim.proofs.Acts.{noise_cases, unheard}
 use Rattle.cluster_sim.proofs.BelowLaws.{GroundLaw}
 
@@ -375,3 +375,37 @@ happens_fine grounds config e (Restart i) w few h = restart_fine (Some i) w h
 
 pub are_spelled : (w : World) → IsFineWorld w → AreSpelled w
 are_spelled w h k l e = each_get IsSpelled w.sent k l h.sent e
+
+-- ---- runs
+
+run_fine : GroundLaw → (config : Config) (e : ℕ) (xs : List WorldEvent) (w : World) → length config.book ≤ 10000 → IsFineWorld w → IsFineWorld (world_after_events config e xs w)
+unfolding world_after_events
+run_fine grounds config e [] w few h = h
+run_fine grounds config e (x ∷ xs) w few h = run_fine grounds config (suc e) xs (world_after_event config e x w) few (happens_fine grounds config e x w few h)
+
+-- the rows of a node that opens
+abbrev HasNext : RowRecord → Type 0
+HasNext r = r.next ≤ 2 ^ 62
+
+opening_fine : (k : ℕ) (floor : ℕ → ℕ) → ((t : ℕ) → floor t ≤ 2 ^ 62) → Each HasNext (opening_rows k floor)
+opening_fine zero floor h = tt
+opening_fine (suc k) floor h = each_append HasNext (opening_rows k floor) _ (opening_fine k floor h) (h k, tt)
+
+start_fine : (config : Config) (floors : List (List ℕ)) → length config.book ≤ 10000 → length floors ≤ 9 → ((i t : ℕ) → floor_at floors i t ≤ 2 ^ 62) → IsFineWorld (opening_world config floors)
+start_fine config floors few n h = record {
+  few = n;
+  nodes = λ i. record {
+    boot = omega arith;
+    next = λ t. each_get_or HasNext (opening_rows (length config.book) (floor_at floors i)) t no_row (opening_fine (length config.book) (floor_at floors i) (h i)) (omega arith);
+    tokens = subst (λ m. m ≤ 10000) (sym (opening_size (length config.book) (floor_at floors i))) few;
+    seq = omega arith;
+    pending = tt;
+  };
+  sent = tt;
+}
+
+pub all_spelled : GroundLaw → (config : Config) (floors : List (List ℕ)) (events : List WorldEvent) → length config.book ≤ 10000 → length floors ≤ 9 → ((i t : ℕ) → floor_at floors i t ≤ 2 ^ 62)
+    → AreSpelledAlong config events (opening_world config floors)
+all_spelled grounds config floors events few n h k =
+    are_spelled (world_after_events config 0 (take k events) (opening_world config floors))
+    (run_fine grounds config 0 (take k events) (opening_world config floors) few (start_fine config floors few n h))

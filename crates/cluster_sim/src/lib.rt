@@ -17,4 +17,5 @@ pub use laws::{
     world_is_safe,
 };
 pub use report::{Report, WorldAnswer, WorldPass};
+pub use run::run_world;
 pub use script::{Act, WorldEvent};

@@ -1,24 +1,51 @@
 //! A run of a script, from the opening of the nodes to the report.
 
-ghost use Rattle.std.specs.Prelude.{◌≡◌, ◌≤◌, ℕ, List, IfOk, OnOk, Some, length, map, slice_get, slice_index_or};
+ghost use Rattle.admit_core.specs.Throttle.{SpacesFailures};
+ghost use Rattle.otp_core.specs.Acceptance.{HaveSingleUse, KeepRealTimeOrder};
+ghost use Rattle.vote_core.specs.Safety.{HaveMajority};
+ghost use Rattle.cluster_sim.specs.Answered.{AreAnswered, NamePasses, TellTruth};
+ghost use Rattle.cluster_sim.specs.Justified.{AreJustified};
+ghost use Rattle.cluster_sim.specs.Results.{results_of};
+ghost use Rattle.cluster_sim.specs.SingleNode.{opening_server, reference_answers};
+ghost use Rattle.std.specs.Prelude.{[], ◌≡◌, ◌≤◌, ℕ, List, IfOk, OnOk, Some, length, map, slice_get, slice_index_or};
 ghost use Rattle.std.specs.Global.{Vec};
+ghost use Rattle.otp_core.specs.Range.{IsNext};
 ghost use Rattle.oath_node.specs.Machine.{Config};
 ghost use Rattle.cluster_sim.specs.Journal.{AreSpelledAlong, IsHost, IsRun, event_of, no_journal};
 ghost use Rattle.cluster_sim.specs.Run.{floor_lists, run_of};
-ghost use Rattle.cluster_sim.specs.World.{World, opening_node, opening_world, report_of, world_after_events};
+ghost use Rattle.cluster_sim.specs.World.{World, floor_at, floor_before, opening_node, opening_world, report_of, world_after_events};
 
 use crate::fault::SimFault;
 use crate::journal::Journal;
+use crate::laws::{answers_belong_to_passes, one_node_is_the_reference, world_is_safe};
 use crate::report::Report;
 use crate::script::WorldEvent;
 use crate::simulation::happen;
 use floor_store::MemStore;
-use oath_node::Node;
+use oath_node::{Node, rulings_have_grounds};
 use otp_core::{Next, Settings};
 use std::alloc::{AllocError, Global};
 use token_file::{Book, MAX_TOKENS};
 use vote_core::Place;
 use vote_wire::ClusterKey;
+
+/// Each of these first free factors is in range, as its type says.
+fn list_is_in_range(list: &[Next])
+    ensures { (token : ℕ) → IsNext (slice_index_or list.now token 0) }
+{
+    for next in list {
+        let _value = next.value();
+    }
+}
+
+/// Each first free factor of each node is in range.
+fn floors_are_in_range(floors: &[Vec<Next>])
+    ensures { (node token : ℕ) → IsNext (floor_at (floor_lists floors.now) node token) }
+{
+    for list in floors {
+        list_is_in_range(list.as_slice());
+    }
+}
 
 /// Opens a node over a store in memory, with these first free factors.
 fn open_node<'b>(
@@ -29,15 +56,12 @@ fn open_node<'b>(
     place: Place,
     floors: &[Next],
 ) -> Result<Node<'b, MemStore>, SimFault>
-    requires { length floors.now ≡ length book.now }
+    requires as_many { length floors.now ≡ length book.now }
+    requires few { length book.now ≤ MAX_TOKENS }
     ensures { let config : Config = record { book = book.now; limits = settings } in
         let opening = opening_node (length book.now) (λ token. slice_index_or floors.now token 0) in
         IfOk result (λ node. IsHost config key.now place opening node) }
 {
-    // No book has more tokens.
-    if floors.len() > MAX_TOKENS {
-        return Err(SimFault::Memory);
-    }
     let Ok(store) = MemStore::new(alloc, floors) else {
         return Err(SimFault::Memory);
     };
@@ -55,6 +79,7 @@ fn open_nodes<'b>(
     key: &'b ClusterKey,
     floors: &[Vec<Next>],
 ) -> Result<Vec<Node<'b, MemStore>>, SimFault>
+    requires few { length book.now ≤ MAX_TOKENS }
     requires last { length floors.now ≤ 9 }
     requires each { (k : ℕ) (list : Vec ℕ) → slice_get floors.now k ≡ Some list
         → length list.items ≡ length book.now }
@@ -91,4 +116,109 @@ fn play(
         happen(nodes, journal, key, number as u64, *event)?;
     }
     Ok(())
+}
+
+/// Runs a script: opens the nodes, lets the events happen, and makes the report.
+fn run_script(
+    alloc: Global,
+    book: &Book,
+    settings: Settings,
+    key: &ClusterKey,
+    floors: &[Vec<Next>],
+    events: &[WorldEvent<'_>],
+) -> Result<Report, SimFault>
+    requires last { length floors.now ≤ 9 }
+    requires each { (k : ℕ) (list : Vec ℕ) → slice_get floors.now k ≡ Some list
+        → length list.items ≡ length book.now }
+    ensures { let run = run_of book.now settings key.now floors.now events.now in
+        IfOk result (λ report. report ≡ report_of run.config run.floors run.events) }
+{
+    // No book has more.
+    if book.len() > MAX_TOKENS {
+        return Err(SimFault::Memory);
+    }
+    rulings_have_grounds();
+    floors_are_in_range(floors);
+    let mut nodes = open_nodes(alloc, book, settings, key, floors)?;
+    let mut journal = Journal::new(alloc);
+    play(&mut nodes, &mut journal, key, events)?;
+    Ok(report_of_journal(journal))
+}
+
+/// The report of all that was taken in.
+fn report_of_journal(journal: Journal) -> Report
+    ensures { result ≡ record {
+      passes = journal.passes;
+      answers = journal.answers;
+      sent = length journal.sent;
+    } }
+{
+    let Journal {
+        sent,
+        starts: _,
+        passes,
+        answers,
+    } = journal;
+    Report::new(passes, answers, sent.len() as u64)
+}
+
+/// Runs a script over nodes that open with these first free factors, each over a store in memory of its own, and
+/// tells what was accepted and answered. The nodes are as many as the lists of `floors`, and have the same book,
+/// settings and key.
+///
+/// # Errors
+/// `Memory` where there is none, and then there is no report.
+pub fn run_world(
+    alloc: Global,
+    book: &Book,
+    settings: Settings,
+    key: &ClusterKey,
+    floors: &[Vec<Next>],
+    events: &[WorldEvent<'_>],
+) -> Result<Report, SimFault>
+    requires first { 1 ≤ length floors.now }
+    requires last { length floors.now ≤ 9 }
+    requires each { (k : ℕ) (list : Vec ℕ) → slice_get floors.now k ≡ Some list
+        → length list.items ≡ length book.now }
+
+    // The report is exactly that of the run: what is accepted, what is answered, and how many datagrams are sent.
+    ensures report { let run = run_of book.now settings key.now floors.now events.now in
+        IfOk result (λ report. report ≡ report_of run.config run.floors run.events) }
+
+    // No factor is used up twice, and what begins after an acceptance is accepted above it.
+    ensures single_use { IfOk result (λ report. HaveSingleUse report.passes) }
+    ensures in_order { IfOk result (λ report. KeepRealTimeOrder report.passes) }
+
+    // Each acceptance has a majority of nodes that gave its factors to no other.
+    ensures majority { let run = run_of book.now settings key.now floors.now events.now in
+        let floor = floor_before run.config run.floors run.events in
+        IfOk result (λ report. HaveMajority (length floors.now) floor report.passes) }
+
+    // Each acceptance is justified by the client's line with which it began.
+    ensures justified { let run = run_of book.now settings key.now floors.now events.now in
+        IfOk result (λ report. AreJustified run.config run.floors run.events report.passes) }
+
+    // Each `OK` belongs to an acceptance, no other answer begins as one, and each acceptance that isn't of a stop is
+    // answered.
+    ensures told { let run = run_of book.now settings key.now floors.now events.now in
+        IfOk result (λ report. NamePasses run.events report.passes report.answers) }
+    ensures no_other { let run = run_of book.now settings key.now floors.now events.now in
+        IfOk result (λ report. TellTruth run.events report.passes report.answers) }
+    ensures answered { let run = run_of book.now settings key.now floors.now events.now in
+        IfOk result (λ report. AreAnswered run.events report.answers report.passes) }
+
+    // One node alone answers as the server with one front end does.
+    ensures single_node { let run = run_of book.now settings key.now floors.now events.now in
+        let server = opening_server (slice_index_or run.floors 0 []) in
+        length floors.now ≡ 1
+        → IfOk result (λ report. report.answers ≡ reference_answers run.config 0 run.events server) }
+
+    // The failures of a token at a node are far apart.
+    ensures spaced { let run = run_of book.now settings key.now floors.now events.now in
+        (node token : ℕ) → SpacesFailures (results_of run.config run.floors run.events node token) }
+{
+    world_is_safe();
+    answers_belong_to_passes();
+    one_node_is_the_reference();
+    run_script(alloc, book, settings, key, floors, events)
 }
