@@ -10,6 +10,8 @@ mod report;
 mod run;
 mod script;
 mod simulation;
+#[cfg(test)]
+mod tests;
 
 pub use fault::SimFault;
 pub use laws::{

@@ -1,0 +1,271 @@
+//! Whole scripts, with what each comes to.
+
+use super::*;
+use otp_core::{Next, Settings};
+use std::alloc::Global;
+use std::process::Abort;
+use std::test::Fail;
+use token_file::{FromRead, read_book};
+use vote_wire::ClusterKey;
+
+/// The token of RFC 4226, Appendix D.
+const SILVER: &[u8] = b"HOTP silver - 3132333435363738393031323334353637383930";
+
+/// An Ask from 1 to 2 for token 0, factors 0 to 0, by proposal 0 of boot 1 of node 1, under 32 zeros.
+const ASK: [u8; 59] = [
+    0x4f, 0x56, 2, 1, 1, 2, 0, 0, 0, 0, 1, 0, 0, 0, 0, 0, 0, 0, 1, 0, 0, 0, 0, 0, 0, 0, 0, 0, 0, 0,
+    0, 0, 0, 0, 0, 0, 0, 0, 0, 0, 0, 0, 0, 0x0c, 0x53, 0x1f, 0xa7, 0x11, 0xe9, 0x66, 0xd0, 0xa9,
+    0xbd, 0xa8, 3, 0x85, 0x1c, 0x99, 0x19,
+];
+
+/// An acceptance of the one token: the events in which it began and ended, the node, and the ends of its
+/// factors.
+type Pass = (u64, u64, u8, u64, u64);
+
+/// An answer: the event, the node, the client and the text.
+type Text = (u64, u8, u64, &'static [u8]);
+
+/// A client's line at a node.
+fn line(node: u64, client: u64, moment: u64, line: &[u8]) -> WorldEvent<'_> {
+    WorldEvent::Happens(Act::Client {
+        node,
+        client,
+        moment,
+        line,
+    })
+}
+
+/// The first code of client 7, at node 1.
+fn first_at_1() -> WorldEvent<'static> {
+    line(1, 7, 1000, b"CHECK a silver 755224 -")
+}
+
+/// The first code of client 8, at node 2.
+fn first_at_2() -> WorldEvent<'static> {
+    line(2, 8, 1000, b"CHECK b silver 755224 -")
+}
+
+/// A datagram that comes to a node.
+fn delivery(node: u64, k: u64) -> WorldEvent<'static> {
+    WorldEvent::Happens(Act::Deliver { node, k })
+}
+
+/// A tick of a node.
+fn tick(node: u64) -> WorldEvent<'static> {
+    WorldEvent::Happens(Act::Tick { node })
+}
+
+/// Bytes that come to a node from an address.
+fn noise(node: u64, from: u64, bytes: &[u8]) -> WorldEvent<'_> {
+    WorldEvent::Happens(Act::Noise { node, from, bytes })
+}
+
+/// The same list for each of so many nodes.
+fn lists_of(alloc: Global, floors: &[Next], n: usize) -> Result<Vec<Vec<Next>>, Fail> {
+    let mut lists = Vec::new(alloc);
+    for _ in 0..n {
+        lists.push(Vec::from_slice(alloc, floors)?)?;
+    }
+    Ok(lists)
+}
+
+/// What a script comes to at so many fresh nodes with the one token, under 32 zeros, with a look-ahead of 5
+/// and a range of 9.
+fn report_at(alloc: Global, n: usize, events: &[WorldEvent<'_>]) -> Result<Report, Fail> {
+    let settings = Settings::new(5, 1, 9).ok_or("settings")?;
+    let key = ClusterKey::new(&[0; 32]).ok_or("a key")?;
+    let (book, floors) = read_book(alloc, &mut FromRead::new(SILVER), settings, 0)?;
+    let lists = lists_of(alloc, &floors, n)?;
+    Ok(run_world(alloc, &book, settings, &key, &lists, events)?)
+}
+
+/// Compares the whole report of a script.
+fn compare<R: Abort + AllocGlobal>(
+    rt: &R,
+    n: usize,
+    events: &[WorldEvent<'_>],
+    passes: &[Pass],
+    answers: &[Text],
+    sent: u64,
+) -> Result<(), Fail> {
+    let report = report_at(rt.alloc(), n, events)?;
+    assert_eq!(rt; report.passes().len(), passes.len());
+    for (pass, &(began, ended, node, lo, hi)) in report.passes().iter().zip(passes) {
+        assert_eq!(rt; (pass.began, pass.ended, pass.node), (began, ended, node));
+        assert_eq!(rt; (pass.token, pass.lo.value(), pass.hi.value()), (0, lo, hi));
+    }
+    assert_eq!(rt; report.answers().len(), answers.len());
+    for (answer, &(event, node, client, text)) in report.answers().iter().zip(answers) {
+        assert_eq!(rt;
+            (answer.event, answer.node, answer.client),
+            (event, node, client)
+        );
+        assert_eq!(rt; answer.bytes.as_slice(), text);
+    }
+    assert_eq!(rt; report.sent(), sent);
+    Ok(())
+}
+
+/// Two submissions of one code at two nodes: one is accepted.
+#[test]
+fn two_submissions(rt: HostRuntime) -> Result<(), Fail> {
+    let events = [
+        first_at_1(),
+        first_at_2(),
+        delivery(3, 1),
+        delivery(3, 3),
+        delivery(1, 4),
+        delivery(2, 5),
+        delivery(1, 2),
+        delivery(2, 6),
+    ];
+    let answers: [Text; 2] = [(4, 1, 7, b"OK a 0"), (7, 2, 8, b"NO b SPENT")];
+    compare(&rt, 3, &events, &[(0, 4, 1, 0, 0)], &answers, 7)
+}
+
+/// Of four nodes two grant one submission, and two the other: none is accepted.
+#[test]
+fn split_two_to_two(rt: HostRuntime) -> Result<(), Fail> {
+    let events = [
+        first_at_1(),
+        first_at_2(),
+        delivery(3, 1),
+        delivery(4, 5),
+        delivery(1, 6),
+        delivery(2, 7),
+        delivery(2, 0),
+        delivery(4, 2),
+        delivery(1, 8),
+        delivery(1, 9),
+        delivery(1, 3),
+        delivery(3, 4),
+        delivery(2, 10),
+        delivery(2, 11),
+    ];
+    let answers: [Text; 2] = [(9, 1, 7, b"NO a SPENT"), (13, 2, 8, b"NO b SPENT")];
+    compare(&rt, 4, &events, &[], &answers, 12)
+}
+
+/// A node stops inside the step in which it grants, and is asked again. What it wrote may be kept or lost.
+#[test]
+fn stop_after_the_commit(rt: HostRuntime) -> Result<(), Fail> {
+    for kept in [true, false] {
+        let act = Act::Deliver { node: 3, k: 1 };
+        let events = [
+            first_at_1(),
+            WorldEvent::Cut { kept, act },
+            delivery(3, 1),
+            first_at_2(),
+            delivery(3, 4),
+            delivery(1, 2),
+            delivery(2, 5),
+        ];
+        let answers: [Text; 1] = [(5, 1, 7, b"OK a 0")];
+        compare(&rt, 3, &events, &[(0, 5, 1, 0, 0)], &answers, 6)?;
+    }
+    Ok(())
+}
+
+/// A Grant of an old boot doesn't count.
+#[test]
+fn old_grants(rt: HostRuntime) -> Result<(), Fail> {
+    let events = [
+        first_at_1(),
+        delivery(2, 0),
+        WorldEvent::Restart { node: 1 },
+        delivery(1, 2),
+        delivery(1, 2),
+        line(1, 7, 1010, b"CHECK a silver 755224 -"),
+        line(1, 7, 1015, b"CHECK c silver 287082 -"),
+        delivery(2, 3),
+        delivery(1, 5),
+    ];
+    let answers: [Text; 2] = [(5, 1, 7, b"NO a INVALID"), (8, 1, 7, b"OK c 1")];
+    compare(&rt, 3, &events, &[(6, 8, 1, 1, 1)], &answers, 6)
+}
+
+/// Nothing comes: after eight ticks the line is given up.
+#[test]
+fn eight_ticks(rt: HostRuntime) -> Result<(), Fail> {
+    let events = [
+        first_at_1(),
+        tick(1),
+        tick(1),
+        tick(1),
+        tick(1),
+        tick(1),
+        tick(1),
+        tick(1),
+        tick(1),
+    ];
+    compare(&rt, 3, &events, &[], &[(8, 1, 7, b"NO a TIMEOUT")], 32)
+}
+
+/// The next factor is accepted at another node.
+#[test]
+fn second_factor_elsewhere(rt: HostRuntime) -> Result<(), Fail> {
+    let events = [
+        first_at_1(),
+        delivery(2, 0),
+        delivery(1, 2),
+        line(2, 8, 1000, b"CHECK b silver 287082 -"),
+        delivery(1, 3),
+        delivery(2, 5),
+    ];
+    let passes = [(0, 2, 1, 0, 0), (3, 5, 2, 1, 1)];
+    let answers: [Text; 2] = [(2, 1, 7, b"OK a 0"), (5, 2, 8, b"OK b 1")];
+    compare(&rt, 3, &events, &passes, &answers, 6)
+}
+
+/// Of five nodes one grants twice, which counts once.
+#[test]
+fn one_voter_twice(rt: HostRuntime) -> Result<(), Fail> {
+    let events = [
+        first_at_1(),
+        delivery(2, 0),
+        delivery(1, 4),
+        delivery(1, 4),
+        delivery(3, 1),
+        delivery(1, 5),
+    ];
+    compare(
+        &rt,
+        5,
+        &events,
+        &[(0, 5, 1, 0, 0)],
+        &[(5, 1, 7, b"OK a 0")],
+        6,
+    )
+}
+
+/// Two codes in a row against the first of them.
+#[test]
+fn span_against_one(rt: HostRuntime) -> Result<(), Fail> {
+    let events = [
+        first_at_1(),
+        line(2, 8, 1000, b"RESYNC b silver 755224 287082 -"),
+        delivery(3, 1),
+        delivery(3, 3),
+        delivery(1, 4),
+        delivery(1, 2),
+        delivery(2, 5),
+        delivery(2, 6),
+    ];
+    let answers: [Text; 2] = [(4, 1, 7, b"OK a 0"), (7, 2, 8, b"NO b SPENT")];
+    compare(&rt, 3, &events, &[(0, 4, 1, 0, 0)], &answers, 7)
+}
+
+/// A datagram of the cluster's key does nothing from its own sender's address, and is dropped from another's;
+/// without its tag it is dropped.
+#[test]
+fn noise_is_dropped(rt: HostRuntime) -> Result<(), Fail> {
+    let events = [
+        noise(2, 1, &ASK),
+        noise(2, 3, &ASK),
+        noise(2, 1, &ASK[..43]),
+        noise(2, 256, b"x"),
+        noise(9, 1, b"x"),
+        delivery(2, 0),
+    ];
+    compare(&rt, 3, &events, &[], &[], 0)
+}
