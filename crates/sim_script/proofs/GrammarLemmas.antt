@@ -1,0 +1,352 @@
+-- The line grammar, and the reader of lines as a function.
+use Rattle.std.proofs.Common.{◌≡◌, ℕ, suc, add-one, ◌+◌, ◌<◌, Bool, true, false, cond, List, ◌∷◌, ◌++◌, length, take, drop, Option, Some, None, refl, sym, ap, subst, ◌∙◌, arith, get_or, ◌⊎◌, inl, inr, nat_lt}
+use Rattle.std.specs.Prelude.{Result, Ok, Err, ◌==◌, ◌&&◌, nat_le, codes, not, position}
+use Rattle.std.specs.Char.{is_ascii_digit}
+use Rattle.std.specs.List.{list_all, position_or_len}
+use Rattle.std.specs.Result.{result_ok}
+use Rattle.std.specs.Str.{bytes_eq}
+use Rattle.std.proofs.lemmas.Bool.{and_parts, cond_both, eqb-true, ne_eqb, leb-true, le-leb, lt-ltb, ltb-true}
+use Rattle.std.proofs.lemmas.List.{length-append, take-append-drop}
+use Rattle.std.proofs.lemmas.List.Sums.{AllPass-from_list_all, passes_at_first, position_or_len_is}
+use Rattle.std.proofs.lemmas.Slice.Eq.{bytes_eq-Decides}
+use Rattle.std.proofs.Math.ListN.{get_or-append}
+use Rattle.std.proofs.Math.Seq.{drop-append-add, drop-cons, get_or-append_seam, take-append_seam}
+use Rattle.hex.specs.Hex.{decode_of}
+use Rattle.field_text.specs.Cut.{Halves, halves_at, halves_of}
+use Rattle.field_text.specs.Number.{number_of}
+use Rattle.sim_script.specs.Event.{Act, Says, Deliver, Ticks, Noise, Event, Happens, Cut, Restart}
+use Rattle.sim_script.specs.Grammar.{IsActLine, IsClientLine, IsDeliverLine, IsEventLine, IsHex, IsNoiseLine, IsTickLine, kept_word}
+use Rattle.sim_script.specs.Script.{◌>>=◌, act_line, act_of_word, bytes_of, client_act, cut_event, deliver_act, event_line, event_of_word, kept_of_word, noise_act, restart_event, tick_act}
+
+-- ---- A text cut at its first space
+
+-- a text without a space
+pub record LacksSpace (text : List ℕ) : Type 0 where
+  each : (k : ℕ) → k < length text → (get_or text k 0 == 32) ≡ false
+
+-- a text without a space is cut off again
+cut_again : (text rest : List ℕ) → LacksSpace text → halves_of 32 (text ++ 32 ∷ rest) ≡ Some (record { before = text; behind = rest })
+cut_again text rest lacks =
+    let p : ℕ → Bool = λ byte. byte == 32 in
+    let whole = text ++ 32 ∷ rest in
+    let long : length text < length whole = omega (arith, length-append text (32 ∷ rest)) in
+    let place : position_or_len p whole ≡ length text =
+    position_or_len_is p whole (length text) 0 (omega arith)
+    (λ k l. ap p (get_or-append text (32 ∷ rest) 0 k l) ∙ lacks.each k l)
+    (λ _. ap p (get_or-append_seam text 32 rest 0)) in
+    let found : position p whole ≡ Some (length text) =
+    subst (λ n. cond (nat_lt n (length whole)) (Some n) None ≡ Some (length text)) (sym place)
+    (ap (λ b. cond b (Some (length text)) None) (lt-ltb (length text) (length whole) long)) in
+    let behind : drop (length text + 1) whole ≡ rest = drop-append-add text (32 ∷ rest) 1 in
+    ap (halves_at whole) found
+    ∙ ap (λ x. Some (record { before = x; behind = drop (length text + 1) whole })) (take-append_seam text (32 ∷ rest))
+    ∙ ap (λ x. Some (record { before = text; behind = x })) behind
+
+-- the halves at a place where a space stands
+halves_join : (text : List ℕ) (place : ℕ) → place < length text → get_or text place 0 ≡ 32
+    → text ≡ take place text ++ 32 ∷ drop (place + 1) text
+halves_join text place within space =
+    sym (take-append-drop place text) ∙ ap (λ x. take place text ++ x) (rw (add-one, drop-cons text place 0 within) (ap (λ x. x ∷ drop (suc place) text) space))
+
+-- a text is its halves, with a space between
+cut_joins : (text : List ℕ) (halves : Halves) → halves_of 32 text ≡ Some halves → text ≡ halves.before ++ 32 ∷ halves.behind
+cut_joins text halves =
+    let p : ℕ → Bool = λ byte. byte == 32 in
+    let place = position_or_len p text in
+    cond_both (nat_lt place (length text)) (Some place) None
+    (λ (o : Option ℕ). halves_at text o ≡ Some halves → text ≡ halves.before ++ 32 ∷ halves.behind)
+    (λ t e.
+    let within = ltb-true place (length text) t in
+    let is : record { before = take place text; behind = drop (place + 1) text } ≡ halves = cc in
+    subst (λ (h : Halves). text ≡ h.before ++ 32 ∷ h.behind) is
+    (halves_join text place within (eqb-true _ 32 (passes_at_first p text 0 within))))
+    (λ f e. absurd cc)
+
+-- a test that was passed
+some_if : {A : Type 0} (test : Bool) (x y : A) → cond test (Some x) None ≡ Some y → (test ≡ true) × (x ≡ y)
+some_if true x y e = (refl, cc)
+some_if false x y e = absurd cc
+
+-- a number has no space
+number_lacks : (text : List ℕ) (number : ℕ) → number_of text ≡ Some number → LacksSpace text
+number_lacks text number e = record {
+  each = λ k l.
+      let digits = (and_parts _ _ (some_if _ _ _ e).0).0 in
+      let digit = AllPass-from_list_all is_ascii_digit text digits k 0 l in
+      let least = leb-true 48 (get_or text k 0) (and_parts _ _ digit).0 in
+      ne_eqb (get_or text k 0) 32 (λ h. omega arith);
+}
+
+-- ---- Words
+
+-- a word without a space
+word_lacks : (word : List ℕ) → list_all (λ byte. not (byte == 32)) word ≡ true → LacksSpace word
+word_lacks word e = record { each = λ k l. is_false _ (AllPass-from_list_all (λ byte. not (byte == 32)) word e k 0 l) }
+  where
+    is_false : (b : Bool) → not b ≡ true → b ≡ false
+    is_false true h = absurd cc
+    is_false false h = refl
+
+-- ---- Steps that may give nothing
+
+-- both steps give something
+both_steps : {A B : Type 0} (first : Option A) (next : A → Option B) (given : B) → (first >>= next) ≡ Some given
+    → (x : A) × (first ≡ Some x) × (next x ≡ Some given)
+both_steps None next given e = absurd cc
+both_steps (Some x) next given e = (x, refl, e)
+
+-- one of two, by a test
+either : {A : Type 0} (test : Bool) (x y : Option A) (given : A) → cond test x y ≡ Some given
+    → ((test ≡ true) × (x ≡ Some given)) ⊎ ((test ≡ false) × (y ≡ Some given))
+either true x y given e = inl (refl, e)
+either false x y given e = inr (refl, e)
+
+-- ---- Hexadecimal digits
+
+hex_again : (digits bytes : List ℕ) → IsHex digits bytes → bytes_of digits ≡ Some bytes
+hex_again digits bytes hex =
+    ap (λ b. cond (b && nat_le (length digits) 1024) (result_ok (decode_of digits)) None) (le-leb 2 (length digits) hex.least)
+    ∙ ap (λ b. cond b (result_ok (decode_of digits)) None) (le-leb (length digits) 1024 hex.most)
+    ∙ ap result_ok hex.value
+
+ok_is : {A E : Type 0} (r : Result A E) (x : A) → result_ok r ≡ Some x → r ≡ Ok x
+ok_is (Ok y) x e = cc
+ok_is (Err f) x e = absurd cc
+
+hex_is : (digits bytes : List ℕ) → bytes_of digits ≡ Some bytes → IsHex digits bytes
+hex_is digits bytes e = elim (either _ (result_ok (decode_of digits)) None bytes e) [
+  | inl h ↦ (let range = and_parts _ _ h.0 in record {
+    least = leb-true 2 (length digits) range.0;
+    most = leb-true (length digits) 1024 range.1;
+    value = ok_is (decode_of digits) bytes h.1;
+  })
+  | inr h ↦ absurd cc
+]
+
+-- ---- What is in the grammar is read
+
+client_again : (line : List ℕ) (node client moment : ℕ) (said : List ℕ) → IsClientLine line node client moment said
+    → act_line line ≡ Some (Says node client moment said)
+client_again line node client moment said h =
+    rw (
+      h.fields,
+      cut_again (codes "client") _ (word_lacks (codes "client") refl),
+      cut_again h.node_text _ (number_lacks h.node_text node h.is_node),
+      cut_again h.client_text _ (number_lacks h.client_text client h.is_client),
+      cut_again h.moment_text _ (number_lacks h.moment_text moment h.is_moment),
+      h.is_node,
+      h.is_client,
+      h.is_moment,
+    )
+
+deliver_again : (line : List ℕ) (node k : ℕ) → IsDeliverLine line node k → act_line line ≡ Some (Deliver node k)
+deliver_again line node k h =
+    rw (
+      h.fields,
+      cut_again (codes "deliver") _ (word_lacks (codes "deliver") refl),
+      cut_again h.node_text _ (number_lacks h.node_text node h.is_node),
+      h.is_node,
+      h.is_k,
+    )
+
+tick_again : (line : List ℕ) (node : ℕ) → IsTickLine line node → act_line line ≡ Some (Ticks node)
+tick_again line node h = rw (h.fields, cut_again (codes "tick") _ (word_lacks (codes "tick") refl), h.is_node)
+
+noise_again : (line : List ℕ) (node from : ℕ) (bytes : List ℕ) → IsNoiseLine line node from bytes
+    → act_line line ≡ Some (Noise node from bytes)
+noise_again line node from bytes h =
+    rw (
+      h.fields,
+      cut_again (codes "noise") _ (word_lacks (codes "noise") refl),
+      cut_again h.node_text _ (number_lacks h.node_text node h.is_node),
+      cut_again h.from_text _ (number_lacks h.from_text from h.is_from),
+      h.is_node,
+      h.is_from,
+      hex_again h.digits bytes h.is_hex,
+    )
+
+act_again : (line : List ℕ) (act : Act) → IsActLine line act → act_line line ≡ Some act
+act_again line (Says node client moment said) h = client_again line node client moment said h
+act_again line (Deliver node k) h = deliver_again line node k h
+act_again line (Ticks node) h = tick_again line node h
+act_again line (Noise node from bytes) h = noise_again line node from bytes h
+
+-- the word of an act is no other word of an event
+act_event : (word rest : List ℕ) (act : Act) → act_of_word word rest ≡ Some act → event_of_word word rest ≡ Some (Happens act)
+act_event word rest act e =
+    let other : (name : List ℕ) → act_of_word name rest ≡ None → bytes_eq word name ≡ false =
+    λ name none. (let d = bytes_eq-Decides word name in not_true (bytes_eq word name) (λ t. (let same : act_of_word name rest ≡ Some act = subst (λ w. act_of_word w rest ≡ Some act) (d.0 t) e in absurd cc))) in
+    ap (λ b. cond b (restart_event rest) (cond (bytes_eq word (codes "cut")) (cut_event rest) (act_of_word word rest >>= (λ a. Some (Happens a))))) (other (codes "restart") refl)
+    ∙ ap (λ b. cond b (cut_event rest) (act_of_word word rest >>= (λ a. Some (Happens a)))) (other (codes "cut") refl)
+    ∙ ap (λ o. o >>= (λ a. Some (Happens a))) e
+  where
+    not_true : (b : Bool) → (b ≡ true → ⊥) → b ≡ false
+    not_true true h = absurd (h refl)
+    not_true false h = refl
+
+kept_again : (kept : Bool) → kept_of_word (kept_word kept) ≡ Some kept
+kept_again true = refl
+kept_again false = refl
+
+kept_lacks : (kept : Bool) → LacksSpace (kept_word kept)
+kept_lacks true = word_lacks (codes "kept") refl
+kept_lacks false = word_lacks (codes "lost") refl
+
+-- what is in the grammar is read
+pub event_again : (line : List ℕ) (event : Event) → IsEventLine line event → event_line line ≡ Some event
+event_again line (Happens act) h =
+    let steps = both_steps (halves_of 32 line) (λ halves. act_of_word halves.before halves.behind) act (act_again line act h) in
+    ap (λ o. o >>= (λ halves. event_of_word halves.before halves.behind)) steps.1 ∙ act_event steps.0.before steps.0.behind act steps.2
+event_again line (Cut kept act) h =
+    rw (
+      h.fields,
+      cut_again (codes "cut") _ (word_lacks (codes "cut") refl),
+      cut_again (kept_word kept) _ (kept_lacks kept),
+      kept_again kept,
+      act_again h.act_text act h.is_act,
+    )
+event_again line (Restart node) h = rw (h.fields, cut_again (codes "restart") _ (word_lacks (codes "restart") refl), h.is_node)
+
+-- ---- What is read is in the grammar
+
+client_is : (line rest : List ℕ) (act : Act) → line ≡ codes "client" ++ 32 ∷ rest → client_act rest ≡ Some act → IsActLine line act
+client_is line rest act form e =
+    let first = both_steps (halves_of 32 rest) _ act e in
+    let second = both_steps (halves_of 32 first.0.behind) _ act first.2 in
+    let third = both_steps (halves_of 32 second.0.behind) _ act second.2 in
+    let node = both_steps (number_of first.0.before) _ act third.2 in
+    let client = both_steps (number_of second.0.before) _ act node.2 in
+    let moment = both_steps (number_of third.0.before) _ act client.2 in
+    let is : Says node.0 client.0 moment.0 third.0.behind ≡ act = cc in
+    subst (IsActLine line) is (record {
+      node_text = first.0.before;
+      client_text = second.0.before;
+      moment_text = third.0.before;
+      fields = form ∙ ap (λ x. codes "client" ++ 32 ∷ x) (cut_joins rest first.0 first.1
+          ∙ ap (λ x. first.0.before ++ 32 ∷ x) (cut_joins first.0.behind second.0 second.1
+          ∙ ap (λ x. second.0.before ++ 32 ∷ x) (cut_joins second.0.behind third.0 third.1)));
+      is_node = node.1;
+      is_client = client.1;
+      is_moment = moment.1;
+    })
+
+deliver_is : (line rest : List ℕ) (act : Act) → line ≡ codes "deliver" ++ 32 ∷ rest → deliver_act rest ≡ Some act → IsActLine line act
+deliver_is line rest act form e =
+    let first = both_steps (halves_of 32 rest) _ act e in
+    let node = both_steps (number_of first.0.before) _ act first.2 in
+    let k = both_steps (number_of first.0.behind) _ act node.2 in
+    let is : Deliver node.0 k.0 ≡ act = cc in
+    subst (IsActLine line) is (record {
+      node_text = first.0.before;
+      k_text = first.0.behind;
+      fields = form ∙ ap (λ x. codes "deliver" ++ 32 ∷ x) (cut_joins rest first.0 first.1);
+      is_node = node.1;
+      is_k = k.1;
+    })
+
+tick_is : (line rest : List ℕ) (act : Act) → line ≡ codes "tick" ++ 32 ∷ rest → tick_act rest ≡ Some act → IsActLine line act
+tick_is line rest act form e =
+    let node = both_steps (number_of rest) _ act e in
+    let is : Ticks node.0 ≡ act = cc in
+    subst (IsActLine line) is (record { node_text = rest; fields = form; is_node = node.1 })
+
+noise_is : (line rest : List ℕ) (act : Act) → line ≡ codes "noise" ++ 32 ∷ rest → noise_act rest ≡ Some act → IsActLine line act
+noise_is line rest act form e =
+    let first = both_steps (halves_of 32 rest) _ act e in
+    let second = both_steps (halves_of 32 first.0.behind) _ act first.2 in
+    let node = both_steps (number_of first.0.before) _ act second.2 in
+    let from = both_steps (number_of second.0.before) _ act node.2 in
+    let bytes = both_steps (bytes_of second.0.behind) _ act from.2 in
+    let is : Noise node.0 from.0 bytes.0 ≡ act = cc in
+    subst (IsActLine line) {x = Noise node.0 from.0 bytes.0} is (record {
+      node_text = first.0.before;
+      from_text = second.0.before;
+      digits = second.0.behind;
+      fields = form ∙ ap (λ x. codes "noise" ++ 32 ∷ x) (cut_joins rest first.0 first.1
+          ∙ ap (λ x. first.0.before ++ 32 ∷ x) (cut_joins first.0.behind second.0 second.1));
+      is_node = node.1;
+      is_from = from.1;
+      is_hex = hex_is second.0.behind bytes.0 bytes.1;
+    })
+
+-- the word at the front of a line
+worded : (line word rest name : List ℕ) → line ≡ word ++ 32 ∷ rest → bytes_eq word name ≡ true → line ≡ name ++ 32 ∷ rest
+worded line word rest name form same = form ∙ ap (λ w. w ++ 32 ∷ rest) ((bytes_eq-Decides word name).0 same)
+
+act_is_said : (line word rest : List ℕ) (act : Act) → line ≡ word ++ 32 ∷ rest → act_of_word word rest ≡ Some act → IsActLine line act
+act_is_said line word rest act form e =
+    let noise_or : Option Act = cond (bytes_eq word (codes "noise")) (noise_act rest) None in
+    let tick_or : Option Act = cond (bytes_eq word (codes "tick")) (tick_act rest) noise_or in
+    let deliver_or : Option Act = cond (bytes_eq word (codes "deliver")) (deliver_act rest) tick_or in
+    elim (either (bytes_eq word (codes "client")) (client_act rest) deliver_or act e) [
+      | inl h ↦ client_is line rest act (worded line word rest (codes "client") form h.0) h.1
+      | inr h ↦ elim (either (bytes_eq word (codes "deliver")) (deliver_act rest) tick_or act h.1) [
+        | inl h ↦ deliver_is line rest act (worded line word rest (codes "deliver") form h.0) h.1
+        | inr h ↦ elim (either (bytes_eq word (codes "tick")) (tick_act rest) noise_or act h.1) [
+          | inl h ↦ tick_is line rest act (worded line word rest (codes "tick") form h.0) h.1
+          | inr h ↦ elim (either (bytes_eq word (codes "noise")) (noise_act rest) None act h.1) [
+            | inl h ↦ noise_is line rest act (worded line word rest (codes "noise") form h.0) h.1
+            | inr h ↦ (let none = h.1 in absurd cc)
+          ]
+        ]
+      ]
+    ]
+
+act_is : (line : List ℕ) (act : Act) → act_line line ≡ Some act → IsActLine line act
+act_is line act e =
+    let steps = both_steps (halves_of 32 line) (λ halves. act_of_word halves.before halves.behind) act e in
+    act_is_said line steps.0.before steps.0.behind act (cut_joins line steps.0 steps.1) steps.2
+
+restart_is : (line rest : List ℕ) (event : Event) → line ≡ codes "restart" ++ 32 ∷ rest → restart_event rest ≡ Some event → IsEventLine line event
+restart_is line rest event form e =
+    let node = both_steps (number_of rest) _ event e in
+    let is : Restart node.0 ≡ event = cc in
+    subst (IsEventLine line) is (record { node_text = rest; fields = form; is_node = node.1 })
+
+kept_is : (word : List ℕ) (kept : Bool) → kept_of_word word ≡ Some kept → word ≡ kept_word kept
+kept_is word kept e =
+    let lost_or : Option Bool = cond (bytes_eq word (codes "lost")) (Some false) None in
+    elim (either (bytes_eq word (codes "kept")) (Some true) lost_or kept e) [
+      | inl h ↦ (let said = h.1 in let is : true ≡ kept = cc in (bytes_eq-Decides word (codes "kept")).0 h.0 ∙ ap kept_word is)
+      | inr h ↦ elim (either (bytes_eq word (codes "lost")) (Some false) None kept h.1) [
+        | inl h ↦ (let said = h.1 in let is : false ≡ kept = cc in (bytes_eq-Decides word (codes "lost")).0 h.0 ∙ ap kept_word is)
+        | inr h ↦ (let none = h.1 in absurd cc)
+      ]
+    ]
+
+cut_is : (line rest : List ℕ) (event : Event) → line ≡ codes "cut" ++ 32 ∷ rest → cut_event rest ≡ Some event → IsEventLine line event
+cut_is line rest event form e =
+    let halves = both_steps (halves_of 32 rest) _ event e in
+    let kept = both_steps (kept_of_word halves.0.before) _ event halves.2 in
+    let act = both_steps (act_line halves.0.behind) _ event kept.2 in
+    let is : Cut kept.0 act.0 ≡ event = cc in
+    subst (IsEventLine line) is (record {
+      act_text = halves.0.behind;
+      fields = form ∙ ap (λ x. codes "cut" ++ 32 ∷ x) (cut_joins rest halves.0 halves.1
+          ∙ ap (λ x. x ++ 32 ∷ halves.0.behind) (kept_is halves.0.before kept.0 kept.1));
+      is_act = act_is halves.0.behind act.0 act.1;
+    })
+
+happens_is : (line word rest : List ℕ) (event : Event) → line ≡ word ++ 32 ∷ rest
+    → (act_of_word word rest >>= (λ act. Some (Happens act))) ≡ Some event → IsEventLine line event
+happens_is line word rest event form e =
+    let act = both_steps (act_of_word word rest) _ event e in
+    let is : Happens act.0 ≡ event = cc in
+    subst (IsEventLine line) is (act_is_said line word rest act.0 form act.1)
+
+-- what is read is in the grammar
+pub event_is : (line : List ℕ) (event : Event) → event_line line ≡ Some event → IsEventLine line event
+event_is line event e =
+    let steps = both_steps (halves_of 32 line) (λ halves. event_of_word halves.before halves.behind) event e in
+    let word = steps.0.before in
+    let rest = steps.0.behind in
+    let form = cut_joins line steps.0 steps.1 in
+    let happens_or : Option Event = act_of_word word rest >>= (λ act. Some (Happens act)) in
+    let cut_or : Option Event = cond (bytes_eq word (codes "cut")) (cut_event rest) happens_or in
+    elim (either (bytes_eq word (codes "restart")) (restart_event rest) cut_or event steps.2) [
+      | inl h ↦ restart_is line rest event (worded line word rest (codes "restart") form h.0) h.1
+      | inr h ↦ elim (either (bytes_eq word (codes "cut")) (cut_event rest) happens_or event h.1) [
+        | inl h ↦ cut_is line rest event (worded line word rest (codes "cut") form h.0) h.1
+        | inr h ↦ happens_is line word rest event form h.1
+      ]
+    ]

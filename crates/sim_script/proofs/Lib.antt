@@ -1,0 +1,4 @@
+mod GrammarLemmas
+mod LineLemmas
+mod ReportLemmas
+mod ScriptLemmas

@@ -1,0 +1,34 @@
+-- The events of a script as values.
+use Rattle.std.specs.Prelude.{ℕ, Bool, List}
+use Rattle.cluster_sim.specs.declared.script.Act.{Act as SimAct}
+use Rattle.cluster_sim.specs.declared.script.Act.TheVariants as act
+use Rattle.cluster_sim.specs.declared.script.WorldEvent.{WorldEvent}
+use Rattle.cluster_sim.specs.declared.script.WorldEvent.TheVariants as event
+
+-- What is done at a node: a client's line comes at a moment; the datagram that was sent as number k comes; some time
+-- passes; bytes come from an address.
+pub data Act : Type 0 where
+  Says : (node client moment : ℕ) (line : List ℕ) → Act
+  Deliver : (node k : ℕ) → Act
+  Ticks : (node : ℕ) → Act
+  Noise : (node from : ℕ) (bytes : List ℕ) → Act
+
+-- What happens: something is done at a node; a node stops in the midst of it, and what it writes is kept or lost; a
+-- node restarts.
+pub data Event : Type 0 where
+  Happens : (act : Act) → Event
+  Cut : (kept : Bool) (act : Act) → Event
+  Restart : (node : ℕ) → Event
+
+-- what an act of the code says
+abbrev pub act_of : SimAct → Act
+act_of (act.Client node client moment line) = Says node client moment line.now
+act_of (act.Deliver node k) = Deliver node k
+act_of (act.Tick node) = Ticks node
+act_of (act.Noise node from bytes) = Noise node from bytes.now
+
+-- what an event of the code says
+abbrev pub event_of : WorldEvent → Event
+event_of (event.Happens act) = Happens (act_of act)
+event_of (event.Cut kept act) = Cut kept (act_of act)
+event_of (event.Restart node) = Restart node

@@ -1,0 +1,6 @@
+pub mod Event
+pub mod Grammar
+pub mod Lines
+pub mod Reading
+pub mod Script
+pub mod ReportText

@@ -1,0 +1,16 @@
+-- The lines of a script.
+use Rattle.std.specs.Prelude.{ℕ, ◌==◌, Bool, true, List, [], ◌∷◌, not}
+use Rattle.std.specs.List.{filter, slice_split}
+
+-- the lines of a text, which stand between its LFs
+abbrev pub lines_of : List ℕ → List (List ℕ)
+lines_of text = slice_split (λ byte. byte == 10) text
+
+-- whether a line says nothing: it is empty, or it begins with `#`
+abbrev pub is_remark : List ℕ → Bool
+is_remark [] = true
+is_remark (byte ∷ more) = byte == 35
+
+-- the lines that say something
+abbrev pub telling_lines : List (List ℕ) → List (List ℕ)
+telling_lines lines = filter (λ line. not (is_remark line)) lines

@@ -1,0 +1,104 @@
+ghost use Rattle.std.specs.Prelude.{◌≡◌, ◌↔◌, ℕ, List, [], ◌∷◌, ◌++◌, None, Some, Ok, Err};
+ghost use Rattle.std.specs.Prelude.{codes, false, replicate, true};
+ghost use Rattle.sim_script.specs.Event.{Cut, Deliver, Happens, Noise, Restart, Says, Ticks, Event};
+ghost use Rattle.sim_script.specs.Grammar.{HasFirstBad, IsEventLine, IsScript};
+ghost use Rattle.sim_script.specs.Reading.{IsRefused};
+ghost use Rattle.sim_script.specs.ReportText.{report_text};
+ghost use Rattle.sim_script.specs.Script.{bytes_of, event_line, script_of};
+ghost use Rattle.sim_script.specs.declared.fault.ScriptFault.TheVariants.{Line, Memory};
+
+/// A line is in the grammar exactly where it is read so.
+pub fn grammar_is_read()
+    ensures { (line : List ℕ) (event : Event) → IsEventLine line event ↔ (event_line line ≡ Some event) }
+{}
+
+/// A script says events exactly where they are read, and its first line in another form is the one that is told.
+pub fn scripts_are_in_the_grammar()
+    ensures events { (text : List ℕ) (events : List Event)
+        → IsScript text events ↔ (script_of text ≡ Ok events) }
+    ensures fault { (text : List ℕ) (number : ℕ) → HasFirstBad text number ↔ (script_of text ≡ Err number) }
+{}
+
+/// Some lines of scripts.
+pub fn lines_are_worked()
+    // each form
+    ensures client { event_line (codes "client 2 7 100 CHECK 1") ≡ Some (Happens (Says 2 7 100 (codes "CHECK 1"))) }
+    ensures deliver { event_line (codes "deliver 3 12") ≡ Some (Happens (Deliver 3 12)) }
+    ensures tick { event_line (codes "tick 1") ≡ Some (Happens (Ticks 1)) }
+    ensures noise { event_line (codes "noise 1 2 00fF") ≡ Some (Happens (Noise 1 2 (0 ∷ 255 ∷ []))) }
+    ensures restart { event_line (codes "restart 3") ≡ Some (Restart 3) }
+    ensures kept { event_line (codes "cut kept tick 1") ≡ Some (Cut true (Ticks 1)) }
+    ensures lost { event_line (codes "cut lost deliver 3 0") ≡ Some (Cut false (Deliver 3 0)) }
+    ensures kept_line { event_line (codes "cut kept client 1 2 3 x") ≡ Some (Cut true (Says 1 2 3 (codes "x"))) }
+    ensures lost_noise { event_line (codes "cut lost noise 1 2 ab") ≡ Some (Cut false (Noise 1 2 (171 ∷ []))) }
+
+    // what stands in the fields
+    ensures nothing_said { event_line (codes "client 1 2 3 ") ≡ Some (Happens (Says 1 2 3 [])) }
+    ensures spaces_said { event_line (codes "client 1 2 3  a b ") ≡ Some (Happens (Says 1 2 3 (codes " a b "))) }
+    ensures zeros { event_line (codes "tick 007") ≡ Some (Happens (Ticks 7)) }
+    ensures greatest { event_line (codes "tick 18446744073709551615") ≡ Some (Happens (Ticks 18446744073709551615)) }
+    ensures from_above { event_line (codes "noise 1 256 00") ≡ Some (Happens (Noise 1 256 (0 ∷ []))) }
+    ensures longest_noise { bytes_of (replicate 1024 48) ≡ Some (replicate 512 0) }
+
+    // other forms
+    ensures other_word { event_line (codes "ticks 1") ≡ None }
+    ensures upper_case { event_line (codes "TICK 1") ≡ None }
+    ensures word_alone { event_line (codes "tick") ≡ None }
+    ensures no_number { event_line (codes "tick ") ≡ None }
+    ensures sign { event_line (codes "tick +1") ≡ None }
+    ensures too_great { event_line (codes "tick 18446744073709551616") ≡ None }
+    ensures two_spaces { event_line (codes "deliver 3  12") ≡ None }
+    ensures two_spaces_first { event_line (codes "tick  1") ≡ None }
+    ensures space_before { event_line (codes " tick 1") ≡ None }
+    ensures space_behind { event_line (codes "tick 1 ") ≡ None }
+    ensures carriage_return { event_line (codes "tick 1\r") ≡ None }
+    ensures field_more { event_line (codes "deliver 3 12 1") ≡ None }
+    ensures no_line { event_line (codes "client 1 2 3") ≡ None }
+    ensures odd { event_line (codes "noise 1 2 abc") ≡ None }
+    ensures no_digits { event_line (codes "noise 1 2 ") ≡ None }
+    ensures no_digit { event_line (codes "noise 1 2 0g") ≡ None }
+    ensures two_noises { event_line (codes "noise 1 2 ab cd") ≡ None }
+    ensures too_long { bytes_of (replicate 1026 48) ≡ None }
+    ensures cut_restart { event_line (codes "cut kept restart 1") ≡ None }
+    ensures cut_cut { event_line (codes "cut kept cut lost tick 1") ≡ None }
+    ensures cut_else { event_line (codes "cut off tick 1") ≡ None }
+    ensures cut_of_nothing { event_line (codes "cut kept") ≡ None }
+    ensures empty { event_line [] ≡ None }
+{}
+
+/// Some scripts.
+pub fn scripts_are_read()
+    ensures events { script_of (codes "tick 1\ndeliver 2 0\n")
+        ≡ Ok (Happens (Ticks 1) ∷ Happens (Deliver 2 0) ∷ []) }
+    ensures last_line { script_of (codes "tick 1\ntick 2") ≡ Ok (Happens (Ticks 1) ∷ Happens (Ticks 2) ∷ []) }
+    ensures nothing { script_of [] ≡ Ok [] }
+    ensures remarks { script_of (codes "# one\n\ntick 1\n#\n\n") ≡ Ok (Happens (Ticks 1) ∷ []) }
+    ensures first { script_of (codes "tick\ntick 1\n") ≡ Err 1 }
+    ensures counted { script_of (codes "# one\n\ntick 1\ntick\n") ≡ Err 4 }
+    ensures first_of_two { script_of (codes "tick 1\ntick\ntick\n") ≡ Err 2 }
+    ensures last_bad { script_of (codes "tick 1\ntick") ≡ Err 2 }
+    ensures blank { script_of (codes "tick 1\n \n") ≡ Err 2 }
+    ensures remark_behind { script_of (codes "tick 1\n #\n") ≡ Err 2 }
+{}
+
+/// A report as text.
+pub fn reports_are_worked()
+    ensures nothing { report_text (record { passes = []; answers = []; sent = 0 }) ≡ codes "sent 0\n" }
+    ensures order { report_text (record {
+      passes = record { began = 0; ended = 12; node = 1; token = 0; lo = 3; hi = 4 }
+          ∷ record { began = 13; ended = 14; node = 2; token = 1; lo = 5; hi = 5 } ∷ [];
+      answers = record { event = 12; node = 1; client = 7; bytes = codes "OK 1 4" }
+          ∷ record { event = 2; node = 3; client = 8; bytes = codes "NO - BADLINE" } ∷ [];
+      sent = 18446744073709551615;
+    }) ≡ codes "pass 0 12 1 0 3 4\npass 13 14 2 1 5 5\n" ++ codes "answer 12 1 7 OK 1 4\nanswer 2 3 8 NO - BADLINE\n"
+        ++ codes "sent 18446744073709551615\n" }
+{}
+
+/// What is promised of a refusal is broken by another line than the first bad one.
+pub fn promises_can_be_broken()
+    ensures kept { IsRefused (script_of (codes "tick 1\ntick\ntick\n")) (Line 2) }
+    ensures line_before { IsRefused (script_of (codes "tick 1\ntick\ntick\n")) (Line 1) → ⊥ }
+    ensures second_bad { IsRefused (script_of (codes "tick 1\ntick\ntick\n")) (Line 3) → ⊥ }
+    ensures good { IsRefused (script_of (codes "tick 1\n")) (Line 1) → ⊥ }
+    ensures memory { IsRefused (script_of (codes "tick 1\n")) Memory }
+{}

@@ -1,0 +1,153 @@
+ghost use Rattle.std.specs.Prelude.{◌≡◌};
+ghost use Rattle.std.specs.Option.{option_map};
+ghost use Rattle.sim_script.specs.Event.{act_of, event_of};
+ghost use Rattle.sim_script.specs.Reading.{Reads};
+ghost use Rattle.sim_script.specs.Script.{act_of_word, bytes_of, client_act, cut_event, deliver_act, event_line};
+ghost use Rattle.sim_script.specs.Lines.{is_remark};
+ghost use Rattle.sim_script.specs.Script.{kept_of_word, noise_act, restart_event, tick_act};
+
+use crate::fault::LineFault;
+use bumpalo::Bump;
+use bumpalo::collections::into_bump_slice;
+use cluster_sim::{Act, WorldEvent};
+use field_text::{cut_at, read_number};
+use hex::FromHexError;
+
+/// The most digits of a noise.
+const MAX_DIGITS: usize = 1_024;
+
+/// Whether a line says nothing: it is empty, or it begins with `#`.
+pub(crate) fn is_remark(line: &[u8]) -> bool
+    ensures { result ≡ is_remark line.now }
+{
+    match line {
+        [] => true,
+        [first, ..] => *first == b'#',
+    }
+}
+
+/// A client's line: `NODE CLIENT MOMENT LINE`.
+fn read_client(text: &[u8]) -> Option<Act<'_>>
+    ensures { option_map act_of result ≡ client_act text.now }
+{
+    let (node, rest) = cut_at(text, b' ')?;
+    let (client, rest) = cut_at(rest, b' ')?;
+    let (moment, line) = cut_at(rest, b' ')?;
+    Some(Act::Client {
+        node: read_number(node)?,
+        client: read_number(client)?,
+        moment: read_number(moment)?,
+        line,
+    })
+}
+
+/// A delivery: `NODE K`.
+fn read_deliver(text: &[u8]) -> Option<Act<'_>>
+    ensures { option_map act_of result ≡ deliver_act text.now }
+{
+    let (node, k) = cut_at(text, b' ')?;
+    Some(Act::Deliver {
+        node: read_number(node)?,
+        k: read_number(k)?,
+    })
+}
+
+/// A tick: `NODE`.
+fn read_tick(text: &[u8]) -> Option<Act<'_>>
+    ensures { option_map act_of result ≡ tick_act text.now }
+{
+    Some(Act::Tick {
+        node: read_number(text)?,
+    })
+}
+
+/// The bytes of 2 to 1,024 hexadecimal digits, two a byte, in either case. They are placed in the arena.
+fn read_bytes<'a>(arena: &'a Bump, digits: &[u8]) -> Result<&'a [u8], LineFault>
+    ensures { Reads (λ bytes. bytes.now) (bytes_of digits.now) result }
+{
+    if digits.len() < 2 || digits.len() > MAX_DIGITS {
+        return Err(LineFault::Form);
+    }
+    match hex::decode(arena, digits) {
+        Ok(bytes) => Ok(into_bump_slice(bytes)),
+        Err(FromHexError::OutOfMemory) => Err(LineFault::Memory),
+        Err(_) => Err(LineFault::Form),
+    }
+}
+
+/// Noise: `NODE FROM HEX`.
+fn read_noise<'a>(arena: &'a Bump, text: &[u8]) -> Result<Act<'a>, LineFault>
+    ensures { Reads act_of (noise_act text.now) result }
+{
+    let (node, rest) = cut_at(text, b' ').ok_or(LineFault::Form)?;
+    let (from, digits) = cut_at(rest, b' ').ok_or(LineFault::Form)?;
+    Ok(Act::Noise {
+        node: read_number(node).ok_or(LineFault::Form)?,
+        from: read_number(from).ok_or(LineFault::Form)?,
+        bytes: read_bytes(arena, digits)?,
+    })
+}
+
+/// What is done at a node: a word, and what stands behind the space behind it.
+fn read_act<'a>(arena: &'a Bump, word: &[u8], rest: &'a [u8]) -> Result<Act<'a>, LineFault>
+    ensures { Reads act_of (act_of_word word.now rest.now) result }
+{
+    if word == b"client".as_slice() {
+        read_client(rest).ok_or(LineFault::Form)
+    } else if word == b"deliver".as_slice() {
+        read_deliver(rest).ok_or(LineFault::Form)
+    } else if word == b"tick".as_slice() {
+        read_tick(rest).ok_or(LineFault::Form)
+    } else if word == b"noise".as_slice() {
+        read_noise(arena, rest)
+    } else {
+        Err(LineFault::Form)
+    }
+}
+
+/// Whether what a stop's act writes is kept, by a word.
+fn read_kept(word: &[u8]) -> Option<bool>
+    ensures { result ≡ kept_of_word word.now }
+{
+    if word == b"kept".as_slice() {
+        Some(true)
+    } else if word == b"lost".as_slice() {
+        Some(false)
+    } else {
+        None
+    }
+}
+
+/// A stop inside an act: `kept` or `lost`, and the act.
+fn read_cut<'a>(arena: &'a Bump, text: &'a [u8]) -> Result<WorldEvent<'a>, LineFault>
+    ensures { Reads event_of (cut_event text.now) result }
+{
+    let (word, line) = cut_at(text, b' ').ok_or(LineFault::Form)?;
+    let kept = read_kept(word).ok_or(LineFault::Form)?;
+    let (word, rest) = cut_at(line, b' ').ok_or(LineFault::Form)?;
+    let act = read_act(arena, word, rest)?;
+    Ok(WorldEvent::Cut { kept, act })
+}
+
+/// A restart: `NODE`.
+fn read_restart(text: &[u8]) -> Option<WorldEvent<'_>>
+    ensures { option_map event_of result ≡ restart_event text.now }
+{
+    Some(WorldEvent::Restart {
+        node: read_number(text)?,
+    })
+}
+
+/// The event that a line says.
+pub(crate) fn read_event<'a>(arena: &'a Bump, line: &'a [u8]) -> Result<WorldEvent<'a>, LineFault>
+    ensures { Reads event_of (event_line line.now) result }
+{
+    let (word, rest) = cut_at(line, b' ').ok_or(LineFault::Form)?;
+    if word == b"restart".as_slice() {
+        read_restart(rest).ok_or(LineFault::Form)
+    } else if word == b"cut".as_slice() {
+        read_cut(arena, rest)
+    } else {
+        Ok(WorldEvent::Happens(read_act(arena, word, rest)?))
+    }
+}
