@@ -1,5 +1,6 @@
 -- A line leads from a state of the reference server to the next one.
 use Rattle.std.proofs.Common.{◌≡◌, ℕ, ◌+◌, ◌^◌, List, [], ◌∷◌, length, replicate, Option, Some, None, refl, sym, ap, subst, ◌∙◌, arith, true}
+use Rattle.std.specs.Prelude.{Result, Ok, Err, IsErrAnd}
 use Rattle.std.specs.Map.Iter.{TakesFirst}
 use Rattle.std.specs.Option.{option_map}
 use Rattle.otp_core.specs.Limits.{Limits}
@@ -109,6 +110,11 @@ opens_in_memory floors left (opening.Store broken.Memory) h = absurd (never brok
 opens_in_memory floors left (opening.Store broken.Disk) h = absurd (never broken.Disk (h.breaks (λ e. cc)).broken.is)
 opens_in_memory floors left (opening.Store broken.Unusable) h = absurd (never broken.Unusable (h.breaks (λ e. cc)).broken.is)
 opens_in_memory floors left (opening.Store broken.AlreadyThere) h = absurd (never broken.AlreadyThere (h.breaks (λ e. cc)).broken.is)
+
+-- a refusal is handed on
+pub handed_on : {A B : Type 0} (r : Result A B) (fault : B) (P : Result A B → Type 0) → IsErrAnd r (λ x. x ≡ fault) → P (Err fault) → P r
+handed_on (Ok value) fault P h p = absurd h
+handed_on (Err x) fault P h p = subst (λ y. P (Err y)) (sym h) p
 
 -- the first item is taken
 pub first_taken : (items rest : List Item) (taken : Option Item) (item : Item) → TakesFirst (λ x. x) items taken rest → items ≡ item ∷ [] → taken ≡ Some item

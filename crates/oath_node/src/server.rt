@@ -77,10 +77,8 @@ impl<'b> LineServer<'b> {
             → IsServing self.old book limits count server
             → IsAnswered self.new book limits count server line.now (λ bytes. bytes.items) result }
     {
-        match self.serve(line) {
-            Ok((bytes, _)) => Ok(bytes),
-            Err(fault) => Err(fault),
-        }
+        let (bytes, _) = self.serve(line)?;
+        Ok(bytes)
     }
 
     /// The answer to a line, and the pass where it is accepted.
