@@ -1,5 +1,5 @@
 -- A line leads from a state of the reference server to the next one.
-use Rattle.std.proofs.Common.{◌≡◌, ℕ, ◌+◌, ◌^◌, List, [], ◌∷◌, length, replicate, Option, Some, None, refl, sym, ap, subst, ◌∙◌, arith, true}
+use Rattle.std.proofs.Common.{◌≡◌, ℕ, ◌+◌, ◌^◌, List, [], ◌∷◌, length, replicate, Option, Some, None, refl, sym, ap, subst, ◌∙◌, arith, ◌<◌, ◌≤◌, true, false}
 use Rattle.std.specs.Prelude.{Result, Ok, Err, IsErrAnd}
 use Rattle.std.specs.Map.Iter.{TakesFirst}
 use Rattle.std.specs.Option.{option_map}
@@ -12,12 +12,14 @@ use Rattle.floor_store.specs.declared.fault.StoreFault.{StoreFault}
 use Rattle.floor_store.specs.declared.fault.StoreFault.TheVariants as broken
 use Rattle.vote_core.specs.NodeSet.{PlaceRecord}
 use Rattle.oath_node.specs.Alone.{IsAlone, ServesAlone, alone_place, floors_in, gates_in, gates_of, span_of}
-use Rattle.oath_node.specs.Calls.{IsMade, IsRefused}
+use Rattle.oath_node.specs.Calls.{FailsBy, IsMade, IsRefused}
 use Rattle.oath_node.specs.Hosted.{Hosted, IsSameNode, config_of}
-use Rattle.oath_node.specs.Machine.{Client, Config, Made, NodeState, made_by_event, opened_node}
+use Rattle.oath_node.specs.Machine.{Client, Config, Made, NodeEvent, NodeState, made_by_event, opened_node}
 use Rattle.oath_node.specs.Outputs.{OutputsRecord, items_of}
 use Rattle.oath_node.specs.ReferenceServer.{Line, Server, server_at, service_of}
 use Rattle.oath_node.specs.Serving.{IsServing, state_in_memory}
+use Rattle.oath_node.specs.declared.fault.NodeFault.{NodeFault}
+use Rattle.oath_node.specs.declared.fault.NodeFault.TheVariants as node
 use Rattle.oath_node.specs.declared.fault.OpenFault.{OpenFault}
 use Rattle.oath_node.specs.declared.fault.OpenFault.TheVariants as opening
 use Rattle.oath_node.specs.declared.item.Item.{Item}
@@ -110,6 +112,13 @@ opens_in_memory floors left (opening.Store broken.Memory) h = absurd (never brok
 opens_in_memory floors left (opening.Store broken.Disk) h = absurd (never broken.Disk (h.breaks (λ e. cc)).broken.is)
 opens_in_memory floors left (opening.Store broken.Unusable) h = absurd (never broken.Unusable (h.breaks (λ e. cc)).broken.is)
 opens_in_memory floors left (opening.Store broken.AlreadyThere) h = absurd (never broken.AlreadyThere (h.breaks (λ e. cc)).broken.is)
+
+-- a server over a store in memory refuses no line before 2^62 of them
+pub refused_late : (old new : Hosted Content) (event : NodeEvent) (fault : NodeFault) → FailsBy held_in_memory old new event fault
+    → (book : List Credential) (limits : Limits) (count : ℕ) (server : Server) → IsServing old book limits count server → 2 ^ 62 ≤ count
+refused_late old new event (node.Store fault) h book limits count server s = let more : 0 < 0 = h.counted in absurd (omega (arith, more))
+refused_late old new event node.Stopped h book limits count server s = absurd (let e : false ≡ true = sym h.0 ∙ s.alone.running in cc)
+refused_late old new event node.Spent h book limits count server s = omega (arith, h.none_left, s.alone.begun)
 
 -- a refusal is handed on
 pub handed_on : {A B : Type 0} (r : Result A B) (fault : B) (P : Result A B → Type 0) → IsErrAnd r (λ x. x ≡ fault) → P (Err fault) → P r

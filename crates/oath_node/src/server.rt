@@ -100,10 +100,7 @@ impl<'b> LineServer<'b> {
             moment: line.moment,
             line: line.line,
         };
-        let outputs = match self.node.handle(event) {
-            Ok(outputs) => outputs,
-            Err(fault) => return Err(fault),
-        };
+        let outputs = self.node.handle(event)?;
         match outputs.items().next() {
             Some(Item::Reply { bytes, .. }) => Ok((bytes, outputs.pass())),
             // A node that is alone gives one reply.
