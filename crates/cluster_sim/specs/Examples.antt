@@ -137,8 +137,9 @@ abbrev pub forged_ask : Envelope
 forged_ask =
     record { sender = 1; receiver = 2; message = Ask (record { node = 1; boot = 1; seq = 0 }) 0 0 0 }
 
--- What does nothing: a datagram at another node, bytes that say none, one with the key of the cluster from the address of
--- its sender or of another node, a stop inside noise, a line at a node that is none. Then a stop that keeps an acceptance.
+-- What does nothing: a datagram at another node, bytes that say none, one with the key of the cluster from the address
+-- of its sender or of another node, a stop inside noise, a line at a node that is none. Then a stop that keeps an
+-- acceptance.
 abbrev pub nothing_happens : List WorldEvent
 nothing_happens =
     first_at_1 ∷ delivery 3 0 ∷ Happens (Noise 2 1 None) ∷ Happens (Noise 2 1 (Some forged_ask))

@@ -14,7 +14,7 @@ use Rattle.oath_node.specs.Machine.{Config, NodeEvent, NodeState, made_by_event}
 use Rattle.oath_node.specs.Outputs.{OutputsRecord, no_outputs, outputs_of}
 use Rattle.oath_node.specs.declared.item.Item.{Item}
 use Rattle.oath_node.specs.declared.item.Item.TheVariants.{Datagram, Reply}
-use Rattle.cluster_sim.specs.World.{World, Told, Act as WorldAct, Says, Deliver, Ticks, Noise, WorldEvent as Event, Happens, Cut, Restart, begun_in, passes_in, with_state, with_told_of, world_after_act, world_after_events, world_after_turn}
+use Rattle.cluster_sim.specs.World.{World, Told, Act as WorldAct, Says, Deliver, Ticks, Noise, WorldEvent as Event, Happens, Cut, Restart, begun_in, passes_in, with_state, with_told_of, world_after_act, world_after_event, world_after_events, world_after_turn}
 use Rattle.cluster_sim.specs.declared.script.Act.{Act}
 use Rattle.cluster_sim.specs.declared.script.Act.TheVariants.{Client as ClientAct, Deliver as DeliverAct, Tick as TickAct, Noise as NoiseAct}
 use Rattle.cluster_sim.specs.declared.script.WorldEvent.{WorldEvent}
@@ -161,6 +161,10 @@ pub record SimulationRecord : Type 0 where
   pub nodes : List (Hosted Content)
   pub journal : JournalRecord
 
+-- the simulation of these nodes, which keeps this
+abbrev pub simulation_of : List (Hosted Content) → JournalRecord → SimulationRecord
+simulation_of nodes journal = record { nodes = nodes; journal = journal }
+
 -- a simulation is this world
 pub record IsRun (config : Config) (key : List ℕ) (world : World) (simulation : SimulationRecord) : Type 0 where
   pub n : world.n ≡ length simulation.nodes
@@ -191,11 +195,16 @@ told_world is_told old new = if is_told then new else with_told_of old new
 
 -- the world after this happened at a node in this event, with what it sent and told, or without
 abbrev pub told_turn : Bool → ℕ → ℕ → Option NodeEvent → Config → World → World
-told_turn is_told event node what config world = told_world is_told world (world_after_turn config event node what world)
+told_turn is_told event node what config world =
+    told_world is_told world (world_after_turn config event node what world)
 
 -- the world after an act in this event, with what it sent and told, or without
 abbrev pub told_act : Bool → ℕ → WorldAct → Config → World → World
 told_act is_told event act config world = told_world is_told world (world_after_act config event act world)
+
+-- the world after the event of that number
+abbrev pub world_by_event : ℕ → Event → Config → World → World
+world_by_event event what config world = world_after_event config event what world
 
 -- each datagram that was sent reads as it was meant
 abbrev pub AreSpelled : World → Type 0
@@ -207,8 +216,8 @@ AreSpelled world =
 abbrev pub AreSpelledAlong : Config → List Event → World → Type 0
 AreSpelledAlong config events world = (k : ℕ) → AreSpelled (world_after_events config 0 (take k events) world)
 
--- A call on a simulation. Whatever world it was, in which each datagram reads as it was meant, it is afterwards what the
--- call makes of that world, unless memory ran out.
+-- A call on a simulation. Whatever world it was, in which each datagram reads as it was meant, it is afterwards what
+-- the call makes of that world, unless memory ran out.
 abbrev pub Plays : {A E : Type 0} → List ℕ → (Config → World → World) → SimulationRecord → SimulationRecord
     → Result A E → Type 0
 Plays key makes old new result =

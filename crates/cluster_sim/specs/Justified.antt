@@ -9,8 +9,8 @@ use Rattle.vote_wire.specs.Request.{Request, IsLine}
 use Rattle.cluster_sim.specs.Results.{results_before}
 use Rattle.cluster_sim.specs.World.{Act, Says, Deliver, Ticks, Noise, WorldEvent, Happens, Cut, Restart, floor_before}
 
--- A line at a moment is in the line grammar, for the user of a token, and what it submits is entitled to the factors lo to
--- hi, where next is the token's first free factor and results are its results so far at the node.
+-- A line at a moment is in the line grammar, for the user of a token, and what it submits is entitled to the factors
+-- lo to hi, where next is the token's first free factor and results are its results so far at the node.
 pub record IsGround (config : Config) (moment : ℕ) (line : List ℕ) (token next : ℕ) (results : List Result)
     (lo hi : ℕ) : Type 0 where
   pub request : Request

@@ -35,9 +35,9 @@ pub record World : Type 0 where
   pub history : List Note
   pub told : List Told
 
--- An act at a node: a client says a line at a moment; the datagram of that number, from 0 in the order of sending, comes
--- from the node that sent it; some time passes; bytes come from an address, which say that envelope or none. A loss is
--- a Deliver that never comes; repeats and reorderings are Delivers in any order and number.
+-- An act at a node: a client says a line at a moment; the datagram of that number, from 0 in the order of sending,
+-- comes from the node that sent it; some time passes; bytes come from an address, which say that envelope or none. A
+-- loss is a Deliver that never comes; repeats and reorderings are Delivers in any order and number.
 pub data Act : Type 0 where
   Says : (node client moment : ℕ) (line : List ℕ) → Act
   Deliver : (node k : ℕ) → Act
@@ -69,8 +69,8 @@ abbrev pub is_from : ℕ → Option Envelope → Bool
 is_from node None = false
 is_from node (Some envelope) = envelope.sender == node
 
--- Any bytes are noise but those that say, under the key, an envelope of the node from whose address they come. Those are
--- not handed in: they would be forged with the cluster's own key, or sent before. What is noise the node drops.
+-- Any bytes are noise but those that say, under the key, an envelope of the node from whose address they come. Those
+-- are not handed in: they would be forged with the cluster's own key, or sent before. What is noise the node drops.
 abbrev pub noise_event : ℕ → Option Envelope → Option NodeEvent
 noise_event from read = if is_from from read then None else Some (Peer from read)
 

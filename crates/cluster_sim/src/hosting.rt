@@ -11,7 +11,8 @@ use oath_node::{Event, Node, Outputs};
 
 /// What an event makes of a node, or `None` where it makes nothing.
 pub(crate) fn hand<'b>(node: &mut Node<'b, MemStore>, event: Event<'_>) -> Option<Outputs<'b>>
-    ensures { (config : Config) (key : List ℕ) (place : PlaceRecord) (x : NodeState) → IsHost config key place x node.old
+    ensures { (config : Config) (key : List ℕ) (place : PlaceRecord) (x : NodeState)
+        → IsHost config key place x node.old
         → IsHanded config key place x (event_of key event.entry) node.new result }
 {
     match node.handle(event) {
@@ -22,7 +23,8 @@ pub(crate) fn hand<'b>(node: &mut Node<'b, MemStore>, event: Event<'_>) -> Optio
 
 /// A new boot of a node; at the last one it stops.
 pub(crate) fn reopen(node: &mut Node<'_, MemStore>)
-    ensures { (config : Config) (key : List ℕ) (place : PlaceRecord) (x : NodeState) → IsHost config key place x node.old
+    ensures { (config : Config) (key : List ℕ) (place : PlaceRecord) (x : NodeState)
+        → IsHost config key place x node.old
         → IsHost config key place (restarted_node x) node.new }
 {
     let _ = node.restart();

@@ -1,5 +1,29 @@
 //! Every schedule of a cluster: nodes that answer clients' lines and vote, all datagrams that they send each other,
-//! and what holds of every list of events.
+//! and what happens to them: lines, deliveries in any order and number, ticks, noise, restarts, and stops inside a
+//! step.
+//!
+//! [`run_world`] runs a script and gives its report. Its contract says what holds of every script: no factor of a
+//! token is accepted twice, each acceptance is justified by the line with which it began, and each `OK` belongs to
+//! one. The same is said of the definitions alone by the laws [`world_is_safe`], [`answers_belong_to_passes`] and
+//! [`one_node_is_the_reference`].
+//!
+//! ```rust
+//! use cluster_sim::{Act, WorldEvent, run_world};
+//! use otp_core::Settings;
+//! use token_file::{FromRead, read_book};
+//! use vote_wire::ClusterKey;
+//!
+//! let users = b"HOTP silver - 3132333435363738393031323334353637383930".as_slice();
+//! let settings = Settings::default();
+//! let (book, floors) = read_book(alloc, &mut FromRead::new(users), settings, 0)?;
+//! let key = ClusterKey::new(&[0; 32]).ok_or("a key")?;
+//! let line = b"CHECK 1 silver 755224 -";
+//! let events = [WorldEvent::Happens(Act::Client { node: 1, client: 7, moment: 100, line })];
+//! let report = run_world(alloc, &book, settings, &key, &[floors], &events)?;
+//! for answer in report.answers() {
+//!     assert_eq!(rt; answer.bytes.as_slice(), b"OK 1 0".as_slice());
+//! }
+//! ```
 #![tactic(auto)]
 
 mod fault;

@@ -1,4 +1,4 @@
-ghost use Rattle.std.specs.Prelude.{◌≡◌, ◌++◌, ◌∷◌, [], OnOk};
+ghost use Rattle.std.specs.Prelude.{◌≡◌};
 
 use arrayvec::ArrayVec;
 use otp_core::Factor;
@@ -22,9 +22,23 @@ impl Model for WorldPass {
 
     ghost Value = { Acceptance };
 
-    ghost view = { λ p. record { began = p.began; ended = p.ended; node = p.node; token = p.token; lo = p.lo; hi = p.hi } };
+    ghost view = { λ pass. record {
+      began = pass.began;
+      ended = pass.ended;
+      node = pass.node;
+      token = pass.token;
+      lo = pass.lo;
+      hi = pass.hi;
+    } };
 
-    ghost inverse = { λ v. record { began = v.began; ended = v.ended; node = v.node; token = v.token; lo = v.lo; hi = v.hi } };
+    ghost inverse = { λ pass. record {
+      began = pass.began;
+      ended = pass.ended;
+      node = pass.node;
+      token = pass.token;
+      lo = pass.lo;
+      hi = pass.hi;
+    } };
 }
 
 /// What a client was told: in which event, by which node, and the bytes without a line end.
@@ -41,7 +55,12 @@ impl Model for WorldAnswer {
 
     ghost Value = { Told };
 
-    ghost view = { λ a. record { event = a.event; node = a.node; client = a.client; bytes = a.bytes.items } };
+    ghost view = { λ answer. record {
+      event = answer.event;
+      node = answer.node;
+      client = answer.client;
+      bytes = answer.bytes.items;
+    } };
 }
 
 /// What a run tells: what was accepted and what was told, each in order, and how many datagrams were
@@ -58,10 +77,15 @@ impl Model for Report {
 
     ghost Value = { ReportValue };
 
-    ghost view = { λ r. record { passes = r.passes.items; answers = r.answers.items; sent = r.sent } };
+    ghost view = { λ report. record {
+      passes = report.passes.items;
+      answers = report.answers.items;
+      sent = report.sent;
+    } };
 }
 
 impl Report {
+    /// The report of these acceptances, answers and number of datagrams.
     pub(crate) fn new(passes: Vec<WorldPass>, answers: Vec<WorldAnswer>, sent: u64) -> Self
         ensures { result ≡ record { passes = passes.items; answers = answers.items; sent = sent } }
     {
@@ -72,14 +96,14 @@ impl Report {
         }
     }
 
-    /// What was accepted, in order of acceptance.
+    /// What was accepted, in the order of acceptance.
     pub fn passes(&self) -> &[WorldPass]
         ensures { result.now ≡ self.now.passes }
     {
         &self.passes
     }
 
-    /// What was told.
+    /// What was told, in the order in which it was.
     pub fn answers(&self) -> &[WorldAnswer]
         ensures { result.now ≡ self.now.answers }
     {

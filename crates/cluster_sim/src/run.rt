@@ -1,18 +1,18 @@
 //! A run of a script, from the opening of the nodes to the report.
 
-ghost use Rattle.admit_core.specs.Throttle.{SpacesFailures};
-ghost use Rattle.otp_core.specs.Acceptance.{HaveSingleUse, KeepRealTimeOrder};
-ghost use Rattle.vote_core.specs.Safety.{HaveMajority};
-ghost use Rattle.cluster_sim.specs.Answered.{AreAnswered, NamePasses, TellTruth};
-ghost use Rattle.cluster_sim.specs.Justified.{AreJustified};
-ghost use Rattle.cluster_sim.specs.Results.{results_of};
-ghost use Rattle.cluster_sim.specs.SingleNode.{opening_server, reference_answers};
 ghost use Rattle.std.specs.Prelude.{[], ◌≡◌, ◌≤◌, ℕ, List, IfOk, OnOk, Some, length, map, slice_get, slice_index_or};
 ghost use Rattle.std.specs.Global.{Vec};
+ghost use Rattle.otp_core.specs.Acceptance.{HaveSingleUse, KeepRealTimeOrder};
 ghost use Rattle.otp_core.specs.Range.{IsNext};
+ghost use Rattle.admit_core.specs.Throttle.{SpacesFailures};
+ghost use Rattle.vote_core.specs.Safety.{HaveMajority};
 ghost use Rattle.oath_node.specs.Machine.{Config};
-ghost use Rattle.cluster_sim.specs.Journal.{AreSpelledAlong, IsHost, IsRun, event_of, no_journal};
+ghost use Rattle.cluster_sim.specs.Answered.{AreAnswered, NamePasses, TellTruth};
+ghost use Rattle.cluster_sim.specs.Journal.{AreSpelledAlong, IsHost, IsRun, event_of, no_journal, simulation_of};
+ghost use Rattle.cluster_sim.specs.Justified.{AreJustified};
+ghost use Rattle.cluster_sim.specs.Results.{results_of};
 ghost use Rattle.cluster_sim.specs.Run.{floor_lists, run_of};
+ghost use Rattle.cluster_sim.specs.SingleNode.{opening_server, reference_answers};
 ghost use Rattle.cluster_sim.specs.World.{World, floor_at, floor_before, opening_node, opening_world, report_of, world_after_events};
 
 use crate::fault::SimFault;
@@ -65,6 +65,7 @@ fn open_node<'b>(
     let Ok(store) = MemStore::new(alloc, floors) else {
         return Err(SimFault::Memory);
     };
+    // A fresh store in memory can raise its boot, so that a node that isn't opened found no memory.
     match Node::open(alloc, book, settings, place, key, store) {
         Ok(node) => Ok(node),
         Err(_) => Err(SimFault::Memory),
@@ -85,7 +86,7 @@ fn open_nodes<'b>(
         → length list.items ≡ length book.now }
     ensures { let config : Config = record { book = book.now; limits = settings } in
         let opening = opening_world config (floor_lists floors.now) in
-        IfOk result (λ nodes. IsRun config key.now opening (record { nodes = nodes.items; journal = no_journal })) }
+        IfOk result (λ nodes. IsRun config key.now opening (simulation_of nodes.items no_journal)) }
 {
     let mut nodes = Vec::new(alloc);
     for (index, list) in floors.iter().enumerate() {
@@ -108,9 +109,9 @@ fn play(
     ensures { (config : Config) (world : World) →
         let happens = map (event_of key.now) events.now in
         AreSpelledAlong config happens world
-        → IsRun config key.now world (record { nodes = nodes.old; journal = journal.old })
+        → IsRun config key.now world (simulation_of nodes.old journal.old)
         → OnOk result (IsRun config key.now (world_after_events config 0 happens world)
-        (record { nodes = nodes.new; journal = journal.new })) }
+        (simulation_of nodes.new journal.new)) }
 {
     for (number, event) in events.iter().enumerate() {
         happen(nodes, journal, key, number as u64, *event)?;

@@ -4,9 +4,9 @@ ghost use Rattle.std.specs.Prelude.{◌≡◌, ◌+◌, ◌<◌, ◌≤◌, ℕ,
 ghost use Rattle.vote_core.specs.Schedule.{is_member};
 ghost use Rattle.oath_node.specs.Hosted.{envelope_at, event_of as node_event_of};
 ghost use Rattle.oath_node.specs.Machine.{Config, NodeState};
-ghost use Rattle.cluster_sim.specs.Journal.{AreHosts, IsAsked, IsRun, JournalRecord, Plays, act_of, event_of, journal_with_outputs, letter_of, told_act, told_turn};
+ghost use Rattle.cluster_sim.specs.Journal.{AreHosts, IsAsked, IsRun, JournalRecord, Plays, act_of, event_of, journal_with_outputs, letter_of, simulation_of, told_act, told_turn, world_by_event};
 ghost use Rattle.cluster_sim.specs.World as spec;
-ghost use Rattle.cluster_sim.specs.World.{Cut, Deliver, Noise, World, node_of, world_after_event, world_after_restart};
+ghost use Rattle.cluster_sim.specs.World.{Cut, Deliver, Noise, World, node_of, world_after_restart};
 
 use crate::hosting::{hand, reopen};
 use crate::journal::Journal;
@@ -74,7 +74,7 @@ fn turn(
 ) -> Result<(), AllocError>
     requires { length nodes.old ≤ 9 }
     ensures plays { (key : List ℕ) → Plays key (told_turn is_told event node (Some (node_event_of key what.entry)))
-        (record { nodes = nodes.old; journal = journal.old }) (record { nodes = nodes.new; journal = journal.new }) result }
+        (simulation_of nodes.old journal.old) (simulation_of nodes.new journal.new) result }
     ensures len { length nodes.new ≡ length nodes.old }
 {
     let outputs = ask(nodes, node, what);
@@ -92,7 +92,7 @@ fn deliver(
 ) -> Result<(), AllocError>
     requires { length nodes.old ≤ 9 }
     ensures plays { (key : List ℕ) → Plays key (told_act is_told event (Deliver node k))
-        (record { nodes = nodes.old; journal = journal.old }) (record { nodes = nodes.new; journal = journal.new }) result }
+        (simulation_of nodes.old journal.old) (simulation_of nodes.new journal.new) result }
     ensures len { length nodes.new ≡ length nodes.old }
 {
     one_spelling();
@@ -130,7 +130,7 @@ fn disturb(
 ) -> Result<(), AllocError>
     requires { length nodes.old ≤ 9 }
     ensures plays { Plays key.now (told_act is_told event (Noise node from (envelope_at key.now bytes.now)))
-        (record { nodes = nodes.old; journal = journal.old }) (record { nodes = nodes.new; journal = journal.new }) result }
+        (simulation_of nodes.old journal.old) (simulation_of nodes.new journal.new) result }
     ensures len { length nodes.new ≡ length nodes.old }
 {
     if is_from(key, from, bytes) {
@@ -160,7 +160,7 @@ fn perform(
 ) -> Result<(), AllocError>
     requires { length nodes.old ≤ 9 }
     ensures plays { Plays key.now (told_act is_told event (act_of key.now act.entry))
-        (record { nodes = nodes.old; journal = journal.old }) (record { nodes = nodes.new; journal = journal.new }) result }
+        (simulation_of nodes.old journal.old) (simulation_of nodes.new journal.new) result }
     ensures len { length nodes.new ≡ length nodes.old }
 {
     match act {
@@ -205,8 +205,8 @@ fn target_of(journal: &Journal, act: Act<'_>) -> Option<u64>
 /// Restarts a node, if there is that one.
 fn reopen_at(nodes: &mut [Node<'_, MemStore>], node: u64)
     ensures restarts { (config : Config) (key : List ℕ) (world : World) (journal : JournalRecord)
-        → IsRun config key world (record { nodes = nodes.old; journal = journal })
-        → IsRun config key (world_after_restart (Some node) world) (record { nodes = nodes.new; journal = journal }) }
+        → IsRun config key world (simulation_of nodes.old journal)
+        → IsRun config key (world_after_restart (Some node) world) (simulation_of nodes.new journal) }
     ensures len { length nodes.new ≡ length nodes.old }
 {
     if let Some(index) = index_of(nodes.len(), node) {
@@ -217,8 +217,8 @@ fn reopen_at(nodes: &mut [Node<'_, MemStore>], node: u64)
 /// Restarts a node, if one is named.
 fn reopen_if(nodes: &mut [Node<'_, MemStore>], node: Option<u64>)
     ensures restarts { (config : Config) (key : List ℕ) (world : World) (journal : JournalRecord)
-        → IsRun config key world (record { nodes = nodes.old; journal = journal })
-        → IsRun config key (world_after_restart node world) (record { nodes = nodes.new; journal = journal }) }
+        → IsRun config key world (simulation_of nodes.old journal)
+        → IsRun config key (world_after_restart node world) (simulation_of nodes.new journal) }
     ensures len { length nodes.new ≡ length nodes.old }
 {
     if let Some(node) = node {
@@ -237,8 +237,8 @@ fn cut(
 ) -> Result<(), AllocError>
     requires { length nodes.old ≤ 9 }
     ensures plays { Plays key.now
-        (λ (config : Config) (world : World). world_after_event config event (Cut kept (act_of key.now act.entry)) world)
-        (record { nodes = nodes.old; journal = journal.old }) (record { nodes = nodes.new; journal = journal.new }) result }
+        (world_by_event event (Cut kept (act_of key.now act.entry)))
+        (simulation_of nodes.old journal.old) (simulation_of nodes.new journal.new) result }
     ensures len { length nodes.new ≡ length nodes.old }
 {
     let target = target_of(journal, act);
@@ -262,8 +262,8 @@ pub(crate) fn happen(
 ) -> Result<(), AllocError>
     requires { length nodes.old ≤ 9 }
     ensures plays { Plays key.now
-        (λ (config : Config) (world : World). world_after_event config number (event_of key.now event.entry) world)
-        (record { nodes = nodes.old; journal = journal.old }) (record { nodes = nodes.new; journal = journal.new }) result }
+        (world_by_event number (event_of key.now event.entry))
+        (simulation_of nodes.old journal.old) (simulation_of nodes.new journal.new) result }
     ensures len { length nodes.new ≡ length nodes.old }
 {
     match event {

@@ -1,5 +1,8 @@
 //! Whole scripts, with what each comes to.
 
+ghost use Rattle.std.specs.Prelude.{◌≡◌, ℕ, IfOk, Some, length, slice_get};
+ghost use Rattle.std.specs.Global.{Vec};
+
 use super::*;
 use otp_core::{Next, Settings};
 use std::alloc::Global;
@@ -61,7 +64,11 @@ fn noise(node: u64, from: u64, bytes: &[u8]) -> WorldEvent<'_> {
 }
 
 /// The same list for each of so many nodes.
-fn lists_of(alloc: Global, floors: &[Next], n: usize) -> Result<Vec<Vec<Next>>, Fail> {
+fn lists_of(alloc: Global, floors: &[Next], n: usize) -> Result<Vec<Vec<Next>>, Fail>
+    ensures len { IfOk result (λ lists. length lists.items ≡ n) }
+    ensures same { IfOk result (λ lists. (k : ℕ) (list : Vec ℕ) → slice_get lists.items k ≡ Some list
+        → list.items ≡ floors.now) }
+{
     let mut lists = Vec::new(alloc);
     for _ in 0..n {
         lists.push(Vec::from_slice(alloc, floors)?)?;
@@ -72,6 +79,9 @@ fn lists_of(alloc: Global, floors: &[Next], n: usize) -> Result<Vec<Vec<Next>>, 
 /// What a script comes to at so many fresh nodes with the one token, under 32 zeros, with a look-ahead of 5
 /// and a range of 9.
 fn report_at(alloc: Global, n: usize, events: &[WorldEvent<'_>]) -> Result<Report, Fail> {
+    if n < 1 || n > 9 {
+        return Err("how many nodes".into());
+    }
     let settings = Settings::new(5, 1, 9).ok_or("settings")?;
     let key = ClusterKey::new(&[0; 32]).ok_or("a key")?;
     let (book, floors) = read_book(alloc, &mut FromRead::new(SILVER), settings, 0)?;
