@@ -1,4 +1,2 @@
-pub mod LineLemmas
 pub mod RunLemmas
 pub mod ServeLemmas
-pub mod UsersLemmas

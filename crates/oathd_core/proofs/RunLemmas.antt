@@ -5,7 +5,7 @@ use Rattle.std.specs.Io.KnownBytes.{Appends}
 use Rattle.token_file.specs.UsersFile.{Import, book_of, instant_of}
 use Rattle.token_file.specs.declared.fault.FileFault.{FileFault}
 use Rattle.token_file.specs.declared.fault.LineFault.{LineFault}
-use Rattle.oathd_core.specs.Input.{lines_of, users_file}
+use Rattle.users_input.specs.Input.{lines_of, users_file}
 use Rattle.oathd_core.specs.Run.{EndsSo, RefusesUsers, Setup, clients_of, end_of, run_of_users, run_read}
 use Rattle.oathd_core.specs.declared.fault.Fault.{Fault}
 use Rattle.oathd_core.specs.declared.fault.Fault.TheVariants.{Memory, CannotRead, CannotWrite, Users, InputLine, BadKey, NotText}

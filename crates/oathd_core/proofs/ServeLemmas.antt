@@ -19,19 +19,21 @@ use Rattle.token_file.specs.declared.fault.LineFault.TheVariants.{Read}
 use Rattle.oath_node.specs.ReferenceServer.{Line, Server, server_at, service_of}
 use Rattle.oath_node.specs.Report.{report_from}
 use Rattle.oath_node.specs.Serving.{IsServerAfter, IsServing, Serving}
-use Rattle.oathd_core.specs.Client.{LinesRead, client_line_of, client_lines, with_line}
-use Rattle.oathd_core.specs.Fault.{input_fault_of}
-use Rattle.oathd_core.specs.Input.{TakesLine, line_text, lines_of}
+use Rattle.oathd_core.specs.Client.{LinesRead, client_line_at, client_line_of, client_lines, with_line}
+use Rattle.oathd_core.specs.Fault.{input_fault_of, users_fault_of}
+use Rattle.users_input.specs.Input.{TakesLine, TextLine, line_text, lines_of, rest_part, users_part}
 use Rattle.oathd_core.specs.Run.{Run, Answered, Refused, EndsSo, IsBehindUsers, IsCutSo, IsTaken, Setup, WritesFirst, answers_from, bytes_of, clients_of, end_at, printed_lines, run_of_lines, run_of_server, run_of_users, run_read}
-use Rattle.oathd_core.specs.Users.{HasClients, clients_behind, users_text}
+use Rattle.users_input.specs.Users.{HasRest, NumberedLine, numbered, rest_behind, users_text}
 use Rattle.oathd_core.specs.declared.fault.Fault.{Fault}
 use Rattle.oathd_core.specs.declared.fault.Fault.TheVariants as fault
-use Rattle.oathd_core.specs.declared.fault.InputFault.{InputFault}
-use Rattle.oathd_core.specs.declared.fault.InputFault.TheVariants as input
-use Rattle.oathd_core.specs.declared.input.NextLine.TheVariants.{Whole, Cut, End}
-use Rattle.oathd_core.proofs.LineLemmas.{lines_none}
+use Rattle.users_input.specs.declared.fault.InputFault.{InputFault}
+use Rattle.users_input.specs.declared.fault.InputFault.TheVariants as input
+use Rattle.users_input.specs.declared.fault.UsersFault.{UsersFault}
+use Rattle.users_input.specs.declared.fault.UsersFault.TheVariants as users
+use Rattle.users_input.specs.declared.input.NextLine.TheVariants.{Whole, Cut, End}
+use Rattle.users_input.proofs.LineLemmas.{lines_none}
 use Rattle.oathd_core.proofs.RunLemmas.{refused_ends}
-use Rattle.oathd_core.proofs.UsersLemmas.{clients_of_start}
+use Rattle.users_input.proofs.UsersLemmas.{rest_of_start}
 
 -- ---- the answers of the reference server
 
@@ -224,6 +226,23 @@ run_taken : (setup : Setup) (longest room : ℕ) (text : List ℕ) (import : Imp
 run_taken setup longest room text import e =
     ap (λ (r : Result Import (ℕ × LineFault)). run_of_users setup.limits r (clients_of (lines_of room text))) e
 
+-- the lines of clients among numbered lines
+abbrev clients_numbered : List NumberedLine → LinesRead
+clients_numbered [] = record { good = []; bad = None }
+clients_numbered (line ∷ rest) = with_line line.0 (client_line_at line.1) (clients_numbered rest)
+
+client_lines_numbered : (number : ℕ) (lines : List TextLine) → client_lines number lines ≡ clients_numbered (numbered number lines)
+client_lines_numbered number [] = refl
+client_lines_numbered number (line ∷ rest) = ap (with_line number (client_line_at line)) (client_lines_numbered (number + 1) rest)
+
+-- what stands behind the users file of a text are its lines of clients
+rest_is_clients : (room room' first : ℕ) (text text' : List ℕ) → numbered first (lines_of room' text') ≡ rest_behind 0 (lines_of room text)
+    → client_lines first (lines_of room' text') ≡ clients_of (lines_of room text)
+rest_is_clients room room' first text text' e =
+    let lines = lines_of room text in
+    client_lines_numbered first (lines_of room' text') ∙ ap clients_numbered (e ∙ rest_of_start lines)
+    ∙ sym (client_lines_numbered (length (users_part lines) + 2) (rest_part lines))
+
 module _ (setup : Setup) (longest room : ℕ) (a left : Option (List ℕ)) (import : Import)
     (left_is : left ≡ option_map (users_text room) a)
     (book_is : OfText left (λ text. book_of longest (instant_of setup.limits setup.moment) text ≡ Ok import)) where
@@ -243,28 +262,28 @@ module _ (setup : Setup) (longest room : ℕ) (a left : Option (List ℕ)) (impo
   pub failed_behind : (f : InputFault) (out : Option (List ℕ)) → IfSome a (λ text. EndsSo (run_read setup longest room text) (Err (input_fault_of f)) out out)
   failed_behind f out = IfSome_then a runs (λ text e. failed_ends (run_read setup longest room text) f out (subst IsTaken (sym e) tt))
 
-  pub served_behind : (behind after : Option LinesRead) (first room' : ℕ) (b : Option (List ℕ)) (end : Result Unit Fault) (old new : Option (List ℕ))
-      → behind ≡ option_map (λ t. clients_behind 0 (lines_of room t)) a → Stays behind after
-      → IfSome after (λ clients. HasClients clients first room' b)
+  pub served_behind : (behind after : Option (List NumberedLine)) (first room' : ℕ) (b : Option (List ℕ)) (end : Result Unit Fault) (old new : Option (List ℕ))
+      → behind ≡ option_map (λ t. rest_behind 0 (lines_of room t)) a → Stays behind after
+      → IfSome after (λ rest. HasRest rest first room' b)
       → IfSome b (λ text. EndsSo (run_of_server import.book setup.limits (server_at import.floors) (client_lines first (lines_of room' text))) end old new)
       → IfSome a (λ text. EndsSo (run_read setup longest room text) end old new)
   served_behind behind after first room' b end old new is stays has ends =
-      both a runs (subst (λ (o : Option LinesRead). Stays o after) is stays)
+      both a runs (subst (λ (o : Option (List NumberedLine)). Stays o after) is stays)
     where
       last : (text : List ℕ) → run_read setup longest room text ≡ run_of_lines setup.limits import (clients_of (lines_of room text))
-          → (clients : LinesRead) → clients ≡ clients_of (lines_of room text) → HasClients clients first room' b → EndsSo (run_read setup longest room text) end old new
-      last text run clients same k =
+          → (rest : List NumberedLine) → rest ≡ rest_behind 0 (lines_of room text) → HasRest rest first room' b → EndsSo (run_read setup longest room text) end old new
+      last text run rest same k =
           let here : EndsSo (run_of_server import.book setup.limits (server_at import.floors) (client_lines first (lines_of room' k.text))) end old new =
           subst (λ (o : Option (List ℕ)). IfSome o (λ t. EndsSo (run_of_server import.book setup.limits (server_at import.floors) (client_lines first (lines_of room' t))) end old new)) k.left_is ends in
-          let read : client_lines first (lines_of room' k.text) ≡ clients_of (lines_of room text) = k.read ∙ same in
+          let read : client_lines first (lines_of room' k.text) ≡ clients_of (lines_of room text) = rest_is_clients room room' first text k.text (k.read ∙ same) in
           subst (λ (r : Run). EndsSo r end old new) (ap (run_of_lines setup.limits import) read ∙ sym run) here
 
       both : (o : Option (List ℕ)) → IfSome o (λ text. run_read setup longest room text ≡ run_of_lines setup.limits import (clients_of (lines_of room text)))
-          → Stays (option_map (λ t. clients_behind 0 (lines_of room t)) o) after → IfSome o (λ text. EndsSo (run_read setup longest room text) end old new)
+          → Stays (option_map (λ t. rest_behind 0 (lines_of room t)) o) after → IfSome o (λ text. EndsSo (run_read setup longest room text) end old new)
       both None run s = tt
       both (Some text) run s =
-          last text run (clients_behind 0 (lines_of room text)) (clients_of_start (lines_of room text))
-          (subst (λ (o : Option LinesRead). IfSome o (λ clients. HasClients clients first room' b)) s has)
+          last text run (rest_behind 0 (lines_of room text)) refl
+          (subst (λ (o : Option (List NumberedLine)). IfSome o (λ rest. HasRest rest first room' b)) s has)
 
 -- ---- an input is read to a limit
 
@@ -319,3 +338,11 @@ cut_or_memory setup longest room (Some text) left f end is cut which =
 pub err_then : (r : Result Unit Fault) (P Q : Fault → Type 0) → IfErr r P → ((f : Fault) → P f → Q f) → IfErr r Q
 err_then (Ok one) P Q h k = tt
 err_then (Err f) P Q h k = k f h
+
+-- what a users file is refused for, for a run
+pub refused_for : (u : UsersFault) (f : FileFault) (end : Fault) → end ≡ users_fault_of u → ((u ≡ users.Memory) ⊎ (u ≡ users.File f))
+    → (end ≡ fault.Memory) ⊎ (end ≡ fault.Users f)
+refused_for u f end is which = elim which [
+  | inl e ↦ inl (is ∙ ap users_fault_of e)
+  | inr e ↦ inr (is ∙ ap users_fault_of e)
+]

@@ -3,7 +3,7 @@ use Rattle.std.specs.Prelude.{ℕ, ◌+◌, List, [], ◌∷◌, Option, Some, N
 use Rattle.field_text.specs.Number.{number_of}
 use Rattle.oath_node.specs.ReferenceServer.{Line}
 use Rattle.field_text.specs.Cut.{Halves, halves_of}
-use Rattle.oathd_core.specs.Input.{TextLine}
+use Rattle.users_input.specs.Input.{TextLine}
 
 -- a client's line, where the client and the moment are numbers
 abbrev pub line_of_numbers : Option ℕ → Option ℕ → List ℕ → Option Line

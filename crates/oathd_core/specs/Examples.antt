@@ -6,10 +6,6 @@ use Rattle.token_file.specs.declared.fault.LineFault.{LineFault}
 use Rattle.oathd_core.specs.Client.{LinesRead}
 use Rattle.oathd_core.specs.Run.{Run, Answered, run_of}
 
--- two users lines, and three clients' lines, one of which is `%%` too
-abbrev pub text_of_two_parts : List ℕ
-text_of_two_parts = codes "a\nb\n%%\nc\n%%\nd"
-
 -- a line of a client
 abbrev pub line_saying : ℕ → ℕ → List ℕ → Line
 line_saying client moment text = record { client = client; moment = moment; text = text }

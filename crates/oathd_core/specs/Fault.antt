@@ -3,8 +3,10 @@ use Rattle.std.specs.Prelude.{ℕ}
 use Rattle.command_line.specs.declared.fault.OutsideFault.{OutsideFault}
 use Rattle.command_line.specs.declared.fault.OutsideFault.TheVariants as outside
 use Rattle.oathd_core.specs.declared.fault.Fault.{Fault}
-use Rattle.oathd_core.specs.declared.fault.InputFault.{InputFault}
-use Rattle.oathd_core.specs.declared.fault.InputFault.TheVariants as input
+use Rattle.users_input.specs.declared.fault.InputFault.{InputFault}
+use Rattle.users_input.specs.declared.fault.InputFault.TheVariants as input
+use Rattle.users_input.specs.declared.fault.UsersFault.{UsersFault}
+use Rattle.users_input.specs.declared.fault.UsersFault.TheVariants as users
 use Rattle.oathd_core.specs.declared.fault.Fault.TheVariants.{Memory, CannotRead, CannotWrite, Users, InputLine, BadKey, NotText}
 
 -- the exit status: 2 where the words are wrong, 1 for the rest
@@ -27,6 +29,11 @@ outside_fault_of outside.NotText = NotText
 abbrev pub input_fault_of : InputFault → Fault
 input_fault_of input.Memory = Memory
 input_fault_of input.CannotRead = CannotRead
+
+-- what a users file that isn't taken is for a run
+abbrev pub users_fault_of : UsersFault → Fault
+users_fault_of users.Memory = Memory
+users_fault_of (users.File fault) = Users fault
 
 -- the memory, the input or the output failed, which no input makes
 abbrev pub IsOutside : Fault → Type 0

@@ -1,8 +1,6 @@
 pub mod Client
 pub mod Examples
 pub mod Fault
-pub mod Input
 pub mod Request
 pub mod Run
 pub mod Secret
-pub mod Users

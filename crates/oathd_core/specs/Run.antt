@@ -7,7 +7,7 @@ use Rattle.oath_node.specs.ReferenceServer.{Line, Server}
 use Rattle.oath_node.specs.Report.{report_from, report_of}
 use Rattle.oath_node.specs.declared.report.LineAnswer.{LineAnswer}
 use Rattle.oathd_core.specs.Client.{LinesRead, client_lines}
-use Rattle.oathd_core.specs.Input.{TextLine, lines_of, users_file, users_part, clients_part}
+use Rattle.users_input.specs.Input.{TextLine, lines_of, users_file, users_part, rest_part}
 use Rattle.oathd_core.specs.declared.fault.Fault.{Fault}
 use Rattle.oathd_core.specs.declared.fault.Fault.TheVariants.{Memory, CannotRead, CannotWrite, Users, InputLine as BadLine}
 use Rattle.token_file.specs.Credential.{Credential}
@@ -51,7 +51,7 @@ run_of_users limits (Ok import) lines = run_of_lines limits import lines
 -- The lines of clients among those of an input. Lines are numbered from 1, and the first of the clients'
 -- stands behind the users file and `%%`.
 abbrev pub clients_of : List TextLine → LinesRead
-clients_of lines = client_lines (length (users_part lines) + 2) (clients_part lines)
+clients_of lines = client_lines (length (users_part lines) + 2) (rest_part lines)
 
 -- what a server is run with: its limits, and the moment at which the users are imported
 pub record Setup : Type 0 where

@@ -7,6 +7,7 @@ use secret_text::SecretFault;
 use std::alloc::AllocFailed;
 use thiserror::Error;
 use token_file::FileFault;
+use users_input::{InputFault, UsersFault};
 
 /// What ends a run before its time. The text lacks the program's name.
 #[derive(Clone, Copy, Debug, PartialEq, Eq, Error)]
@@ -32,15 +33,6 @@ pub enum Fault {
     /// A word of the process is not UTF-8.
     #[error("a word is not text")]
     NotText,
-}
-
-/// Why an input is read no further.
-#[derive(Clone, Copy, Debug, PartialEq, Eq)]
-pub(crate) enum InputFault {
-    /// An allocation was refused.
-    Memory,
-    /// The reader failed.
-    CannotRead,
 }
 
 impl ProgramFault for Fault {
@@ -84,6 +76,19 @@ impl From<InputFault> for Fault {
         match fault {
             InputFault::Memory => Fault::Memory,
             InputFault::CannotRead => Fault::CannotRead,
+        }
+    }
+}
+
+impl From<UsersFault> for Fault {
+    ghost use Rattle.oathd_core.specs.Fault.{users_fault_of};
+
+    ghost from_gives = { λ users fault. fault ≡ users_fault_of users };
+
+    fn from(fault: UsersFault) -> Self {
+        match fault {
+            UsersFault::Memory => Fault::Memory,
+            UsersFault::File(fault) => Fault::Users(fault),
         }
     }
 }

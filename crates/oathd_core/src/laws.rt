@@ -4,43 +4,15 @@ ghost use Rattle.secret_text.specs.declared.fault.SecretFault.TheVariants.{BadLe
 ghost use Rattle.command_line.specs.declared.fault.OutsideFault.TheVariants as outside;
 ghost use Rattle.token_file.specs.declared.fault.LineFault.TheVariants.{FileTooLong, MissingField};
 ghost use Rattle.oathd_core.specs.Client.{client_line_of, client_lines};
-ghost use Rattle.oathd_core.specs.Examples.{answered, fault_at, line_saying, lines_before, run_at_most, text_of_two_parts};
+ghost use Rattle.oathd_core.specs.Examples.{answered, fault_at, line_saying, lines_before, run_at_most};
 ghost use Rattle.oathd_core.specs.Fault.{IsOutside, outside_fault_of, status_of};
-ghost use Rattle.oathd_core.specs.Input.{clients_part, has_marker, lines_of, users_file};
+ghost use Rattle.users_input.specs.Input.{lines_of};
 ghost use Rattle.oathd_core.specs.Request.{EndsAsAsked};
 ghost use Rattle.oathd_core.specs.Run.{Answered, EndsSo, Refused, clients_of, end_of, output_of, run_of};
 ghost use Rattle.oathd_core.specs.Secret.{EndsWithText};
 ghost use Rattle.oathd_core.specs.declared.fault.Fault.{Fault};
 ghost use Rattle.oathd_core.specs.declared.fault.Fault.TheVariants.{BadKey, CannotRead, CannotWrite, InputLine, Memory, NotText, Users};
 ghost use Rattle.oathd_core.specs.declared.request.Request.TheVariants.{Lines};
-
-/// Some inputs: their lines, and their two parts.
-pub fn inputs_are_worked()
-    // the lines that are read up to a limit, of which a line that goes on past it is none
-    ensures whole { lines_of 6 (codes "ab\ncde") ≡ Some (codes "ab") ∷ Some (codes "cde") ∷ [] }
-    ensures cut { lines_of 5 (codes "ab\ncde") ≡ Some (codes "ab") ∷ None ∷ [] }
-    ensures cut_behind_lf { lines_of 3 (codes "ab\ncde") ≡ Some (codes "ab") ∷ None ∷ [] }
-    ensures lf_at_the_end { lines_of 3 (codes "ab\n") ≡ Some (codes "ab") ∷ [] }
-    ensures empty_lines { lines_of 9 (codes "\n\nab") ≡ Some [] ∷ Some [] ∷ Some (codes "ab") ∷ [] }
-    ensures nothing { lines_of 0 [] ≡ [] }
-    ensures nothing_read { lines_of 0 (codes "a") ≡ None ∷ [] }
-
-    // the users file, and what stands behind the first `%%`
-    ensures users { users_file (lines_of 99 text_of_two_parts) text_of_two_parts ≡ codes "a\nb\n" }
-    ensures clients { clients_part (lines_of 99 text_of_two_parts)
-        ≡ Some (codes "c") ∷ Some (codes "%%") ∷ Some (codes "d") ∷ [] }
-    ensures no_users { users_file (lines_of 99 (codes "%%\nc")) (codes "%%\nc") ≡ [] }
-    ensures only_clients { clients_part (lines_of 99 (codes "%%\nc")) ≡ Some (codes "c") ∷ [] }
-    ensures users_to_marker { users_file (lines_of 99 (codes "a\n%%")) (codes "a\n%%") ≡ codes "a\n" }
-    ensures no_clients { clients_part (lines_of 99 (codes "a\n%%")) ≡ [] }
-    ensures no_marker { users_file (lines_of 99 (codes "a\nb")) (codes "a\nb") ≡ codes "a\nb" }
-    ensures no_marker_read { users_file (lines_of 2 (codes "a\nb")) (codes "a\nb") ≡ codes "a\nb" }
-    ensures carriage_return { has_marker (lines_of 99 (codes "%%\r\nc")) ≡ false }
-    ensures space_behind { has_marker (lines_of 99 (codes "%% \nc")) ≡ false }
-    ensures one_percent { has_marker (lines_of 99 (codes "%\nc")) ≡ false }
-    ensures three_percents { has_marker (lines_of 99 (codes "%%%\nc")) ≡ false }
-    ensures cut_marker { has_marker (lines_of 2 (codes "%%\n")) ≡ false }
-{}
 
 /// Some lines of clients.
 pub fn client_lines_are_worked()

@@ -16,19 +16,16 @@
 
 mod client;
 mod fault;
-mod input;
 mod laws;
 mod lines;
 mod request;
-mod retry;
 mod secret;
 #[cfg(test)]
 mod tests;
-mod users;
 
 pub use fault::Fault;
 pub use laws::{
-    client_lines_are_worked, inputs_are_worked, promises_can_be_broken, runs_are_worked,
+    client_lines_are_worked, promises_can_be_broken, runs_are_worked,
 };
 pub use lines::serve_lines;
 pub use request::{Request, run};

@@ -7,20 +7,18 @@ ghost use Rattle.token_file.specs.Credential.{Credential};
 ghost use Rattle.oath_node.specs.ReferenceServer.{Server};
 ghost use Rattle.oath_node.specs.Serving.{IsServerAfter, IsServing};
 ghost use Rattle.oathd_core.specs.Client.{client_lines};
-ghost use Rattle.oathd_core.specs.Input.{lines_of};
+ghost use Rattle.users_input.specs.Input.{lines_of};
 ghost use Rattle.oathd_core.specs.Run.{EndsSo, IsBehindUsers, IsCutSo, run_of, run_of_server, run_read};
 
 use crate::client::read_client_line;
 use crate::fault::Fault;
-use crate::input::{Input, NextLine, text_of};
-use crate::retry::Retrying;
-use crate::users::UsersFile;
 use command_line::write_line;
 use oath_node::LineServer;
 use otp_core::Settings;
 use std::alloc::Global;
 use std::io::{BufRead, BufReader, Read, Write};
 use token_file::read_book;
+use users_input::{Input, NextLine, Retrying, UsersFile, text_of};
 use vote_wire::ClusterKey;
 
 /// Writes an answer on a line of its own, and flushes it.
@@ -89,9 +87,9 @@ fn serve_input<B: BufRead + Drop, W: Write>(
     let mut users = UsersFile::new(alloc, input);
     let (book, floors) = match read_book(alloc, &mut users, settings, moment) {
         Ok(read) => read,
-        Err(fault) => return Err(users.fault(fault)),
+        Err(fault) => return Err(Fault::from(users.fault(fault))),
     };
-    let (clients, first) = users.into_clients()?;
+    let (clients, first) = users.into_rest()?;
     let mut server = LineServer::new(alloc, &book, settings, key, &floors)?;
     answer_lines(alloc, &mut server, clients, first, writer)
 }

@@ -4,13 +4,13 @@ use Rattle.std.specs.Io.KnownBytes.{Appends}
 use Rattle.std.proofs.lemmas.Option.{IfSome_then}
 use Rattle.command_line.specs.Line.{line_of}
 use Rattle.oathd_core.specs.Client.{client_line_of, client_lines}
-use Rattle.oathd_core.specs.Input.{HasRoom, TakesLine, line_text, lines_of}
+use Rattle.users_input.specs.Input.{HasRoom, TakesLine, line_text, lines_of}
 use Rattle.oathd_core.specs.Run.{EndsSo, IsBehindUsers, run_of_server}
 use Rattle.oathd_core.specs.declared.fault.Fault.{Fault}
-use Rattle.oathd_core.specs.declared.fault.InputFault.TheVariants as input
+use Rattle.users_input.specs.declared.fault.InputFault.TheVariants as input
 use Rattle.oath_node.specs.ReferenceServer.{Server, service_of}
 use Rattle.oath_node.specs.Serving.{IsServerAfter, IsServing}
-use Rattle.oathd_core.specs.declared.input.NextLine.TheVariants.{Whole}
+use Rattle.users_input.specs.declared.input.NextLine.TheVariants.{Whole}
 use Rattle.oathd_core.proofs.ServeLemmas.{HasAnsweredFew, IsAnsweredSo, answering_next, answering_start, ends_all, ends_bad, ends_cut, ends_failed, handed_on, input_behind}
 use Rattle.oathd_core.proofs.lines.answer_lines.Goals as goal
 

@@ -4,7 +4,7 @@ use Rattle.token_file.specs.Credential.{Credential}
 use Rattle.oath_node.specs.ReferenceServer.{Server}
 use Rattle.oath_node.specs.Serving.{IsServing}
 use Rattle.oathd_core.specs.Client.{client_lines}
-use Rattle.oathd_core.specs.Input.{lines_of}
+use Rattle.users_input.specs.Input.{lines_of}
 use Rattle.oathd_core.specs.Run.{answers_from}
 use Rattle.oathd_core.proofs.ServeLemmas.{HasAnsweredFew, IsAnswering}
 use Rattle.oathd_core.proofs.lines.answer_lines.Given as goal

@@ -7,18 +7,19 @@ use Rattle.oath_node.specs.Serving.{IsServing}
 use Rattle.oathd_core.specs.Fault.{input_fault_of}
 use Rattle.oathd_core.specs.Run.{EndsSo, IsBehindUsers, IsCutSo, Setup, run_read}
 use Rattle.oathd_core.specs.declared.fault.Fault.{Fault}
-use Rattle.oathd_core.specs.declared.fault.InputFault.TheVariants as input
-use Rattle.oathd_core.proofs.ServeLemmas.{cut_or_memory, err_then, failed_behind, handed_on, input_behind, memory_ends_any, no_cut, refused_or_memory, served_behind}
+use Rattle.users_input.specs.declared.fault.InputFault.TheVariants as input
+use Rattle.oathd_core.proofs.ServeLemmas.{cut_or_memory, err_then, failed_behind, handed_on, input_behind, memory_ends_any, no_cut, refused_for, refused_or_memory, served_behind}
 use Rattle.oathd_core.proofs.lines.serve_input.Goals as goal
 
 pub returns-in-Err : goal.returns-in-Err
 returns-in-Err g c =
     let setup : Setup = record { limits = c.args.settings; moment = c.args.moment } in
+    let which = refused_for c.fault.result c.in-Err.fault c.from.result c.from.ensures c.fault.ensures in
     record {
-      ends = refused_or_memory setup 16777216 c.args.input.room (g.B.Read.remaining c.args.input.reader) _ c.in-Err.fault c.fault.result
-          (g.W.Write.contents c.args.writer.now) c.new-users.ensures.left c.in-Err.ensures.fault c.fault.ensures;
-      cut = cut_or_memory setup 16777216 c.args.input.room (g.B.Read.remaining c.args.input.reader) _ c.in-Err.fault c.fault.result
-          c.new-users.ensures.left c.in-Err.ensures.read c.fault.ensures;
+      ends = refused_or_memory setup 16777216 c.args.input.room (g.B.Read.remaining c.args.input.reader) _ c.in-Err.fault c.from.result
+          (g.W.Write.contents c.args.writer.now) c.new-users.ensures.left c.in-Err.ensures.fault which;
+      cut = cut_or_memory setup 16777216 c.args.input.room (g.B.Read.remaining c.args.input.reader) _ c.in-Err.fault c.from.result
+          c.new-users.ensures.left c.in-Err.ensures.read which;
     }
 
 pub returns-in_err-clients : goal.returns-in_err-clients
@@ -58,7 +59,7 @@ returns g c =
     record {
       ends = served_behind setup 16777216 c.args.input.room a _ import c.new-users.ensures.left c.in-Ok.ensures.book _ _ c.in_ok-clients.first c.in_ok-clients.clients.room
           (g.B.Read.remaining c.in_ok-clients.clients.reader) c.answer_lines.result (g.W.Write.contents c.args.writer.now) (g.W.Write.contents c.answer_lines.new.writer)
-          c.new-users.ensures.clients c.in-Ok.ensures.behind c.in_ok-clients.ensures (c.answer_lines.ensures.ends import.book setup.limits (server_at import.floors) serving);
+          c.new-users.ensures.rest c.in-Ok.ensures.behind c.in_ok-clients.ensures (c.answer_lines.ensures.ends import.book setup.limits (server_at import.floors) serving);
       cut = err_then c.answer_lines.result IsBehindUsers (λ x. IfSome a (λ text. IsCutSo setup 16777216 c.args.input.room text x)) c.answer_lines.ensures.behind
           (no_cut setup 16777216 c.args.input.room a);
     }

@@ -4,7 +4,7 @@ use Rattle.std.specs.Io.Buffered.{reader_buffer, reader_capacity, reader_inner, 
 use Rattle.std.specs.Io.Take.{take_remaining}
 use Rattle.std.proofs.lemmas.Option.{IfSome_then}
 use Rattle.oathd_core.specs.Fault.{input_fault_of}
-use Rattle.oathd_core.specs.declared.fault.InputFault.TheVariants as input
+use Rattle.users_input.specs.declared.fault.InputFault.TheVariants as input
 use Rattle.oathd_core.specs.Run.{EndsSo, IsCutSo, Setup, run_of, run_read}
 use Rattle.oathd_core.proofs.ServeLemmas.{err_then, held_none, memory_ends_any, no_cut, of_front}
 use Rattle.oathd_core.proofs.lines.serve_lines.Goals as goal

@@ -2,8 +2,8 @@
 use Rattle.std.specs.Prelude.{◌≡◌, ◌⊎◌, ◌<◌, ◌≤◌, ℕ, ◌+◌, ◌==◌, nat_lt, not, Bool, false, if◌then◌else◌, List, [], ◌∷◌, length, take, drop, take_while, ◌++◌, Option, Some, None, codes, slice_index_or}
 use Rattle.std.specs.List.{flat_map, list_any, slice_split}
 use Rattle.std.specs.Str.{bytes_eq}
-use Rattle.oathd_core.specs.declared.input.NextLine.{NextLine}
-use Rattle.oathd_core.specs.declared.input.NextLine.TheVariants.{Whole, Cut, End}
+use Rattle.users_input.specs.declared.input.NextLine.{NextLine}
+use Rattle.users_input.specs.declared.input.NextLine.TheVariants.{Whole, Cut, End}
 
 -- a line that is whole is its bytes without the LF; a line that goes on past the limit is None
 abbrev pub TextLine : Type 0
@@ -46,8 +46,8 @@ abbrev pub users_part : List TextLine → List TextLine
 users_part lines = take_while (λ line. not (is_marker line)) lines
 
 -- the lines behind the first `%%`
-abbrev pub clients_part : List TextLine → List TextLine
-clients_part lines = drop (length (users_part lines) + 1) lines
+abbrev pub rest_part : List TextLine → List TextLine
+rest_part lines = drop (length (users_part lines) + 1) lines
 
 -- the bytes of a whole line, with the LF that ends it
 abbrev pub line_bytes : TextLine → List ℕ

@@ -7,8 +7,8 @@ use Rattle.std.proofs.lemmas.Bool.{eqb-true, lt-ltb, le-ltb}
 use Rattle.std.proofs.lemmas.Bool.Decides.{nat_tests}
 use Rattle.std.proofs.lemmas.List.Splits.{length-slice_split, slice_split-cons_no}
 use Rattle.std.proofs.lemmas.List.{length-append, take_all, take-append-le}
-use Rattle.oathd_core.specs.Input.{IsNext, TakesLine, TextLine, line_text, lines_between, lines_of, pieces_of}
-use Rattle.oathd_core.specs.declared.input.NextLine.TheVariants.{Whole, Cut, End}
+use Rattle.users_input.specs.Input.{IsNext, TakesLine, TextLine, line_text, lines_between, lines_of, pieces_of}
+use Rattle.users_input.specs.declared.input.NextLine.TheVariants.{Whole, Cut, End}
 
 before_more : (is_cut : Bool) (line : List ℕ) (pieces : List (List ℕ)) → 0 < length pieces
     → lines_between is_cut (line ∷ pieces) ≡ Some line ∷ lines_between is_cut pieces

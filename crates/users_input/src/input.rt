@@ -1,14 +1,14 @@
 ghost use Rattle.std.specs.Prelude.{◌≡◌, ◌↔◌, ◌-◌, ◌<◌, ◌≤◌, ◌^◌, length, IfSome, IfOk, OnOk, OnErr, IsTrue};
 ghost use Rattle.std.specs.Io.BufRead.{DropsThrough, take_through};
 ghost use Rattle.std.specs.Io.KnownBytes.{Consumes};
-ghost use Rattle.oathd_core.specs.Input.{HasLine, HasRoom, TakesLine, is_mark, line_text};
+ghost use Rattle.users_input.specs.Input.{HasLine, HasRoom, TakesLine, is_mark, line_text};
 
 use crate::fault::InputFault;
 use field_text::cut_at;
 use std::io::{BufRead, Error, ErrorKind};
 
 /// The text of a line, without the LF that ends it.
-pub(crate) fn text_of(line: &[u8]) -> &[u8]
+pub fn text_of(line: &[u8]) -> &[u8]
     ensures { result.now ≡ line_text line.now }
 {
     match cut_at(line, b'\n') {
@@ -17,7 +17,7 @@ pub(crate) fn text_of(line: &[u8]) -> &[u8]
     }
 }
 
-/// Whether this is the text of the line between the users and the clients' lines.
+/// Whether this is the text of the line behind the users file.
 pub(crate) fn is_marker(text: &[u8]) -> bool
     ensures { result ≡ is_mark text.now }
 {
@@ -34,7 +34,7 @@ fn input_fault(error: &Error) -> InputFault {
 
 /// What stands next in an input.
 #[derive(Clone, Copy, Debug, PartialEq, Eq)]
-pub(crate) enum NextLine {
+pub enum NextLine {
     /// A line.
     Whole,
     /// A line that goes on past the limit.
@@ -45,15 +45,15 @@ pub(crate) enum NextLine {
 
 /// What is left of an input.
 #[derive(Drop)]
-pub(crate) struct Input<B> {
-    reader: B,
+pub struct Input<B> {
+    pub reader: B,
     /// How many bytes of it are within the limit.
-    room: u32,
+    pub room: u32,
 }
 
 impl<B: BufRead> Input<B> {
     /// The input that a reader gives, which is read no further than one byte past the limit.
-    pub(crate) fn new(reader: B, limit: u32) -> Self
+    pub fn new(reader: B, limit: u32) -> Self
         ensures reader { result.reader ≡ reader }
         ensures room { result.room ≡ limit }
     {
@@ -64,7 +64,7 @@ impl<B: BufRead> Input<B> {
     }
 
     /// How many bytes of it are within the limit.
-    pub(crate) fn room(&self) -> u32
+    pub fn room(&self) -> u32
         ensures value { result ≡ self.now.room }
         ensures range { result < 2 ^ 32 }
     {
@@ -98,7 +98,7 @@ impl<B: BufRead> Input<B> {
     }
 
     /// Takes the next line off, with the LF that ends it. Where the input fails, `line` is what was read of it.
-    pub(crate) fn next_line(&mut self, line: &mut Vec<u8>) -> Result<NextLine, InputFault>
+    pub fn next_line(&mut self, line: &mut Vec<u8>) -> Result<NextLine, InputFault>
         ensures taken { IfOk result (λ next. IfSome (B.remaining self.old.reader) (λ text.
             TakesLine next line.new.items self.old.room text self.new.room (B.remaining self.new.reader))) }
         ensures line { IfOk result (λ next. HasLine next line.new.items) }

@@ -1,7 +1,7 @@
 use Rattle.std.proofs.Common.{◌≡◌, [], arith, rules}
 use Rattle.std.proofs.lemmas.Grind.{common_steps}
-use Rattle.oathd_core.proofs.LineLemmas.{takes_cut, takes_end, takes_whole}
-use Rattle.oathd_core.proofs.input.Input.next_line.Goals as goal
+use Rattle.users_input.proofs.LineLemmas.{takes_cut, takes_end, takes_whole}
+use Rattle.users_input.proofs.input.Input.next_line.Goals as goal
 
 pub returns-then-is_empty-clause-taken : goal.returns-then-is_empty-clause-taken
 returns-then-is_empty-clause-taken g c =

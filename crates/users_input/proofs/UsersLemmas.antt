@@ -1,4 +1,4 @@
--- The users file of an input, and the lines of clients behind it, as the input is read line by line.
+-- The users file of an input, and the lines behind it, as the input is read line by line.
 use Rattle.std.proofs.Common.{inl, inr, ◌≡◌, ℕ, suc, ◌+◌, ◌<◌, ◌≤◌, Bool, true, false, cond, List, [], ◌∷◌, ◌++◌, length, take, drop, min, Option, Some, None, IfSome, refl, drop_of_length-le, take-append-drop, sym, ap, subst, ◌∙◌, arith}
 use Rattle.std.specs.Prelude.{not, ◌||◌, ◌⊎◌}
 use Rattle.std.specs.Option.{option_map}
@@ -9,19 +9,17 @@ use Rattle.std.proofs.lemmas.List.{append_assoc}
 use Rattle.std.proofs.lemmas.List.Concat.{flat_map-cons}
 use Rattle.std.proofs.lemmas.Option.{IfSome_then}
 use Rattle.token_file.specs.Source.{Stays}
-use Rattle.oathd_core.specs.Client.{LinesRead, client_lines}
-use Rattle.oathd_core.specs.Input.{IsNext, TakesLine, TextLine, clients_part, has_marker, is_mark, is_marker, line_bytes, line_text, lines_of, users_file, users_part}
-use Rattle.oathd_core.specs.Run.{clients_of}
-use Rattle.oathd_core.specs.Users.{HasClients, IsFilled, clients_behind, clients_left, is_failed, users_left, users_text}
-use Rattle.oathd_core.specs.declared.fault.InputFault.{InputFault}
-use Rattle.oathd_core.specs.declared.input.NextLine.TheVariants.{Whole, Cut, End}
-use Rattle.oathd_core.specs.declared.users.Stage.{Stage}
-use Rattle.oathd_core.specs.declared.users.Stage.TheVariants.{Users, Clients, Failed}
-use Rattle.oathd_core.proofs.LineLemmas.{lines_none, lines_past}
+use Rattle.users_input.specs.Input.{IsNext, TakesLine, TextLine, rest_part, has_marker, is_mark, is_marker, line_bytes, line_text, lines_of, users_file, users_part}
+use Rattle.users_input.specs.Users.{HasRest, IsFilled, NumberedLine, numbered, rest_behind, rest_left, is_failed, users_left, users_text}
+use Rattle.users_input.specs.declared.fault.InputFault.{InputFault}
+use Rattle.users_input.specs.declared.input.NextLine.TheVariants.{Whole, Cut, End}
+use Rattle.users_input.specs.declared.users.Stage.{Stage}
+use Rattle.users_input.specs.declared.users.Stage.TheVariants.{Users, Rest, Failed}
+use Rattle.users_input.proofs.LineLemmas.{lines_none, lines_past}
 
--- no line of a client
-abbrev no_clients : LinesRead
-no_clients = record { good = []; bad = None }
+-- nothing stands behind
+abbrev no_rest : List NumberedLine
+no_rest = []
 
 -- ---- the parts of lines
 
@@ -33,31 +31,31 @@ users_marked : (line : List ℕ) (lines : List TextLine) → is_mark line ≡ tr
 users_marked line lines is =
     take_while-cons (λ l. not (is_marker l)) (Some line) lines ∙ ap (λ (b : Bool). cond (not b) (Some line ∷ users_part lines) []) is
 
-clients_unmarked : (taken : ℕ) (line : List ℕ) (lines : List TextLine) → is_mark line ≡ false
-    → clients_behind (taken + 1) lines ≡ clients_behind taken (Some line ∷ lines)
-clients_unmarked taken line lines is =
+rest_unmarked : (taken : ℕ) (line : List ℕ) (lines : List TextLine) → is_mark line ≡ false
+    → rest_behind (taken + 1) lines ≡ rest_behind taken (Some line ∷ lines)
+rest_unmarked taken line lines is =
     let n = length (users_part lines) in
     let number : taken + 1 + n + 2 ≡ taken + suc n + 2 = omega arith in
     let place : suc (n + 1) ≡ suc n + 1 = omega arith in
-    sym (ap (λ (us : List TextLine). client_lines (taken + length us + 2) (drop (length us + 1) (Some line ∷ lines))) (users_unmarked line lines is)
-    ∙ ap (λ (k : ℕ). client_lines k (drop (suc n + 1) (Some line ∷ lines))) (sym number)
-    ∙ ap (λ (k : ℕ). client_lines (taken + 1 + n + 2) (drop k (Some line ∷ lines))) (sym place))
+    sym (ap (λ (us : List TextLine). numbered (taken + length us + 2) (drop (length us + 1) (Some line ∷ lines))) (users_unmarked line lines is)
+    ∙ ap (λ (k : ℕ). numbered k (drop (suc n + 1) (Some line ∷ lines))) (sym number)
+    ∙ ap (λ (k : ℕ). numbered (taken + 1 + n + 2) (drop k (Some line ∷ lines))) (sym place))
 
-clients_marked : (taken : ℕ) (line : List ℕ) (lines : List TextLine) → is_mark line ≡ true
-    → client_lines (taken + 1 + 1) lines ≡ clients_behind taken (Some line ∷ lines)
-clients_marked taken line lines is =
+rest_marked : (taken : ℕ) (line : List ℕ) (lines : List TextLine) → is_mark line ≡ true
+    → numbered (taken + 1 + 1) lines ≡ rest_behind taken (Some line ∷ lines)
+rest_marked taken line lines is =
     let number : taken + 1 + 1 ≡ taken + 0 + 2 = omega arith in
-    ap (λ (k : ℕ). client_lines k lines) number
-    ∙ sym (ap (λ (us : List TextLine). client_lines (taken + length us + 2) (drop (length us + 1) (Some line ∷ lines))) (users_marked line lines is))
+    ap (λ (k : ℕ). numbered k lines) number
+    ∙ sym (ap (λ (us : List TextLine). numbered (taken + length us + 2) (drop (length us + 1) (Some line ∷ lines))) (users_marked line lines is))
 
-clients_past : (taken : ℕ) (text : List ℕ) → clients_behind taken (lines_of 0 text) ≡ no_clients
-clients_past taken [] = refl
-clients_past taken (b ∷ text) = ap (clients_behind taken) (lines_past b text)
+rest_past : (taken : ℕ) (text : List ℕ) → rest_behind taken (lines_of 0 text) ≡ no_rest
+rest_past taken [] = refl
+rest_past taken (b ∷ text) = ap (rest_behind taken) (lines_past b text)
 
-pub clients_of_start : (lines : List TextLine) → clients_behind 0 lines ≡ clients_of lines
-clients_of_start lines =
+pub rest_of_start : (lines : List TextLine) → rest_behind 0 lines ≡ numbered (length (users_part lines) + 2) (rest_part lines)
+rest_of_start lines =
     let same : 0 + length (users_part lines) + 2 ≡ length (users_part lines) + 2 = omega arith in
-    ap (λ (k : ℕ). client_lines k (clients_part lines)) same
+    ap (λ (k : ℕ). numbered k (rest_part lines)) same
 
 -- ---- the users file
 
@@ -120,26 +118,26 @@ text_cut room left text line rest parts next =
 pub text_end : (room : ℕ) (text : List ℕ) → text ≡ [] → [] ≡ users_text room text
 text_end room text none = sym (ap (users_text room) none ∙ text_none room)
 
-pub clients_whole : (taken room left : ℕ) (text line rest : List ℕ) → IsNext Whole line room text left rest → is_mark (line_text line) ≡ false
-    → clients_behind (taken + 1) (lines_of left rest) ≡ clients_behind taken (lines_of room text)
-clients_whole taken room left text line rest next is =
-    clients_unmarked taken (line_text line) (lines_of left rest) is ∙ sym (ap (clients_behind taken) next.0)
+pub rest_whole : (taken room left : ℕ) (text line rest : List ℕ) → IsNext Whole line room text left rest → is_mark (line_text line) ≡ false
+    → rest_behind (taken + 1) (lines_of left rest) ≡ rest_behind taken (lines_of room text)
+rest_whole taken room left text line rest next is =
+    rest_unmarked taken (line_text line) (lines_of left rest) is ∙ sym (ap (rest_behind taken) next.0)
 
-pub clients_at_mark : (taken room left : ℕ) (text line rest : List ℕ) → IsNext Whole line room text left rest → is_mark (line_text line) ≡ true
-    → client_lines (taken + 1 + 1) (lines_of left rest) ≡ clients_behind taken (lines_of room text)
-clients_at_mark taken room left text line rest next is =
-    clients_marked taken (line_text line) (lines_of left rest) is ∙ sym (ap (clients_behind taken) next.0)
+pub rest_at_mark : (taken room left : ℕ) (text line rest : List ℕ) → IsNext Whole line room text left rest → is_mark (line_text line) ≡ true
+    → numbered (taken + 1 + 1) (lines_of left rest) ≡ rest_behind taken (lines_of room text)
+rest_at_mark taken room left text line rest next is =
+    rest_marked taken (line_text line) (lines_of left rest) is ∙ sym (ap (rest_behind taken) next.0)
 
-pub clients_cut : (taken room left : ℕ) (text line rest : List ℕ) → IsNext Cut line room text left rest
-    → clients_behind taken (lines_of left rest) ≡ clients_behind taken (lines_of room text)
-clients_cut taken room left text line rest next =
-    ap (λ (n : ℕ). clients_behind taken (lines_of n rest)) next.1 ∙ clients_past taken rest ∙ sym (ap (clients_behind taken) next.0)
+pub rest_cut : (taken room left : ℕ) (text line rest : List ℕ) → IsNext Cut line room text left rest
+    → rest_behind taken (lines_of left rest) ≡ rest_behind taken (lines_of room text)
+rest_cut taken room left text line rest next =
+    ap (λ (n : ℕ). rest_behind taken (lines_of n rest)) next.1 ∙ rest_past taken rest ∙ sym (ap (rest_behind taken) next.0)
 
-pub clients_end : (taken room left : ℕ) (text rest : List ℕ) → text ≡ [] → rest ≡ []
-    → client_lines (taken + 1) (lines_of left rest) ≡ clients_behind taken (lines_of room text)
-clients_end taken room left text rest none behind =
-    ap (client_lines (taken + 1)) (ap (lines_of left) behind ∙ lines_none left)
-    ∙ sym (ap (clients_behind taken) (ap (lines_of room) none ∙ lines_none room))
+pub rest_end : (taken room left : ℕ) (text rest : List ℕ) → text ≡ [] → rest ≡ []
+    → numbered (taken + 1) (lines_of left rest) ≡ rest_behind taken (lines_of room text)
+rest_end taken room left text rest none behind =
+    ap (numbered (taken + 1)) (ap (lines_of left) behind ∙ lines_none left)
+    ∙ sym (ap (rest_behind taken) (ap (lines_of room) none ∙ lines_none room))
 
 -- ---- what a source tells, before and after
 
@@ -147,9 +145,9 @@ keeps : (a b : Option (List ℕ)) (f g : List ℕ → List ℕ) → IfSome a (λ
 keeps None b f g h = tt
 keeps (Some t) b f g h = subst (λ (o : Option (List ℕ)). Keeps (Some (f t)) (option_map g o)) (sym h.1) h.2
 
-stays : (a b : Option (List ℕ)) (f g : List ℕ → LinesRead) → IfSome a (λ t. (r : List ℕ) × (b ≡ Some r) × (g r ≡ f t)) → Stays (option_map f a) (option_map g b)
+stays : (a b : Option (List ℕ)) (f g : List ℕ → List NumberedLine) → IfSome a (λ t. (r : List ℕ) × (b ≡ Some r) × (g r ≡ f t)) → Stays (option_map f a) (option_map g b)
 stays None b f g h = tt
-stays (Some t) b f g h = ap (option_map g) h.1 ∙ ap (λ (l : LinesRead). Some l) h.2
+stays (Some t) b f g h = ap (option_map g) h.1 ∙ ap (λ (l : List NumberedLine). Some l) h.2
 
 -- what was there before is the users file, of which nothing is left of a line
 pub keeps_from : (s : Stage) (old : List ℕ) → s ≡ Users → old ≡ [] → (a : Option (List ℕ)) (room : ℕ) (new : Option (List ℕ))
@@ -158,20 +156,20 @@ keeps_from s old is none a room new h =
     subst (λ (x : Stage). Keeps (option_map (users_left x room old) a) new) (sym is)
     (subst (λ (l : List ℕ). Keeps (option_map (users_left Users room l) a) new) (sym none) h)
 
-pub stays_from : (s : Stage) (old : List ℕ) → s ≡ Users → old ≡ [] → (a : Option (List ℕ)) (taken room : ℕ) (new : Option LinesRead)
-    → Stays (option_map (λ t. clients_behind taken (lines_of room t)) a) new → Stays (option_map (clients_left s taken room old) a) new
+pub stays_from : (s : Stage) (old : List ℕ) → s ≡ Users → old ≡ [] → (a : Option (List ℕ)) (taken room : ℕ) (new : Option (List NumberedLine))
+    → Stays (option_map (λ t. rest_behind taken (lines_of room t)) a) new → Stays (option_map (rest_left s taken room old) a) new
 stays_from s old is none a taken room new h =
-    subst (λ (x : Stage). Stays (option_map (clients_left x taken room old) a) new) (sym is)
-    (subst (λ (l : List ℕ). Stays (option_map (clients_left Users taken room l) a) new) (sym none) h)
+    subst (λ (x : Stage). Stays (option_map (rest_left x taken room old) a) new) (sym is)
+    (subst (λ (l : List ℕ). Stays (option_map (rest_left Users taken room l) a) new) (sym none) h)
 
 pub keeps_line : (a b : Option (List ℕ)) (room left : ℕ) (line : List ℕ) (s : Stage) (new : List ℕ) (marked : Bool) → is_mark (line_text line) ≡ marked
-    → (marked ≡ true → (s ≡ Clients) × (new ≡ [])) → (marked ≡ false → (s ≡ Users) × (new ≡ line))
+    → (marked ≡ true → (s ≡ Rest) × (new ≡ [])) → (marked ≡ false → (s ≡ Users) × (new ≡ line))
     → IfSome a (λ t. TakesLine Whole line room t left b) → Keeps (option_map (users_text room) a) (option_map (users_left s left new) b)
 keeps_line a b room left line s new true is ends goes h =
     let at = ends refl in
     subst (λ (x : Stage). Keeps (option_map (users_text room) a) (option_map (users_left x left new) b)) (sym at.0)
-    (subst (λ (l : List ℕ). Keeps (option_map (users_text room) a) (option_map (users_left Clients left l) b)) (sym at.1)
-    (keeps a b (users_text room) (users_left Clients left [])
+    (subst (λ (l : List ℕ). Keeps (option_map (users_text room) a) (option_map (users_left Rest left l) b)) (sym at.1)
+    (keeps a b (users_text room) (users_left Rest left [])
     (IfSome_then a h (λ t k. (k.rest, k.remaining_is, text_marked room left t line k.rest k.next is)))))
 keeps_line a b room left line s new false is ends goes h =
     let at = goes refl in
@@ -181,22 +179,22 @@ keeps_line a b room left line s new false is ends goes h =
     (IfSome_then a h (λ t k. (k.rest, k.remaining_is, text_whole room left t line k.rest k.parts k.next is)))))
 
 pub stays_line : (a b : Option (List ℕ)) (taken room left : ℕ) (line : List ℕ) (s : Stage) (new : List ℕ) (marked : Bool) → is_mark (line_text line) ≡ marked
-    → (marked ≡ true → (s ≡ Clients) × (new ≡ [])) → (marked ≡ false → (s ≡ Users) × (new ≡ line))
+    → (marked ≡ true → (s ≡ Rest) × (new ≡ [])) → (marked ≡ false → (s ≡ Users) × (new ≡ line))
     → IfSome a (λ t. TakesLine Whole line room t left b)
-    → Stays (option_map (λ t. clients_behind taken (lines_of room t)) a) (option_map (clients_left s (taken + 1) left new) b)
+    → Stays (option_map (λ t. rest_behind taken (lines_of room t)) a) (option_map (rest_left s (taken + 1) left new) b)
 stays_line a b taken room left line s new true is ends goes h =
     let at = ends refl in
-    subst (λ (x : Stage). Stays (option_map (λ t. clients_behind taken (lines_of room t)) a) (option_map (clients_left x (taken + 1) left new) b)) (sym at.0)
-    (stays a b (λ t. clients_behind taken (lines_of room t)) (clients_left Clients (taken + 1) left new)
-    (IfSome_then a h (λ t k. (k.rest, k.remaining_is, clients_at_mark taken room left t line k.rest k.next is))))
+    subst (λ (x : Stage). Stays (option_map (λ t. rest_behind taken (lines_of room t)) a) (option_map (rest_left x (taken + 1) left new) b)) (sym at.0)
+    (stays a b (λ t. rest_behind taken (lines_of room t)) (rest_left Rest (taken + 1) left new)
+    (IfSome_then a h (λ t k. (k.rest, k.remaining_is, rest_at_mark taken room left t line k.rest k.next is))))
 stays_line a b taken room left line s new false is ends goes h =
     let at = goes refl in
-    subst (λ (x : Stage). Stays (option_map (λ t. clients_behind taken (lines_of room t)) a) (option_map (clients_left x (taken + 1) left new) b)) (sym at.0)
-    (stays a b (λ t. clients_behind taken (lines_of room t)) (clients_left Users (taken + 1) left new)
-    (IfSome_then a h (λ t k. (k.rest, k.remaining_is, clients_whole taken room left t line k.rest k.next is))))
+    subst (λ (x : Stage). Stays (option_map (λ t. rest_behind taken (lines_of room t)) a) (option_map (rest_left x (taken + 1) left new) b)) (sym at.0)
+    (stays a b (λ t. rest_behind taken (lines_of room t)) (rest_left Users (taken + 1) left new)
+    (IfSome_then a h (λ t k. (k.rest, k.remaining_is, rest_whole taken room left t line k.rest k.next is))))
 
 pub filled_line : (line : List ℕ) (s : Stage) (new : List ℕ) (marked : Bool) → 0 < length line
-    → (marked ≡ true → (s ≡ Clients) × (new ≡ [])) → (marked ≡ false → (s ≡ Users) × (new ≡ line)) → IsFilled s new
+    → (marked ≡ true → (s ≡ Rest) × (new ≡ [])) → (marked ≡ false → (s ≡ Users) × (new ≡ line)) → IsFilled s new
 filled_line line s new true some ends goes = subst (λ (x : Stage). IsFilled x new) (sym (ends refl).0) tt
 filled_line line s new false some ends goes =
     subst (λ (x : Stage). IsFilled x new) (sym (goes refl).0) (subst (λ (l : List ℕ). 0 < length l) (sym (goes refl).1) some)
@@ -208,25 +206,25 @@ keeps_cut a b room left line h =
     (IfSome_then a h (λ t k. (k.rest, k.remaining_is, text_cut room left t line k.rest k.parts k.next)))
 
 pub stays_cut : (a b : Option (List ℕ)) (taken room left : ℕ) (line : List ℕ) → IfSome a (λ t. TakesLine Cut line room t left b)
-    → Stays (option_map (λ t. clients_behind taken (lines_of room t)) a) (option_map (clients_left Users taken left line) b)
+    → Stays (option_map (λ t. rest_behind taken (lines_of room t)) a) (option_map (rest_left Users taken left line) b)
 stays_cut a b taken room left line h =
-    stays a b (λ t. clients_behind taken (lines_of room t)) (clients_left Users taken left line)
-    (IfSome_then a h (λ t k. (k.rest, k.remaining_is, clients_cut taken room left t line k.rest k.next)))
+    stays a b (λ t. rest_behind taken (lines_of room t)) (rest_left Users taken left line)
+    (IfSome_then a h (λ t k. (k.rest, k.remaining_is, rest_cut taken room left t line k.rest k.next)))
 
 pub keeps_end : (a b : Option (List ℕ)) (room left : ℕ) (line : List ℕ) → line ≡ [] → IfSome a (λ t. TakesLine End line room t left b)
-    → Keeps (option_map (users_text room) a) (option_map (users_left Clients left line) b)
+    → Keeps (option_map (users_text room) a) (option_map (users_left Rest left line) b)
 keeps_end a b room left line none h =
-    keeps a b (users_text room) (users_left Clients left line)
+    keeps a b (users_text room) (users_left Rest left line)
     (IfSome_then a h (λ t k. (k.rest, k.remaining_is, none ∙ text_end room t k.next)))
 
 pub stays_end : (a b : Option (List ℕ)) (taken room left : ℕ) (line : List ℕ) → line ≡ [] → IfSome a (λ t. TakesLine End line room t left b)
-    → Stays (option_map (λ t. clients_behind taken (lines_of room t)) a) (option_map (clients_left Clients taken left line) b)
+    → Stays (option_map (λ t. rest_behind taken (lines_of room t)) a) (option_map (rest_left Rest taken left line) b)
 stays_end a b taken room left line none h =
-    stays a b (λ t. clients_behind taken (lines_of room t)) (clients_left Clients taken left line)
+    stays a b (λ t. rest_behind taken (lines_of room t)) (rest_left Rest taken left line)
     (IfSome_then a h (λ t k. (
       k.rest,
       k.remaining_is,
-      clients_end taken room left t k.rest k.next (sym (ap (λ (l : List ℕ). l ++ k.rest) none) ∙ sym k.parts ∙ k.next),
+      rest_end taken room left t k.rest k.next (sym (ap (λ (l : List ℕ). l ++ k.rest) none) ∙ sym k.parts ∙ k.next),
     )))
 
 pub keeps_failed : (a b : Option (List ℕ)) (room left : ℕ) (line : List ℕ) (fault : InputFault) → left ≡ room → Consumes a b line
@@ -236,11 +234,11 @@ keeps_failed (Some t) None room left line fault same h = absurd h
 keeps_failed (Some t) (Some r) room left line fault same h = ap (λ (n : ℕ). users_text n (line ++ r)) same ∙ sym (ap (users_text room) h)
 
 pub stays_failed : (a b : Option (List ℕ)) (taken room left : ℕ) (line : List ℕ) (fault : InputFault) → left ≡ room → Consumes a b line
-    → Stays (option_map (λ t. clients_behind taken (lines_of room t)) a) (option_map (clients_left (Failed fault) taken left line) b)
+    → Stays (option_map (λ t. rest_behind taken (lines_of room t)) a) (option_map (rest_left (Failed fault) taken left line) b)
 stays_failed None b taken room left line fault same h = tt
 stays_failed (Some t) None taken room left line fault same h = absurd h
 stays_failed (Some t) (Some r) taken room left line fault same h =
-    ap (λ (n : ℕ). Some (clients_behind taken (lines_of n (line ++ r)))) same ∙ ap (λ (l : List ℕ). Some (clients_behind taken (lines_of room l))) (sym h)
+    ap (λ (n : ℕ). Some (rest_behind taken (lines_of n (line ++ r)))) same ∙ ap (λ (l : List ℕ). Some (rest_behind taken (lines_of room l))) (sym h)
 
 -- ---- a line is pulled
 
@@ -250,7 +248,7 @@ front_left None s room count line front is same = tt
 front_left (Some t) Users room count line front is same =
     let whole : line ≡ front ++ drop count line = sym (take-append-drop count line) ∙ ap (λ (l : List ℕ). l ++ drop count line) (sym same) in
     ap (λ (l : List ℕ). l ++ users_text room t) whole ∙ append_assoc front (drop count line) (users_text room t)
-front_left (Some t) Clients room count line front is same =
+front_left (Some t) Rest room count line front is same =
     sym (take-append-drop count line) ∙ ap (λ (l : List ℕ). l ++ drop count line) (sym same)
 front_left (Some t) (Failed fault) room count line front is same = absurd (cc)
 
@@ -267,28 +265,28 @@ pulls_front old a s room count line new front is kept same left =
     subst (λ (l : List ℕ). Consumes old (option_map (users_left s room l) a) front) (sym left)
     (kept_then old (option_map (users_left s room line) a) (option_map (users_left s room (drop count line)) a) front kept (front_left a s room count line front is same))
 
-stays_then : (a b c : Option LinesRead) → Stays a b → Stays b c → Stays a c
+stays_then : (a b c : Option (List NumberedLine)) → Stays a b → Stays b c → Stays a c
 stays_then None b c h k = tt
-stays_then (Some x) b c h k = subst (λ (o : Option LinesRead). Stays o c) h k
+stays_then (Some x) b c h k = subst (λ (o : Option (List NumberedLine)). Stays o c) h k
 
 line_apart : (a : Option (List ℕ)) (s : Stage) (taken room : ℕ) (line new : List ℕ) → is_failed s ≡ false
-    → Stays (option_map (clients_left s taken room line) a) (option_map (clients_left s taken room new) a)
+    → Stays (option_map (rest_left s taken room line) a) (option_map (rest_left s taken room new) a)
 line_apart None s taken room line new is = tt
 line_apart (Some t) Users taken room line new is = refl
-line_apart (Some t) Clients taken room line new is = refl
+line_apart (Some t) Rest taken room line new is = refl
 line_apart (Some t) (Failed fault) taken room line new is = absurd (cc)
 
-pub stays_front : (old : Option LinesRead) (a : Option (List ℕ)) (s : Stage) (taken room : ℕ) (line new : List ℕ) → is_failed s ≡ false
-    → Stays old (option_map (clients_left s taken room line) a) → Stays old (option_map (clients_left s taken room new) a)
+pub stays_front : (old : Option (List NumberedLine)) (a : Option (List ℕ)) (s : Stage) (taken room : ℕ) (line new : List ℕ) → is_failed s ≡ false
+    → Stays old (option_map (rest_left s taken room line) a) → Stays old (option_map (rest_left s taken room new) a)
 stays_front old a s taken room line new is h =
-    stays_then old (option_map (clients_left s taken room line) a) (option_map (clients_left s taken room new) a) h (line_apart a s taken room line new is)
+    stays_then old (option_map (rest_left s taken room line) a) (option_map (rest_left s taken room new) a) h (line_apart a s taken room line new is)
 
 -- nothing is pulled only at the end
 front_ends : (a : Option (List ℕ)) (s : Stage) (room count : ℕ) (line : List ℕ) (size : ℕ) → is_failed s ≡ false → IsFilled s line → 0 < size
     → count ≡ min (length line) size → count ≡ 0 → IsAtEnd (option_map (users_left s room (drop count line)) a)
 front_ends None s room count line size is filled some counted none = tt
 front_ends (Some t) Users room count line size is filled some counted none = absurd (omega (arith, filled, some, counted, none))
-front_ends (Some t) Clients room count line size is filled some counted none =
+front_ends (Some t) Rest room count line size is filled some counted none =
     let short : length line ≤ count = omega (arith, some, counted, none) in
     drop_of_length-le line {i = count} short
 front_ends (Some t) (Failed fault) room count line size is filled some counted none = absurd (cc)
@@ -307,13 +305,13 @@ not_failed false new h is = is
 
 -- ---- all lines of it were taken off
 
-pub has_clients : (behind : Option LinesRead) (a : Option (List ℕ)) (s : Stage) (taken room : ℕ) (line : List ℕ) → s ≡ Clients
-    → Stays behind (option_map (clients_left s taken room line) a) → IfSome behind (λ clients. HasClients clients (taken + 1) room a)
-has_clients behind a s taken room line is h =
-    at behind a (subst (λ (x : Stage). Stays behind (option_map (clients_left x taken room line) a)) is h)
+pub has_rest : (behind : Option (List NumberedLine)) (a : Option (List ℕ)) (s : Stage) (taken room : ℕ) (line : List ℕ) → s ≡ Rest
+    → Stays behind (option_map (rest_left s taken room line) a) → IfSome behind (λ rest. HasRest rest (taken + 1) room a)
+has_rest behind a s taken room line is h =
+    at behind a (subst (λ (x : Stage). Stays behind (option_map (rest_left x taken room line) a)) is h)
   where
-    at : (behind : Option LinesRead) (a : Option (List ℕ)) → Stays behind (option_map (clients_left Clients taken room line) a)
-        → IfSome behind (λ clients. HasClients clients (taken + 1) room a)
+    at : (behind : Option (List NumberedLine)) (a : Option (List ℕ)) → Stays behind (option_map (rest_left Rest taken room line) a)
+        → IfSome behind (λ rest. HasRest rest (taken + 1) room a)
     at None a h = tt
-    at (Some clients) None h = absurd (cc)
-    at (Some clients) (Some text) h = record { text = text; left_is = refl; read = cc }
+    at (Some rest) None h = absurd (cc)
+    at (Some rest) (Some text) h = record { text = text; left_is = refl; read = cc }

@@ -2,9 +2,9 @@ ghost use Rattle.std.specs.Prelude.{◌≡◌, ◌+◌, ◌<◌, ◌^◌, ◌≤
 ghost use Rattle.std.specs.Io.KnownBytes.{Keeps};
 ghost use Rattle.std.specs.Option.{option_map};
 ghost use Rattle.token_file.specs.Source.{Stays};
-ghost use Rattle.oathd_core.specs.Input.{is_mark, line_text};
+ghost use Rattle.users_input.specs.Input.{is_mark, line_text};
 
-use crate::fault::{Fault, InputFault};
+use crate::fault::{InputFault, UsersFault};
 use crate::input::{Input, NextLine, is_marker, text_of};
 use std::alloc::Global;
 use std::io::BufRead;
@@ -16,7 +16,7 @@ pub(crate) enum Stage {
     /// Lines of it may follow.
     Users,
     /// The line `%%` was taken off, or the input ended before one.
-    Clients,
+    Rest,
     /// The input failed.
     Failed(InputFault),
 }
@@ -24,7 +24,7 @@ pub(crate) enum Stage {
 /// The users file of an input, as a source. It ends before the first line that is `%%`, and what follows that
 /// line is left unread.
 #[derive(Drop)]
-pub(crate) struct UsersFile<B> {
+pub struct UsersFile<B> {
     input: Input<B>,
     /// What is not yet pulled of the line that was taken off last, or what was read of a line until the input
     /// failed.
@@ -61,13 +61,13 @@ fn move_front(line: &mut Vec<u8>, buffer: &mut [u8]) -> usize
 /// What follows a line that was taken off, which is cleared where it is `%%`.
 fn stage_behind(line: &mut Vec<u8>) -> Stage
     ensures marked { is_mark (line_text line.old.items) ≡ true
-        → (result ≡ Stage.Clients) × (line.new.items ≡ []) }
+        → (result ≡ Stage.Rest) × (line.new.items ≡ []) }
     ensures unmarked { is_mark (line_text line.old.items) ≡ false
         → (result ≡ Stage.Users) × (line.new.items ≡ line.old.items) }
 {
     if is_marker(text_of(line)) {
         line.clear();
-        Stage::Clients
+        Stage::Rest
     } else {
         Stage::Users
     }
@@ -75,15 +75,15 @@ fn stage_behind(line: &mut Vec<u8>) -> Stage
 
 impl<B: BufRead + Drop> UsersFile<B> {
     ghost use Rattle.std.specs.Prelude.{◌⊎◌};
-    ghost use Rattle.oathd_core.specs.Input.{lines_of};
-    ghost use Rattle.oathd_core.specs.Users.{HasClients, IsFilled, clients_behind, is_failed, users_text};
+    ghost use Rattle.users_input.specs.Input.{lines_of};
+    ghost use Rattle.users_input.specs.Users.{HasRest, IsFilled, is_failed, rest_behind, users_text};
 
     /// The users file at the front of an input.
-    pub(crate) fn new(alloc: Global, input: Input<B>) -> Self
+    pub fn new(alloc: Global, input: Input<B>) -> Self
         ensures left { ⟦<UsersFile<B> as Source>⟧.left result
             ≡ option_map (users_text input.room) (B.remaining input.reader) }
-        ensures clients { ⟦<UsersFile<B> as Source>⟧.behind result
-            ≡ option_map (λ text. clients_behind 0 (lines_of input.room text)) (B.remaining input.reader) }
+        ensures rest { ⟦<UsersFile<B> as Source>⟧.behind result
+            ≡ option_map (λ text. rest_behind 0 (lines_of input.room text)) (B.remaining input.reader) }
     {
         UsersFile {
             input,
@@ -99,7 +99,7 @@ impl<B: BufRead + Drop> UsersFile<B> {
         requires line { self.old.line.items ≡ [] }
         ensures left { Keeps (⟦<UsersFile<B> as Source>⟧.left self.old)
             (⟦<UsersFile<B> as Source>⟧.left self.new) }
-        ensures clients { Stays (⟦<UsersFile<B> as Source>⟧.behind self.old)
+        ensures rest { Stays (⟦<UsersFile<B> as Source>⟧.behind self.old)
             (⟦<UsersFile<B> as Source>⟧.behind self.new) }
         ensures some { IsFilled self.new.stage self.new.line.items }
     {
@@ -116,7 +116,7 @@ impl<B: BufRead + Drop> UsersFile<B> {
                 self.stage = stage_behind(&mut self.line);
             }
             NextLine::Cut => {}
-            NextLine::End => self.stage = Stage::Clients,
+            NextLine::End => self.stage = Stage::Rest,
         }
     }
 
@@ -124,7 +124,7 @@ impl<B: BufRead + Drop> UsersFile<B> {
     fn fill(&mut self)
         ensures left { Keeps (⟦<UsersFile<B> as Source>⟧.left self.old)
             (⟦<UsersFile<B> as Source>⟧.left self.new) }
-        ensures clients { Stays (⟦<UsersFile<B> as Source>⟧.behind self.old)
+        ensures rest { Stays (⟦<UsersFile<B> as Source>⟧.behind self.old)
             (⟦<UsersFile<B> as Source>⟧.behind self.new) }
         ensures some { IsFilled self.new.stage self.new.line.items }
         ensures failed { is_failed self.old.stage ≡ true → is_failed self.new.stage ≡ true }
@@ -135,24 +135,26 @@ impl<B: BufRead + Drop> UsersFile<B> {
                     self.take_next();
                 }
             }
-            Stage::Clients | Stage::Failed(_) => {}
+            Stage::Rest | Stage::Failed(_) => {}
         }
     }
 
-    /// What ends a run that this fault of the users file ends.
-    pub(crate) fn fault(&self, fault: FileFault) -> Fault
-        ensures { (result ≡ Fault.Memory) ⊎ (result ≡ Fault.Users fault) }
+    /// Why the file isn't taken, where this is the fault that its reading ended with.
+    pub fn fault(&self, fault: FileFault) -> UsersFault
+        ensures { (result ≡ UsersFault.Memory) ⊎ (result ≡ UsersFault.File fault) }
     {
         match self.stage {
-            Stage::Failed(InputFault::Memory) if fault.kind == LineFault::Read => Fault::Memory,
-            _ => Fault::Users(fault),
+            Stage::Failed(InputFault::Memory) if fault.kind == LineFault::Read => {
+                UsersFault::Memory
+            }
+            _ => UsersFault::File(fault),
         }
     }
 
     /// The rest of the input, and the number of its first line. What is left of the users file is passed over.
-    pub(crate) fn into_clients(mut self) -> Result<(Input<B>, u64), InputFault>
+    pub fn into_rest(mut self) -> Result<(Input<B>, u64), InputFault>
         ensures { IfOk result (λ found. IfSome (⟦<UsersFile<B> as Source>⟧.behind self)
-            (λ clients. HasClients clients found.1 found.0.room (B.remaining found.0.reader))) }
+            (λ rest. HasRest rest found.1 found.0.room (B.remaining found.0.reader))) }
     {
         for _ in 0..u64::MAX {
             match self.stage {
@@ -160,7 +162,7 @@ impl<B: BufRead + Drop> UsersFile<B> {
                     self.line.clear();
                     self.take_next();
                 }
-                Stage::Clients => {
+                Stage::Rest => {
                     let first = self.taken + 1;
                     return Ok((self.input, first));
                 }
@@ -174,16 +176,16 @@ impl<B: BufRead + Drop> UsersFile<B> {
 
 impl<B: BufRead + Drop> Source for UsersFile<B> {
     ghost use Rattle.std.specs.Option.{option_map};
-    ghost use Rattle.oathd_core.specs.Client.{LinesRead};
-    ghost use Rattle.oathd_core.specs.Users.{clients_left, is_failed, users_left};
+    ghost use Rattle.std.specs.Prelude.{List};
+    ghost use Rattle.users_input.specs.Users.{NumberedLine, is_failed, rest_left, users_left};
 
     ghost left = { λ users.
         option_map (users_left users.stage users.input.room users.line.items) (B.remaining users.input.reader) };
 
-    ghost Behind = { LinesRead };
+    ghost Behind = { List NumberedLine };
 
     ghost behind = { λ users.
-        option_map (clients_left users.stage users.taken users.input.room users.line.items)
+        option_map (rest_left users.stage users.taken users.input.room users.line.items)
         (B.remaining users.input.reader) };
 
     ghost has_failed = { λ users. is_failed users.stage };
@@ -192,7 +194,7 @@ impl<B: BufRead + Drop> Source for UsersFile<B> {
         self.fill();
         match self.stage {
             Stage::Failed(_) => Pulled::Failed,
-            Stage::Users | Stage::Clients => Pulled::Bytes(move_front(&mut self.line, buffer)),
+            Stage::Users | Stage::Rest => Pulled::Bytes(move_front(&mut self.line, buffer)),
         }
     }
 }

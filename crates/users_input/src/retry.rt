@@ -7,13 +7,13 @@ const MAX_TRIES: u32 = 64;
 
 /// A reader that tries an interrupted read again, at most 64 times in a row.
 #[derive(Drop)]
-pub(crate) struct Retrying<R> {
+pub struct Retrying<R> {
     reader: R,
 }
 
 impl<R: Read> Retrying<R> {
     /// Tries interrupted reads of this reader again.
-    pub(crate) fn new(reader: R) -> Self
+    pub fn new(reader: R) -> Self
         ensures { result.reader ≡ reader }
     {
         Retrying { reader }

@@ -2,11 +2,11 @@ use Rattle.std.proofs.Common.{IfSome, refl, sym, arith, subst}
 use Rattle.std.specs.Option.{option_map}
 use Rattle.std.specs.Io.KnownBytes.{Keeps}
 use Rattle.token_file.specs.Source.{Stays}
-use Rattle.oathd_core.specs.Input.{HasLine, HasRoom, TakesLine, is_mark, line_text, lines_of}
-use Rattle.oathd_core.specs.Users.{IsFilled, clients_behind, clients_left, users_left, users_text}
-use Rattle.oathd_core.specs.declared.users.Stage.{Stage}
-use Rattle.oathd_core.proofs.UsersLemmas.{filled_line, keeps_cut, keeps_end, keeps_failed, keeps_from, keeps_line, stays_cut, stays_end, stays_failed, stays_from, stays_line}
-use Rattle.oathd_core.proofs.users.UsersFile.take_next.Goals as goal
+use Rattle.users_input.specs.Input.{HasLine, HasRoom, TakesLine, is_mark, line_text, lines_of}
+use Rattle.users_input.specs.Users.{IsFilled, rest_behind, rest_left, users_left, users_text}
+use Rattle.users_input.specs.declared.users.Stage.{Stage}
+use Rattle.users_input.proofs.UsersLemmas.{filled_line, keeps_cut, keeps_end, keeps_failed, keeps_from, keeps_line, stays_cut, stays_end, stays_failed, stays_from, stays_line}
+use Rattle.users_input.proofs.users.UsersFile.take_next.Goals as goal
 
 pub invariant_of-self-in-Whole : goal.invariant_of-self-in-Whole
 invariant_of-self-in-Whole g c =
@@ -31,7 +31,7 @@ returns-in-Err g c =
     record {
       left = keeps_from old.stage old.line.items c.requires.stage c.requires.line a old.input.room _
           (keeps_failed a b old.input.room c.next_line.new.self.room c.next_line.new.line.items c.in-Err.fault c.in-Err.ensures.kept c.in-Err.ensures.lost);
-      clients = stays_from old.stage old.line.items c.requires.stage c.requires.line a old.taken old.input.room _
+      rest = stays_from old.stage old.line.items c.requires.stage c.requires.line a old.taken old.input.room _
           (stays_failed a b old.taken old.input.room c.next_line.new.self.room c.next_line.new.line.items c.in-Err.fault c.in-Err.ensures.kept c.in-Err.ensures.lost);
       some = tt;
     }
@@ -50,7 +50,7 @@ returns-in-Whole g c =
       left = keeps_from old.stage old.line.items c.requires.stage c.requires.line a room _
           (keeps_line a b room left line c.stage_behind-self.result c.stage_behind-self.new.line.items (is_mark (line_text line)) refl
           c.stage_behind-self.ensures.marked c.stage_behind-self.ensures.unmarked takes);
-      clients = stays_from old.stage old.line.items c.requires.stage c.requires.line a old.taken room _
+      rest = stays_from old.stage old.line.items c.requires.stage c.requires.line a old.taken room _
           (stays_line a b old.taken room left line c.stage_behind-self.result c.stage_behind-self.new.line.items (is_mark (line_text line)) refl
           c.stage_behind-self.ensures.marked c.stage_behind-self.ensures.unmarked takes);
       some = filled_line line c.stage_behind-self.result c.stage_behind-self.new.line.items (is_mark (line_text line)) some
@@ -71,8 +71,8 @@ returns-in-Cut g c =
       left = keeps_from old.stage old.line.items c.requires.stage c.requires.line a room _
           (subst (λ (x : Stage). Keeps (option_map (users_text room) a) (option_map (users_left x left line) b)) (sym c.requires.stage)
           (keeps_cut a b room left line takes));
-      clients = stays_from old.stage old.line.items c.requires.stage c.requires.line a old.taken room _
-          (subst (λ (x : Stage). Stays (option_map (λ t. clients_behind old.taken (lines_of room t)) a) (option_map (clients_left x old.taken left line) b)) (sym c.requires.stage)
+      rest = stays_from old.stage old.line.items c.requires.stage c.requires.line a old.taken room _
+          (subst (λ (x : Stage). Stays (option_map (λ t. rest_behind old.taken (lines_of room t)) a) (option_map (rest_left x old.taken left line) b)) (sym c.requires.stage)
           (stays_cut a b old.taken room left line takes));
       some = subst (λ (x : Stage). IsFilled x line) (sym c.requires.stage) some;
     }
@@ -89,6 +89,6 @@ returns-in-End g c =
     let none = subst (λ n. HasLine n line) c.in-End.is c.in-Ok.ensures.line in
     record {
       left = keeps_from old.stage old.line.items c.requires.stage c.requires.line a room _ (keeps_end a b room left line none takes);
-      clients = stays_from old.stage old.line.items c.requires.stage c.requires.line a old.taken room _ (stays_end a b old.taken room left line none takes);
+      rest = stays_from old.stage old.line.items c.requires.stage c.requires.line a old.taken room _ (stays_end a b old.taken room left line none takes);
       some = tt;
     }

@@ -1,5 +1,5 @@
 use Rattle.std.specs.Io.KnownBytes.{Keeps}
-use Rattle.oathd_core.proofs.retry.RetryingRead.read.Given as goal
+use Rattle.users_input.proofs.retry.RetryingRead.read.Given as goal
 
 -- interrupted reads take nothing
 abbrev pub invariant-loop : goal.invariant-loop
