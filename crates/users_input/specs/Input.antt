@@ -90,3 +90,8 @@ abbrev pub HasRoom : NextLine → ℕ → ℕ → Type 0
 HasRoom Whole room left = left < room
 HasRoom Cut room left = left ≤ room
 HasRoom End room left = left ≤ room
+
+-- the bytes of a text that are within the limit are read, and whether it goes on is told
+pub record IsReadTo (room : ℕ) (text read : List ℕ) (is_cut : Bool) : Type 0 where
+  pub read_is : read ≡ take room text
+  pub cut_is : is_cut ≡ nat_lt room (length text)

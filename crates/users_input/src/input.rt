@@ -1,10 +1,11 @@
 ghost use Rattle.std.specs.Prelude.{◌≡◌, ◌↔◌, ◌-◌, ◌<◌, ◌≤◌, ◌^◌, length, IfSome, IfOk, OnOk, OnErr, IsTrue};
 ghost use Rattle.std.specs.Io.BufRead.{DropsThrough, take_through};
 ghost use Rattle.std.specs.Io.KnownBytes.{Consumes};
-ghost use Rattle.users_input.specs.Input.{HasLine, HasRoom, TakesLine, is_mark, line_text};
+ghost use Rattle.users_input.specs.Input.{HasLine, HasRoom, IsReadTo, TakesLine, is_mark, line_text};
 
 use crate::fault::InputFault;
 use field_text::cut_at;
+use std::alloc::Global;
 use std::io::{BufRead, Error, ErrorKind};
 
 /// The text of a line, without the LF that ends it.
@@ -41,6 +42,15 @@ pub enum NextLine {
     Cut,
     /// Nothing.
     End,
+}
+
+/// A text that is read of an input up to its limit.
+#[derive(Debug, Drop)]
+pub struct LimitedText {
+    /// The bytes within the limit.
+    pub bytes: Vec<u8>,
+    /// Whether the input goes on past the limit.
+    pub is_cut: bool,
 }
 
 /// What is left of an input.
@@ -115,5 +125,20 @@ impl<B: BufRead> Input<B> {
         } else {
             Ok(NextLine::Cut)
         }
+    }
+    /// All that is left of it.
+    pub fn read_all(mut self, alloc: Global) -> Result<LimitedText, InputFault>
+    where
+        B: Drop,
+        ensures { IfOk result (λ read. IfSome (B.remaining self.reader)
+            (λ text. IsReadTo self.room text read.bytes.items read.is_cut)) }
+    {
+        let mut bytes = Vec::new(alloc);
+        self.reader
+            .read_to_end(&mut bytes)
+            .map_err(|error| input_fault(&error))?;
+        let is_cut = bytes.len() > self.room as usize;
+        bytes.truncate(self.room as usize);
+        Ok(LimitedText { bytes, is_cut })
     }
 }

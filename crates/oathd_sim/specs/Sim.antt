@@ -1,0 +1,126 @@
+-- What a simulation over one input tells, and how it ends.
+use Rattle.std.specs.Prelude.{◌≡◌, ℕ, ◌+◌, if◌then◌else◌, List, [], ◌∷◌, map, replicate, take, Option, Some, None, Result, Ok, Err, IsTrue}
+use Rattle.std.specs.Io.KnownBytes.{Appends}
+use Rattle.otp_core.specs.Limits.{Limits}
+use Rattle.token_file.specs.UsersFile.{Import, IsCutOff, book_of, instant_of, is_of_text}
+use Rattle.token_file.specs.declared.fault.FileFault.{FileFault}
+use Rattle.token_file.specs.declared.fault.LineFault.{LineFault}
+use Rattle.token_file.specs.declared.fault.LineFault.TheVariants.{Read}
+use Rattle.oath_node.specs.Hosted.{envelope_at}
+use Rattle.cluster_sim.specs.World as world
+use Rattle.cluster_sim.specs.World.{ReportValue, report_of}
+use Rattle.sim_script.specs.Events.{Act, Says, Deliver, Ticks, Noise, WorldEvent, Happens, Cut, Restart}
+use Rattle.sim_script.specs.ReportText.{report_text}
+use Rattle.sim_script.specs.Script.{event_line, is_remark, with_line}
+use Rattle.users_input.specs.Input.{TextLine, lines_of, rest_part, users_file}
+use Rattle.oathd_sim.specs.declared.fault.Fault.{Fault}
+use Rattle.oathd_sim.specs.declared.fault.Fault.TheVariants.{Memory, CannotRead, CannotWrite, Users, ScriptLine}
+
+-- ---- The script
+
+-- the events of lines that are numbered from a number on, or the number of the first line that says none; one that goes
+-- on past the limit says none, whatever it begins with
+abbrev pub script_lines : ℕ → List TextLine → Result (List WorldEvent) ℕ
+script_lines number [] = Ok []
+script_lines number (None ∷ more) = Err number
+script_lines number (Some line ∷ more) =
+    if is_remark line then script_lines (number + 1) more
+    else with_line number (event_line line) (script_lines (number + 1) more)
+
+-- an act of a script, in the world of a cluster with this key
+abbrev pub act_under : List ℕ → Act → world.Act
+act_under key (Says node client moment line) = world.Says node client moment line
+act_under key (Deliver node k) = world.Deliver node k
+act_under key (Ticks node) = world.Ticks node
+act_under key (Noise node from bytes) = world.Noise node from (envelope_at key bytes)
+
+-- an event of a script, in the world of a cluster with this key
+abbrev pub event_under : List ℕ → WorldEvent → world.WorldEvent
+event_under key (Happens act) = world.Happens (act_under key act)
+event_under key (Cut kept act) = world.Cut kept (act_under key act)
+event_under key (Restart node) = world.Restart node
+
+-- ---- The simulation
+
+-- what a cluster is run with: how many nodes, their limits, the moment at which the users are imported, and the key
+pub record Setup : Type 0 where
+  pub nodes : ℕ
+  pub limits : Limits
+  pub moment : ℕ
+  pub key : List ℕ
+
+-- what a simulation over one input comes to
+pub data Sim : Type 0 where
+  -- the users file has a fault
+  Refused : FileFault → Sim
+  -- the line of the script with this number says no event
+  BadScript : ℕ → Sim
+  -- what the run tells
+  Reports : ReportValue → Sim
+
+-- the simulation of a script: each node opens with the first free factors of the import
+abbrev pub sim_of_script : Setup → Import → Result (List WorldEvent) ℕ → Sim
+sim_of_script setup import (Err number) = BadScript number
+sim_of_script setup import (Ok events) = Reports (report_of
+    (record { book = import.book; limits = setup.limits })
+    (replicate setup.nodes import.floors)
+    (map (event_under setup.key) events))
+
+-- the simulation over what a users file gives: an import, or its first fault
+abbrev pub sim_of_users : Setup → Result Import (ℕ × LineFault) → Result (List WorldEvent) ℕ → Sim
+sim_of_users setup (Err fault) script = Refused (record { line = fault.0; kind = fault.1 })
+sim_of_users setup (Ok import) script = sim_of_script setup import script
+
+-- the users file of what is read of an input, as an import
+abbrev pub import_read : Limits → ℕ → ℕ → ℕ → List ℕ → Result Import (ℕ × LineFault)
+import_read limits moment longest limit read = book_of longest (instant_of limits moment) (users_file (lines_of limit read) read)
+
+-- the script of what is read of an input, whose lines are numbered from 1 behind the users file and `%%`
+abbrev pub script_read : ℕ → List ℕ → Result (List WorldEvent) ℕ
+script_read limit read = script_lines 1 (rest_part (lines_of limit read))
+
+-- what a simulation makes of what is read of an input
+abbrev pub sim_read : Setup → ℕ → ℕ → List ℕ → Sim
+sim_read setup longest limit read =
+    sim_of_users setup (import_read setup.limits setup.moment longest limit read) (script_read limit read)
+
+-- what a simulation makes of a text, where a users file has at most so many bytes, and the limit of bytes for the whole
+-- input is given. One byte more is read, to see whether the input goes on.
+abbrev pub sim_of : Setup → ℕ → ℕ → List ℕ → Sim
+sim_of setup longest limit text = sim_read setup longest limit (take (limit + 1) text)
+
+-- what a simulation prints
+abbrev pub output_of : Sim → List ℕ
+output_of (Refused fault) = []
+output_of (BadScript number) = []
+output_of (Reports report) = report_text report
+
+-- how a simulation ends
+abbrev pub end_of : Sim → Result Unit Fault
+end_of (Refused fault) = Err (Users fault)
+end_of (BadScript number) = Err (ScriptLine number)
+end_of (Reports report) = Ok tt
+
+-- the users file of a simulation is taken
+abbrev pub IsTaken : Sim → Type 0
+IsTaken (Refused fault) = ⊥
+IsTaken (BadScript number) = Unit {0}
+IsTaken (Reports report) = Unit {0}
+
+-- The call ends as the simulation does, and has written what it prints, no more and no less. Where the memory failed, or
+-- the input, nothing is written; an input that failed in the midst of the users file is that file's fault. Where the output
+-- failed, users file and script are good, and no more is said.
+abbrev pub EndsSo : Sim → Result Unit Fault → Option (List ℕ) → Option (List ℕ) → Type 0
+EndsSo sim (Err Memory) old new = Appends old new []
+EndsSo sim (Err CannotRead) old new = IsTaken sim × Appends old new []
+EndsSo sim (Err CannotWrite) old new = end_of sim ≡ Ok tt
+EndsSo sim (Err (Users fault)) old new =
+    (IsTrue (is_of_text fault.kind) → Err (Users fault) ≡ end_of sim) × Appends old new []
+EndsSo sim result old new = (result ≡ end_of sim) × Appends old new (output_of sim)
+
+-- Where the input fails in the midst of a users file, the fault names the line that was being read, and what was read
+-- before has no fault.
+abbrev pub IsCutSo : Limits → ℕ → ℕ → ℕ → List ℕ → Fault → Type 0
+IsCutSo limits moment longest limit read (Users fault) = fault.kind ≡ Read
+    → IsCutOff Read longest (instant_of limits moment) (users_file (lines_of limit read) read) fault.line
+IsCutSo limits moment longest limit read fault = Unit {0}
