@@ -6,7 +6,8 @@ use Rattle.std.proofs.lemmas.Option.{IfSome_then}
 use Rattle.oathd_core.specs.Fault.{input_fault_of}
 use Rattle.users_input.specs.declared.fault.InputFault.TheVariants as input
 use Rattle.oathd_core.specs.Run.{EndsSo, IsCutSo, Setup, run_of, run_read}
-use Rattle.oathd_core.proofs.ServeLemmas.{err_then, held_none, memory_ends_any, no_cut, of_front}
+use Rattle.users_input.proofs.LimitLemmas.{held_none, of_front}
+use Rattle.oathd_core.proofs.ServeLemmas.{err_then, memory_ends_any, no_cut}
 use Rattle.oathd_core.proofs.lines.serve_lines.Goals as goal
 
 pub returns-in_default : goal.returns-in_default
