@@ -1,0 +1,4 @@
+mod FaultLemmas
+mod PartsLemmas
+mod RunLemmas
+mod ScriptLemmas

@@ -1,0 +1,134 @@
+ghost use Rattle.std.specs.Prelude.{◌≡◌, ◌+◌, ◌≤◌, ℕ, IfErr, IfOk, IfSome, map, replicate, take};
+ghost use Rattle.otp_core.specs.Range.{IsMoment};
+ghost use Rattle.token_file.specs.UsersFile.{import_of};
+ghost use Rattle.users_input.specs.Input.{lines_between, pieces_of};
+ghost use Rattle.oathd_sim.specs.Parts.{IsGivenUp};
+ghost use Rattle.oathd_sim.specs.Sim.{EndsSo, IsCutSo, Reports, script_lines, sim_of, sim_of_script, sim_read};
+
+use crate::fault::Fault;
+use crate::parts::{Parts, read_parts};
+use crate::script::read_events;
+use bumpalo::Bump;
+use cluster_sim::{Report, run_world};
+use otp_core::{Next, Settings};
+use sim_script::write_report;
+use std::alloc::Global;
+use std::io::{BufRead, BufReader, Read, Write};
+use users_input::{Input, Retrying};
+use vote_wire::ClusterKey;
+
+/// So many lists of the same first free factors.
+fn copies(alloc: Global, floors: &[Next], count: u8) -> Result<Vec<Vec<Next>>, Fault>
+    ensures same { IfOk result (λ lists. map (λ list. list.items) lists.items ≡ replicate count floors.now) }
+    ensures fault { IfErr result (λ fault. fault ≡ Fault.Memory) }
+{
+    let mut lists = Vec::new(alloc);
+    for done in 0..count {
+        lists.push(floors.to_vec(alloc)?)?;
+    }
+    Ok(lists)
+}
+
+/// What a run of the script tells, over so many nodes that open with the first free factors of the users file.
+fn report_on(
+    alloc: Global,
+    nodes: u8,
+    settings: Settings,
+    key: &ClusterKey,
+    parts: &Parts,
+) -> Result<Report, Fault>
+    requires first { 1 ≤ nodes }
+    requires last { nodes ≤ 9 }
+    ensures report { (moment : ℕ) → IfOk result (λ report. sim_of_script
+        (record { nodes = nodes; limits = settings; moment = moment; key = key.now })
+        (import_of parts.now.book parts.now.floors.items)
+        (script_lines 1 (lines_between parts.now.script.is_cut (pieces_of parts.now.script.bytes.items)))
+        ≡ Reports report) }
+    ensures fault { (moment : ℕ) → IfErr result (IsGivenUp (sim_of_script
+        (record { nodes = nodes; limits = settings; moment = moment; key = key.now })
+        (import_of parts.now.book parts.now.floors.items)
+        (script_lines 1 (lines_between parts.now.script.is_cut (pieces_of parts.now.script.bytes.items))))) }
+{
+    let arena = Bump::new(alloc);
+    let events = read_events(alloc, &arena, &parts.script.bytes, parts.script.is_cut)?;
+    let floors = copies(alloc, &parts.floors, nodes)?;
+    Ok(run_world(
+        alloc,
+        &parts.book,
+        settings,
+        key,
+        &floors,
+        &events,
+    )?)
+}
+
+/// Reads a users file and a script, runs the script, and writes what the run tells.
+fn simulate<B: BufRead + Drop, W: Write>(
+    alloc: Global,
+    nodes: u8,
+    settings: Settings,
+    moment: u64,
+    key: &ClusterKey,
+    input: Input<B>,
+    writer: &mut W,
+) -> Result<(), Fault>
+    requires first { 1 ≤ nodes }
+    requires last { nodes ≤ 9 }
+    requires moment { IsMoment moment }
+    ensures ends { IfSome (B.remaining input.reader) (λ text. EndsSo (sim_read
+        (record { nodes = nodes; limits = settings; moment = moment; key = key.now }) 16777216 input.room text)
+        result (W.contents writer.old) (W.contents writer.new)) }
+    ensures cut { IfErr result (λ fault. IfSome (B.remaining input.reader) (λ text.
+        IsCutSo settings moment 16777216 input.room text fault)) }
+{
+    let parts = read_parts(alloc, settings, moment, input)?;
+    let report = report_on(alloc, nodes, settings, key, &parts)?;
+    match write_report(writer, &report) {
+        Ok(()) => Ok(()),
+        Err(_) => Err(Fault::CannotWrite),
+    }
+}
+
+/// Reads a users file, a line `%%` and a script of what happens to the nodes of a cluster, runs it over so many nodes,
+/// 1 to 9, each of which opens with the first free factors of the users file, and writes what the run tells. Nothing is
+/// written unless the whole script is good. At most `limit` bytes are read, and one more, which tells that the input
+/// goes on: then the line that the limit cuts is bad. The users are imported at the moment given, in seconds since
+/// 1970-01-01 00:00:00 UTC, 0 to 1099511627775. The script is held, and what the run tells.
+///
+/// # Errors
+/// `Users` where the users file has a fault, or the input fails in its midst; `CannotRead` where the input fails later;
+/// `ScriptLine` with the number, from 1 behind `%%`, of the script's first bad line; `Memory`; and nothing is written
+/// then. `CannotWrite`.
+pub fn run_sim<R: Read, W: Write>(
+    alloc: Global,
+    nodes: u8,
+    settings: Settings,
+    moment: u64,
+    key: &ClusterKey,
+    limit: u32,
+    reader: &mut R,
+    writer: &mut W,
+) -> Result<(), Fault>
+    requires first { 1 ≤ nodes }
+    requires last { nodes ≤ 9 }
+    requires moment { IsMoment moment }
+    ensures ends { IfSome (R.remaining reader.old) (λ text. EndsSo (sim_of
+        (record { nodes = nodes; limits = settings; moment = moment; key = key.now }) 16777216 limit text)
+        result (W.contents writer.old) (W.contents writer.new)) }
+    ensures cut { IfErr result (λ fault. IfSome (R.remaining reader.old) (λ text.
+        IsCutSo settings moment 16777216 limit (take (limit + 1) text) fault)) }
+{
+    let part = Retrying::new(reader).take(u64::from(limit) + 1);
+    let Ok(held) = BufReader::new(alloc, part) else {
+        return Err(Fault::Memory);
+    };
+    simulate(
+        alloc,
+        nodes,
+        settings,
+        moment,
+        key,
+        Input::new(held, limit),
+        writer,
+    )
+}
