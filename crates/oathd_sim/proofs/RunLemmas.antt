@@ -17,7 +17,7 @@ use Rattle.cluster_sim.specs.declared.script.Act as acts
 use Rattle.cluster_sim.specs.declared.script.Act.TheVariants.{Client, Deliver, Tick, Noise}
 use Rattle.cluster_sim.specs.declared.script.WorldEvent as events
 use Rattle.cluster_sim.specs.declared.script.WorldEvent.TheVariants.{Happens, Cut, Restart}
-use Rattle.sim_script.specs.Events.{WorldEvent, act_of, event_of}
+use Rattle.sim_script.specs.Event.{Event, act_of, event_of}
 use Rattle.sim_script.specs.ReportText.{report_text}
 use Rattle.users_input.specs.Input.{TextLine, lines_between, pieces_of}
 use Rattle.oathd_sim.specs.Parts.{HasParts, IsGivenUp, IsUnread}
@@ -45,7 +45,7 @@ events_same key (event ∷ more) =
     ∙ ap (λ (es : List world.WorldEvent). code.event_of key event ∷ es) (events_same key more)
 
 -- a run of the script tells this
-pub told : (setup : Setup) (book : List Credential) (floors : List ℕ) (script : Result (List WorldEvent) ℕ) (all : List events.WorldEvent)
+pub told : (setup : Setup) (book : List Credential) (floors : List ℕ) (script : Result (List Event) ℕ) (all : List events.WorldEvent)
     (lists : List (List ℕ)) (report : ReportValue) → script ≡ Ok (map event_of all) → lists ≡ replicate setup.nodes floors
     → report ≡ report_of (record { book = book; limits = setup.limits }) lists (map (code.event_of setup.key) all)
     → sim_of_script setup (import_of book floors) script ≡ Reports report
@@ -66,7 +66,7 @@ copy_at f lists count floors e k list at =
 
 -- ---- the ends
 
-is_taken : (setup : Setup) (import : Import) (script : Result (List WorldEvent) ℕ) → IsTaken (sim_of_script setup import script)
+is_taken : (setup : Setup) (import : Import) (script : Result (List Event) ℕ) → IsTaken (sim_of_script setup import script)
 is_taken setup import (Ok all) = tt
 is_taken setup import (Err number) = tt
 

@@ -9,9 +9,10 @@ use Rattle.token_file.specs.declared.fault.LineFault.TheVariants.{Read}
 use Rattle.oath_node.specs.Hosted.{envelope_at}
 use Rattle.cluster_sim.specs.World as world
 use Rattle.cluster_sim.specs.World.{ReportValue, report_of}
-use Rattle.sim_script.specs.Events.{Act, Says, Deliver, Ticks, Noise, WorldEvent, Happens, Cut, Restart}
+use Rattle.sim_script.specs.Event.{Act, Says, Deliver, Ticks, Noise, Event, Happens, Cut, Restart}
 use Rattle.sim_script.specs.ReportText.{report_text}
-use Rattle.sim_script.specs.Script.{event_line, is_remark, with_line}
+use Rattle.sim_script.specs.Lines.{is_remark}
+use Rattle.sim_script.specs.Script.{event_line, with_line}
 use Rattle.users_input.specs.Input.{TextLine, lines_of, rest_part, users_file}
 use Rattle.oathd_sim.specs.declared.fault.Fault.{Fault}
 use Rattle.oathd_sim.specs.declared.fault.Fault.TheVariants.{Memory, CannotRead, CannotWrite, Users, ScriptLine}
@@ -20,7 +21,7 @@ use Rattle.oathd_sim.specs.declared.fault.Fault.TheVariants.{Memory, CannotRead,
 
 -- the events of lines that are numbered from a number on, or the number of the first line that says none; one that goes
 -- on past the limit says none, whatever it begins with
-abbrev pub script_lines : ℕ → List TextLine → Result (List WorldEvent) ℕ
+abbrev pub script_lines : ℕ → List TextLine → Result (List Event) ℕ
 script_lines number [] = Ok []
 script_lines number (None ∷ more) = Err number
 script_lines number (Some line ∷ more) =
@@ -35,7 +36,7 @@ act_under key (Ticks node) = world.Ticks node
 act_under key (Noise node from bytes) = world.Noise node from (envelope_at key bytes)
 
 -- an event of a script, in the world of a cluster with this key
-abbrev pub event_under : List ℕ → WorldEvent → world.WorldEvent
+abbrev pub event_under : List ℕ → Event → world.WorldEvent
 event_under key (Happens act) = world.Happens (act_under key act)
 event_under key (Cut kept act) = world.Cut kept (act_under key act)
 event_under key (Restart node) = world.Restart node
@@ -59,7 +60,7 @@ pub data Sim : Type 0 where
   Reports : ReportValue → Sim
 
 -- the simulation of a script: each node opens with the first free factors of the import
-abbrev pub sim_of_script : Setup → Import → Result (List WorldEvent) ℕ → Sim
+abbrev pub sim_of_script : Setup → Import → Result (List Event) ℕ → Sim
 sim_of_script setup import (Err number) = BadScript number
 sim_of_script setup import (Ok events) = Reports (report_of
     (record { book = import.book; limits = setup.limits })
@@ -67,7 +68,7 @@ sim_of_script setup import (Ok events) = Reports (report_of
     (map (event_under setup.key) events))
 
 -- the simulation over what a users file gives: an import, or its first fault
-abbrev pub sim_of_users : Setup → Result Import (ℕ × LineFault) → Result (List WorldEvent) ℕ → Sim
+abbrev pub sim_of_users : Setup → Result Import (ℕ × LineFault) → Result (List Event) ℕ → Sim
 sim_of_users setup (Err fault) script = Refused (record { line = fault.0; kind = fault.1 })
 sim_of_users setup (Ok import) script = sim_of_script setup import script
 
@@ -76,7 +77,7 @@ abbrev pub import_read : Limits → ℕ → ℕ → ℕ → List ℕ → Result 
 import_read limits moment longest limit read = book_of longest (instant_of limits moment) (users_file (lines_of limit read) read)
 
 -- the script of what is read of an input, whose lines are numbered from 1 behind the users file and `%%`
-abbrev pub script_read : ℕ → List ℕ → Result (List WorldEvent) ℕ
+abbrev pub script_read : ℕ → List ℕ → Result (List Event) ℕ
 script_read limit read = script_lines 1 (rest_part (lines_of limit read))
 
 -- what a simulation makes of what is read of an input

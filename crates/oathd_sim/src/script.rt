@@ -1,6 +1,6 @@
 ghost use Rattle.std.specs.Prelude.{◌≡◌, ◌==◌, ◌+◌, IfErr, IfOk, Ok, count_by, map};
-ghost use Rattle.sim_script.specs.Events.{event_of};
-ghost use Rattle.sim_script.specs.Grammar.{IsRefused};
+ghost use Rattle.sim_script.specs.Event.{event_of};
+ghost use Rattle.sim_script.specs.Reading.{IsRefused};
 ghost use Rattle.oathd_sim.specs.Sim.{script_lines};
 ghost use Rattle.users_input.specs.Input.{lines_between, pieces_of};
 

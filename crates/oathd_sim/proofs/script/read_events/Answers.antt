@@ -1,6 +1,6 @@
 use Rattle.std.proofs.Common.{map}
-use Rattle.sim_script.specs.Events.{event_of}
-use Rattle.sim_script.specs.Grammar.{IsRefused}
+use Rattle.sim_script.specs.Event.{event_of}
+use Rattle.sim_script.specs.Reading.{IsRefused}
 use Rattle.users_input.specs.Input.{lines_between, pieces_of}
 use Rattle.oathd_sim.specs.Sim.{script_lines}
 use Rattle.oathd_sim.proofs.FaultLemmas.{err_is}
