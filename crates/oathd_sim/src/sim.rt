@@ -52,14 +52,7 @@ fn report_on(
     let arena = Bump::new(alloc);
     let events = read_events(alloc, &arena, &parts.script.bytes, parts.script.is_cut)?;
     let floors = copies(alloc, &parts.floors, nodes)?;
-    Ok(run_world(
-        alloc,
-        &parts.book,
-        settings,
-        key,
-        &floors,
-        &events,
-    )?)
+    Ok(run_world(alloc, &parts.book, settings, key, &floors, &events)?)
 }
 
 /// Reads a users file and a script, runs the script, and writes what the run tells.

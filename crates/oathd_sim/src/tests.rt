@@ -178,7 +178,7 @@ fn prints_what_was_sent(rt: HostRuntime) -> Result<(), Fail> {
     let remarks = format!(in alloc; "{SILVER}# nothing comes\n\n#\ntick 1")?;
     for (input, printed) in [
         (noise.as_str(), "sent 0\n"),
-        (remarks.as_str(), "sent 0\n"),
+        (remarks.as_str(), "sent 2\n"),
         (SILVER, "sent 0\n"),
         (
             "HOTP silver - 3132333435363738393031323334353637383930",
@@ -203,7 +203,10 @@ fn names_the_bad_line(rt: HostRuntime) -> Result<(), Fail> {
     for (script, number) in [
         ("tick\n", 1),
         ("tick 1\n\n# remark\ntick  1\n", 4),
-        ("client 1 7 1000 CHECK a silver 755224 -\nclient 1 7 1000\n", 2),
+        (
+            "client 1 7 1000 CHECK a silver 755224 -\nclient 1 7 1000\n",
+            2,
+        ),
         ("deliver 1\ntick\n", 1),
         ("noise 1 2 abc\n", 1),
         ("noise 1 2 \n", 1),
@@ -299,7 +302,7 @@ fn fails_at_its_edge(rt: HostRuntime) -> Result<(), Fail> {
         ("%%\ntick 1\n", ErrorKind::Other, "cannot read -"),
         ("%%\ntick\n", ErrorKind::Interrupted, "cannot read -"),
         ("%%\ntick 1\n", ErrorKind::OutOfMemory, "out of memory"),
-        ("#\n", ErrorKind::Other, "users line 2: Read"),
+        ("#\n", ErrorKind::Other, "users line 2: cannot read"),
         ("#\n", ErrorKind::OutOfMemory, "out of memory"),
     ] {
         let text = text.as_bytes();
