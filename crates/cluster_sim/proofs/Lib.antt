@@ -23,3 +23,4 @@ mod Opening
 mod Played
 mod Floors
 mod Reporting
+mod CopyLemmas
