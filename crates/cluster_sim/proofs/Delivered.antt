@@ -1,5 +1,5 @@
 -- What a datagram of the journal is in the world, and what bytes that are none.
-use Rattle.std.proofs.Common.{◌≡◌, ℕ, zero, suc, Bool, true, false, List, [], ◌∷◌, map, Option, Some, None, refl, sym, ap, ◌∙◌, subst, eqb}
+use Rattle.std.proofs.Common.{◌≡◌, ℕ, zero, suc, true, false, List, [], ◌∷◌, map, Option, Some, None, refl, sym, ap, ◌∙◌, subst}
 use Rattle.std.proofs.lemmas.Bool.{cond-true, cond-false}
 use Rattle.std.specs.List.{slice_get}
 use Rattle.std.specs.Option.{option_map}
@@ -9,7 +9,7 @@ use Rattle.vote_core.specs.declared.message.Message.{Message}
 use Rattle.vote_wire.specs.Body.{HasSpelling}
 use Rattle.vote_wire.specs.Datagram.{datagram_at, datagram_bytes}
 use Rattle.oath_node.specs.Hosted.{envelope_at}
-use Rattle.oath_node.specs.Machine.{Config, NodeEvent, Peer}
+use Rattle.oath_node.specs.Machine.{Peer}
 use Rattle.cluster_sim.specs.Journal.{AreSpelled, Letter, letter_of}
 use Rattle.cluster_sim.specs.World.{World, delivered_event, is_from, noise_event}
 

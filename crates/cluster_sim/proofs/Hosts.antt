@@ -1,12 +1,12 @@
 -- What a node over a store in memory refuses is what its machine does.
-use Rattle.std.proofs.Common.{◌≡◌, ℕ, ◌^◌, ◌<◌, Bool, true, false, cond, List, [], Option, None, refl, sym, ap, ◌∙◌, subst, arith, ltb}
+use Rattle.std.proofs.Common.{◌≡◌, ℕ, ◌^◌, Bool, false, List, None, sym, ap, ◌∙◌, subst, arith, ltb}
 use Rattle.std.proofs.lemmas.Bool.{cond_both, cond-false}
 use Rattle.otp_core.specs.Limits.{Limits}
 use Rattle.token_file.specs.Credential.{Credential}
 use Rattle.floor_store.specs.Content.{Content}
 use Rattle.vote_core.specs.NodeSet.{PlaceRecord}
 use Rattle.oath_node.specs.Calls.{FailsBy, IsProposal, IsProposing}
-use Rattle.oath_node.specs.Hosted.{Hosted, config_of, state_of}
+use Rattle.oath_node.specs.Hosted.{Hosted, config_of}
 use Rattle.oath_node.specs.Machine.{Config, Made, NodeEvent, NodeState, Client, Peer, Tick, made_by_event, made_by_ruling, stopped_node, made_while_running, made_by_proposal, quiet_made, ruling_at}
 use Rattle.oath_node.specs.Outputs.{outputs_of}
 use Rattle.oath_node.specs.Rules.{Ruling, Outside, Again, Waiting, Denied, Wrong, Fitting}

@@ -1,19 +1,19 @@
 -- What a node is that opens over a store in memory.
 use mathlib.Core.Path.{fun_ext}
-use Rattle.std.proofs.Common.{◌≡◌, ℕ, zero, suc, ◌+◌, ◌-◌, ◌<◌, ◌≤◌, List, [], ◌∷◌, ◌++◌, length, take, get_or, map, Option, Some, None, refl, sym, ap, ◌∙◌, subst, arith}
+use Rattle.std.proofs.Common.{◌≡◌, ℕ, zero, suc, ◌+◌, ◌-◌, ◌<◌, ◌≤◌, List, [], ◌∷◌, ◌++◌, length, take, get_or, map, Some, None, refl, sym, ap, ◌∙◌, subst, arith}
 use Rattle.std.specs.Global.{Vec}
 use Rattle.std.specs.List.{slice_get}
 use Rattle.std.specs.Prelude.{slice_index_or}
 use Rattle.std.proofs.lemmas.List.{get_or-map, length-map}
 use Rattle.std.proofs.lemmas.Option.{none-some, same_Some}
 use Rattle.std.proofs.Math.Seq.{take-suc, take-length}
-use Rattle.floor_store.specs.Content.{Content, opening_content, opening_row, with_next_boot}
+use Rattle.floor_store.specs.Content.{Content, opening_content, opening_row}
 use Rattle.floor_store.specs.Records.{RowRecord}
 use Rattle.vote_core.specs.NodeSet.{PlaceRecord}
 use Rattle.vote_core.specs.Schedule.{opening_rows}
 use Rattle.oath_node.specs.Calls.{IsOpened}
-use Rattle.oath_node.specs.Hosted.{Hosted, state_of}
-use Rattle.oath_node.specs.Machine.{Config, NodeState, opened_node}
+use Rattle.oath_node.specs.Hosted.{Hosted}
+use Rattle.oath_node.specs.Machine.{Config, opened_node}
 use Rattle.cluster_sim.specs.Journal.{AreHosts, IsHost, IsRun, memory_held, no_journal}
 use Rattle.cluster_sim.specs.Run.{floor_lists}
 use Rattle.cluster_sim.specs.World.{floor_at, opening_node, opening_world}

@@ -14,7 +14,7 @@ use Rattle.vote_core.specs.declared.message.Message.{Message}
 use Rattle.oath_node.specs.Hosted.{Hosted}
 use Rattle.oath_node.specs.Machine.{Beginning, Config, Made, NodeEvent, NodeState, Peer, Reply, made_by_event, made_by_datagram, made_while_running, quiet_made}
 use Rattle.oath_node.specs.Outputs.{OutputsRecord, datagram_item, outputs_of, reply_item}
-use Rattle.cluster_sim.specs.Journal.{AreHosts, IsAsked, IsHost, IsRecorded, IsRun, IsPutOut, JournalRecord, Letter, SimulationRecord, StartRecord, letter_of, journal_with_note, outputs_at, nodes_after, passes_with_pass, sent_items, start_event, start_event_from, starts_with_begun, journal_with, journal_with_outputs, told_world, told_act, told_items, told_turn}
+use Rattle.cluster_sim.specs.Journal.{AreHosts, IsAsked, IsHost, IsRecorded, IsRun, IsPutOut, JournalRecord, Letter, SimulationRecord, StartRecord, letter_of, outputs_at, nodes_after, passes_with_pass, sent_items, start_event, starts_with_begun, journal_with, journal_with_outputs, told_world, told_act, told_items, told_turn}
 use Rattle.oath_node.specs.Outputs.{no_outputs}
 use Rattle.cluster_sim.specs.World.{Act, Note, Told, World, acting_node, node_event_of, world_after_act, begun_with, begun_in, is_from, world_with_made, note_of, acceptance_in, passes_in, with_state, told_reply, world_after_turn, with_told_of}
 use Rattle.cluster_sim.proofs.Acts.{unheard, unread}

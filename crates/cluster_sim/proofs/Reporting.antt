@@ -1,5 +1,5 @@
 -- What a journal tells of a world is the world's report.
-use Rattle.std.proofs.Common.{◌≡◌, ℕ, List, length, map, sym, ap, ◌∙◌}
+use Rattle.std.proofs.Common.{◌≡◌, ℕ, List, length, ap, ◌∙◌}
 use Rattle.std.proofs.lemmas.List.{length-map}
 use Rattle.otp_core.specs.Acceptance.{Acceptance}
 use Rattle.cluster_sim.specs.Journal.{IsRecorded, JournalRecord, Letter, letter_of}

@@ -1,33 +1,31 @@
 -- Whatever happens, each datagram that a node sends is in the peer format.
-use Rattle.std.proofs.Common.{◌≡◌, ◌≢◌, ℕ, zero, suc, ◌+◌, ◌-◌, ◌^◌, ◌<◌, ◌≤◌, Bool, true, false, cond, not, ◌&&◌, ⊎_elim, List, [], ◌∷◌, ◌++◌, length, map, Option, Some, None, refl, sym, ap, ◌∙◌, subst, arith, eqb, leb, ltb, take}
+use Rattle.std.proofs.Common.{◌≡◌, ◌≢◌, ℕ, zero, suc, ◌+◌, ◌-◌, ◌^◌, ◌<◌, ◌≤◌, true, false, cond, not, ⊎_elim, List, [], ◌∷◌, length, map, Option, Some, None, refl, sym, subst, arith, eqb, leb, ltb, take}
 use Rattle.std.specs.Prelude.{filter}
 use Rattle.std.specs.List.{slice_get}
 use Rattle.std.proofs.lemmas.Bool.{cond_both, eqb-true, eqb-false, and_parts, not-true, ltb-true, leb-true}
 use Rattle.std.proofs.lemmas.Option.{none-some, same_Some}
-use Rattle.admit_core.specs.Gate.{GateRecord, clear_gate}
+use Rattle.admit_core.specs.Gate.{clear_gate}
 use Rattle.admit_core.specs.Window.{InWindow}
 use Rattle.floor_store.specs.Content.{Content, with_row, with_next_boot}
 use Rattle.floor_store.specs.Range.{IsProposal, IsSpan}
 use Rattle.floor_store.specs.Records.{PassRecord, ProposalRecord, RowRecord}
 use Rattle.otp_core.specs.Acceptance.{majority_of, size}
 use Rattle.otp_core.specs.Limits.{Limits}
-use Rattle.otp_core.specs.Range.{IsFactor}
 use Rattle.token_file.specs.declared.token.Kind.{Kind}
 use Rattle.token_file.specs.declared.token.Kind.TheVariants.{Event, Time30, Time60}
 use Rattle.vote_core.specs.NodeSet.{PlaceRecord, members, others, with_node}
-use Rattle.vote_core.specs.Rows.{no_row, row_with_clear_gate, granted_row, row_with_next, row}
+use Rattle.vote_core.specs.Rows.{no_row, granted_row, row_with_next, row}
 use Rattle.vote_core.specs.Schedule.{Envelope, envelope_from, is_member, last_boot, opening_rows}
 use Rattle.vote_core.specs.State.{IsPlace}
-use Rattle.vote_core.specs.Voting.{Ballot, VoterState, Voted, accept, reply_step, has_answered, asks_again, count_deny, count_grant, with_denying, denied_one, floor_sends, fresh_voter, with_granting, granted_one, is_grant, is_young, of_this_boot, older_ballot, on_ask, on_deny, on_floor, on_grant, on_message, quiet_step, pass_of, with_pending, proposal_of, propose, propose_alone, propose_among, raise, remove, replace, tick, to_each}
+use Rattle.vote_core.specs.Voting.{Ballot, VoterState, Voted, accept, reply_step, has_answered, asks_again, count_deny, count_grant, with_denying, denied_one, floor_sends, fresh_voter, with_granting, granted_one, is_grant, is_young, of_this_boot, older_ballot, on_ask, on_deny, on_floor, on_grant, on_message, quiet_step, pass_of, with_pending, proposal_of, propose, propose_alone, propose_among, raise, replace, tick, to_each}
 use Rattle.vote_core.specs.declared.message.Message.{Message}
 use Rattle.vote_core.specs.declared.message.Message.TheVariants.{Ask, Grant, Deny, Floor}
 use Rattle.vote_core.proofs.Basics.{Each, each_append, each_filter, each_flat_map, each_get, each_get_or, each_map, opening_size, each_weaker, put_size, row_cases}
 use Rattle.vote_core.proofs.Lists.{deny_found, each_remove, each_replace, find_each, grant_fits}
-use Rattle.vote_wire.specs.Body.{HasEnds, HasSpelling, IsDenialOf, IsVoteOn}
+use Rattle.vote_wire.specs.Body.{HasEnds, HasSpelling, IsVoteOn}
 use Rattle.vote_wire.specs.Request.{without_lf}
-use Rattle.oath_node.specs.Grounds.{HasGrounds, IsFitting}
-use Rattle.oath_node.specs.Machine.{Config, Made, NodeEvent, NodeState, Owner, Client, Peer, Tick, made_by_event, made_by_datagram, made_by_ruling, gate_with_failure, stopped_node, is_heard, made_while_running, opened_node, made_by_proposal, quiet_made, restarted_node, ruling_at, standing_at, made_by_vote}
-use Rattle.vote_core.specs.Schedule.{content_with_gate}
+use Rattle.oath_node.specs.Grounds.{HasGrounds}
+use Rattle.oath_node.specs.Machine.{Config, Made, NodeEvent, NodeState, Client, Peer, Tick, made_by_event, made_by_datagram, made_by_ruling, stopped_node, is_heard, made_while_running, opened_node, made_by_proposal, quiet_made, restarted_node, standing_at, made_by_vote}
 use Rattle.oath_node.specs.Rules.{Ruling, Outside, Again, Waiting, Denied, Wrong, Fitting}
 use Rattle.cluster_sim.specs.World.{World, floor_at, opening_world, world_after_events, Act, Says, Deliver, Ticks, Noise, WorldEvent, Happens, Cut, Restart, world_after_act, delivered_event, world_after_event, world_with_made, node_of, noise_event, place_at, world_after_restart, with_state, world_after_turn, with_told_of}
 use Rattle.cluster_sim.specs.Journal.{AreSpelled, AreSpelledAlong}

@@ -1,4 +1,4 @@
-use Rattle.std.proofs.Common.{◌≡◌, ◌-◌, ap, sym, ◌∙◌, get_or}
+use Rattle.std.proofs.Common.{ap, sym, ◌∙◌}
 use Rattle.vote_core.specs.Voting.{same_proposal}
 use Rattle.cluster_sim.specs.Journal.{StartRecord}
 use Rattle.cluster_sim.proofs.Starts.{all_lead, found_start, no_start, other_start}

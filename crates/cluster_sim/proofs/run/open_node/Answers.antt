@@ -1,4 +1,4 @@
-use Rattle.std.proofs.Common.{◌≡◌, length}
+use Rattle.std.proofs.Common.{length}
 use Rattle.cluster_sim.proofs.Opening.{opened_host}
 use Rattle.cluster_sim.proofs.run.open_node.Goals as goal
 

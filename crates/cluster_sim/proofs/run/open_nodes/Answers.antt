@@ -1,4 +1,4 @@
-use Rattle.std.proofs.Common.{◌≡◌, ap, sym, ◌∙◌}
+use Rattle.std.proofs.Common.{ap, ◌∙◌}
 use Rattle.cluster_sim.proofs.Opening.{all_open, none_open, one_open}
 use Rattle.cluster_sim.proofs.run.open_nodes.Goals as goal
 

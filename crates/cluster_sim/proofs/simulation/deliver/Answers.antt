@@ -1,4 +1,4 @@
-use Rattle.std.proofs.Common.{◌≡◌, ℕ, List, Option, Some, None, ap, sym, ◌∙◌}
+use Rattle.std.proofs.Common.{ℕ, List, Option, ap, sym, ◌∙◌}
 use Rattle.std.specs.List.{slice_get}
 use Rattle.vote_core.specs.Schedule.{Envelope}
 use Rattle.oath_node.specs.Hosted.{envelope_at}

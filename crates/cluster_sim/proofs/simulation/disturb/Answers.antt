@@ -1,4 +1,4 @@
-use Rattle.std.proofs.Common.{◌≡◌, ℕ, Some, subst, sym, ◌∙◌}
+use Rattle.std.proofs.Common.{ℕ, Some, subst, sym, ◌∙◌}
 use Rattle.std.specs.Prelude.{OnOk}
 use Rattle.cluster_sim.specs.Journal.{IsRun, SimulationRecord, told_turn}
 use Rattle.oath_node.specs.Hosted.{envelope_at}

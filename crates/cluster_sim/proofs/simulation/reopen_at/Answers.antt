@@ -1,4 +1,4 @@
-use Rattle.std.proofs.Common.{◌≡◌, ℕ, Some, suc, ap, get_or, length, set, subst, ◌∙◌, arith, true}
+use Rattle.std.proofs.Common.{◌≡◌, Some, suc, ap, get_or, length, set, subst, ◌∙◌, arith, true}
 use Rattle.std.proofs.lemmas.List.{length-set}
 use Rattle.vote_core.specs.Schedule.{is_member}
 use Rattle.cluster_sim.specs.Journal.{IsRun}

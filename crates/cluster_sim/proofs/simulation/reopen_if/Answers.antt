@@ -1,4 +1,4 @@
-use Rattle.std.proofs.Common.{◌≡◌, ℕ, Option, sym, subst}
+use Rattle.std.proofs.Common.{ℕ, Option, sym, subst}
 use Rattle.cluster_sim.specs.Journal.{IsRun}
 use Rattle.cluster_sim.specs.World.{world_after_restart}
 use Rattle.cluster_sim.proofs.simulation.reopen_if.Goals as goal
