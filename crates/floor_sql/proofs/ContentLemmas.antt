@@ -1,0 +1,115 @@
+-- The content that tables hold, and what a change makes of it.
+use Rattle.std.proofs.Common.{◌≡◌, ℕ, zero, suc, pos, ◌+◌, List, [], ◌∷◌, ◌++◌, length, find, map, slice_get, slice_set, Option, Some, None, refl, sym, ap, ap₂, ◌∙◌, subst, subst₂, arith, append-nil}
+use Rattle.std.specs.Option.{option_to_list}
+use Rattle.std.specs.List.Sorted.{IsPermutation}
+use Rattle.std.specs.List.{last_or}
+use Rattle.sqlite.specs.declared.types.Value.TheVariants.{Int}
+use Rattle.sqlite.specs.Tree.{Trees, has_rowid, without_rowid}
+use Rattle.sqlite.specs.Effect.{Database}
+use Rattle.floor_store.specs.Records.{ProposalRecord, RowRecord, PassRecord}
+use Rattle.floor_store.specs.Content.{Content, with_row, with_next_boot}
+use Rattle.floor_sql.specs.Schema.{floor_schema}
+use Rattle.floor_sql.specs.Stored.{Holds, HoldsSelf, HoldsRow, HoldsRows, HoldsPasses, IsUpdated, IsAppended, Puts, Raises, floor_row, floor_columns, floor_values, row_values, grant_values, self_columns, self_values, self_row, pass_columns, pass_row, pass_rows}
+use Rattle.floor_sql.proofs.HoldLemmas.{rows_updated, same_grant}
+use Rattle.floor_sql.proofs.RowLemmas.{find-put_row}
+use Rattle.floor_sql.proofs.PassLemmas.{passes_appended, last_appended, same_items, same_passes}
+
+-- the columns of a row are of one row
+pub same_row : (a b : RowRecord) → row_values a ≡ row_values b → a ≡ b
+same_row a b e = go a.grant b.grant refl refl e
+  where
+    made : a.next ≡ b.next → a.grant ≡ b.grant → a.gate.fails ≡ b.gate.fails → a.gate.until ≡ b.gate.until → a ≡ b
+    made next grant fails until = λ i. record { next = next i; grant = grant i; gate = record { fails = fails i; until = until i } }
+
+    go : (x y : Option (ProposalRecord × ℕ × ℕ)) → a.grant ≡ x → b.grant ≡ y
+        → Int (pos a.next) ∷ grant_values x ++ Int (pos a.gate.fails) ∷ Int (pos a.gate.until) ∷ [] ≡ Int (pos b.next) ∷ grant_values y ++ Int (pos b.gate.fails) ∷ Int (pos b.gate.until) ∷ [] → a ≡ b
+    go None None is_x is_y h = made (cc) (is_x ∙ sym is_y) (cc) (cc)
+    go None (Some y) is_x is_y h = absurd (cc)
+    go (Some x) None is_x is_y h = absurd (cc)
+    go (Some x) (Some y) is_x is_y h =
+        let grant : grant_values (Some x) ≡ grant_values (Some y) = cc in
+        made (cc) (is_x ∙ same_grant (Some x) (Some y) grant ∙ sym is_y) (cc) (cc)
+
+one_self : (trees : Trees) (m n a b p q : ℕ) → HoldsSelf trees m a p → HoldsSelf trees n b q → (m ≡ n) × (a ≡ b) × (p ≡ q)
+one_self trees m n a b p q one two =
+    let both : Some one.found ≡ Some two.found = sym one.place ∙ two.place in
+    let found : one.found ≡ two.found = cc in
+    let same : self_values m a p ≡ self_values n b q = sym one.shows ∙ ap self_columns found ∙ two.shows in
+    (cc, cc, cc)
+
+one_row : (trees : Trees) (token : ℕ) (r s : RowRecord) → HoldsRow trees token r → HoldsRow trees token s → r ≡ s
+one_row trees token r s one two =
+    let both : Some one.found ≡ Some two.found = sym one.place ∙ two.place in
+    let found : one.found ≡ two.found = cc in
+    let same : floor_values token r ≡ floor_values token s = sym one.shows ∙ ap floor_columns found ∙ two.shows in
+    let values : row_values r ≡ row_values s = cc in
+    same_row r s values
+
+-- tables hold one content
+pub one_content : (trees : Trees) (a b : Content) (xs ys : List PassRecord) → Holds trees a xs → Holds trees b ys → a ≡ b
+one_content trees a b xs ys one two =
+    let self = one_self trees one.node two.node (length a.rows) (length b.rows) a.boot b.boot one.self two.self in
+    let boot : a.boot ≡ b.boot = self.2 in
+    let rows : a.rows ≡ b.rows = same_items a.rows b.rows self.1 (λ i r s at_a at_b. one_row trees i r s (one.rows i r at_a) (two.rows i s at_b)) in
+    let last : a.last ≡ b.last = one.last ∙ ap (last_or None) (same_passes trees xs ys one.pass two.pass) ∙ sym two.last in
+    λ i. record { rows = rows i; boot = boot i; last = last i }
+
+pub length_set : {X : Type 0} (xs : List X) (i : ℕ) (v : X) → length (slice_set xs i v) ≡ length xs
+length_set [] i v = refl
+length_set (x ∷ xs) zero v = refl
+length_set (x ∷ xs) (suc i) v = ap suc (length_set xs i v)
+
+-- what the change makes of tables that hold the one content and so many passes
+abbrev pub Alters : (Database → Database → Type 0) → Content → ℕ → Content → List PassRecord → Type 0
+Alters IsChange c count after more = (old new : Database) (passes : List PassRecord) → old.schema ≡ floor_schema → Holds old.trees c passes → length passes ≡ count → IsChange old new
+    → (new.schema ≡ floor_schema) × Holds new.trees after (passes ++ more)
+
+-- the row of `self` stays where its table stays
+pub self_stays : (old new : Trees) (node tokens boot : ℕ) → new 0 ≡ old 0 → HoldsSelf old node tokens boot → HoldsSelf new node tokens boot
+self_stays old new node tokens boot same it = record { found = it.found; place = ap (find (has_rowid (pos 1))) same ∙ it.place; shows = it.shows }
+
+pub rows_stay : (old new : Trees) (rows : List RowRecord) → new 1 ≡ old 1 → HoldsRows old rows → HoldsRows new rows
+rows_stay old new rows same held token row got =
+    let it = held token row got in record { found = it.found; place = ap (find (has_rowid (pos token))) same ∙ it.place; shows = it.shows }
+
+pub passes_stay : (old new : Trees) (passes : List PassRecord) → new 2 ≡ old 2 → HoldsPasses old passes → HoldsPasses new passes
+passes_stay old new passes same held = subst (λ rows. IsPermutation (pass_rows 1 passes) (map pass_columns rows)) (sym same) held
+
+row_put : (token : ℕ) (row : RowRecord) (c : Content) (old new : Database) (passes : List PassRecord) → Holds old.trees c passes → IsUpdated old new token (floor_row token row) → Holds new.trees (with_row c token row None) passes
+row_put token row c old new passes it change = record {
+  rows = rows_updated old new token row c.rows change it.rows;
+  node = it.node;
+  self = subst (λ n. HoldsSelf new.trees it.node n c.boot) (sym (length_set c.rows token row)) (self_stays old.trees new.trees it.node (length c.rows) c.boot change.self it.self);
+  pass = passes_stay old.trees new.trees passes change.pass it.pass;
+  last = it.last;
+}
+
+pass_put : (number : ℕ) (p : PassRecord) (c : Content) (old new : Database) (passes : List PassRecord) → number ≡ length passes + 1 → Holds old.trees c passes → IsAppended old new (pass_row number p) → Holds new.trees (record c { last = Some p }) (passes ++ p ∷ [])
+pass_put number p c old new passes is it change = record {
+  rows = rows_stay old.trees new.trees c.rows change.floor it.rows;
+  node = it.node;
+  self = self_stays old.trees new.trees it.node (length c.rows) c.boot change.self it.self;
+  pass = passes_appended old new number passes p is it.pass change;
+  last = sym (last_appended None passes p);
+}
+
+pub puts : (token : ℕ) (row : RowRecord) (count : ℕ) (pass : Option PassRecord) (c : Content) → Alters (Puts token row (count + 1) pass) c count (with_row c token row pass) (option_to_list pass)
+puts token row count None c old new passes schema it counted change = (change.schema, subst (Holds new.trees (with_row c token row None)) (sym (append-nil passes)) (row_put token row c old new passes it change))
+puts token row count (Some p) c old new passes schema it counted change =
+    let first = row_put token row c old change.0 passes it change.1 in
+    (change.2.schema, pass_put (count + 1) p (with_row c token row None) change.0 new passes (ap (λ n. n + 1) (sym counted)) first change.2)
+
+pub raises : (count : ℕ) (c : Content) → Alters (Raises (c.boot + 1)) c count (with_next_boot c) []
+raises count c old new passes schema it counted change =
+    let was = change.was in
+    let same = one_self old.trees was.node it.node was.tokens (length c.rows) was.boot c.boot was.held it.self in
+    let row = self_row was.node was.tokens (c.boot + 1) in
+    let held : HoldsSelf new.trees was.node was.tokens (c.boot + 1) = record { found = row; place = ap (find (has_rowid (pos 1))) change.self ∙ find-put_row (pos 1) row refl (without_rowid (pos 1) (old.trees 0)); shows = refl } in
+    let now : Holds new.trees (with_next_boot c) passes = record {
+      rows = rows_stay old.trees new.trees c.rows change.floor it.rows;
+      node = it.node;
+      self = subst₂ (λ m n. HoldsSelf new.trees m n (c.boot + 1)) same.0 same.1 held;
+      pass = passes_stay old.trees new.trees passes change.pass it.pass;
+      last = it.last;
+    } in
+    (change.schema, subst (Holds new.trees (with_next_boot c)) (sym (append-nil passes)) now)

@@ -1,0 +1,288 @@
+ghost use Rattle.std.specs.Prelude.{◌≡◌, ◌≢◌, true, IsErrAnd, ◌^◌, ◌≤◌, length, false, None, IsTrue, IsSome, IfOk, IfErr, OnOk};
+ghost use Rattle.sqlite.specs.Held.{state};
+ghost use Rattle.sqlite.specs.State.{HasCleanDisk, Survives};
+ghost use Rattle.floor_store.specs.Fault.{is_failure};
+ghost use Rattle.floor_sql.specs.Shown.{IsRead};
+ghost use Rattle.floor_sql.specs.Stored.{Holds, HoldsSelf};
+ghost use Rattle.std.specs.Option.{option_to_list};
+
+use crate::create::write_opening;
+use crate::mirror::Mirror;
+use crate::read::{Refusal, list_passes};
+use crate::schema::{has_own_table, is_no_schema};
+use crate::tables::{read_node, read_tables};
+use crate::write::{write_boot, write_put};
+use floor_store::{FloorStore, Pass, Row, StoreFault};
+use otp_core::Next;
+use sqlite::{Alter, Connection};
+use std::alloc::Global;
+use std::marker::Model;
+
+/// A store in tables of SQLite, with a mirror of what was last committed.
+#[derive(Drop)]
+pub struct SqlStore<S: Alter> {
+    conn: Connection<S>,
+    mirror: Mirror,
+    passes: u64,
+    fault: Option<StoreFault>,
+}
+
+impl<S: Alter> Model for SqlStore<S> {
+    ghost use Rattle.floor_sql.specs.Held.{SqlHeld, held_code, IsKept};
+
+    ghost Value = { SqlHeld S };
+
+    ghost coded = { held_code S.code };
+
+    ghost view = { λ s. record { conn = s.conn; mirror = s.mirror; passes = s.passes; fault = s.fault } };
+
+    ghost invariant = { λ s. IsKept S.Store s.conn s.mirror s.passes s.fault };
+}
+
+impl<S: Alter> SqlStore<S> {
+    ghost use Rattle.floor_store.specs.Fault.{IsBrokenBy};
+    ghost use Rattle.floor_store.specs.Content.{opening_content};
+    ghost use Rattle.floor_store.specs.declared.fault.StoreFault.TheVariants.{AlreadyThere};
+    ghost use Rattle.floor_sql.specs.Created.{Opens, has_own_table};
+    ghost use Rattle.floor_sql.specs.Stored.{Commits, MayCommit};
+    ghost use Rattle.floor_sql.specs.Held.{Mirrors, HasTables, HasSame, HasAudit, IsOfNode};
+
+    /// Makes the store of this node, with these first free factors, in a database that has no table.
+    /// The connection stands outside a transaction and has no limit on its steps. Beside a refusal it
+    /// is handed back: `AlreadyThere` where a table of a store is there, `Unusable` where another is.
+    pub fn init(
+        alloc: Global,
+        mut conn: Connection<S>,
+        node: u8,
+        floors: &[Next],
+    ) -> Result<Self, (Connection<S>, StoreFault)>
+        requires idle { conn.in_transaction ≡ false }
+        requires tokens { length floors.now ≤ 10000 }
+        ensures opening { IfOk result (λ store. store.mirror ≡ opening_content floors.now) }
+        ensures intact { IfOk result (λ store. store.fault ≡ None) }
+        ensures count { IfOk result (λ store. store.passes ≡ 0) }
+        ensures tables { IfOk result (λ store. HasCleanDisk (state S.Store store.conn) → Commits (Opens node floors.now) (state S.Store conn) (state S.Store store.conn)) }
+        ensures crash { IfOk result (λ store. Survives (state S.Store conn) (state S.Store store.conn) (MayCommit (Opens node floors.now) (state S.Store conn))) }
+        ensures found { has_own_table conn.schema ≡ true → IsErrAnd result (λ e. (e.0 ≡ conn) × (e.1 ≡ StoreFault.AlreadyThere)) }
+        ensures there { IfErr result (λ e. e.1 ≡ StoreFault.AlreadyThere → has_own_table conn.schema ≡ true) }
+        ensures refused { IfErr result (λ e. HasCleanDisk (state S.Store e.0) → HasSame (state S.Store conn) (state S.Store e.0)) }
+        ensures failure { IfErr result (λ e. e.1 ≢ StoreFault.AlreadyThere → IsTrue (is_failure e.1)) }
+        ensures idle { IfErr result (λ e. e.0.in_transaction ≡ false) }
+        ensures left { IfErr result (λ e. Survives (state S.Store conn) (state S.Store e.0) (MayCommit (Opens node floors.now) (state S.Store conn))) }
+    {
+        let _ = conn.is_autocommit();
+        if has_own_table(conn.schema()) {
+            return Err((conn, StoreFault::AlreadyThere));
+        }
+        if !is_no_schema(conn.schema()) {
+            return Err((conn, StoreFault::Unusable));
+        }
+        let Ok(mirror) = Mirror::opening(alloc, floors) else {
+            return Err((conn, StoreFault::Memory));
+        };
+        match write_opening(&mut conn, node, floors) {
+            Ok(()) => Ok(SqlStore {
+                conn,
+                mirror,
+                passes: 0,
+                fault: None,
+            }),
+            Err(Refusal(fault)) => Err((conn, fault)),
+        }
+    }
+
+    /// Opens the store of this node with so many tokens that the tables of a connection hold. The
+    /// connection stands outside a transaction and has no limit on its steps. Beside a refusal it is
+    /// handed back.
+    pub fn open(
+        alloc: Global,
+        mut conn: Connection<S>,
+        node: u8,
+        tokens: u32,
+    ) -> Result<Self, (Connection<S>, StoreFault)>
+        requires idle { conn.in_transaction ≡ false }
+        requires tokens { tokens ≤ 10000 }
+        ensures content { IfOk result (λ store. HasCleanDisk (state S.Store store.conn) → HasTables (state S.Store conn).now node tokens store.mirror store.passes) }
+        ensures intact { IfOk result (λ store. store.fault ≡ None) }
+        ensures same { IfOk result (λ store. HasCleanDisk (state S.Store store.conn) → IsRead (state S.Store conn) (state S.Store store.conn)) }
+        ensures crash { IfOk result (λ store. Survives (state S.Store conn) (state S.Store store.conn) (λ _. ⊥)) }
+        ensures refused { IfErr result (λ e. HasCleanDisk (state S.Store e.0) → HasSame (state S.Store conn) (state S.Store e.0)) }
+        ensures failure { IfErr result (λ e. IsTrue (is_failure e.1)) }
+        ensures idle { IfErr result (λ e. e.0.in_transaction ≡ false) }
+        ensures left { IfErr result (λ e. Survives (state S.Store conn) (state S.Store e.0) (λ _. ⊥)) }
+    {
+        let _ = conn.is_autocommit();
+        match read_tables(alloc, &mut conn, node, tokens) {
+            Ok((mirror, passes)) => Ok(SqlStore {
+                conn,
+                mirror,
+                passes,
+                fault: None,
+            }),
+            Err(Refusal(fault)) => Err((conn, fault)),
+        }
+    }
+
+    /// The number of the node whose store the tables of a connection hold. The connection is handed
+    /// back.
+    pub fn node_of(
+        mut conn: Connection<S>,
+    ) -> Result<(Connection<S>, u8), (Connection<S>, StoreFault)>
+        requires { conn.in_transaction ≡ false }
+        ensures node { IfOk result (λ r. HasCleanDisk (state S.Store r.0) → IsOfNode (state S.Store conn).now r.1) }
+        ensures range { IfOk result (λ r. (1 ≤ r.1) × (r.1 ≤ 9)) }
+        ensures same { IfOk result (λ r. HasCleanDisk (state S.Store r.0) → IsRead (state S.Store conn) (state S.Store r.0)) }
+        ensures idle { IfOk result (λ r. r.0.in_transaction ≡ false) }
+        ensures crash { IfOk result (λ r. Survives (state S.Store conn) (state S.Store r.0) (λ _. ⊥)) }
+        ensures refused { IfErr result (λ e. HasCleanDisk (state S.Store e.0) → HasSame (state S.Store conn) (state S.Store e.0)) }
+        ensures failure { IfErr result (λ e. IsTrue (is_failure e.1)) }
+        ensures rest { IfErr result (λ e. e.0.in_transaction ≡ false) }
+        ensures left { IfErr result (λ e. Survives (state S.Store conn) (state S.Store e.0) (λ _. ⊥)) }
+    {
+        let _ = conn.is_autocommit();
+        match read_node(&mut conn) {
+            Ok(node) => Ok((conn, node)),
+            Err(Refusal(fault)) => Err((conn, fault)),
+        }
+    }
+
+    /// The connection, as it stands.
+    pub fn close(self) -> Connection<S>
+        ensures same { result ≡ self.conn }
+        ensures tables { HasCleanDisk (state S.Store result) → IsTrue (state S.Store result).is_open → Mirrors (state S.Store result) self.mirror self.passes }
+        ensures idle { result.in_transaction ≡ false }
+    {
+        let SqlStore {
+            conn,
+            mirror: _,
+            passes: _,
+            fault: _,
+        } = self;
+        conn
+    }
+
+    /// All committed passes, in order.
+    pub fn passes(&mut self, alloc: Global) -> Result<Vec<Pass>, StoreFault>
+        ensures list { HasCleanDisk (state S.Store self.new.conn) → IfOk result (λ list. HasAudit S.Store self.new list.items) }
+        ensures intact { OnOk result ((self.old.fault ≡ None) × (self.new.fault ≡ None)) }
+        ensures breaks { IfErr result (IsBrokenBy self.new.fault) }
+        ensures stays { IsSome self.old.fault → self.new ≡ self.old }
+        ensures mirror { self.new.mirror ≡ self.old.mirror }
+        ensures count { self.new.passes ≡ self.old.passes }
+        ensures tables { HasCleanDisk (state S.Store self.new.conn) → HasSame (state S.Store self.old.conn) (state S.Store self.new.conn) }
+        ensures left { Survives (state S.Store self.old.conn) (state S.Store self.new.conn) (λ _. ⊥) }
+    {
+        if let Some(fault) = self.fault {
+            return Err(fault);
+        }
+        match list_passes(alloc, &mut self.conn) {
+            Ok(passes) => Ok(passes),
+            Err(Refusal(fault)) => {
+                self.fault = Some(fault);
+                Err(fault)
+            }
+        }
+    }
+}
+
+/// How many passes a put appends.
+fn pass_count(pass: &Option<Pass>) -> u64
+    ensures value { result ≡ length (option_to_list pass.now) }
+    ensures in_range { result ≤ 1 }
+{
+    match pass {
+        Some(_) => 1,
+        None => 0,
+    }
+}
+
+impl<S: Alter> FloorStore for SqlStore<S> {
+    ghost use Rattle.std.specs.Prelude.{◌<◌, ◌++◌, Some, IsOk, slice_get};
+    ghost use Rattle.floor_store.specs.Content.{with_row};
+    ghost use Rattle.floor_store.specs.Held.{Breaks, RaisesBoot, Reads, Writes};
+    ghost use Rattle.floor_store.specs.Range.{IsCount};
+    ghost use Rattle.floor_sql.specs.Held.{sql_held, HasAudit};
+
+    ghost held = { sql_held S.Store };
+
+    fn tokens(&self) -> u32 {
+        self.mirror.tokens()
+    }
+
+    fn is_broken(&self) -> bool {
+        self.fault.is_some()
+    }
+
+    /// The row of a token, as it was last committed. It runs no statement.
+    fn row(&self, token: u32) -> Result<Row, StoreFault>
+        requires { token < length self.now.mirror.rows }
+        ensures reads { Reads (sql_held S.Store self.now) (λ content row. slice_get content.rows token ≡ Some row) result }
+        ensures works { self.now.fault ≡ None → IsOk result }
+    {
+        if let Some(fault) = self.fault {
+            return Err(fault);
+        }
+        Ok(self.mirror.row(token))
+    }
+
+    /// The number of the boot, as it was last committed. It runs no statement.
+    fn boot(&self) -> Result<u64, StoreFault>
+        ensures reads { Reads (sql_held S.Store self.now) (λ content boot. boot ≡ content.boot) result }
+        ensures range { IfOk result IsCount }
+        ensures works { self.now.fault ≡ None → IsOk result }
+    {
+        if let Some(fault) = self.fault {
+            return Err(fault);
+        }
+        Ok(self.mirror.boot())
+    }
+
+    /// Keeps the row of a token and, where one is given, appends the pass, in one transaction.
+    fn put(&mut self, token: u32, row: Row, pass: Option<Pass>) -> Result<(), StoreFault>
+        requires { token < length self.old.mirror.rows }
+        ensures writes { Writes (sql_held S.Store) self.old self.new (with_row self.old.mirror token row pass) result }
+        ensures breaks { IfErr result (Breaks (sql_held S.Store) self.old self.new) }
+        ensures audit { HasCleanDisk (state S.Store self.new.conn) → OnOk result ((passes : _)
+            → HasAudit S.Store self.old passes → HasAudit S.Store self.new (passes ++ option_to_list pass)) }
+    {
+        if let Some(fault) = self.fault {
+            return Err(fault);
+        }
+        let more = pass_count(&pass);
+        if self.passes + more > 1 << 62 {
+            self.fault = Some(StoreFault::Unusable);
+            return Err(StoreFault::Unusable);
+        }
+        if let Err(fault) = write_put(&mut self.conn, token, row, self.passes + 1, pass) {
+            self.fault = Some(fault);
+            return Err(fault);
+        }
+        self.passes += more;
+        self.mirror.put(token, row, pass);
+        Ok(())
+    }
+
+    /// Raises the number of the boot by one, in a transaction, and answers it.
+    fn raise_boot(&mut self) -> Result<u64, StoreFault>
+        ensures raises { RaisesBoot (sql_held S.Store) self.old self.new result }
+        ensures value { IfOk result (λ boot. HasCleanDisk (state S.Store self.new.conn)
+            → boot ≡ self.new.mirror.boot) }
+        ensures range { IfOk result IsCount }
+        ensures audit { HasCleanDisk (state S.Store self.new.conn) → OnOk result ((passes : _)
+            → HasAudit S.Store self.old passes → HasAudit S.Store self.new passes) }
+    {
+        if let Some(fault) = self.fault {
+            return Err(fault);
+        }
+        let boot = self.mirror.boot() + 1;
+        if boot == 1 << 62 {
+            return Err(StoreFault::Spent);
+        }
+        if let Err(fault) = write_boot(&mut self.conn, boot) {
+            self.fault = Some(fault);
+            return Err(fault);
+        }
+        self.mirror.raise_boot();
+        Ok(boot)
+    }
+}
