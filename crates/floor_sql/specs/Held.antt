@@ -82,13 +82,6 @@ pub record HasSame (old new : State) : Type 0 where
   pub now : IsTrue new.is_open → new.now ≡ old.now
   pub committed : IsTrue new.is_open → new.committed ≡ old.committed
 
--- the tables are those of a store, and name this node
-pub record IsOfNode (db : Database) (node : ℕ) : Type 0 where
-  pub schema : db.schema ≡ floor_schema
-  pub tokens : ℕ
-  pub boot : ℕ
-  pub self : HoldsSelf db.trees node tokens boot
-
 -- the committed passes of a store, in order
 abbrev pub HasAudit : {S : Type 0} → Ghosts S → SqlHeld S → List PassRecord → Type 0
 HasAudit g store passes = Holds (sql.state g store.conn).committed.trees store.mirror passes

@@ -1,9 +1,7 @@
-ghost use Rattle.std.specs.Prelude.{◌≡◌, ◌≢◌, true, IsErrAnd, ◌^◌, ◌≤◌, length, false, None, IsTrue, IsSome, IfOk, IfErr, OnOk};
+ghost use Rattle.std.specs.Prelude.{◌≡◌, ◌≢◌, ◌≤◌, length, true, false, None, IsErrAnd, IsTrue, IfOk, IfErr, OnOk};
 ghost use Rattle.sqlite.specs.Held.{state};
-ghost use Rattle.sqlite.specs.State.{HasCleanDisk, Survives};
+ghost use Rattle.sqlite.specs.State.{HasCleanDisk};
 ghost use Rattle.floor_store.specs.Fault.{is_failure};
-ghost use Rattle.floor_sql.specs.Shown.{IsRead};
-ghost use Rattle.floor_sql.specs.Stored.{Holds, HoldsSelf};
 ghost use Rattle.std.specs.Option.{option_to_list};
 
 use crate::create::write_opening;
@@ -40,16 +38,17 @@ impl<S: Alter> Model for SqlStore<S> {
 }
 
 impl<S: Alter> SqlStore<S> {
-    ghost use Rattle.floor_store.specs.Fault.{IsBrokenBy};
-    ghost use Rattle.floor_store.specs.Content.{opening_content};
+    ghost use Rattle.floor_store.specs.Held.{Breaks};
     ghost use Rattle.floor_store.specs.declared.fault.StoreFault.TheVariants.{AlreadyThere};
     ghost use Rattle.floor_sql.specs.Created.{Opens, has_own_table};
-    ghost use Rattle.floor_sql.specs.Stored.{Commits, MayCommit};
-    ghost use Rattle.floor_sql.specs.Held.{Mirrors, HasTables, HasSame, HasAudit, IsOfNode};
+    ghost use Rattle.floor_sql.specs.Stored.{MayCommit};
+    ghost use Rattle.floor_sql.specs.Held.{Mirrors, HasAudit, sql_held};
+    ghost use Rattle.floor_sql.specs.Calls.{HandsBack, IsMade, IsOfNode, IsOpened, KeepsTables, ReadsAudit};
 
     /// Makes the store of this node, with these first free factors, in a database that has no table.
     /// The connection stands outside a transaction and has no limit on its steps. Beside a refusal it
-    /// is handed back: `AlreadyThere` where a table of a store is there, `Unusable` where another is.
+    /// is handed back: `AlreadyThere` where a table with the name of one of a store's is there,
+    /// `Unusable` where only others are.
     pub fn init(
         alloc: Global,
         mut conn: Connection<S>,
@@ -57,18 +56,15 @@ impl<S: Alter> SqlStore<S> {
         floors: &[Next],
     ) -> Result<Self, (Connection<S>, StoreFault)>
         requires idle { conn.in_transaction ≡ false }
+        requires node { (1 ≤ node) × (node ≤ 9) }
         requires tokens { length floors.now ≤ 10000 }
-        ensures opening { IfOk result (λ store. store.mirror ≡ opening_content floors.now) }
-        ensures intact { IfOk result (λ store. store.fault ≡ None) }
-        ensures count { IfOk result (λ store. store.passes ≡ 0) }
-        ensures tables { IfOk result (λ store. HasCleanDisk (state S.Store store.conn) → Commits (Opens node floors.now) (state S.Store conn) (state S.Store store.conn)) }
-        ensures crash { IfOk result (λ store. Survives (state S.Store conn) (state S.Store store.conn) (MayCommit (Opens node floors.now) (state S.Store conn))) }
-        ensures found { has_own_table conn.schema ≡ true → IsErrAnd result (λ e. (e.0 ≡ conn) × (e.1 ≡ StoreFault.AlreadyThere)) }
+        ensures opening { IfOk result (IsMade S.Store conn node floors.now) }
+        ensures found { has_own_table conn.schema ≡ true
+            → IsErrAnd result (λ e. (e.0 ≡ conn) × (e.1 ≡ StoreFault.AlreadyThere)) }
         ensures there { IfErr result (λ e. e.1 ≡ StoreFault.AlreadyThere → has_own_table conn.schema ≡ true) }
-        ensures refused { IfErr result (λ e. HasCleanDisk (state S.Store e.0) → HasSame (state S.Store conn) (state S.Store e.0)) }
         ensures failure { IfErr result (λ e. e.1 ≢ StoreFault.AlreadyThere → IsTrue (is_failure e.1)) }
-        ensures idle { IfErr result (λ e. e.0.in_transaction ≡ false) }
-        ensures left { IfErr result (λ e. Survives (state S.Store conn) (state S.Store e.0) (MayCommit (Opens node floors.now) (state S.Store conn))) }
+        ensures refused { IfErr result (λ e. HandsBack S.Store conn e.0
+            (MayCommit (Opens node floors.now) (state S.Store conn))) }
     {
         let _ = conn.is_autocommit();
         if has_own_table(conn.schema()) {
@@ -102,14 +98,9 @@ impl<S: Alter> SqlStore<S> {
     ) -> Result<Self, (Connection<S>, StoreFault)>
         requires idle { conn.in_transaction ≡ false }
         requires tokens { tokens ≤ 10000 }
-        ensures content { IfOk result (λ store. HasCleanDisk (state S.Store store.conn) → HasTables (state S.Store conn).now node tokens store.mirror store.passes) }
-        ensures intact { IfOk result (λ store. store.fault ≡ None) }
-        ensures same { IfOk result (λ store. HasCleanDisk (state S.Store store.conn) → IsRead (state S.Store conn) (state S.Store store.conn)) }
-        ensures crash { IfOk result (λ store. Survives (state S.Store conn) (state S.Store store.conn) (λ _. ⊥)) }
-        ensures refused { IfErr result (λ e. HasCleanDisk (state S.Store e.0) → HasSame (state S.Store conn) (state S.Store e.0)) }
+        ensures content { IfOk result (IsOpened S.Store conn node tokens) }
         ensures failure { IfErr result (λ e. IsTrue (is_failure e.1)) }
-        ensures idle { IfErr result (λ e. e.0.in_transaction ≡ false) }
-        ensures left { IfErr result (λ e. Survives (state S.Store conn) (state S.Store e.0) (λ _. ⊥)) }
+        ensures refused { IfErr result (λ e. HandsBack S.Store conn e.0 (λ _. ⊥)) }
     {
         let _ = conn.is_autocommit();
         match read_tables(alloc, &mut conn, node, tokens) {
@@ -123,21 +114,19 @@ impl<S: Alter> SqlStore<S> {
         }
     }
 
-    /// The number of the node whose store the tables of a connection hold. The connection is handed
-    /// back.
+    /// The number of the node whose store the tables of a connection hold, and the connection. It
+    /// stands outside a transaction and has no limit on its steps, and is handed back beside a
+    /// refusal too: `Unusable` where no node from 1 to 9 is named, or another version.
     pub fn node_of(
         mut conn: Connection<S>,
     ) -> Result<(Connection<S>, u8), (Connection<S>, StoreFault)>
         requires { conn.in_transaction ≡ false }
-        ensures node { IfOk result (λ r. HasCleanDisk (state S.Store r.0) → IsOfNode (state S.Store conn).now r.1) }
+        ensures node { IfOk result (λ r. HasCleanDisk (state S.Store r.0)
+            → IsOfNode (state S.Store conn).now r.1) }
         ensures range { IfOk result (λ r. (1 ≤ r.1) × (r.1 ≤ 9)) }
-        ensures same { IfOk result (λ r. HasCleanDisk (state S.Store r.0) → IsRead (state S.Store conn) (state S.Store r.0)) }
-        ensures idle { IfOk result (λ r. r.0.in_transaction ≡ false) }
-        ensures crash { IfOk result (λ r. Survives (state S.Store conn) (state S.Store r.0) (λ _. ⊥)) }
-        ensures refused { IfErr result (λ e. HasCleanDisk (state S.Store e.0) → HasSame (state S.Store conn) (state S.Store e.0)) }
+        ensures same { IfOk result (λ r. KeepsTables S.Store conn r.0) }
         ensures failure { IfErr result (λ e. IsTrue (is_failure e.1)) }
-        ensures rest { IfErr result (λ e. e.0.in_transaction ≡ false) }
-        ensures left { IfErr result (λ e. Survives (state S.Store conn) (state S.Store e.0) (λ _. ⊥)) }
+        ensures refused { IfErr result (λ e. HandsBack S.Store conn e.0 (λ _. ⊥)) }
     {
         let _ = conn.is_autocommit();
         match read_node(&mut conn) {
@@ -149,7 +138,8 @@ impl<S: Alter> SqlStore<S> {
     /// The connection, as it stands.
     pub fn close(self) -> Connection<S>
         ensures same { result ≡ self.conn }
-        ensures tables { HasCleanDisk (state S.Store result) → IsTrue (state S.Store result).is_open → Mirrors (state S.Store result) self.mirror self.passes }
+        ensures tables { HasCleanDisk (state S.Store result) → IsTrue (state S.Store result).is_open
+            → Mirrors (state S.Store result) self.mirror self.passes }
         ensures idle { result.in_transaction ≡ false }
     {
         let SqlStore {
@@ -163,14 +153,10 @@ impl<S: Alter> SqlStore<S> {
 
     /// All committed passes, in order.
     pub fn passes(&mut self, alloc: Global) -> Result<Vec<Pass>, StoreFault>
-        ensures list { HasCleanDisk (state S.Store self.new.conn) → IfOk result (λ list. HasAudit S.Store self.new list.items) }
-        ensures intact { OnOk result ((self.old.fault ≡ None) × (self.new.fault ≡ None)) }
-        ensures breaks { IfErr result (IsBrokenBy self.new.fault) }
-        ensures stays { IsSome self.old.fault → self.new ≡ self.old }
-        ensures mirror { self.new.mirror ≡ self.old.mirror }
-        ensures count { self.new.passes ≡ self.old.passes }
-        ensures tables { HasCleanDisk (state S.Store self.new.conn) → HasSame (state S.Store self.old.conn) (state S.Store self.new.conn) }
-        ensures left { Survives (state S.Store self.old.conn) (state S.Store self.new.conn) (λ _. ⊥) }
+        ensures list { HasCleanDisk (state S.Store self.new.conn)
+            → IfOk result (λ list. HasAudit S.Store self.new list.items) }
+        ensures reads { ReadsAudit S.Store self.old self.new result }
+        ensures breaks { IfErr result (Breaks (sql_held S.Store) self.old self.new) }
     {
         if let Some(fault) = self.fault {
             return Err(fault);

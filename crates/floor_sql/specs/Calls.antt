@@ -1,0 +1,68 @@
+-- What the calls of a store over SQLite do, beside what any store's do.
+use Rattle.std.specs.Prelude.{◌≡◌, ℕ, pos, false, List, find, Option, None, Some, Result, IsSome, OnOk}
+use Rattle.sqlite.specs.declared.types.Value.TheVariants.{Int}
+use Rattle.sqlite.specs.Store.{Ghosts}
+use Rattle.sqlite.specs.Order.{Row, column}
+use Rattle.sqlite.specs.Tree.{Trees, has_rowid}
+use Rattle.sqlite.specs.Held as sql
+use Rattle.sqlite.specs.State.{HasCleanDisk, Survives}
+use Rattle.sqlite.specs.Effect.{Database}
+use Rattle.floor_store.specs.declared.fault.StoreFault.{StoreFault}
+use Rattle.floor_store.specs.Content.{opening_content}
+use Rattle.floor_store.specs.Held.{IsSettled}
+use Rattle.floor_sql.specs.Schema.{floor_schema}
+use Rattle.floor_sql.specs.Shown.{IsRead}
+use Rattle.floor_sql.specs.Stored.{Commits, MayCommit}
+use Rattle.floor_sql.specs.Created.{Opens}
+use Rattle.floor_sql.specs.Held.{SqlHeld, HasTables, HasSame, sql_held}
+
+module _ {S : Type 0} (g : Ghosts S) where
+  -- A connection that was read and no more: outside a transaction, with the tables that it had.
+  pub record KeepsTables (old new : sql.Held S) : Type 0 where
+    pub idle : new.in_transaction ≡ false
+    pub read : HasCleanDisk (sql.state g new) → IsRead (sql.state g old) (sql.state g new)
+    pub survives : Survives (sql.state g old) (sql.state g new) (λ _. ⊥)
+
+  -- A connection that is handed back beside a refusal: outside a transaction, with the tables that it had while it is
+  -- open. A stop leaves what it left before, or what the refused call was to commit.
+  pub record HandsBack (old new : sql.Held S) (Commit : Trees → Type 0) : Type 0 where
+    pub idle : new.in_transaction ≡ false
+    pub tables : HasCleanDisk (sql.state g new) → HasSame (sql.state g old) (sql.state g new)
+    pub survives : Survives (sql.state g old) (sql.state g new) Commit
+
+  -- a store that works, and of which a stop leaves just its content
+  pub record IsSound (store : SqlHeld S) : Type 0 where
+    pub works : store.fault ≡ None
+    pub settled : IsSettled (sql_held g store)
+
+  -- a new store of this node, with these first free factors, made in one commit
+  pub record IsMade (old : sql.Held S) (node : ℕ) (floors : List ℕ) (store : SqlHeld S) : Type 0 where
+    pub content : store.mirror ≡ opening_content floors
+    pub no_passes : store.passes ≡ 0
+    pub sound : IsSound store
+    pub tables : HasCleanDisk (sql.state g store.conn)
+        → Commits (Opens node floors) (sql.state g old) (sql.state g store.conn)
+    pub survives : Survives (sql.state g old) (sql.state g store.conn) (MayCommit (Opens node floors) (sql.state g old))
+
+  -- the store of this node with so many tokens that the tables of a connection hold
+  pub record IsOpened (old : sql.Held S) (node tokens : ℕ) (store : SqlHeld S) : Type 0 where
+    pub content : HasCleanDisk (sql.state g store.conn)
+        → HasTables (sql.state g old).now node tokens store.mirror store.passes
+    pub sound : IsSound store
+    pub kept : KeepsTables old store.conn
+
+  -- a read of the audit list: a store that is not broken keeps its content and its tables
+  pub record ReadsAudit {A : Type 0} (old new : SqlHeld S) (result : Result A StoreFault) : Type 0 where
+    pub intact : OnOk result ((old.fault ≡ None) × (new.fault ≡ None))
+    pub stays : IsSome old.fault → new ≡ old
+    pub content : (new.mirror ≡ old.mirror) × (new.passes ≡ old.passes)
+    pub tables : HasCleanDisk (sql.state g new.conn) → HasSame (sql.state g old.conn) (sql.state g new.conn)
+    pub survives : Survives (sql.state g old.conn) (sql.state g new.conn) (λ _. ⊥)
+
+-- the tables are those of a store of version 1, and name this node
+pub record IsOfNode (db : Database) (node : ℕ) : Type 0 where
+  pub schema : db.schema ≡ floor_schema
+  pub found : Row
+  pub place : find (has_rowid (pos 1)) (db.trees 0) ≡ Some found
+  pub version : column found 2 ≡ Int (pos 1)
+  pub of_node : column found 3 ≡ Int (pos node)
