@@ -39,10 +39,11 @@ impl<S: Alter> Model for SqlStore<S> {
 
 impl<S: Alter> SqlStore<S> {
     ghost use Rattle.floor_store.specs.Held.{Breaks};
-    ghost use Rattle.floor_store.specs.declared.fault.StoreFault.TheVariants.{AlreadyThere};
+    ghost use Rattle.floor_store.specs.declared.fault.StoreFault.TheVariants.{AlreadyThere, Unusable};
     ghost use Rattle.floor_sql.specs.Created.{Opens, has_own_table};
     ghost use Rattle.floor_sql.specs.Stored.{MayCommit};
     ghost use Rattle.floor_sql.specs.Held.{Mirrors, HasAudit, sql_held};
+    ghost use Rattle.floor_sql.specs.Usable.{IsNode, IsUsable};
     ghost use Rattle.floor_sql.specs.Calls.{HandsBack, IsMade, IsOfNode, IsOpened, KeepsTables, ReadsAudit};
 
     /// Makes the store of this node, with these first free factors, in a database that has no table.
@@ -56,7 +57,7 @@ impl<S: Alter> SqlStore<S> {
         floors: &[Next],
     ) -> Result<Self, (Connection<S>, StoreFault)>
         requires idle { conn.in_transaction ≡ false }
-        requires node { (1 ≤ node) × (node ≤ 9) }
+        requires node { IsNode node }
         requires tokens { length floors.now ≤ 10000 }
         ensures opening { IfOk result (IsMade S.Store conn node floors.now) }
         ensures found { has_own_table conn.schema ≡ true
@@ -99,6 +100,8 @@ impl<S: Alter> SqlStore<S> {
         requires idle { conn.in_transaction ≡ false }
         requires tokens { tokens ≤ 10000 }
         ensures content { IfOk result (IsOpened S.Store conn node tokens) }
+        ensures unusable { IfErr result (λ e. e.1 ≡ StoreFault.Unusable → HasCleanDisk (state S.Store e.0)
+            → ¬ IsUsable (state S.Store conn).now node tokens) }
         ensures failure { IfErr result (λ e. IsTrue (is_failure e.1)) }
         ensures refused { IfErr result (λ e. HandsBack S.Store conn e.0 (λ _. ⊥)) }
     {
@@ -123,7 +126,7 @@ impl<S: Alter> SqlStore<S> {
         requires { conn.in_transaction ≡ false }
         ensures node { IfOk result (λ r. HasCleanDisk (state S.Store r.0)
             → IsOfNode (state S.Store conn).now r.1) }
-        ensures range { IfOk result (λ r. (1 ≤ r.1) × (r.1 ≤ 9)) }
+        ensures range { IfOk result (λ r. IsNode r.1) }
         ensures same { IfOk result (λ r. KeepsTables S.Store conn r.0) }
         ensures failure { IfErr result (λ e. IsTrue (is_failure e.1)) }
         ensures refused { IfErr result (λ e. HandsBack S.Store conn e.0 (λ _. ⊥)) }

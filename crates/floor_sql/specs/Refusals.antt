@@ -1,0 +1,19 @@
+-- Which fault a refusal of the connection is.
+use Rattle.std.specs.Prelude.{Bool, true, false, if◌then◌else◌}
+use Rattle.sqlite.specs.declared.error.ErrorCode.TheVariants.{OutOfMemory}
+use Rattle.sqlite.specs.declared.error.Error.{Error}
+use Rattle.sqlite.specs.declared.error.Error.TheVariants.{SqliteFailure, SqlInputError}
+use Rattle.floor_store.specs.declared.fault.StoreFault.{StoreFault}
+use Rattle.floor_store.specs.declared.fault.StoreFault.TheVariants.{Memory, Disk, Unusable}
+
+abbrev pub is_want_of_memory : Error → Bool
+is_want_of_memory (SqliteFailure OutOfMemory) = true
+is_want_of_memory _ = false
+
+-- the text of a statement isn't understood over the schema
+abbrev pub is_of_schema : Error → Bool
+is_of_schema (SqlInputError fault) = true
+is_of_schema _ = false
+
+abbrev pub fault_of : Error → StoreFault
+fault_of error = if is_want_of_memory error then Memory else if is_of_schema error then Unusable else Disk

@@ -1,0 +1,71 @@
+-- Which tables are those of a store, with values in range: the ones that `open` takes.
+use Rattle.std.specs.Prelude.{◌≡◌, ℕ, pos, ◌^◌, ◌<◌, ◌≤◌, List, [], ◌∷◌, filter, slice_get, length, Option, Some}
+use Rattle.std.specs.Option.{ForSome}
+use Rattle.sqlite.specs.Order.{Row}
+use Rattle.sqlite.specs.Tree.{Trees, has_rowid}
+use Rattle.sqlite.specs.Effect.{Database}
+use Rattle.otp_core.specs.Range.{IsFactor, IsNext}
+use Rattle.admit_core.specs.Gate.{IsGate}
+use Rattle.floor_store.specs.Records.{ProposalRecord, RowRecord, PassRecord}
+use Rattle.floor_store.specs.Range.{IsCount, IsProposal, IsSpan, IsPass}
+use Rattle.floor_sql.specs.Schema.{floor_schema}
+use Rattle.floor_sql.specs.Stored.{HoldsPasses, self_columns, self_values, floor_columns, floor_values}
+
+-- ---- ranges
+
+-- the number of a node
+pub record IsNode (node : ℕ) : Type 0 where
+  pub first : 1 ≤ node
+  pub last : node ≤ 9
+
+-- the columns of a grant, one by one
+pub record IsGrant (grant : ProposalRecord × ℕ × ℕ) : Type 0 where
+  pub proposal : IsProposal grant.0
+  pub lo : IsFactor grant.1
+  pub hi : IsFactor grant.2
+
+pub record IsRow (row : RowRecord) : Type 0 where
+  pub next : IsNext row.next
+  pub grant : ForSome row.grant IsGrant
+  pub span : ForSome row.grant (λ g. IsSpan g.1 g.2)
+  pub gate : IsGate row.gate.fails row.gate.until
+
+pub record IsAudit (pass : PassRecord) : Type 0 where
+  pub whole : IsPass pass
+  pub lo : IsFactor pass.lo
+  pub hi : IsFactor pass.hi
+
+abbrev pub AreAudit : List PassRecord → Type 0
+AreAudit passes = (i : ℕ) (pass : PassRecord) → slice_get passes i ≡ Some pass → IsAudit pass
+
+-- ---- tables
+
+-- one row of the table and no other has this key, and these are its columns
+pub record HasOnly (rows : List Row) (key : ℕ) (columns : Row → Row) (values : Row) : Type 0 where
+  pub found : Row
+  pub only : filter (has_rowid (pos key)) rows ≡ found ∷ []
+  pub shows : columns found ≡ values
+
+pub record HasUsableSelf (trees : Trees) (node tokens : ℕ) : Type 0 where
+  pub boot : ℕ
+  pub range : IsCount boot
+  pub only : HasOnly (trees 0) 1 self_columns (self_values node tokens boot)
+
+pub record HasUsableRow (trees : Trees) (token : ℕ) : Type 0 where
+  pub row : RowRecord
+  pub range : IsRow row
+  pub only : HasOnly (trees 1) token floor_columns (floor_values token row)
+
+pub record HasUsablePasses (trees : Trees) : Type 0 where
+  pub passes : List PassRecord
+  pub ranges : AreAudit passes
+  pub room : length passes ≤ 2 ^ 62
+  pub holds : HoldsPasses trees passes
+
+-- a store of this node with so many tokens
+pub record IsUsable (db : Database) (node tokens : ℕ) : Type 0 where
+  pub schema : db.schema ≡ floor_schema
+  pub of_node : IsNode node
+  pub self : HasUsableSelf db.trees node tokens
+  pub rows : (token : ℕ) → token < tokens → HasUsableRow db.trees token
+  pub passes : HasUsablePasses db.trees
