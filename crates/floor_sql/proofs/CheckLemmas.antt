@@ -1,5 +1,5 @@
 -- The one test of the table `self`, and the nodes that it is read from.
-use Rattle.std.proofs.Common.{◌≡◌, ◌⊎◌, inl, inr, ℕ, zero, suc, pos, List, [], ◌∷◌, map, length, slice_get, slice_index_or, get_or, ◌<◌, Some, refl, sym, ap, ◌∙◌}
+use Rattle.std.proofs.Common.{◌≡◌, ◌⊎◌, inl, inr, ℕ, zero, suc, pos, List, [], ◌∷◌, length, slice_get, slice_index_or, get_or, ◌<◌, Some, refl, sym, ap, ◌∙◌}
 use Rattle.sqlite_value.specs.declared.value.Value.TheVariants.{Null, Int}
 use Rattle.sqlite.specs.Collation.TheVariants.{Binary as bytes}
 use Rattle.sqlite.specs.Term.{Term, lit, col, op2}
@@ -84,13 +84,16 @@ top_nodes : (ops : List Op) (roots : List ℕ) (depth root : ℕ) → roots ≡ 
     → (left : ℕ) × (right : ℕ) × AreNodes ops roots root left right
 top_nodes ops roots zero root one is = absurd (cc)
 top_nodes ops roots (suc depth) root one is =
-    let top = top_is (term_to ops depth) (slice_index_or ops root (Literal Null)) is in
-    (top.0, top.1, record {
-      one = one;
-      top = elim (got_at ops root _ top.2) [ inl got ↦ got | inr none ↦ absurd (cc) ];
-      column = column_node ops depth top.0 top.3;
-      number = number_node ops depth top.1 top.4;
-    })
+    let top = top_is (term_to ops depth) (slice_index_or ops root (Literal Null)) is in (
+      top.0,
+      top.1,
+      record {
+        one = one;
+        top = elim (got_at ops root _ top.2) [ inl got ↦ got | inr none ↦ absurd (cc) ];
+        column = column_node ops depth top.0 top.3;
+        number = number_node ops depth top.1 top.4;
+      },
+    )
 
 pub checks_nodes : (ops : List Op) (roots : List ℕ) → terms_in ops roots ≡ id_checks → (root : ℕ) × (left : ℕ) × (right : ℕ) × AreNodes ops roots root left right
 checks_nodes ops roots is =
@@ -101,22 +104,24 @@ checks_nodes ops roots is =
 -- the node at a place
 at_place : (ops : List Op) (i : ℕ) (op : Op) → slice_get ops i ≡ Some op → (i < length ops) × ((d : Op) → d ≡ get_or ops i d → d ≡ op)
 at_place ops i op got =
-    let low = low_index ops i op got in
-    (low, λ d is. let there = slice_get-get_or ops i d low in let same : Some (get_or ops i d) ≡ Some op = sym there ∙ got in
-        let here : get_or ops i d ≡ op = cc in is ∙ here)
+    let low = low_index ops i op got in (
+      low,
+      λ d is. let there = slice_get-get_or ops i d low in let same : Some (get_or ops i d) ≡ Some op = sym there ∙ got in
+          let here : get_or ops i d ≡ op = cc in is ∙ here,
+    )
 
 -- where the root asks whether two sides are equal, they are the key and the number
 pub checks_found : (ops : List Op) (roots : List ℕ) (root left right : ℕ) (top : Op) → roots ≡ root ∷ []
     → terms_in ops roots ≡ id_checks → root < length ops → top ≡ get_or ops root top → top ≡ Binary (Compare Eq bytes) left right
     → (left < length ops) × (right < length ops) × ((d : Op) → d ≡ get_or ops left d → d ≡ Column 1 0)
-        × ((d : Op) → d ≡ get_or ops right d → d ≡ Literal (Int (pos 1)))
+    × ((d : Op) → d ≡ get_or ops right d → d ≡ Literal (Int (pos 1)))
 checks_found ops roots root left right top one is low place equality =
     let it = checks_nodes ops roots is in
     let same : it.0 ≡ root = let all = sym it.3.one ∙ one in cc in
     let got : slice_get ops root ≡ Some (Binary (Compare Eq bytes) left right) =
-        slice_get-get_or ops root top low ∙ ap Some (sym place ∙ equality) in
+    slice_get-get_or ops root top low ∙ ap Some (sym place ∙ equality) in
     let both : Some (Binary (Compare Eq bytes) it.1 it.2) ≡ Some (Binary (Compare Eq bytes) left right) =
-        sym it.3.top ∙ ap (slice_get ops) same ∙ got in
+    sym it.3.top ∙ ap (slice_get ops) same ∙ got in
     let l : it.1 ≡ left = cc in
     let r : it.2 ≡ right = cc in
     let a = at_place ops left (Column 1 0) (ap (slice_get ops) (sym l) ∙ it.3.column) in

@@ -1,7 +1,7 @@
 -- The passes in order of number: what the query of them shows.
-use Rattle.std.proofs.Common.{◌≡◌, ◌≢◌, ℕ, zero, suc, pos, negsuc, ◌+◌, ◌<◌, ◌≤◌, Bool, true, false, cond, if◌then◌else◌, nat_eq, nat_lt, List, [], ◌∷◌, ◌++◌, map, length, get_or, slice_get, Option, Some, None, Less, Equal, Greater, is_lt, refl, sym, ap, ap₂, subst, subst₂, ◌∙◌, All, arith, length-append}
+use Rattle.std.proofs.Common.{◌≡◌, ◌≢◌, ℕ, zero, suc, pos, negsuc, ◌+◌, ◌<◌, ◌≤◌, Bool, true, false, cond, if◌then◌else◌, nat_eq, List, [], ◌∷◌, ◌++◌, map, length, get_or, slice_get, Option, Some, Less, Equal, Greater, is_lt, refl, sym, ap, ap₂, subst, subst₂, ◌∙◌, arith, length-append}
 use Rattle.std.specs.List.{sum_by, AllByRecursion}
-use Rattle.std.specs.List.Sorted.{IsPermutation, IsSorted}
+use Rattle.std.specs.List.Sorted.{IsPermutation}
 use Rattle.std.specs.Bool.{⊤}
 use Rattle.std.specs.Ordering.{ordering_then}
 use Rattle.std.proofs.lemmas.Bool.{ltb-false}
@@ -14,7 +14,7 @@ use Rattle.sqlite.specs.declared.types.Value.TheVariants.{Null, Int, Real, Text,
 use Rattle.sqlite.specs.Collation.TheVariants.{Binary}
 use Rattle.sqlite_value.specs.Keys.{ascending}
 use Rattle.sqlite_value.proofs.OrderLemmas.{value_cmp-Int}
-use Rattle.sqlite.specs.Order.{Row, column, value_cmp}
+use Rattle.sqlite.specs.Order.{Row, column}
 use Rattle.sqlite.specs.Query.{IsAnswer, Output, output, output_cmp, key_cmp}
 use Rattle.sqlite.specs.Program.{overlay}
 use Rattle.sqlite.specs.Tree.{Trees}
@@ -128,8 +128,8 @@ in_place n (p ∷ passes) (row ∷ rows) up all same =
     let here = hit_same n row first in
     let there = hit_same n (pass_values n p) refl in
     let rest : (m : ℕ) → count m rows ≡ count m (pass_rows (suc n) passes) = λ m.
-        let one : hit m row ≡ hit m (pass_values n p) = ap (λ k. if nat_eq k m then 1 else 0) first in
-        let a = whole m in let b = wanted m in let both = same m in omega arith in
+    let one : hit m row ≡ hit m (pass_values n p) = ap (λ k. if nat_eq k m then 1 else 0) first in
+    let a = whole m in let b = wanted m in let both = same m in omega arith in
     let no_more : count n (pass_rows (suc n) passes) ≡ 0 = none_below n (suc n) (pass_rows (suc n) passes) (omega arith) (rows_rise (suc n) passes) in
     let rise : Rises n rows = subst (λ k. Rises k rows) first up.1 in
     let past = rises_past n rows rise (rest n ∙ no_more) in
@@ -142,8 +142,8 @@ in_place n (p ∷ passes) (row ∷ rows) up all same =
         let both = same n in
         let whole = sum_by-cons (hit n) row rows in
         let no_other : n < number_of row → ⊥ = λ above.
-            let here = hit_other n row (λ is. omega (arith, is)) in
-            let later = none_below n (number_of row) rows above up.1 in omega arith in
+        let here = hit_other n row (λ is. omega (arith, is)) in
+        let later = none_below n (number_of row) rows above up.1 in omega arith in
         omega (arith, no_other)
 
     is_first : (i : ℕ) (q : PassRecord) → slice_get (p ∷ passes) i ≡ Some q → row ≡ pass_values (i + n) q → number_of row ≡ n → row ≡ pass_values n p
@@ -200,14 +200,16 @@ shown_rise (o ∷ q ∷ outs) n low passes keyed among first sorted =
     let key_o : o.0 ≡ Int (pos (a.0 + n)) ∷ [] = keyed.0 ∙ ap (λ v. v ∷ []) at_a in
     let key_q : q.0 ≡ Int (pos (b.0 + n)) ∷ [] = keyed.1.0 ∙ ap (λ v. v ∷ []) at_b in
     let le : a.0 + n ≤ b.0 + n = key_rises (b.0 + n) (a.0 + n)
-        (subst₂ (λ x y. is_lt (key_cmp 0 (ascending Binary ∷ []) x y) ≡ false) key_q key_o cmp) in
+    (subst₂ (λ x y. is_lt (key_cmp 0 (ascending Binary ∷ []) x y) ≡ false) key_q key_o cmp) in
     let num_o : number_of o.1 ≡ a.0 + n = ap number_in at_a in
-    let num_q : number_of q.1 ≡ b.0 + n = ap number_in at_b in
-    (first o (omega arith), shown_rise (q ∷ outs) n (number_of o.1) passes keyed.1 among.1 (λ d some. omega arith)
-        (λ k d lt.
-            let place : suc k + 1 ≡ suc (k + 1) = omega arith in
-            subst (λ m. is_lt (output_cmp pass_query (get_or (o ∷ q ∷ outs) m d) (get_or (o ∷ q ∷ outs) (suc k) d)) ≡ false) place
-                (sorted (suc k) d (omega arith))))
+    let num_q : number_of q.1 ≡ b.0 + n = ap number_in at_b in (
+      first o (omega arith),
+      shown_rise (q ∷ outs) n (number_of o.1) passes keyed.1 among.1 (λ d some. omega arith)
+          (λ k d lt.
+          let place : suc k + 1 ≡ suc (k + 1) = omega arith in
+          subst (λ m. is_lt (output_cmp pass_query (get_or (o ∷ q ∷ outs) m d) (get_or (o ∷ q ∷ outs) (suc k) d)) ≡ false) place
+          (sorted (suc k) d (omega arith))),
+    )
 
 shown_itself : (n : ℕ) (passes : List PassRecord) → map pass_shown (pass_rows n passes) ≡ pass_rows n passes
 shown_itself n [] = refl
@@ -221,11 +223,11 @@ in_order trees passes rows a held =
     let outs : a.kept ≡ map (output pass_query) (kept_by (picks [] []) (λ x. [] ∷ x ∷ []) table) = a.distinct ∙ ap (map (output pass_query)) staged in
     let kept : map (λ (o : Output). o.1) a.kept ≡ map pass_columns table = ap (map (λ (o : Output). o.1)) outs ∙ all_shown table in
     let moved : IsPermutation (map pass_columns table) (map (λ (o : Output). o.1) a.ordered) =
-        subst (λ xs. IsPermutation xs (map (λ (o : Output). o.1) a.ordered)) kept (IsPermutation-map (λ (o : Output). o.1) a.kept a.ordered a.same) in
+    subst (λ xs. IsPermutation xs (map (λ (o : Output). o.1) a.ordered)) kept (IsPermutation-map (λ (o : Output). o.1) a.kept a.ordered a.same) in
     let shown = map (λ (o : Output). o.1) a.ordered in
     let from : IsPermutation (pass_rows 1 passes) shown = IsPermutation-trans _ _ _ held moved in
     let among = recursion_from_All (IsAmong 1 passes) shown (All-permutation (IsAmong 1 passes) (pass_rows 1 passes) shown from
-        (All-from_recursion (IsAmong 1 passes) (pass_rows 1 passes) (among_rows 1 passes))) in
+    (All-from_recursion (IsAmong 1 passes) (pass_rows 1 passes) (among_rows 1 passes))) in
     let keyed_kept : AllByRecursion IsKeyed a.kept = subst (AllByRecursion IsKeyed) (sym outs) (all_keyed table) in
     let keyed = recursion_from_All IsKeyed a.ordered (All-permutation IsKeyed a.kept a.ordered a.same (All-from_recursion IsKeyed a.kept keyed_kept)) in
     let rise = shown_rise a.ordered 1 0 passes keyed among (λ d some. omega arith) (λ k d lt. a.sorted k d (omega arith) lt) in

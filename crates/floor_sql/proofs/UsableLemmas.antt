@@ -1,5 +1,5 @@
 -- Where a table is just as wanted it is read, and no refusal of the connection is one of a table.
-use Rattle.std.proofs.Common.{◌≡◌, ◌≢◌, ◌⊎◌, inl, inr, ℕ, pos, if◌then◌else◌, Bool, true, false, cond, List, [], ◌∷◌, ◌++◌, map, filter, find, length, Option, Some, None, Ok, Err, refl, sym, ap, subst, ◌∙◌}
+use Rattle.std.proofs.Common.{◌≡◌, ◌≢◌, inl, inr, ℕ, pos, if◌then◌else◌, Bool, true, false, cond, List, [], ◌∷◌, ◌++◌, map, filter, find, Option, Some, None, refl, sym, ap, subst, ◌∙◌}
 use Rattle.std.specs.List.Sorted.{IsPermutation}
 use Rattle.sqlite_trees.specs.declared.error.StoreError.{StoreError}
 use Rattle.sqlite_trees.specs.declared.error.StoreError.TheVariants.{OutOfMemory, Io, Corrupt, Full, Broken, Unstorable}
@@ -19,11 +19,9 @@ use Rattle.sqlite.specs.Effect.{Database, RefusesToRead}
 use Rattle.sqlite.specs.Listing.{understood}
 use Rattle.sqlite.specs.Given.{IsPlain}
 use Rattle.sqlite.specs.State.{State, Shown, IsNotRun, IsNoStatement, FailsToQuery, FailsToShow, store_error}
-use Rattle.floor_store.specs.declared.fault.StoreFault.{StoreFault}
 use Rattle.floor_store.specs.declared.fault.StoreFault.TheVariants.{Memory, Disk, Unusable}
-use Rattle.floor_store.specs.Records.{RowRecord}
 use Rattle.floor_sql.specs.Schema.{floor_schema}
-use Rattle.floor_sql.specs.Stored.{HoldsSelf, self_columns, floor_columns, self_values, floor_values}
+use Rattle.floor_sql.specs.Stored.{HoldsSelf, self_columns, floor_columns, self_values}
 use Rattle.floor_sql.specs.Shown.{self_shown, floor_shown}
 use Rattle.floor_sql.specs.Refusals.{is_want_of_memory, is_of_schema, fault_of}
 use Rattle.floor_sql.specs.Text.{select_self, select_floor}
@@ -31,7 +29,7 @@ use Rattle.floor_sql.specs.Usable.{HasOnly, HasUsableSelf}
 use Rattle.floor_sql.proofs.ListLemmas.{kept_by}
 use Rattle.floor_sql.proofs.UpdateLemmas.{picks}
 use Rattle.floor_sql.proofs.ReadLemmas.{by_param_picks, by_one_picks}
-use Rattle.floor_sql.proofs.TextLemmas.{query_over, by_param, by_one, self_read, self_query, select_self_is, select_self_plain, floor_read, floor_query, select_floor_is, select_floor_plain}
+use Rattle.floor_sql.proofs.TextLemmas.{query_over, by_param, by_one, self_read, select_self_is, select_self_plain, floor_read, select_floor_is, select_floor_plain}
 
 -- ---- a refusal of the connection
 

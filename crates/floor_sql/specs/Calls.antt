@@ -1,5 +1,5 @@
 -- What the calls of a store over SQLite do, beside what any store's do.
-use Rattle.std.specs.Prelude.{◌≡◌, ℕ, pos, false, List, find, Option, None, Some, Result, IsSome, OnOk}
+use Rattle.std.specs.Prelude.{◌≡◌, ℕ, pos, false, List, find, None, Some, Result, IsSome, OnOk}
 use Rattle.sqlite.specs.declared.types.Value.TheVariants.{Int}
 use Rattle.sqlite.specs.Store.{Ghosts}
 use Rattle.sqlite.specs.Order.{Row, column}

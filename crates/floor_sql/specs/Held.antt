@@ -15,7 +15,7 @@ use Rattle.floor_store.specs.Content.{Content}
 use Rattle.floor_store.specs.Fault.{is_failure}
 use Rattle.floor_store.specs.Held.{Held}
 use Rattle.floor_sql.specs.Schema.{floor_schema}
-use Rattle.floor_sql.specs.Stored.{Holds, HoldsSelf}
+use Rattle.floor_sql.specs.Stored.{Holds}
 
 pub record SqlHeld (S : Type 0) : Type 0 where
   pub conn : sql.Held S
@@ -26,8 +26,11 @@ pub record SqlHeld (S : Type 0) : Type 0 where
 
 abbrev pub held_code : {S : Type 0} → Coded S → Coded (SqlHeld S)
 held_code {S} store =
-    code_by (sql.Held S × (Content × (ℕ × Option StoreFault))) (coded× (sql.held_code store) (coded× memory.the_row.coded (coded× coded_ℕ (coded_option fault.the_row.coded))))
-    (λ h. (h.conn, (h.mirror, (h.passes, h.fault)))) (λ p. record { conn = p.0; mirror = p.1.0; passes = p.1.1.0; fault = p.1.1.1 }) (λ _. refl)
+    code_by (sql.Held S × (Content × (ℕ
+    × Option StoreFault))) (coded× (sql.held_code store) (coded× memory.the_row.coded (coded× coded_ℕ
+    (coded_option fault.the_row.coded))))
+    (λ h. (h.conn, (h.mirror, (h.passes, h.fault))))
+    (λ p. record { conn = p.0; mirror = p.1.0; passes = p.1.1.0; fault = p.1.1.1 }) (λ _. refl)
 
 -- outside a transaction the tables are those of a store, with this content and so many passes
 pub record Mirrors (s : State) (c : Content) (count : ℕ) : Type 0 where
@@ -38,10 +41,12 @@ pub record Mirrors (s : State) (c : Content) (count : ℕ) : Type 0 where
   pub settled : s.now ≡ s.committed
 
 -- While the disk is honest and the connection is open, its tables hold the mirror.
-pub record IsKept {S : Type 0} (g : Ghosts S) (conn : sql.Held S) (mirror : Content) (passes : ℕ) (fault : Option StoreFault) : Type 0 where
+pub record IsKept {S : Type 0} (g : Ghosts S) (conn : sql.Held S) (mirror : Content) (passes : ℕ) (fault : Option
+    StoreFault) : Type 0 where
   pub idle : conn.in_transaction ≡ false
   pub is_open : fault ≡ None → HasCleanDisk (sql.state g conn) → IsTrue (sql.state g conn).is_open
-  pub tables : HasCleanDisk (sql.state g conn) → IsTrue (sql.state g conn).is_open → Mirrors (sql.state g conn) mirror passes
+  pub tables : HasCleanDisk (sql.state g conn) → IsTrue (sql.state g conn).is_open
+      → Mirrors (sql.state g conn) mirror passes
   pub numbers : passes ≤ 2 ^ 62
   pub failing : ForSome fault (λ e. IsTrue (is_failure e))
 

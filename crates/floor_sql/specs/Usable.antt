@@ -1,8 +1,9 @@
 -- Which tables are those of a store, with values in range: the ones that `open` takes.
-use Rattle.std.specs.Prelude.{◌≡◌, ℕ, pos, ◌^◌, ◌<◌, ◌≤◌, List, [], ◌∷◌, filter, slice_get, length, Option, Some}
+use Rattle.std.specs.Prelude.{◌≡◌, ℕ, pos, ◌^◌, ◌<◌, ◌≤◌, List, [], ◌∷◌, filter, slice_get, length, Some}
 use Rattle.std.specs.Option.{ForSome}
-use Rattle.sqlite.specs.Order.{Row}
-use Rattle.sqlite.specs.Tree.{Trees, has_rowid}
+use Rattle.sqlite.specs.declared.types.Value.TheVariants.{Int}
+use Rattle.sqlite.specs.Order.{Row, column}
+use Rattle.sqlite.specs.Tree.{Trees, rowid, has_rowid}
 use Rattle.sqlite.specs.Effect.{Database}
 use Rattle.otp_core.specs.Range.{IsFactor, IsNext}
 use Rattle.admit_core.specs.Gate.{IsGate}
@@ -45,6 +46,17 @@ pub record HasOnly (rows : List Row) (key : ℕ) (columns : Row → Row) (values
   pub found : Row
   pub only : filter (has_rowid (pos key)) rows ≡ found ∷ []
   pub shows : columns found ≡ values
+
+-- the one row of `self` is of version 1 and names a node
+pub record HasUsableNode (db : Database) : Type 0 where
+  pub schema : db.schema ≡ floor_schema
+  pub found : Row
+  pub only : filter (has_rowid (pos 1)) (db.trees 0) ≡ found ∷ []
+  pub keyed : rowid found ≡ Int (pos 1)
+  pub version : column found 2 ≡ Int (pos 1)
+  pub node : ℕ
+  pub of_node : column found 3 ≡ Int (pos node)
+  pub range : IsNode node
 
 pub record HasUsableSelf (trees : Trees) (node tokens : ℕ) : Type 0 where
   pub boot : ℕ

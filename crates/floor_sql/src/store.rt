@@ -43,7 +43,7 @@ impl<S: Alter> SqlStore<S> {
     ghost use Rattle.floor_sql.specs.Created.{Opens, has_own_table};
     ghost use Rattle.floor_sql.specs.Stored.{MayCommit};
     ghost use Rattle.floor_sql.specs.Held.{Mirrors, HasAudit, sql_held};
-    ghost use Rattle.floor_sql.specs.Usable.{IsNode, IsUsable};
+    ghost use Rattle.floor_sql.specs.Usable.{HasUsableNode, IsNode, IsUsable};
     ghost use Rattle.floor_sql.specs.Calls.{HandsBack, IsMade, IsOfNode, IsOpened, KeepsTables, ReadsAudit};
 
     /// Makes the store of this node, with these first free factors, in a database that has no table.
@@ -128,6 +128,8 @@ impl<S: Alter> SqlStore<S> {
             → IsOfNode (state S.Store conn).now r.1) }
         ensures range { IfOk result (λ r. IsNode r.1) }
         ensures same { IfOk result (λ r. KeepsTables S.Store conn r.0) }
+        ensures unusable { IfErr result (λ e. e.1 ≡ StoreFault.Unusable → HasCleanDisk (state S.Store e.0)
+            → ¬ HasUsableNode (state S.Store conn).now) }
         ensures failure { IfErr result (λ e. IsTrue (is_failure e.1)) }
         ensures refused { IfErr result (λ e. HandsBack S.Store conn e.0 (λ _. ⊥)) }
     {
@@ -205,7 +207,8 @@ impl<S: Alter> FloorStore for SqlStore<S> {
     /// The row of a token, as it was last committed. It runs no statement.
     fn row(&self, token: u32) -> Result<Row, StoreFault>
         requires { token < length self.now.mirror.rows }
-        ensures reads { Reads (sql_held S.Store self.now) (λ content row. slice_get content.rows token ≡ Some row) result }
+        ensures reads { Reads (sql_held S.Store self.now)
+            (λ content row. slice_get content.rows token ≡ Some row) result }
         ensures works { self.now.fault ≡ None → IsOk result }
     {
         if let Some(fault) = self.fault {

@@ -1,9 +1,14 @@
-use Rattle.std.proofs.Common.{◌≡◌, [], ◌∷◌, sym, ◌∙◌, arith, rules}
+use Rattle.std.proofs.Common.{◌≡◌, [], ◌∷◌, length, refl, sym, ap, ◌∙◌, arith, rules}
 use Rattle.sqlite.specs.Held.{state}
 use Rattle.floor_sql.proofs.ShapeLemmas.{one_item}
 use Rattle.floor_sql.proofs.TextLemmas.{select_self_plain}
 use Rattle.floor_sql.proofs.ReadLemmas.{node_held}
+use Rattle.sqlite.specs.Order.{column}
+use Rattle.floor_sql.specs.Stored.{self_columns}
+use Rattle.floor_sql.specs.Shown.{self_shown}
+use Rattle.floor_sql.proofs.UsableLemmas.{self_shows}
 use Rattle.floor_sql.proofs.read.read_own_node.Goals as goal
+use Rattle.floor_sql.proofs.read.read_own_node.Goals.{in_default-via-then-as_slice-lt1, in_default-via-else-as_slice-lt1+else-this-lt2}
 
 pub ask-requires-clause-plain : goal.ask-requires-clause-plain
 ask-requires-clause-plain g c = select_self_plain
@@ -13,3 +18,28 @@ returns-in-Some-clause-value g c clean =
     let rows = c.in_ok-rows.rows.items in
     let one : rows ≡ c.shown-item.result ∷ [] = sym c.as_slice.ensures.value ∙ one_item c.as_slice.result.now c.shown-item.result (omega arith) (omega arith) c.shown-item.is in
     node_held (state g.S.Store c.args.conn.now) (state g.S.Store c.ask.new.conn) rows c.shown-item.result c.in-Some.node (c.requires (omega (arith, c.ask.ensures.crash.clean))) (c.in_ok-rows.ensures.shown clean) one (search rules) (search rules)
+
+pub returns-in_default-clause-unusable : goal.returns-in_default-clause-unusable
+returns-in_default-clause-unusable g c clean is has =
+    let rows = c.in_ok-rows.rows.items in
+    let it = self_shows (state g.S.Store c.args.conn.now) (state g.S.Store c.ask.new.conn) rows (self_columns has.found)
+    (c.requires (omega (arith, c.ask.ensures.crash.clean))) (c.in_ok-rows.ensures.shown clean)
+    (record { found = has.found; only = has.only; shows = refl }) in
+    let one : length c.as_slice.result.now ≡ 1 = ap length (c.as_slice.ensures.value ∙ it.1) in
+    elim c.in_default.branch [
+      | in_default-via-then-as_slice-lt1 w ↦ search (one, rules)
+      | in_default-via-else-as_slice-lt1+else-this-lt2 w ↦ search (one, rules)
+    ]
+
+pub returns-clause-unusable : goal.returns-clause-unusable
+returns-clause-unusable g c clean is has =
+    let rows = c.in_ok-rows.rows.items in
+    let it = self_shows (state g.S.Store c.args.conn.now) (state g.S.Store c.ask.new.conn) rows (self_columns has.found)
+    (c.requires (omega (arith, c.ask.ensures.crash.clean))) (c.in_ok-rows.ensures.shown clean)
+    (record { found = has.found; only = has.only; shows = refl }) in
+    let one : rows ≡ c.shown-item.result ∷ [] = sym c.as_slice.ensures.value ∙ one_item c.as_slice.result.now c.shown-item.result (omega arith) (omega arith) c.shown-item.is in
+    let both = sym it.1 ∙ one in
+    let same : it.0 ≡ c.shown-item.result = cc in
+    let shows : self_shown c.shown-item.result ≡ self_columns has.found = ap self_shown (sym same) ∙ it.2 in
+    c.node_in.ensures.none c.in-None.is (ap (λ r. column r 0) shows ∙ has.keyed) (ap (λ r. column r 1) shows ∙ has.version)
+    has.node has.range (ap (λ r. column r 2) shows ∙ has.of_node)
