@@ -17,6 +17,7 @@ use Rattle.floor_store.specs.Held.{Held}
 use Rattle.floor_sql.specs.Schema.{floor_schema}
 use Rattle.floor_sql.specs.Stored.{Holds}
 
+-- what contracts see of a store over SQLite
 pub record SqlHeld (S : Type 0) : Type 0 where
   pub conn : sql.Held S
   -- what was last committed, and how many passes
@@ -24,6 +25,7 @@ pub record SqlHeld (S : Type 0) : Type 0 where
   pub passes : ℕ
   pub fault : Option StoreFault
 
+-- a store by its parts
 abbrev pub held_code : {S : Type 0} → Coded S → Coded (SqlHeld S)
 held_code {S} store =
     code_by (sql.Held S × (Content × (ℕ

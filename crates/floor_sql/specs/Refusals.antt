@@ -6,6 +6,7 @@ use Rattle.sqlite.specs.declared.error.Error.TheVariants.{SqliteFailure, SqlInpu
 use Rattle.floor_store.specs.declared.fault.StoreFault.{StoreFault}
 use Rattle.floor_store.specs.declared.fault.StoreFault.TheVariants.{Memory, Disk, Unusable}
 
+-- there was no memory
 abbrev pub is_want_of_memory : Error → Bool
 is_want_of_memory (SqliteFailure OutOfMemory) = true
 is_want_of_memory _ = false
@@ -15,5 +16,6 @@ abbrev pub is_of_schema : Error → Bool
 is_of_schema (SqlInputError fault) = true
 is_of_schema _ = false
 
+-- want of memory, a text that fits no schema, or else the disk
 abbrev pub fault_of : Error → StoreFault
 fault_of error = if is_want_of_memory error then Memory else if is_of_schema error then Unusable else Disk

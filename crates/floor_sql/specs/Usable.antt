@@ -25,17 +25,20 @@ pub record IsGrant (grant : ProposalRecord × ℕ × ℕ) : Type 0 where
   pub lo : IsFactor grant.1
   pub hi : IsFactor grant.2
 
+-- the values of a row of floors
 pub record IsRow (row : RowRecord) : Type 0 where
   pub next : IsNext row.next
   pub grant : ForSome row.grant IsGrant
   pub span : ForSome row.grant (λ g. IsSpan g.1 g.2)
   pub gate : IsGate row.gate.fails row.gate.until
 
+-- the values of a row of passes
 pub record IsAudit (pass : PassRecord) : Type 0 where
   pub whole : IsPass pass
   pub lo : IsFactor pass.lo
   pub hi : IsFactor pass.hi
 
+-- those of all of them
 abbrev pub AreAudit : List PassRecord → Type 0
 AreAudit passes = (i : ℕ) (pass : PassRecord) → slice_get passes i ≡ Some pass → IsAudit pass
 
@@ -58,16 +61,19 @@ pub record HasUsableNode (db : Database) : Type 0 where
   pub of_node : column found 3 ≡ Int (pos node)
   pub range : IsNode node
 
+-- the one row of `self` is of this node, with so many tokens and a boot in range
 pub record HasUsableSelf (trees : Trees) (node tokens : ℕ) : Type 0 where
   pub boot : ℕ
   pub range : IsCount boot
   pub only : HasOnly (trees 0) 1 self_columns (self_values node tokens boot)
 
+-- the token has one row, with values in range
 pub record HasUsableRow (trees : Trees) (token : ℕ) : Type 0 where
   pub row : RowRecord
   pub range : IsRow row
   pub only : HasOnly (trees 1) token floor_columns (floor_values token row)
 
+-- the passes have the numbers 1, 2, 3 and so on, with values in range
 pub record HasUsablePasses (trees : Trees) : Type 0 where
   pub passes : List PassRecord
   pub ranges : AreAudit passes

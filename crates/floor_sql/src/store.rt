@@ -16,7 +16,9 @@ use sqlite::{Alter, Connection};
 use std::alloc::Global;
 use std::marker::Model;
 
-/// A store in tables of SQLite, with a mirror of what was last committed.
+/// A store in tables of SQLite, with a mirror of what was last committed. A call that fails breaks
+/// it, but for `Spent`: from then on each call but `tokens`, `is_broken` and `close` answers that
+/// fault, until the connection is opened again.
 #[derive(Drop)]
 pub struct SqlStore<S: Alter> {
     conn: Connection<S>,
@@ -67,6 +69,7 @@ impl<S: Alter> SqlStore<S> {
         ensures refused { IfErr result (λ e. HandsBack S.Store conn e.0
             (MayCommit (Opens node floors.now) (state S.Store conn))) }
     {
+        // Outside a transaction the connection sees what was last committed.
         let _ = conn.is_autocommit();
         if has_own_table(conn.schema()) {
             return Err((conn, StoreFault::AlreadyThere));
@@ -105,6 +108,7 @@ impl<S: Alter> SqlStore<S> {
         ensures failure { IfErr result (λ e. IsTrue (is_failure e.1)) }
         ensures refused { IfErr result (λ e. HandsBack S.Store conn e.0 (λ _. ⊥)) }
     {
+        // Outside a transaction the connection sees what was last committed.
         let _ = conn.is_autocommit();
         match read_tables(alloc, &mut conn, node, tokens) {
             Ok((mirror, passes)) => Ok(SqlStore {
@@ -133,6 +137,7 @@ impl<S: Alter> SqlStore<S> {
         ensures failure { IfErr result (λ e. IsTrue (is_failure e.1)) }
         ensures refused { IfErr result (λ e. HandsBack S.Store conn e.0 (λ _. ⊥)) }
     {
+        // Outside a transaction the connection sees what was last committed.
         let _ = conn.is_autocommit();
         match read_node(&mut conn) {
             Ok(node) => Ok((conn, node)),
@@ -156,7 +161,7 @@ impl<S: Alter> SqlStore<S> {
         conn
     }
 
-    /// All committed passes, in order.
+    /// All committed passes, in order of commit.
     pub fn passes(&mut self, alloc: Global) -> Result<Vec<Pass>, StoreFault>
         ensures list { HasCleanDisk (state S.Store self.new.conn)
             → IfOk result (λ list. HasAudit S.Store self.new list.items) }
