@@ -21,10 +21,10 @@ as_envelope x = record { sender = x.0; receiver = x.1; message = x.2 }
 
 pub unsent_letter : (key : List ℕ) (ls : List Envelope) (k : ℕ) → slice_get (map (letter_of key) ls) k ≡ None → slice_get ls k ≡ None
 unsent_letter key [] k e = refl
-unsent_letter key (l ∷ ls) zero e = absurd (none-some ((letter_of key) l) (sym e))
+unsent_letter key (l ∷ ls) zero e = absurd (none-some (letter_of key l) (sym e))
 unsent_letter key (l ∷ ls) (suc k) e = unsent_letter key ls k e
 
-letter_peer : AgainLaw → (key : List ℕ) (l : Envelope) → HasSpelling l.sender l.receiver l.message → (d : Letter) → (letter_of key) l ≡ d → Some (Peer d.sender (envelope_at key d.bytes)) ≡ delivered_event (Some l)
+letter_peer : AgainLaw → (key : List ℕ) (l : Envelope) → HasSpelling l.sender l.receiver l.message → (d : Letter) → letter_of key l ≡ d → Some (Peer d.sender (envelope_at key d.bytes)) ≡ delivered_event (Some l)
 letter_peer again key l spelled d e =
     subst (λ (x : Letter). Some (Peer x.sender (envelope_at key x.bytes)) ≡ delivered_event (Some l)) e
     (ap (λ (o : Option (ℕ × ℕ × Message)). Some (Peer l.sender (option_map as_envelope o))) (again key l.sender l.receiver l.message spelled))
@@ -32,7 +32,7 @@ letter_peer again key l spelled d e =
 letter_at : AgainLaw → (key : List ℕ) (ls : List Envelope) (k : ℕ) (d : Letter) → ((l : Envelope) → slice_get ls k ≡ Some l → HasSpelling l.sender l.receiver l.message) → slice_get (map (letter_of key) ls) k ≡ Some d
     → Some (Peer d.sender (envelope_at key d.bytes)) ≡ delivered_event (slice_get ls k)
 letter_at again key [] k d spelled e = absurd (none-some d e)
-letter_at again key (l ∷ ls) zero d spelled e = letter_peer again key l (spelled l refl) d (same_Some ((letter_of key) l) d e)
+letter_at again key (l ∷ ls) zero d spelled e = letter_peer again key l (spelled l refl) d (same_Some (letter_of key l) d e)
 letter_at again key (l ∷ ls) (suc k) d spelled e = letter_at again key ls k d spelled e
 
 -- a datagram of the journal comes as the envelope that was sent

@@ -28,7 +28,7 @@ sent_replies i (r ∷ rs) = sent_replies i rs
 -- the datagrams among what is put out
 sent_of : (key : List ℕ) (i : ℕ) (sends : List (ℕ × Message)) (rs : List Reply) → sent_items i (map (datagram_item key i) sends ++ map reply_item rs) ≡ map (letter_of key) (map (envelope_from i) sends)
 sent_of key i [] rs = sent_replies i rs
-sent_of key i (x ∷ sends) rs = ap (λ (l : List Letter). (letter_of key) (envelope_from i x) ∷ l) (sent_of key i sends rs)
+sent_of key i (x ∷ sends) rs = ap (λ (l : List Letter). letter_of key (envelope_from i x) ∷ l) (sent_of key i sends rs)
 
 told_replies : (e i : ℕ) (rs : List Reply) → told_items e i (map reply_item rs) ≡ map (told_reply e i) rs
 told_replies e i [] = refl
@@ -41,7 +41,7 @@ told_of key e i (x ∷ sends) rs = told_of key e i sends rs
 
 letters_append : (key : List ℕ) (xs ys : List Envelope) → map (letter_of key) (xs ++ ys) ≡ map (letter_of key) xs ++ map (letter_of key) ys
 letters_append key [] ys = refl
-letters_append key (x ∷ xs) ys = ap (λ (l : List Letter). (letter_of key) x ∷ l) (letters_append key xs ys)
+letters_append key (x ∷ xs) ys = ap (λ (l : List Letter). letter_of key x ∷ l) (letters_append key xs ys)
 
 -- ---- starts and passes
 
