@@ -1,6 +1,8 @@
+use std::fmt;
+
 /// What is done at a node. Nodes are counted from 1 on. What names no node of the run, or no datagram that
 /// was sent, does nothing.
-#[derive(Clone, Copy, Debug)]
+#[derive(Clone, Copy)]
 pub enum Act<'a> {
     /// A client's line comes, at a moment in seconds since 1970-01-01 00:00:00 UTC.
     Client {
@@ -25,6 +27,37 @@ pub enum Act<'a> {
         from: u64,
         bytes: &'a [u8],
     },
+}
+
+/// It shows no byte of a client's line, which may have codes and a password.
+impl<'a> fmt::Debug for Act<'a> {
+    fn fmt<W: fmt::Write>(&self, f: &mut fmt::Formatter<W>) -> fmt::Result {
+        match self {
+            Act::Client {
+                node,
+                client,
+                moment,
+                ..
+            } => f
+                .debug_struct("Client")
+                .field("node", node)
+                .field("client", client)
+                .field("moment", moment)
+                .finish_non_exhaustive(),
+            Act::Deliver { node, k } => f
+                .debug_struct("Deliver")
+                .field("node", node)
+                .field("k", k)
+                .finish(),
+            Act::Tick { node } => f.debug_struct("Tick").field("node", node).finish(),
+            Act::Noise { node, from, bytes } => f
+                .debug_struct("Noise")
+                .field("node", node)
+                .field("from", from)
+                .field("bytes", bytes)
+                .finish(),
+        }
+    }
 }
 
 /// What happens to the nodes.
