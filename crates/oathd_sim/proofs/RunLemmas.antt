@@ -1,6 +1,6 @@
 -- What a run of a script tells, and how a simulation ends.
 use Rattle.std.proofs.Common.{◌≡◌, ◌<◌, arith, ℕ, Bool, List, [], ◌∷◌, map, replicate, Option, Some, None, IfSome, refl, sym, ap, subst, ◌∙◌}
-use Rattle.std.specs.Prelude.{Result, Ok, Err, slice_get}
+use Rattle.std.specs.Prelude.{Result, Ok, Err, IfErr, OnOk, slice_get}
 use Rattle.std.specs.Option.{option_map}
 use Rattle.std.proofs.lemmas.List.{get_or-replicate, length-replicate}
 use Rattle.std.proofs.lemmas.Option.{get_or_from_slice_get, slice_get-map, slice_get_within}
@@ -120,19 +120,27 @@ module _ (setup : Setup) (longest room : ℕ) (book : List Credential) (floors :
   given_up_ends None x out h g = tt
   given_up_ends (Some text) x out h g = subst (λ (s : Sim). EndsSo s (Err x) out out) (sym (parts_make text h)) (given_up x out g)
 
-  pub reported_ends : (a : Option (List ℕ)) (report : ReportValue) (old new : Option (List ℕ))
+  reported_ends : (a : Option (List ℕ)) (report : ReportValue) (old new : Option (List ℕ))
       → IfSome a (λ text. HasParts setup.limits setup.moment longest room text book floors script is_cut) → sim ≡ Reports report
       → Appends old new (report_text report) → IfSome a (λ text. EndsSo (sim_read setup longest room text) (Ok tt) old new)
   reported_ends None report old new h is written = tt
   reported_ends (Some text) report old new h is written =
       subst (λ (s : Sim). EndsSo s (Ok tt) old new) (sym (parts_make text h ∙ is)) (refl, written)
 
-  pub unwritten_ends : (a : Option (List ℕ)) (report : ReportValue) (old new : Option (List ℕ))
+  unwritten_ends : (a : Option (List ℕ)) (report : ReportValue) (old new : Option (List ℕ))
       → IfSome a (λ text. HasParts setup.limits setup.moment longest room text book floors script is_cut) → sim ≡ Reports report
       → IfSome a (λ text. EndsSo (sim_read setup longest room text) (Err fault.CannotWrite) old new)
   unwritten_ends None report old new h is = tt
   unwritten_ends (Some text) report old new h is =
       subst (λ (s : Sim). EndsSo s (Err fault.CannotWrite) old new) (sym (parts_make text h ∙ is)) refl
+
+  pub printed_ends : (a : Option (List ℕ)) (report : ReportValue) (end : Result Unit Fault) (old new : Option (List ℕ))
+      → IfSome a (λ text. HasParts setup.limits setup.moment longest room text book floors script is_cut) → sim ≡ Reports report
+      → OnOk end (Appends old new (report_text report)) → IfErr end (λ x. x ≡ fault.CannotWrite)
+      → IfSome a (λ text. EndsSo (sim_read setup longest room text) end old new)
+  printed_ends a report (Ok tt) old new h is written failed = reported_ends a report old new h is written
+  printed_ends a report (Err x) old new h is written failed =
+      subst (λ y. IfSome a (λ text. EndsSo (sim_read setup longest room text) (Err y) old new)) (sym failed) (unwritten_ends a report old new h is)
 
 given_up_cut_text : (limits : Limits) (moment longest room : ℕ) (text : List ℕ) (s : Sim) (x : Fault) → IsGivenUp s x → IsCutSo limits moment longest room text x
 given_up_cut_text limits moment longest room text s fault.Memory h = tt
@@ -155,3 +163,13 @@ pub any_cut : (a : Option (List ℕ)) (limits : Limits) (moment longest limit : 
     → IfSome a (λ text. IsCutSo limits moment longest limit (front text) fault.Memory)
 any_cut None limits moment longest limit front = tt
 any_cut (Some text) limits moment longest limit front = tt
+
+pub written_is_no_cut : (limits : Limits) (moment longest room : ℕ) (a : Option (List ℕ)) (end : Result Unit Fault) → IfErr end (λ x. x ≡ fault.CannotWrite)
+    → IfErr end (λ x. IfSome a (λ text. IsCutSo limits moment longest room text x))
+written_is_no_cut limits moment longest room a (Ok one) h = tt
+written_is_no_cut limits moment longest room a (Err x) h =
+    subst (λ y. IfSome a (λ text. IsCutSo limits moment longest room text y)) (sym h) (at a)
+  where
+    at : (o : Option (List ℕ)) → IfSome o (λ text. IsCutSo limits moment longest room text fault.CannotWrite)
+    at None = tt
+    at (Some text) = tt

@@ -1,5 +1,7 @@
-ghost use Rattle.std.specs.Prelude.{◌≡◌, ◌+◌, ◌≤◌, ℕ, IfErr, IfOk, IfSome, map, replicate, take};
+ghost use Rattle.std.specs.Prelude.{◌≡◌, ◌+◌, ◌≤◌, ℕ, IfErr, IfOk, IfSome, OnOk, map, replicate, take};
+ghost use Rattle.std.specs.Io.KnownBytes.{Appends};
 ghost use Rattle.otp_core.specs.Range.{IsMoment};
+ghost use Rattle.sim_script.specs.ReportText.{report_text};
 ghost use Rattle.token_file.specs.UsersFile.{import_of};
 ghost use Rattle.users_input.specs.Input.{lines_between, pieces_of};
 ghost use Rattle.oathd_sim.specs.Parts.{IsGivenUp};
@@ -55,6 +57,15 @@ fn report_on(
     Ok(run_world(alloc, &parts.book, settings, key, &floors, &events)?)
 }
 
+/// Writes what a run tells, and flushes it.
+fn print_report<W: Write>(writer: &mut W, report: &Report) -> Result<(), Fault>
+    ensures written { OnOk result (Appends (W.contents writer.old) (W.contents writer.new) (report_text report.now)) }
+    ensures fault { IfErr result (λ fault. fault ≡ Fault.CannotWrite) }
+{
+    write_report(writer, report).map_err(|_| Fault::CannotWrite)?;
+    writer.flush().map_err(|_| Fault::CannotWrite)
+}
+
 /// Reads a users file and a script, runs the script, and writes what the run tells.
 fn simulate<B: BufRead + Drop, W: Write>(
     alloc: Global,
@@ -76,15 +87,12 @@ fn simulate<B: BufRead + Drop, W: Write>(
 {
     let parts = read_parts(alloc, settings, moment, input)?;
     let report = report_on(alloc, nodes, settings, key, &parts)?;
-    match write_report(writer, &report) {
-        Ok(()) => Ok(()),
-        Err(_) => Err(Fault::CannotWrite),
-    }
+    print_report(writer, &report)
 }
 
 /// Reads a users file, a line `%%` and a script of what happens to the nodes of a cluster, runs it over so many nodes,
-/// 1 to 9, each of which opens with the first free factors of the users file, and writes what the run tells. Nothing is
-/// written unless the whole script is good. At most `limit` bytes are read, and one more, which tells that the input
+/// 1 to 9, each of which opens with the first free factors of the users file, and writes what the run tells, and
+/// flushes it. Nothing is written unless the whole script is good. At most `limit` bytes are read, and one more, which tells that the input
 /// goes on: then the line that the limit cuts is bad. The users are imported at the moment given, in seconds since
 /// 1970-01-01 00:00:00 UTC, 0 to 1099511627775. The script is held, and what the run tells.
 ///

@@ -5,7 +5,7 @@ use Rattle.token_file.specs.UsersFile.{import_of}
 use Rattle.oathd_sim.specs.Sim.{EndsSo, IsCutSo, Setup, script_lines, sim_of_script, sim_read}
 use Rattle.oathd_sim.specs.declared.fault.Fault.{Fault}
 use Rattle.oathd_sim.proofs.FaultLemmas.{end_by, err_is}
-use Rattle.oathd_sim.proofs.RunLemmas.{given_up_ends, given_up_is_no_cut}
+use Rattle.oathd_sim.proofs.RunLemmas.{given_up_ends, given_up_is_no_cut, printed_ends, written_is_no_cut}
 use Rattle.oathd_sim.proofs.sim.simulate.Goals as goal
 
 pub returns-in_err-report-clause-ends : goal.returns-in_err-report-clause-ends
@@ -31,3 +31,15 @@ returns-in_err-report-clause-cut g c =
     (given_up_is_no_cut c.args.settings c.args.moment 16777216 c.args.input.room a
     (sim_of_script setup (import_of parts.book parts.floors.items) (script_lines 1 (lines_between parts.script.is_cut (pieces_of parts.script.bytes.items))))
     x (c.in_err-report.ensures.fault c.args.moment))
+
+pub returns-clause-ends : goal.returns-clause-ends
+returns-clause-ends g c =
+    let setup : Setup = record { nodes = c.args.nodes; limits = c.args.settings; moment = c.args.moment; key = c.args.key.now } in
+    let parts = c.in_ok-parts.parts in
+    printed_ends setup 16777216 c.args.input.room parts.book parts.floors.items parts.script.bytes.items parts.script.is_cut
+    (g.B.Read.remaining c.args.input.reader) c.in_ok-report.report c.print_report.result (g.W.Write.contents c.args.writer.now) (g.W.Write.contents c.print_report.new.writer)
+    c.in_ok-parts.ensures.parts (c.in_ok-report.ensures.report c.args.moment) c.print_report.ensures.written c.print_report.ensures.fault
+
+pub returns-clause-cut : goal.returns-clause-cut
+returns-clause-cut g c =
+    written_is_no_cut c.args.settings c.args.moment 16777216 c.args.input.room (g.B.Read.remaining c.args.input.reader) c.print_report.result c.print_report.ensures.fault
