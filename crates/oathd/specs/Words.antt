@@ -1,15 +1,18 @@
 -- What the words of the command line ask for, by the values that clap found.
-use Rattle.std.specs.Prelude.{◌≡◌, ℕ, List, Some, codes}
+use Rattle.std.specs.Prelude.{◌≡◌, ◌≤◌, ℕ, List, Option, Some, codes}
+use Rattle.std.specs.Option.{option_map}
 use Rattle.clap.specs.Matches.{first_value}
 use Rattle.clap.specs.declared.parser.matches.Found.{Found}
 use Rattle.command_line.specs.Number.{number_at}
 use Rattle.otp_core.specs.Limits.{Limits, AreLimits}
 use Rattle.otp_core.specs.Range.{IsMoment}
-use Rattle.oathd_core.specs.declared.request.Request.{Request}
+use Rattle.oathd_core.specs.Request.{HasMoment}
 use Rattle.oathd_core.specs.declared.request.Request.TheVariants.{Lines, Secret}
+use Rattle.oathd.specs.declared.words.Task.{Task}
+use Rattle.oathd.specs.declared.words.Task.TheVariants.{Run, Sim}
 
 -- these numbers are given, and in their ranges
-pub record AsksForLines (found : Found) (limits : Limits) (moment : ℕ) : Type 0 where
+pub record GivesNumbers (found : Found) (limits : Limits) (moment : ℕ) : Type 0 where
   pub look_ahead_given : number_at found (codes "look-ahead") ≡ Some limits.look_ahead
   pub skew_given : number_at found (codes "skew") ≡ Some limits.skew
   pub range_given : number_at found (codes "range") ≡ Some limits.range
@@ -17,11 +20,26 @@ pub record AsksForLines (found : Found) (limits : Limits) (moment : ℕ) : Type 
   pub limits_in_range : AreLimits limits.look_ahead limits.skew limits.range
   pub moment_in_range : IsMoment moment
 
+-- so many nodes, these numbers and this path of a key, if any, are given, and in their ranges
+pub record AsksForSim (found : Found) (nodes : ℕ) (limits : Limits) (moment : ℕ) (key : Option (List ℕ)) : Type 0 where
+  pub nodes_given : number_at found (codes "N") ≡ Some nodes
+  pub first : 1 ≤ nodes
+  pub last : nodes ≤ 9
+  pub numbers : GivesNumbers found limits moment
+  pub key_given : first_value found (codes "key") ≡ key
+
 -- the command with this name, and these values, ask for this
-abbrev pub AsksFor : List ℕ → Found → Request → Type 0
-AsksFor name found (Lines settings moment) = (name ≡ codes "lines") × AsksForLines found settings moment
-AsksFor name found (Secret hex) = (name ≡ codes "secret") × (first_value found (codes "HEX") ≡ Some hex.now)
+abbrev pub AsksFor : List ℕ → Found → Task → Type 0
+AsksFor name found (Run (Lines settings moment)) = (name ≡ codes "lines") × GivesNumbers found settings moment
+AsksFor name found (Run (Secret hex)) = (name ≡ codes "secret") × (first_value found (codes "HEX") ≡ Some hex.now)
+AsksFor name found (Sim nodes settings moment key) =
+    (name ≡ codes "sim") × AsksForSim found nodes settings moment (option_map (λ path. path.now) key)
 
 -- the command with this name, and these values, ask for nothing
 abbrev pub AsksForNothing : List ℕ → Found → Type 0
-AsksForNothing name found = (request : Request) → AsksFor name found request → ⊥
+AsksForNothing name found = (task : Task) → AsksFor name found task → ⊥
+
+-- the numbers of a task are in their ranges
+abbrev pub IsInRange : Task → Type 0
+IsInRange (Run request) = HasMoment request
+IsInRange (Sim nodes settings moment key) = (1 ≤ nodes) × (nodes ≤ 9) × IsMoment moment

@@ -1,6 +1,8 @@
 //! The validation server's program.
 #![tactic(auto)]
 
+mod fault;
+mod key;
 mod serve;
 #[cfg(test)]
 mod tests;
@@ -17,6 +19,7 @@ fn main(rt: HostRuntime) -> ExitCode {
     let errors = rt.stderr();
     ExitCode::from(serve(
         alloc,
+        &rt,
         words,
         &mut rt.reader(),
         &mut io::writer(&rt),

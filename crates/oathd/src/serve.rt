@@ -1,11 +1,19 @@
-ghost use Rattle.std.specs.Prelude.{◌≡◌, ◌⊎◌, Err};
+ghost use Rattle.std.specs.Prelude.{◌≡◌, ◌≤◌, ◌⊎◌, Err};
+ghost use Rattle.otp_core.specs.Range.{IsMoment};
+ghost use Rattle.oathd_core.specs.declared.fault.Fault.TheVariants.{CannotWrite};
 ghost use Rattle.oathd_core.specs.Request.{EndsAsAsked, HasMoment};
 
-use crate::words::read_words;
+use crate::fault::Fault;
+use crate::key::read_key;
+use crate::words::{Task, read_words};
 use command_line::{OutsideFault, exit_status, explain, flushed};
-use oathd_core::{Fault, Request, run};
+use oathd_core::{Request, run};
+use oathd_sim::run_sim;
+use otp_core::Settings;
 use std::alloc::Global;
 use std::io::{BufWriter, Read, Write};
+use std::rt::Files;
+use token_file::MAX_FILE_LEN;
 
 /// Does what is asked for, over an output that holds back what it is given until it is flushed. That happens
 /// behind each answer to a line, so that an answer is one write, and at the end, whatever that is.
@@ -14,45 +22,90 @@ fn perform<R: Read, O: Write>(
     request: &Request<'_>,
     reader: &mut R,
     held: &mut O,
-) -> Result<(), Fault>
+) -> Result<(), oathd_core::Fault>
     requires { HasMoment request.now }
-    ensures ends { (result ≡ Err Fault.CannotWrite) ⊎ EndsAsAsked request.now (R.remaining reader.old) result
+    ensures ends { (result ≡ Err CannotWrite) ⊎ EndsAsAsked request.now (R.remaining reader.old) result
         (O.contents held.old) (O.contents held.new) }
 {
     let end = run(alloc, request, reader, held);
     flushed(held, end)
 }
 
-/// Does what the words ask for, or writes what clap has to say of them. Gives the exit status.
-fn follow<R: Read, O: Write, E: Write>(
+/// Runs the script of the input over so many nodes, under the key of the file named, if any. The output holds back
+/// what it is given until it is flushed.
+fn simulate<'a, F: Files, R: Read, O: Write>(
     alloc: Global,
-    words: &[String],
+    files: &F,
+    nodes: u8,
+    settings: Settings,
+    moment: u64,
+    key: Option<&'a str>,
+    reader: &mut R,
+    held: &mut O,
+) -> Result<(), Fault<'a>>
+    requires first { 1 ≤ nodes }
+    requires last { nodes ≤ 9 }
+    requires moment { IsMoment moment }
+{
+    let key = read_key(alloc, files, key)?;
+    run_sim(
+        alloc,
+        nodes,
+        settings,
+        moment,
+        &key,
+        MAX_FILE_LEN,
+        reader,
+        held,
+    )?;
+    Ok(())
+}
+
+/// Does what the words ask for, or writes what clap has to say of them. Gives the exit status.
+fn follow<'a, F: Files, R: Read, O: Write, E: Write>(
+    alloc: Global,
+    files: &F,
+    words: &'a [String],
     reader: &mut R,
     output: &mut O,
     errors: &mut E,
-) -> Result<u8, Fault> {
-    match read_words(alloc, words) {
-        Ok(request) => {
-            let mut held = BufWriter::new(alloc, &mut *output).map_err(|_| Fault::Memory)?;
-            perform(alloc, &request, reader, &mut held)?;
-            Ok(0)
-        }
-        Err(error) => Ok(explain(output, errors, &error)?),
+) -> Result<u8, Fault<'a>> {
+    let task = match read_words(alloc, words) {
+        Ok(task) => task,
+        Err(error) => return Ok(explain(output, errors, &error)?),
+    };
+    let Ok(mut held) = BufWriter::new(alloc, &mut *output) else {
+        return Err(Fault::Run(oathd_core::Fault::Memory));
+    };
+    match task {
+        Task::Run(request) => perform(alloc, &request, reader, &mut held)?,
+        Task::Sim {
+            nodes,
+            settings,
+            moment,
+            key,
+        } => simulate(
+            alloc, files, nodes, settings, moment, key, reader, &mut held,
+        )?,
     }
+    Ok(0)
 }
 
 /// Does what the words of the process ask for, where they could be had. The text of a fault goes to the errors,
 /// behind the program's name. Gives the exit status.
-pub(crate) fn serve<R: Read, O: Write, E: Write>(
+pub(crate) fn serve<F: Files, R: Read, O: Write, E: Write>(
     alloc: Global,
+    files: &F,
     words: Result<Vec<String>, OutsideFault>,
     reader: &mut R,
     output: &mut O,
     errors: &mut E,
 ) -> u8 {
-    let end = match words {
-        Ok(words) => follow(alloc, &words, reader, output, errors),
-        Err(fault) => Err(Fault::from(fault)),
-    };
-    exit_status(errors, "oathd", end)
+    match words {
+        Ok(words) => {
+            let end = follow(alloc, files, &words, reader, output, errors);
+            exit_status(errors, "oathd", end)
+        }
+        Err(fault) => exit_status(errors, "oathd", Err(Fault::from(fault))),
+    }
 }

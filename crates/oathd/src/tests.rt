@@ -1,8 +1,10 @@
+use crate::key::key_of;
 use crate::serve::serve;
-use crate::words::{command, read_words};
+use crate::words::{Task, command, read_words};
 use command_line::OutsideFault;
 use oathd_core::Request;
 use otp_core::Settings;
+use secret_text::SecretFault;
 use std::alloc::{AllocError, Global};
 use std::io::{self, ErrorKind, Write};
 use std::test::Fail;
@@ -19,7 +21,9 @@ fn words_of(alloc: Global, text: &str) -> Result<Vec<String>, AllocError> {
 /// Whether words are what asks for this secret.
 fn asks_for_secret(alloc: Global, text: &str, hex: &str) -> Result<bool, AllocError> {
     let words = words_of(alloc, text)?;
-    Ok(matches!(read_words(alloc, &words), Ok(Request::Secret { hex: found }) if found == hex))
+    Ok(
+        matches!(read_words(alloc, &words), Ok(Task::Run(Request::Secret { hex: found })) if found == hex),
+    )
 }
 
 #[test]
@@ -42,7 +46,7 @@ fn asks_for_lines(
     moment: u64,
 ) -> Result<bool, Fail> {
     let words = words_of(alloc, format!(in alloc; "oathd lines{text}")?.as_str())?;
-    Ok(read_words(alloc, &words)? == Request::Lines { settings, moment })
+    Ok(read_words(alloc, &words)? == Task::Run(Request::Lines { settings, moment }))
 }
 
 /// Each option is taken from 0 up to its most; no option changes another.
@@ -103,6 +107,14 @@ fn refuses_words(rt: HostRuntime) -> Result<(), Fail> {
         ("oathd lines --range -1", 2),
         ("oathd lines --moment 1099511627776", 2),
         ("oathd lines --moment +0", 2),
+        ("oathd sim", 2),
+        ("oathd sim 0", 2),
+        ("oathd sim 10", 2),
+        ("oathd sim +3", 2),
+        ("oathd sim 3 3", 2),
+        ("oathd sim 3 --skew 11", 2),
+        ("oathd sim 3 --key", 2),
+        ("oathd lines --key k", 2),
         ("oathd secret", 2),
         ("oathd secret 00 00", 2),
         ("oathd secret -1", 2),
@@ -111,6 +123,7 @@ fn refuses_words(rt: HostRuntime) -> Result<(), Fail> {
         ("oathd --version", 0),
         ("oathd -V", 0),
         ("oathd lines --help", 0),
+        ("oathd sim --help", 0),
         ("oathd secret --help", 0),
     ] {
         let words = words_of(alloc, text)?;
@@ -179,6 +192,7 @@ fn help_is_narrow(rt: HostRuntime) -> Result<(), Fail> {
         "oathd --help",
         "oathd -h",
         "oathd lines --help",
+        "oathd sim --help",
         "oathd secret --help",
     ] {
         let help = told(alloc, text)?;
@@ -193,16 +207,17 @@ fn help_is_narrow(rt: HostRuntime) -> Result<(), Fail> {
 /// Whether the program, run with these words over this input, ends with this status, and with these bytes on
 /// the output and on the errors.
 fn serves(
-    alloc: Global,
+    rt: &HostRuntime,
     words: &str,
     input: &str,
     wanted: (u8, &str, &str),
 ) -> Result<bool, AllocError> {
+    let alloc = rt.alloc();
     let words = words_of(alloc, words)?;
     let mut reader = input.as_bytes();
     let mut output = Vec::new(alloc);
     let mut errors = Vec::new(alloc);
-    let status = serve(alloc, Ok(words), &mut reader, &mut output, &mut errors);
+    let status = serve(alloc, rt, Ok(words), &mut reader, &mut output, &mut errors);
     Ok(
         status == wanted.0
             && output.as_slice() == wanted.1.as_bytes()
@@ -239,6 +254,43 @@ fn statuses_and_texts(rt: HostRuntime) -> Result<(), Fail> {
             "",
             (1, "", "oathd: bad key: BadLength\n"),
         ),
+        (
+            "oathd sim 3 --look-ahead 5",
+            "HOTP silver - 3132333435363738393031323334353637383930\n%%\n\
+            client 1 7 100 CHECK a silver 755224 -\ndeliver 2 0\ndeliver 1 2\n",
+            (0, "pass 0 2 1 0 0 0\nanswer 2 1 7 OK a 0\nsent 3\n", ""),
+        ),
+        (
+            "oathd sim 1",
+            "HOTP a -\n%%\ntick\n",
+            (1, "", "oathd: users line 1: MissingField\n"),
+        ),
+        (
+            "oathd sim 9",
+            "%%\ntick 1\n\ntick\n",
+            (1, "", "oathd: script line 3\n"),
+        ),
+        // the key file's faults come before those of the users file
+        (
+            "oathd sim 1 --key no/such/file",
+            "HOTP a -\n",
+            (1, "", "oathd: cannot read no/such/file\n"),
+        ),
+        (
+            "oathd sim 1 --key /",
+            "HOTP a -\n",
+            (1, "", "oathd: cannot read /\n"),
+        ),
+        (
+            "oathd sim 1 --key /dev/null",
+            "HOTP a -\n",
+            (1, "", "oathd: bad key: Empty\n"),
+        ),
+        (
+            "oathd sim 1 --key /dev/zero",
+            "HOTP a -\n",
+            (1, "", "oathd: bad key: TooLong\n"),
+        ),
         ("oathd --version", "", (0, "oathd 0.1.0\n", "")),
         (
             "oathd lines --skew 11",
@@ -251,7 +303,7 @@ fn statuses_and_texts(rt: HostRuntime) -> Result<(), Fail> {
             ),
         ),
     ] {
-        assert!(rt; serves(rt.alloc(), words, input, wanted)?, "{words}");
+        assert!(rt; serves(&rt, words, input, wanted)?, "{words}");
     }
     Ok(())
 }
@@ -285,15 +337,16 @@ impl Write for Failing {
 /// Whether the program ends with this status and these bytes on the errors, where the words could not be had or
 /// the output fails.
 fn fails(
-    alloc: Global,
+    rt: &HostRuntime,
     words: Result<Vec<String>, OutsideFault>,
     mut output: Failing,
     status: u8,
     text: &str,
 ) -> bool {
     let mut reader: &[u8] = b"%%\n7 1 CHECK 1 a 755224 -\n";
+    let alloc = rt.alloc();
     let mut errors = Vec::new(alloc);
-    let found = serve(alloc, words, &mut reader, &mut output, &mut errors);
+    let found = serve(alloc, rt, words, &mut reader, &mut output, &mut errors);
     found == status && errors.as_slice() == text.as_bytes()
 }
 
@@ -315,7 +368,7 @@ fn fails_at_its_edge(rt: HostRuntime) -> Result<(), Fail> {
     ] {
         let words = words_of(alloc, words)?;
         let output = Failing { room, flushes };
-        assert!(rt; fails(alloc, Ok(words), output, status, text), "{room}");
+        assert!(rt; fails(&rt, Ok(words), output, status, text), "{room}");
     }
     for (fault, status, text) in [
         (OutsideFault::NotText, 2, "oathd: a word is not text\n"),
@@ -325,7 +378,36 @@ fn fails_at_its_edge(rt: HostRuntime) -> Result<(), Fail> {
             room: 0,
             flushes: true,
         };
-        assert!(rt; fails(alloc, Err(fault), output, status, text), "{text}");
+        assert!(rt; fails(&rt, Err(fault), output, status, text), "{text}");
     }
     Ok(())
+}
+
+/// A key file holds digits, and at most one LF behind them.
+#[test]
+fn reads_key_files(rt: HostRuntime) {
+    for (text, end) in [
+        ("00112233445566778899aabbccddeeff", Ok(())),
+        ("00112233445566778899AABBCCDDEEFF\n", Ok(())),
+        ("", Err(SecretFault::Empty)),
+        ("\n", Err(SecretFault::Empty)),
+        (
+            "00112233445566778899aabbccddee\n",
+            Err(SecretFault::BadLength),
+        ),
+        (
+            "00112233445566778899aabbccddeef\n",
+            Err(SecretFault::BadLength),
+        ),
+        (
+            "00112233445566778899aabbccddeeff\n\n",
+            Err(SecretFault::BadLength),
+        ),
+        (
+            "00112233445566778899aabbccddeef\n\n",
+            Err(SecretFault::BadCharacter(31)),
+        ),
+    ] {
+        assert!(rt; key_of(text.as_bytes()).map(|_| ()) == end, "{text}");
+    }
 }

@@ -1,8 +1,8 @@
-ghost use Rattle.std.specs.Prelude.{◌≡◌, ℕ, codes, IfSome, IfNone, IfOk};
+ghost use Rattle.std.specs.Prelude.{◌≡◌, ◌≤◌, ℕ, List, Option, Some, codes, IfSome, IfNone, IfOk};
 ghost use Rattle.clap.specs.Matches.{first_value, found_of};
+ghost use Rattle.command_line.specs.Number.{number_at};
 ghost use Rattle.otp_core.specs.Limits.{Limits};
-ghost use Rattle.oathd_core.specs.Request.{HasMoment};
-ghost use Rattle.oathd.specs.Words.{AsksFor, AsksForLines, AsksForNothing};
+ghost use Rattle.oathd.specs.Words.{AsksFor, AsksForNothing, AsksForSim, GivesNumbers, IsInRange};
 
 use clap::error::ErrorKind;
 use clap::{Arg, ArgAction, ArgMatches, Command, Error};
@@ -10,6 +10,24 @@ use command_line::{NumberOption, VERSION, number_error, number_of};
 use oathd_core::Request;
 use otp_core::{MOMENTS_END, Settings};
 use std::alloc::{AllocError, Global};
+
+/// What the words ask for. It has no Debug, which would show a secret.
+#[derive(Clone, Copy, PartialEq, Eq)]
+pub(crate) enum Task<'a> {
+    /// To do what is asked of a run over the input and the output.
+    Run(Request<'a>),
+    /// To run the script of the input over a cluster.
+    Sim {
+        /// How many nodes there are: 1 to 9.
+        nodes: u8,
+        settings: Settings,
+        /// The moment at which the users are imported, in seconds since 1970-01-01 00:00:00 UTC: 0 to
+        /// 1099511627775.
+        moment: u64,
+        /// The path of the file of the cluster's key, if one is named.
+        key: Option<&'a str>,
+    },
+}
 
 /// What the help of the program says besides its commands.
 const PROGRAM_HELP: &str = "\
@@ -57,6 +75,35 @@ Example, which prints OK 1 0 and OK 2 8:
         'HOTP silver - 3132333435363738393031323334353637383930' %% \\
         '7 100 CHECK 1 silver 755224 -' \\
         '7 110 RESYNC 2 silver 162583 399871 -' | oathd lines";
+
+/// What the help of the command `sim` says of its input.
+const SIM_HELP: &str = "\
+Standard input is a users file as the command lines takes it, a line %% and a
+script. N nodes begin with the users file, each with a store in memory. Nothing
+passes between them but what the script delivers.
+
+Each line of a script is one event, with single spaces; an empty line and one
+that begins with # are none. Events are counted from 0.
+    client NODE CLIENT MOMENT REQUEST   a client's line comes
+    deliver NODE K                      the datagram sent as number K comes
+    tick NODE                           some time passes
+    noise NODE FROM HEX                 bytes come from FROM's address
+    restart NODE                        the node restarts
+    cut kept EVENT, cut lost EVENT      the node stops inside one of the first
+                                        four: what it writes is kept or lost,
+                                        what it sends is lost, and it restarts
+
+When the script is done it prints what was accepted, what was answered and how
+many datagrams were sent:
+    pass BEGAN ENDED NODE TOKEN LO HI
+    answer EVENT NODE CLIENT TEXT
+    sent COUNT
+
+Example, which prints pass 0 2 1 0 0 0, answer 2 1 7 OK a 0 and sent 3:
+    printf '%s\\n' \\
+        'HOTP silver - 3132333435363738393031323334353637383930' %% \\
+        'client 1 7 100 CHECK a silver 755224 -' \\
+        'deliver 2 0' 'deliver 1 2' | oathd sim 3";
 
 /// What the help of the command `secret` says besides its word.
 const SECRET_HELP: &str = "\
@@ -124,6 +171,38 @@ fn lines_command<'a>(alloc: Global) -> Result<Command<'a>, AllocError> {
         .arg(MOMENT.arg(alloc))
 }
 
+/// The numbers of nodes that there may be.
+const NODE_COUNTS: [&str; 9] = ["1", "2", "3", "4", "5", "6", "7", "8", "9"];
+
+/// The command `sim`.
+fn sim_command<'a>(alloc: Global) -> Result<Command<'a>, AllocError> {
+    Command::new(alloc, "sim")
+        .about("Runs a script of what happens to the nodes of a cluster")
+        .next_line_help(true)
+        .after_help(SIM_HELP)
+        .arg(
+            Arg::new(alloc, "N")
+                .required(true)
+                .action(ArgAction::Set)
+                .hide_possible_values(true)
+                .value_parser(NODE_COUNTS.as_slice())
+                .help("How many nodes there are, 1 to 9"),
+        )?
+        .arg(LOOK_AHEAD.arg(alloc))?
+        .arg(SKEW.arg(alloc))?
+        .arg(RANGE.arg(alloc))?
+        .arg(MOMENT.arg(alloc))?
+        .arg(
+            Arg::new(alloc, "key")
+                .long("key")
+                .value_name("PATH")
+                .action(ArgAction::Set)
+                .help(
+                    "A file of the cluster's key: 16 to 64 bytes in hexadecimal.\nWithout it the key is 32 zeros",
+                ),
+        )
+}
+
 /// The command `secret`.
 fn secret_command<'a>(alloc: Global) -> Result<Command<'a>, AllocError> {
     Command::new(alloc, "secret")
@@ -146,15 +225,16 @@ pub(crate) fn command<'a>(alloc: Global) -> Result<Command<'a>, AllocError> {
         .disable_help_subcommand(true)
         .subcommand_required(true)
         .subcommand(lines_command(alloc)?)?
+        .subcommand(sim_command(alloc)?)?
         .subcommand(secret_command(alloc)?)
 }
 
-/// What the values of the command `lines` ask for, or `None` where a number is out of its range or
-/// written with anything but digits.
-fn lines_request<'a>(matches: &ArgMatches<'a>) -> Option<Request<'a>>
-    ensures some { IfSome result (AsksFor (codes "lines") (found_of matches.now)) }
+/// The limits and the moment that the options give, or `None` where a number is out of its range or written with
+/// anything but digits.
+fn numbers_of(matches: &ArgMatches<'_>) -> Option<(Settings, u64)>
+    ensures some { IfSome result (λ numbers. GivesNumbers (found_of matches.now) numbers.0 numbers.1) }
     ensures none { IfNone result ((limits : Limits) (moment : ℕ)
-        → AsksForLines (found_of matches.now) limits moment → ⊥) }
+        → GivesNumbers (found_of matches.now) limits moment → ⊥) }
 {
     let look_ahead = number_of(matches, "look-ahead")?;
     let skew = number_of(matches, "skew")?;
@@ -164,46 +244,91 @@ fn lines_request<'a>(matches: &ArgMatches<'a>) -> Option<Request<'a>>
         return None;
     }
     let settings = Settings::new(look_ahead, skew, range)?;
-    Some(Request::Lines { settings, moment })
+    Some((settings, moment))
+}
+
+/// What the values of the command `lines` ask for, or `None` where they ask for nothing.
+fn lines_task<'a>(matches: &ArgMatches<'a>) -> Option<Task<'a>>
+    ensures some { IfSome result (AsksFor (codes "lines") (found_of matches.now)) }
+    ensures none { IfNone result ((limits : Limits) (moment : ℕ)
+        → GivesNumbers (found_of matches.now) limits moment → ⊥) }
+{
+    let (settings, moment) = numbers_of(matches)?;
+    Some(Task::Run(Request::Lines { settings, moment }))
+}
+
+/// How many nodes are asked for, or `None` where it isn't 1 to 9 in digits alone.
+fn nodes_of(matches: &ArgMatches<'_>) -> Option<u8>
+    ensures some { IfSome result (λ nodes. (number_at (found_of matches.now) (codes "N") ≡ Some nodes)
+        × (1 ≤ nodes) × (nodes ≤ 9)) }
+    ensures none { IfNone result ((nodes : ℕ) → number_at (found_of matches.now) (codes "N") ≡ Some nodes
+        → 1 ≤ nodes → nodes ≤ 9 → ⊥) }
+{
+    let nodes = number_of(matches, "N")?;
+    if nodes < 1 || nodes > 9 {
+        return None;
+    }
+    Some(nodes as u8)
+}
+
+/// What the values of the command `sim` ask for, or `None` where they ask for nothing.
+fn sim_task<'a>(matches: &ArgMatches<'a>) -> Option<Task<'a>>
+    ensures some { IfSome result (AsksFor (codes "sim") (found_of matches.now)) }
+    ensures none { IfNone result ((nodes : ℕ) (limits : Limits) (moment : ℕ) (key : Option (List ℕ))
+        → AsksForSim (found_of matches.now) nodes limits moment key → ⊥) }
+{
+    let nodes = nodes_of(matches)?;
+    let (settings, moment) = numbers_of(matches)?;
+    let key = matches.get_str("key");
+    Some(Task::Sim {
+        nodes,
+        settings,
+        moment,
+        key,
+    })
 }
 
 /// What the value of the command `secret` asks for, or `None` where there is none.
-fn secret_request<'a>(matches: &ArgMatches<'a>) -> Option<Request<'a>>
+fn secret_task<'a>(matches: &ArgMatches<'a>) -> Option<Task<'a>>
     ensures some { IfSome result (AsksFor (codes "secret") (found_of matches.now)) }
     ensures none { IfNone result (first_value (found_of matches.now) (codes "HEX") ≡ None) }
 {
     let hex = matches.get_str("HEX")?;
-    Some(Request::Secret { hex })
+    Some(Task::Run(Request::Secret { hex }))
 }
 
 /// What the values of the command with this name ask for, or `None` where they ask for nothing.
-fn request_of<'a>(name: &str, matches: &ArgMatches<'a>) -> Option<Request<'a>>
+fn task_of<'a>(name: &str, matches: &ArgMatches<'a>) -> Option<Task<'a>>
     ensures some { IfSome result (AsksFor name.now (found_of matches.now)) }
     ensures none { IfNone result (AsksForNothing name.now (found_of matches.now)) }
 {
     match name {
-        "lines" => lines_request(matches),
-        "secret" => secret_request(matches),
+        "lines" => lines_task(matches),
+        "sim" => sim_task(matches),
+        "secret" => secret_task(matches),
         _ => None,
     }
 }
 
 /// What the words ask for. The first of them is the program's name. The error has clap's text, which
 /// goes to standard output where help or the version was asked for; a number that is out of its range or
-/// not in digits alone is named with that range, and with the usage of the command `lines`.
-pub(crate) fn read_words<'a>(alloc: Global, words: &'a [String]) -> Result<Request<'a>, Error>
-    ensures { IfOk result HasMoment }
+/// not in digits alone is named with that range, and with the usage of the command.
+pub(crate) fn read_words<'a>(alloc: Global, words: &'a [String]) -> Result<Task<'a>, Error>
+    ensures { IfOk result IsInRange }
 {
     let mut command = command(alloc)?;
     let matches = command.try_get_matches_from_mut(words)?;
     let Some((name, values)) = matches.subcommand() else {
         return Err(command.error(ErrorKind::MissingSubcommand, "a command is missing")?);
     };
-    match request_of(name, values) {
-        Some(request) => Ok(request),
+    match task_of(name, values) {
+        Some(task) => Ok(task),
         None => {
-            let mut lines = lines_command(alloc)?.bin_name("oathd lines")?;
-            Err(number_error(alloc, &mut lines, values, &NUMBERS)?)
+            let mut usage = match name {
+                "sim" => sim_command(alloc)?.bin_name("oathd sim")?,
+                _ => lines_command(alloc)?.bin_name("oathd lines")?,
+            };
+            Err(number_error(alloc, &mut usage, values, &NUMBERS)?)
         }
     }
 }

@@ -1,0 +1,5 @@
+use Rattle.oathd.proofs.WordsLemmas.{no_sim}
+use Rattle.oathd.proofs.words.task_of.Goals as goal
+
+pub returns-in-sim-clause-none : goal.returns-in-sim-clause-none
+returns-in-sim-clause-none c = no_sim c.sim_task.result c.args.name.now _ c.in-sim.is c.sim_task.ensures.none

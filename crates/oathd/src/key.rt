@@ -1,0 +1,63 @@
+ghost use Rattle.std.specs.Prelude.{◌≡◌, IfOk, Ok};
+ghost use Rattle.std.specs.Result.{result_err};
+ghost use Rattle.hex.specs.Hex.{decode_of};
+ghost use Rattle.vote_wire.specs.Key.{key_refusal_of};
+ghost use Rattle.vote_wire.specs.Request.{without_lf};
+
+use crate::fault::Fault;
+use secret_text::SecretFault;
+use std::alloc::Global;
+use std::fs;
+use std::io::{ErrorKind, Read};
+use std::rt::Files;
+use vote_wire::{ClusterKey, without_lf};
+
+/// The most bytes of a key file. The longest key has 128 digits.
+const MAX_KEY_FILE_LEN: u32 = 65_536;
+
+/// The key that the text of a file says: hexadecimal digits, and at most one LF behind them.
+pub(crate) fn key_of(text: &[u8]) -> Result<ClusterKey, SecretFault>
+    ensures fault { result_err result ≡ key_refusal_of (without_lf text.now) }
+    ensures value { IfOk result (λ key. decode_of (without_lf text.now) ≡ Ok key) }
+{
+    ClusterKey::read(without_lf(text))
+}
+
+/// The key of 32 zeros, which is every cluster's that is given none.
+fn key_of_zeros() -> ClusterKey {
+    ClusterKey::new(&[0; 32]).unwrap()
+}
+
+/// The text of a file, which has at most so many bytes.
+fn file_text<'a, F: Files>(alloc: Global, files: &F, path: &'a str) -> Result<Vec<u8>, Fault<'a>> {
+    let Ok(file) = fs::open(files, path) else {
+        return Err(Fault::CannotReadFile(path));
+    };
+    let mut text = Vec::new(alloc);
+    match file
+        .take(u64::from(MAX_KEY_FILE_LEN) + 1)
+        .read_to_end(&mut text)
+    {
+        Ok(_) => Ok(text),
+        Err(error) if error.kind() == ErrorKind::OutOfMemory => {
+            Err(Fault::Run(oathd_core::Fault::Memory))
+        }
+        Err(_) => Err(Fault::CannotReadFile(path)),
+    }
+}
+
+/// The key of the file with this path, or 32 zeros where none is named. A file of more than 65,536 bytes is too long.
+pub(crate) fn read_key<'a, F: Files>(
+    alloc: Global,
+    files: &F,
+    path: Option<&'a str>,
+) -> Result<ClusterKey, Fault<'a>> {
+    let Some(path) = path else {
+        return Ok(key_of_zeros());
+    };
+    let text = file_text(alloc, files, path)?;
+    if text.len() > MAX_KEY_FILE_LEN as usize {
+        return Err(Fault::Run(oathd_core::Fault::BadKey(SecretFault::TooLong)));
+    }
+    key_of(&text).map_err(|fault| Fault::Run(oathd_core::Fault::BadKey(fault)))
+}
