@@ -65,6 +65,8 @@ A line of a client is CLIENT MOMENT REQUEST, with single spaces: a number,
 seconds since 1970-01-01 00:00:00 UTC, and one of
     CHECK NONCE USER CODE PASSWORD
     RESYNC NONCE USER CODE NEXT-CODE PASSWORD
+A line that a client sends again is told its old answer: each submission has a
+NONCE of its own.
 
 No password is accepted twice within a run. Nothing is kept between two runs:
 first free factors and the throttle begin anew with each users file, so one
