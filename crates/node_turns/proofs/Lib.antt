@@ -1,0 +1,3 @@
+pub mod GrowLemmas
+pub mod StepLemmas
+pub mod TurnLemmas

@@ -1,0 +1,4 @@
+pub mod Port
+pub mod Serving
+pub mod Steps
+pub mod Turns

@@ -1,0 +1,161 @@
+-- A run of a node over a port and a clock: what is received is handed to the node, and what the node sends and replies
+-- is offered.
+use Rattle.std.specs.Prelude.{ℕ, ◌+◌, ◌%◌, nat_eq, Bool, if◌then◌else◌, List, [], ◌∷◌, ◌++◌, length, map, filter, Option, Some, None, true, false}
+use Rattle.std.specs.List.{flat_map}
+use Rattle.vote_core.specs.NodeSet.{PlaceRecord}
+use Rattle.oath_node.specs.Hosted.{Hosted, config_of, envelope_at}
+use Rattle.oath_node.specs.Machine.{Config, NodeEvent, NodeState, Client, Peer, Tick, made_by_event}
+use Rattle.oath_node.specs.Outputs.{outputs_of}
+use Rattle.oath_node.specs.declared.item.Item.{Item}
+use Rattle.oath_node.specs.declared.item.Item.TheVariants.{Datagram, Reply}
+use Rattle.node_turns.specs.Port.{PortEvent, Received, Quiet, Faulted, Offered}
+use Rattle.node_turns.specs.declared.fault.ServeFault.{ServeFault}
+use Rattle.node_turns.specs.declared.fault.ServeFault.TheVariants.{Port as PortFault, Clock as ClockFault}
+use Rattle.node_turns.specs.declared.turns.Tally.{Tally}
+use Rattle.node_turns.specs.declared.port.Sender.TheVariants.{Client as ToClient, Peer as ToPeer}
+
+-- ---- What a turn is handed
+
+-- A member's datagram; a client's, with what the clock told; nothing; or a fault of the port.
+pub data Receipt : Type 0 where
+  FromPeer : (from : ℕ) (bytes : List ℕ) → Receipt
+  FromClient : (client : ℕ) (bytes : List ℕ) (moment : Option ℕ) → Receipt
+  Nothing : Receipt
+  Failure : Receipt
+
+-- its entry in the port's record
+abbrev pub entry_of : Receipt → PortEvent
+entry_of (FromPeer from bytes) = Received (ToPeer from) bytes
+entry_of (FromClient client bytes moment) = Received (ToClient client) bytes
+entry_of Nothing = Quiet
+entry_of Failure = Faulted
+
+-- what the clock told for it: it is asked for a client's datagram, and never else
+abbrev pub moments_for : Receipt → List (Option ℕ)
+moments_for (FromPeer from bytes) = []
+moments_for (FromClient client bytes moment) = moment ∷ []
+moments_for Nothing = []
+moments_for Failure = []
+
+-- what the clock told for these, in order
+abbrev pub moments_in : List Receipt → List (Option ℕ)
+moments_in receipts = flat_map moments_for receipts
+
+-- an entry is a receive
+abbrev pub is_receive : PortEvent → Bool
+is_receive (Received sender bytes) = true
+is_receive Quiet = true
+is_receive Faulted = true
+is_receive (Offered to bytes) = false
+
+-- the receives among these entries
+abbrev pub receives_in : List PortEvent → List PortEvent
+receives_in entries = filter is_receive entries
+
+-- ---- A run
+
+-- what is the same at all turns
+pub record Member : Type 0 where
+  pub config : Config
+  pub key : List ℕ
+  pub place : PlaceRecord
+
+-- of a node
+abbrev pub member_of : {S : Type 0} → Hosted S → Member
+member_of node = record { config = config_of node; key = node.key; place = node.voter.place }
+
+-- A run so far: the node, the entries that the port has added, the tally, and the fault of the port or the clock that
+-- ended it.
+pub record Run : Type 0 where
+  pub node : NodeState
+  pub entries : List PortEvent
+  pub tally : Tally
+  pub end : Option ServeFault
+
+-- at its start
+abbrev pub run_at : NodeState → Run
+run_at node =
+    record { node = node; entries = []; tally = record { received = 0; replied = 0; faults = 0 }; end = None }
+
+-- ---- An event
+
+-- the offer of what a node sends or replies
+abbrev pub offer_of : Item → PortEvent
+offer_of (Datagram to bytes) = Offered (ToPeer to) bytes.items
+offer_of (Reply client bytes) = Offered (ToClient client) bytes.items
+
+-- the tally with so many replies more
+abbrev pub with_replies : ℕ → Tally → Tally
+with_replies count tally = record tally { replied = tally.replied + count }
+
+-- the run with an event of the node: what the node's machine sends and replies is offered
+abbrev pub run_with_event : Member → NodeEvent → Run → Run
+run_with_event member event run =
+    let made = made_by_event member.config member.place event run.node in
+    record run {
+      node = made.state;
+      entries = run.entries ++ map offer_of (outputs_of member.key member.place made).items;
+      tally = with_replies (length made.replies) run.tally;
+    }
+
+-- the run with these events, in order
+abbrev pub run_with_events : Member → List NodeEvent → Run → Run
+run_with_events member [] run = run
+run_with_events member (event ∷ events) run = run_with_events member events (run_with_event member event run)
+
+-- ---- A turn
+
+-- the tally with a receive
+abbrev pub tally_with : Receipt → Tally → Tally
+tally_with (FromPeer from bytes) tally = record tally { received = tally.received + 1; faults = 0 }
+tally_with (FromClient client bytes moment) tally = record tally { received = tally.received + 1; faults = 0 }
+tally_with Nothing tally = record tally { faults = 0 }
+tally_with Failure tally = record tally { faults = tally.faults + 1 }
+
+-- the fault that a receive ends the run with: the 16th fault of the port in a row, or a clock that tells no moment
+abbrev pub end_with : Receipt → Tally → Option ServeFault
+end_with (FromPeer from bytes) tally = None
+end_with (FromClient client bytes (Some moment)) tally = None
+end_with (FromClient client bytes None) tally = Some ClockFault
+end_with Nothing tally = None
+end_with Failure tally = if nat_eq tally.faults 16 then Some PortFault else None
+
+-- the run with a receive
+abbrev pub run_with_receipt : Receipt → Run → Run
+run_with_receipt receipt run =
+    let tally = tally_with receipt run.tally in
+    record run {
+      entries = run.entries ++ entry_of receipt ∷ [];
+      tally = tally;
+      end = end_with receipt tally;
+    }
+
+-- the tick after each 64th datagram
+abbrev pub tick_at : ℕ → List NodeEvent
+tick_at received = if nat_eq (received % 64) 0 then Tick ∷ [] else []
+
+-- The events of a turn under a key, which is the one with so many datagrams: the datagram and the tick after each 64th,
+-- or the tick of a quiet turn.
+abbrev pub events_of_turn : List ℕ → ℕ → Receipt → List NodeEvent
+events_of_turn key received (FromPeer from bytes) = Peer from (envelope_at key bytes) ∷ tick_at received
+events_of_turn key received (FromClient client bytes (Some moment)) = Client client moment bytes ∷ tick_at received
+events_of_turn key received (FromClient client bytes None) = []
+events_of_turn key received Nothing = Tick ∷ []
+events_of_turn key received Failure = []
+
+-- the run with one turn more
+abbrev pub run_with_turn : Member → Receipt → Run → Run
+run_with_turn member receipt run =
+    let received = run_with_receipt receipt run in
+    run_with_events member (events_of_turn member.key received.tally.received receipt) received
+
+-- the next run of one that goes on; one that has ended stays
+abbrev pub while_going : Option ServeFault → Run → Run → Run
+while_going None next run = next
+while_going (Some fault) next run = run
+
+-- the run with these turns, in order
+abbrev pub run_with_turns : Member → List Receipt → Run → Run
+run_with_turns member [] run = run
+run_with_turns member (receipt ∷ receipts) run =
+    run_with_turns member receipts (while_going run.end (run_with_turn member receipt run) run)

@@ -1,0 +1,16 @@
+//! A node's turns over a port: what comes in is handed to the node, and what the node sends and replies goes out.
+//!
+//! A [`Port`] hands in datagrams, one for each receive, and takes datagrams to be sent. A [`Clock`] tells the moment
+//! at which a client's datagram came. [`run_turns`] goes on for so many receives, or until the node, the port or the
+//! clock fails for good.
+#![tactic(auto)]
+
+mod clock;
+mod fault;
+mod port;
+mod turns;
+
+pub use clock::Clock;
+pub use fault::ServeFault;
+pub use port::{MAX_DATAGRAM_LEN, Port, Received, Sender};
+pub use turns::{Served, run_turns};
