@@ -1,3 +1,4 @@
+pub mod Entries
 pub mod Port
 pub mod Serving
 pub mod Steps

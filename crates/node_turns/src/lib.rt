@@ -7,10 +7,14 @@
 
 mod clock;
 mod fault;
+mod list_port;
 mod port;
+#[cfg(test)]
+mod tests;
 mod turns;
 
 pub use clock::Clock;
 pub use fault::ServeFault;
+pub use list_port::{Coming, ListClock, ListPort, PortEntry};
 pub use port::{MAX_DATAGRAM_LEN, Port, Received, Sender};
 pub use turns::{Served, run_turns};

@@ -1,0 +1,17 @@
+-- The record of a port in memory.
+use Rattle.std.specs.Prelude.{Bool, true, false, List, map, Option, Some, None}
+use Rattle.node_turns.specs.Port.{PortEvent, Received, Quiet, Faulted, Offered}
+use Rattle.node_turns.specs.declared.list_port.PortEntry.{PortEntry}
+use Rattle.node_turns.specs.declared.list_port.PortEntry.TheVariants.{Received as ReceivedEntry, Quiet as QuietEntry, Faulted as FaultedEntry, Offered as OfferedEntry}
+
+-- what an entry says
+abbrev pub event_of_entry : PortEntry → PortEvent
+event_of_entry (ReceivedEntry sender bytes) = Received sender bytes.items
+event_of_entry QuietEntry = Quiet
+event_of_entry FaultedEntry = Faulted
+event_of_entry (OfferedEntry to bytes) = Offered to bytes.items
+
+-- what is kept: these entries, as long as none was lost
+abbrev pub events_kept : Bool → List PortEntry → Option (List PortEvent)
+events_kept true entries = Some (map event_of_entry entries)
+events_kept false entries = None

@@ -1,0 +1,185 @@
+//! A port and a clock in memory, which keep a record, for tests of what is built on them.
+
+ghost use Rattle.std.specs.Option.{option_map};
+ghost use Rattle.std.specs.Prelude.{◌≡◌, ◌∷◌, [], Some, None, IfOk, OnErr, length, map};
+ghost use Rattle.node_turns.specs.Entries.{event_of_entry};
+ghost use Rattle.node_turns.specs.Port.{Grows, IsWithin, event_of_receive};
+
+use crate::clock::Clock;
+use crate::port::{MAX_DATAGRAM_LEN, Port, Received, Sender};
+use std::alloc::{AllocError, Global};
+use std::marker::Model;
+
+/// What a port in memory is to hand in.
+#[derive(Clone, Copy)]
+pub enum Coming<'a> {
+    /// A datagram, which is cut to 512 bytes.
+    Datagram { sender: Sender, bytes: &'a [u8] },
+    /// Nothing in a while.
+    Quiet,
+    /// A fault.
+    Fault,
+}
+
+/// An entry of the record of a port in memory.
+#[derive(Debug, Drop, PartialEq, Eq)]
+pub enum PortEntry {
+    /// A datagram that was handed in.
+    Received { sender: Sender, bytes: Vec<u8> },
+    /// A quiet receive.
+    Quiet,
+    /// A receive that failed.
+    Faulted,
+    /// A datagram that was offered, whether it was taken or not.
+    Offered { to: Sender, bytes: Vec<u8> },
+}
+
+/// A port in memory. It hands in what it was given, in order, and then it is quiet. It keeps a record of its calls as
+/// long as there is memory for it.
+#[derive(Drop)]
+pub struct ListPort<'a> {
+    alloc: Global,
+    comings: &'a [Coming<'a>],
+    takes_sends: bool,
+    entries: Vec<PortEntry>,
+    is_whole: bool,
+}
+
+impl<'a> Model for ListPort<'a> {
+    ghost use Rattle.std.specs.Prelude.{List, Option};
+    ghost use Rattle.node_turns.specs.Entries.{events_kept};
+    ghost use Rattle.node_turns.specs.Port.{PortEvent};
+
+    ghost Value = { Option (List PortEvent) };
+
+    ghost view = { λ port. events_kept port.is_whole port.entries.items };
+}
+
+/// The entry of a receive.
+fn entry_of_receive(alloc: Global, received: Received, buffer: &[u8]) -> Result<PortEntry, AllocError>
+    requires within { IsWithin received }
+    requires whole { length buffer.now ≡ 512 }
+    ensures { IfOk result (λ entry. event_of_entry entry ≡ event_of_receive received buffer.now) }
+{
+    match received {
+        Received::Datagram { sender, len } => Ok(PortEntry::Received {
+            sender,
+            bytes: buffer[..len].to_vec(alloc)?,
+        }),
+        Received::Quiet => Ok(PortEntry::Quiet),
+        Received::Fault => Ok(PortEntry::Faulted),
+    }
+}
+
+impl<'a> ListPort<'a> {
+    /// A port that is to hand these in.
+    pub fn new(alloc: Global, comings: &'a [Coming<'a>]) -> Self
+        ensures { result ≡ Some [] }
+    {
+        ListPort {
+            alloc,
+            comings,
+            takes_sends: true,
+            entries: Vec::new(alloc),
+            is_whole: true,
+        }
+    }
+
+    /// From now on each send fails.
+    pub fn fail_sends(&mut self)
+        ensures { self.new ≡ self.old }
+    {
+        self.takes_sends = false;
+    }
+
+    /// What was received and offered, in order; None where there was no memory for it.
+    pub fn record(&self) -> Option<&[PortEntry]>
+        ensures { option_map (λ entries. map event_of_entry entries.now) result ≡ self.now }
+    {
+        if self.is_whole {
+            return Some(self.entries.as_slice());
+        }
+        None
+    }
+
+    /// Adds an entry to the record, if there is one and memory for it.
+    fn keep(&mut self, entry: Result<PortEntry, AllocError>)
+        ensures kept { IfOk entry (λ kept. Grows self.old self.new (event_of_entry kept ∷ [])) }
+        ensures lost { OnErr entry (self.new ≡ None) }
+    {
+        match entry {
+            Ok(entry) => {
+                if self.entries.push(entry).is_err() {
+                    self.is_whole = false;
+                }
+            }
+            Err(_) => self.is_whole = false,
+        }
+    }
+
+    /// Hands in what is next.
+    fn hand_in(&mut self, buffer: &mut [u8; 512]) -> Received
+        ensures within { IsWithin result }
+        ensures record { self.new ≡ self.old }
+    {
+        let Some((first, rest)) = self.comings.split_first() else {
+            return Received::Quiet;
+        };
+        self.comings = rest;
+        match *first {
+            Coming::Datagram { sender, bytes } => {
+                let len = bytes.len().min(MAX_DATAGRAM_LEN);
+                buffer[..len].copy_from_slice(&bytes[..len]);
+                Received::Datagram { sender, len }
+            }
+            Coming::Quiet => Received::Quiet,
+            Coming::Fault => Received::Fault,
+        }
+    }
+}
+
+impl Port for ListPort<'_> {
+    ghost events = { λ port. port };
+
+    fn receive(&mut self, buffer: &mut [u8; 512]) -> Received {
+        let received = self.hand_in(buffer);
+        let entry = entry_of_receive(self.alloc, received, buffer.as_slice());
+        self.keep(entry);
+        received
+    }
+
+    fn send(&mut self, to: Sender, bytes: &[u8]) -> bool {
+        let entry = match bytes.to_vec(self.alloc) {
+            Ok(bytes) => Ok(PortEntry::Offered { to, bytes }),
+            Err(refused) => Err(refused),
+        };
+        self.keep(entry);
+        self.takes_sends
+    }
+}
+
+/// A clock in memory. It tells the moments that it was given, in order, and then fails.
+#[derive(Drop)]
+pub struct ListClock<'a> {
+    moments: &'a [u64],
+}
+
+impl<'a> ListClock<'a> {
+    /// A clock that is to tell these.
+    pub fn new(moments: &'a [u64]) -> Self {
+        ListClock { moments }
+    }
+
+    /// The moments that it hasn't told yet.
+    pub fn untold(&self) -> &[u64] {
+        self.moments
+    }
+}
+
+impl Clock for ListClock<'_> {
+    fn moment(&mut self) -> Option<u64> {
+        let (first, rest) = self.moments.split_first()?;
+        self.moments = rest;
+        Some(*first)
+    }
+}
