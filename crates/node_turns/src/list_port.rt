@@ -56,7 +56,11 @@ impl<'a> Model for ListPort<'a> {
 }
 
 /// The entry of a receive.
-fn entry_of_receive(alloc: Global, received: Received, buffer: &[u8]) -> Result<PortEntry, AllocError>
+fn entry_of_receive(
+    alloc: Global,
+    received: Received,
+    buffer: &[u8],
+) -> Result<PortEntry, AllocError>
     requires within { IsWithin received }
     requires whole { length buffer.now ≡ 512 }
     ensures { IfOk result (λ entry. event_of_entry entry ≡ event_of_receive received buffer.now) }
@@ -122,11 +126,12 @@ impl<'a> ListPort<'a> {
         ensures within { IsWithin result }
         ensures record { self.new ≡ self.old }
     {
-        let Some((first, rest)) = self.comings.split_first() else {
+        let comings = self.comings;
+        if comings.is_empty() {
             return Received::Quiet;
-        };
-        self.comings = rest;
-        match *first {
+        }
+        self.comings = &comings[1..];
+        match comings[0] {
             Coming::Datagram { sender, bytes } => {
                 let len = bytes.len().min(MAX_DATAGRAM_LEN);
                 buffer[..len].copy_from_slice(&bytes[..len]);

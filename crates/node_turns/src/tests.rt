@@ -46,7 +46,14 @@ fn node_of<'b>(
     if floors.len() > 10_000 || floors.len() != book.len() {
         return Err("another number of tokens".into());
     }
-    match Node::open(alloc, book, settings()?, place, key, MemStore::new(alloc, floors)?) {
+    match Node::open(
+        alloc,
+        book,
+        settings()?,
+        place,
+        key,
+        MemStore::new(alloc, floors)?,
+    ) {
         Ok(node) => Ok(node),
         Err((_, fault)) => Err(fault.into()),
     }
@@ -91,7 +98,12 @@ fn quiet_turns_are_ticks(rt: HostRuntime) -> Result<(), Fail> {
     let mut port = ListPort::new(rt.alloc(), &[]);
     let mut clock = ListClock::new(&[]);
     let end = served(rt.alloc(), 3, &mut port, &mut clock, 10)?;
-    assert!(rt; end == Ok(Served { received: 0, replied: 0 }));
+    assert!(rt;
+        end == Ok(Served {
+            received: 0,
+            replied: 0
+        })
+    );
     // Each tick tells the two other members a floor.
     assert!(rt; offers(&port)? == (20, 0));
     Ok(())
@@ -103,7 +115,12 @@ fn bad_lines_are_answered(rt: HostRuntime) -> Result<(), Fail> {
     let mut port = ListPort::new(rt.alloc(), &comings);
     let mut clock = ListClock::new(&[100; 65]);
     let end = served(rt.alloc(), 3, &mut port, &mut clock, 64)?;
-    assert!(rt; end == Ok(Served { received: 64, replied: 64 }));
+    assert!(rt;
+        end == Ok(Served {
+            received: 64,
+            replied: 64
+        })
+    );
     assert!(rt; offers(&port)? == (2, 64));
     assert!(rt; clock.untold().len() == 1);
     Ok(())
@@ -115,7 +132,12 @@ fn faults_in_a_row_end_it(rt: HostRuntime) -> Result<(), Fail> {
     let mut clock = ListClock::new(&[]);
     let mut port = ListPort::new(rt.alloc(), &comings);
     let end = served(rt.alloc(), 3, &mut port, &mut clock, 15)?;
-    assert!(rt; end == Ok(Served { received: 0, replied: 0 }));
+    assert!(rt;
+        end == Ok(Served {
+            received: 0,
+            replied: 0
+        })
+    );
     assert!(rt; offers(&port)? == (0, 0));
     let mut port = ListPort::new(rt.alloc(), &comings);
     let end = served(rt.alloc(), 3, &mut port, &mut clock, 17)?;
@@ -126,12 +148,23 @@ fn faults_in_a_row_end_it(rt: HostRuntime) -> Result<(), Fail> {
 
 #[test]
 fn sends_that_fail_are_lost(rt: HostRuntime) -> Result<(), Fail> {
-    let comings = [NO_LINE, Coming::Fault, Coming::Quiet, Coming::Fault, NO_LINE];
+    let comings = [
+        NO_LINE,
+        Coming::Fault,
+        Coming::Quiet,
+        Coming::Fault,
+        NO_LINE,
+    ];
     let mut clock = ListClock::new(&[100; 2]);
     let mut port = ListPort::new(rt.alloc(), &comings);
     port.fail_sends();
     let end = served(rt.alloc(), 3, &mut port, &mut clock, 5)?;
-    assert!(rt; end == Ok(Served { received: 2, replied: 2 }));
+    assert!(rt;
+        end == Ok(Served {
+            received: 2,
+            replied: 2
+        })
+    );
     assert!(rt; offers(&port)? == (2, 2));
     Ok(())
 }
@@ -157,7 +190,12 @@ fn a_right_line_is_answered_once(rt: HostRuntime) -> Result<(), Fail> {
     let mut port = ListPort::new(rt.alloc(), &comings);
     let mut clock = ListClock::new(&[100]);
     let end = served(rt.alloc(), 1, &mut port, &mut clock, 1)?;
-    assert!(rt; end == Ok(Served { received: 1, replied: 1 }));
+    assert!(rt;
+        end == Ok(Served {
+            received: 1,
+            replied: 1
+        })
+    );
     let entries = port.record().ok_or("no record")?;
     let PortEntry::Offered { to, bytes } = entries.get(1).ok_or("no answer")? else {
         return Err("another entry".into());
