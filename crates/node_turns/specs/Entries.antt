@@ -1,5 +1,5 @@
--- The record of a port in memory.
-use Rattle.std.specs.Prelude.{Bool, true, false, List, map, Option, Some, None}
+-- The records of a port and a clock in memory.
+use Rattle.std.specs.Prelude.{ℕ, Bool, true, false, List, map, Option, Some, None}
 use Rattle.node_turns.specs.Port.{PortEvent, Received, Quiet, Faulted, Offered}
 use Rattle.node_turns.specs.declared.list_port.PortEntry.{PortEntry}
 use Rattle.node_turns.specs.declared.list_port.PortEntry.TheVariants.{Received as ReceivedEntry, Quiet as QuietEntry, Faulted as FaultedEntry, Offered as OfferedEntry}
@@ -15,3 +15,8 @@ event_of_entry (OfferedEntry to bytes) = Offered to bytes.items
 abbrev pub events_kept : Bool → List PortEntry → Option (List PortEvent)
 events_kept true entries = Some (map event_of_entry entries)
 events_kept false entries = None
+
+-- what was told, as long as nothing of it was lost
+abbrev pub moments_kept : Bool → List (Option ℕ) → Option (List (Option ℕ))
+moments_kept true told = Some told
+moments_kept false told = None

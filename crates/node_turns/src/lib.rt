@@ -7,6 +7,7 @@
 
 mod clock;
 mod fault;
+mod laws;
 mod list_port;
 mod port;
 #[cfg(test)]
@@ -15,6 +16,7 @@ mod turns;
 
 pub use clock::Clock;
 pub use fault::ServeFault;
+pub use laws::turns_are_worked;
 pub use list_port::{Coming, ListClock, ListPort, PortEntry};
 pub use port::{MAX_DATAGRAM_LEN, Port, Received, Sender};
 pub use turns::{Served, run_turns};

@@ -163,28 +163,64 @@ impl Port for ListPort<'_> {
     }
 }
 
-/// A clock in memory. It tells the moments that it was given, in order, and then fails.
+/// A clock in memory. It tells the moments that it was given, in order, and then fails. It keeps a record of what it told
+/// as long as there is memory for it.
 #[derive(Drop)]
 pub struct ListClock<'a> {
     moments: &'a [u64],
+    told: Vec<Option<u64>>,
+    is_whole: bool,
+}
+
+impl<'a> Model for ListClock<'a> {
+    ghost use Rattle.std.specs.Prelude.{ℕ, List, Option};
+    ghost use Rattle.node_turns.specs.Entries.{moments_kept};
+
+    ghost Value = { Option (List (Option ℕ)) };
+
+    ghost view = { λ clock. moments_kept clock.is_whole clock.told.items };
 }
 
 impl<'a> ListClock<'a> {
     /// A clock that is to tell these.
-    pub fn new(moments: &'a [u64]) -> Self {
-        ListClock { moments }
+    pub fn new(alloc: Global, moments: &'a [u64]) -> Self
+        ensures { result ≡ Some [] }
+    {
+        ListClock {
+            moments,
+            told: Vec::new(alloc),
+            is_whole: true,
+        }
     }
 
-    /// The moments that it hasn't told yet.
-    pub fn untold(&self) -> &[u64] {
-        self.moments
+    /// What it told, in order; None where there was no memory for it.
+    pub fn record(&self) -> Option<&[Option<u64>]>
+        ensures { option_map (λ told. told.now) result ≡ self.now }
+    {
+        if self.is_whole {
+            return Some(self.told.as_slice());
+        }
+        None
+    }
+
+    /// The next moment.
+    fn next(&mut self) -> Option<u64>
+        ensures { self.new ≡ self.old }
+    {
+        let (first, rest) = self.moments.split_first()?;
+        self.moments = rest;
+        Some(*first)
     }
 }
 
 impl Clock for ListClock<'_> {
+    ghost moments = { λ clock. clock };
+
     fn moment(&mut self) -> Option<u64> {
-        let (first, rest) = self.moments.split_first()?;
-        self.moments = rest;
-        Some(*first)
+        let moment = self.next();
+        if self.told.push(moment).is_err() {
+            self.is_whole = false;
+        }
+        moment
     }
 }

@@ -1,0 +1,21 @@
+ghost use Rattle.std.specs.Prelude.{◌≡◌, ◌∷◌, [], ◌++◌, Some, None, replicate};
+ghost use Rattle.node_turns.specs.TurnExamples.{going_with, line_without_moment, no_line, noise, run_of};
+ghost use Rattle.node_turns.specs.Turns.{Failure, Nothing, moments_in};
+ghost use Rattle.node_turns.specs.declared.fault.ServeFault.TheVariants.{Clock, Port};
+
+/// What some turns of a member of three come to.
+pub fn turns_are_worked()
+    ensures quiet { run_of (replicate 10 Nothing) ≡ going_with 0 0 10 }
+    ensures lines { run_of (replicate 64 no_line) ≡ going_with 64 64 1 }
+    ensures before_64th { run_of (replicate 63 no_line) ≡ going_with 63 63 0 }
+    ensures members_count { run_of (replicate 63 no_line ++ Nothing ∷ Failure ∷ noise ∷ [])
+        ≡ going_with 64 63 2 }
+    ensures faults { run_of (replicate 15 Failure) ≡ going_with 0 0 0 }
+    ensures too_many_faults { run_of (replicate 17 Failure) ≡ record (going_with 0 0 0) { end = Some Port } }
+    ensures faults_apart { run_of (replicate 15 Failure ++ Nothing ∷ replicate 15 Failure) ≡ going_with 0 0 1 }
+    ensures clock { run_of (line_without_moment ∷ Nothing ∷ [])
+        ≡ record (going_with 1 0 0) { end = Some Clock } }
+    // the clock is asked for a client's datagram alone
+    ensures asked { moments_in (noise ∷ Nothing ∷ no_line ∷ Failure ∷ line_without_moment ∷ [])
+        ≡ Some 100 ∷ None ∷ [] }
+{}
