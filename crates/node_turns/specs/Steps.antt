@@ -34,12 +34,14 @@ abbrev pub IsClean : {S : Type 0} → (S → Held) → Scene S → Type 0
 IsClean held now = (held now.node.store).is_clean
 
 -- a scene is that of a run, the tally too
-pub record IsOf {S : Type 0} (held : S → Held) (first : Option (List PortEvent)) (now : Scene S) (run : Run) : Type 0 where
+pub record IsOf {S : Type 0} (held : S → Held) (first : Option (List PortEvent)) (now : Scene S)
+    (run : Run) : Type 0 where
   pub stands : Stands held first now.node now.entries run
   pub tally : now.tally ≡ run.tally
 
 -- what steps do, whatever becomes of the store
-pub record Keeps {S : Type 0} (held : S → Held) (old new : Scene S) (receipts : List Receipt) (replies : ℕ) : Type 0 where
+pub record Keeps {S : Type 0} (held : S → Held) (old new : Scene S) (receipts : List Receipt)
+    (replies : ℕ) : Type 0 where
   pub same : IsSameNode old.node new.node
   pub clean : IsClean held new → IsClean held old
   pub receives : Grows (option_map receives_in old.entries) (option_map receives_in new.entries) (map entry_of receipts)

@@ -163,8 +163,8 @@ impl Port for ListPort<'_> {
     }
 }
 
-/// A clock in memory. It tells the moments that it was given, in order, and then fails. It keeps a record of what it told
-/// as long as there is memory for it.
+/// A clock in memory. It tells the moments that it was given, in order, and then fails. It keeps a record of what
+/// it told as long as there is memory for it.
 #[derive(Drop)]
 pub struct ListClock<'a> {
     moments: &'a [u64],
