@@ -10,15 +10,16 @@ use Rattle.oathd_sim.specs.declared.fault.Fault.{Fault}
 use Rattle.oathd_sim.specs.declared.fault.Fault.TheVariants.{Memory, CannotRead, CannotWrite, Users, ScriptLine}
 
 -- what is read of an input is this users file, and this script behind it, which the limit may cut
-pub record HasParts (limits : Limits) (moment longest limit : ℕ) (read : List ℕ) (book : List Credential) (floors : List ℕ)
-    (script : List ℕ) (is_cut : Bool) : Type 0 where
+pub record HasParts (limits : Limits) (moment longest limit : ℕ) (read : List ℕ) (book : List Credential)
+    (floors : List ℕ) (script : List ℕ) (is_cut : Bool) : Type 0 where
   pub import : import_read limits moment longest limit read ≡ Ok (import_of book floors)
   pub rest : rest_part (lines_of limit read) ≡ lines_between is_cut (pieces_of script)
 
 -- the two parts aren't read for this fault
 abbrev pub IsUnread : Limits → ℕ → ℕ → ℕ → List ℕ → Fault → Type 0
 IsUnread limits moment longest limit read Memory = Unit {0}
-IsUnread limits moment longest limit read CannotRead = (import : Import) × (import_read limits moment longest limit read ≡ Ok import)
+IsUnread limits moment longest limit read CannotRead =
+    (import : Import) × (import_read limits moment longest limit read ≡ Ok import)
 IsUnread limits moment longest limit read CannotWrite = ⊥
 IsUnread limits moment longest limit read (Users fault) =
     (IsTrue (is_of_text fault.kind) → import_read limits moment longest limit read ≡ Err (fault.line, fault.kind))

@@ -74,7 +74,8 @@ sim_of_users setup (Ok import) script = sim_of_script setup import script
 
 -- the users file of what is read of an input, as an import
 abbrev pub import_read : Limits → ℕ → ℕ → ℕ → List ℕ → Result Import (ℕ × LineFault)
-import_read limits moment longest limit read = book_of longest (instant_of limits moment) (users_file (lines_of limit read) read)
+import_read limits moment longest limit read =
+    book_of longest (instant_of limits moment) (users_file (lines_of limit read) read)
 
 -- the script of what is read of an input, whose lines are numbered from 1 behind the users file and `%%`
 abbrev pub script_read : ℕ → List ℕ → Result (List Event) ℕ
@@ -108,9 +109,9 @@ IsTaken (Refused fault) = ⊥
 IsTaken (BadScript number) = Unit {0}
 IsTaken (Reports report) = Unit {0}
 
--- The call ends as the simulation does, and has written what it prints, no more and no less. Where the memory failed, or
--- the input, nothing is written; an input that failed in the midst of the users file is that file's fault. Where the output
--- failed, users file and script are good, and no more is said.
+-- The call ends as the simulation does, and has written what it prints, no more and no less. Where the memory failed,
+-- or the input, nothing is written; an input that failed in the midst of the users file is that file's fault. Where
+-- the output failed, users file and script are good, and no more is said.
 abbrev pub EndsSo : Sim → Result Unit Fault → Option (List ℕ) → Option (List ℕ) → Type 0
 EndsSo sim (Err Memory) old new = Appends old new []
 EndsSo sim (Err CannotRead) old new = IsTaken sim × Appends old new []

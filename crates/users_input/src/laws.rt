@@ -31,5 +31,6 @@ pub fn inputs_are_worked()
     ensures cut_marker { has_marker (lines_of 2 (codes "%%\n")) ≡ false }
 
     // each line has its number
-    ensures numbers { numbered 4 (lines_of 4 (codes "a\n\nbc")) ≡ (4, Some (codes "a")) ∷ (5, Some []) ∷ (6, None) ∷ [] }
+    ensures numbers { numbered 4 (lines_of 4 (codes "a\n\nbc"))
+        ≡ (4, Some (codes "a")) ∷ (5, Some []) ∷ (6, None) ∷ [] }
 {}
