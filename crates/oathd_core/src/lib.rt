@@ -24,9 +24,7 @@ mod secret;
 mod tests;
 
 pub use fault::Fault;
-pub use laws::{
-    client_lines_are_worked, promises_can_be_broken, runs_are_worked,
-};
+pub use laws::{client_lines_are_worked, promises_can_be_broken, runs_are_worked};
 pub use lines::serve_lines;
 pub use request::{Request, run};
 pub use secret::print_secret;
