@@ -1,5 +1,5 @@
 -- Scripts to reckon with: nodes with the one token of RFC 4226, Appendix D.
-use Rattle.std.specs.Prelude.{ℕ, zero, suc, ◌+◌, ◌++◌, List, [], ◌∷◌, Bool, true, Some, None, codes}
+use Rattle.std.specs.Prelude.{ℕ, zero, suc, ◌+◌, ◌++◌, List, [], ◌∷◌, Bool, true, false, Some, None, codes}
 use Rattle.hmac_core.specs.declared.hash.Hash.TheVariants.{Sha1}
 use Rattle.otp_core.specs.Acceptance.{Acceptance}
 use Rattle.otp_core.specs.declared.digits.Digits.TheVariants.{Six}
@@ -146,6 +146,26 @@ nothing_happens =
     ∷ Happens (Noise 2 3 (Some forged_ask)) ∷ Cut true (Noise 2 1 None)
     ∷ line_at 4 7 1000 (codes "CHECK a silver 755224 -") ∷ delivery 2 0 ∷ Cut true (Deliver 1 2)
     ∷ line_at 1 7 1000 (codes "CHECK a silver 755224 -") ∷ []
+
+-- node 1 stops inside the step in which it accepts, and loses it
+abbrev pub stop_before_accepting : List WorldEvent
+stop_before_accepting = first_at_1 ∷ delivery 2 0 ∷ Cut false (Deliver 1 2) ∷ first_at_1 ∷ []
+
+-- a stop inside a delivery of what was never sent is none
+abbrev pub stop_of_nothing : List WorldEvent
+stop_of_nothing = first_at_1 ∷ Cut true (Deliver 1 99) ∷ delivery 2 0 ∷ delivery 1 2 ∷ []
+
+-- node 1 stops inside noise, with a line that waits
+abbrev pub stop_in_noise : List WorldEvent
+stop_in_noise = first_at_1 ∷ Cut true (Noise 1 2 None) ∷ delivery 2 0 ∷ delivery 1 2 ∷ []
+
+-- node 1 stops inside a tick, with a line that waits
+abbrev pub stop_in_a_tick : List WorldEvent
+stop_in_a_tick = first_at_1 ∷ Cut true (Ticks 1) ∷ delivery 2 0 ∷ delivery 1 2 ∷ []
+
+-- node 1 stops inside a line, which comes again
+abbrev pub stop_in_a_line : Bool → List WorldEvent
+stop_in_a_line kept = Cut kept (Says 1 7 1000 (codes "CHECK a silver 755224 -")) ∷ first_at_1 ∷ []
 
 -- ---- one node
 

@@ -5,7 +5,7 @@ ghost use Rattle.vote_core.specs.Safety.{HaveMajority};
 ghost use Rattle.oath_node.specs.Machine.{Config};
 ghost use Rattle.vote_wire.specs.declared.answer.Outcome.TheVariants.{Accepted, Busy, Clock, Exhausted, Invalid, Password, Spent, Throttled, Timeout, Unknown};
 ghost use Rattle.cluster_sim.specs.Answered.{AreAnswered, NamePasses, TellTruth};
-ghost use Rattle.cluster_sim.specs.Examples.{alone, config, eight_ticks, exhausted, five, four, fresh_token, gate_survives_restart, letter_lines, many_floors, many_users, nothing_happens, old_grants, one_voter_twice, acceptance, password_column, refusal_again, report_with, resynchronization, line_at, second_factor_elsewhere, span_against_one, split_two_to_two, stop_after_the_commit, three, told_outcome, told_bad_line, two_submissions, with_password};
+ghost use Rattle.cluster_sim.specs.Examples.{alone, config, eight_ticks, exhausted, five, four, fresh_token, gate_survives_restart, letter_lines, many_floors, many_users, nothing_happens, old_grants, one_voter_twice, acceptance, password_column, refusal_again, report_with, resynchronization, line_at, second_factor_elsewhere, span_against_one, split_two_to_two, stop_after_the_commit, stop_before_accepting, stop_in_a_line, stop_in_a_tick, stop_in_noise, stop_of_nothing, three, told_outcome, told_bad_line, two_submissions, with_password};
 ghost use Rattle.cluster_sim.specs.Justified.{AreJustified};
 ghost use Rattle.cluster_sim.specs.Results.{results_of};
 ghost use Rattle.cluster_sim.specs.SingleNode.{reference_answers, opening_server};
@@ -109,6 +109,20 @@ pub fn scripts_are_worked()
         ∷ told_outcome 1 1 7 (codes "2") (Accepted 0) ∷ []) 0 }
     ensures exhausted { report_of config exhausted (line_at 1 7 100 (codes "CHECK 1 silver 755224 -") ∷ [])
         ≡ report_with [] (told_outcome 0 1 7 (codes "1") Exhausted ∷ []) 0 }
+{}
+
+/// Stops inside each kind of act, worked through: what is written is kept or lost, all else is lost, and the node that
+/// is named restarts.
+pub fn stops_are_worked()
+    ensures before_accepting { report_of config three stop_before_accepting
+        ≡ report_with [] (told_outcome 3 1 7 (codes "a") Invalid ∷ []) 3 }
+    ensures of_nothing { report_of config three stop_of_nothing
+        ≡ report_with (acceptance 0 3 1 0 0 ∷ []) (told_outcome 3 1 7 (codes "a") (Accepted 0) ∷ []) 3 }
+    ensures in_noise { report_of config three stop_in_noise ≡ report_with [] [] 3 }
+    ensures in_a_tick { report_of config three stop_in_a_tick ≡ report_with [] [] 3 }
+    ensures in_a_line_kept { report_of config three (stop_in_a_line true)
+        ≡ report_with [] (told_outcome 1 1 7 (codes "a") Invalid ∷ []) 0 }
+    ensures in_a_line_lost { report_of config three (stop_in_a_line false) ≡ report_with [] [] 2 }
 {}
 
 /// Of 33 submissions at once the first 32 wait, and the last is told that the node is busy.

@@ -40,7 +40,7 @@ mod tests;
 pub use fault::SimFault;
 pub use laws::{
     answers_belong_to_passes, busy_script_is_worked, one_node_is_the_reference, scripts_are_worked,
-    world_is_safe,
+    stops_are_worked, world_is_safe,
 };
 pub use report::{Report, WorldAnswer, WorldPass};
 pub use run::run_world;

@@ -3,13 +3,17 @@
 // What makes the tables and their first rows.
 
 pub const CREATE_SELF: &str =
-    "CREATE TABLE self (id INTEGER PRIMARY KEY CHECK (id = 1), version INTEGER NOT NULL, node INTEGER NOT NULL, tokens INTEGER NOT NULL, boot INTEGER NOT NULL) STRICT";
+    "CREATE TABLE self (id INTEGER PRIMARY KEY CHECK (id = 1), version INTEGER NOT NULL, \
+        node INTEGER NOT NULL, tokens INTEGER NOT NULL, boot INTEGER NOT NULL) STRICT";
 
 pub const CREATE_FLOOR: &str =
-    "CREATE TABLE floor (token INTEGER PRIMARY KEY, next INTEGER NOT NULL, g_node INTEGER, g_boot INTEGER, g_seq INTEGER, g_lo INTEGER, g_hi INTEGER, fails INTEGER NOT NULL, until INTEGER NOT NULL) STRICT";
+    "CREATE TABLE floor (token INTEGER PRIMARY KEY, next INTEGER NOT NULL, \
+        g_node INTEGER, g_boot INTEGER, g_seq INTEGER, g_lo INTEGER, g_hi INTEGER, \
+        fails INTEGER NOT NULL, until INTEGER NOT NULL) STRICT";
 
 pub const CREATE_PASS: &str =
-    "CREATE TABLE pass (number INTEGER PRIMARY KEY, token INTEGER NOT NULL, lo INTEGER NOT NULL, hi INTEGER NOT NULL, boot INTEGER NOT NULL, seq INTEGER NOT NULL) STRICT";
+    "CREATE TABLE pass (number INTEGER PRIMARY KEY, token INTEGER NOT NULL, \
+        lo INTEGER NOT NULL, hi INTEGER NOT NULL, boot INTEGER NOT NULL, seq INTEGER NOT NULL) STRICT";
 
 pub const INSERT_SELF: &str =
     "INSERT INTO self (id, version, node, tokens, boot) VALUES (1, 1, ?1, ?2, 0)";
@@ -29,7 +33,8 @@ pub const SELECT_PASSES: &str = "SELECT number, token, lo, hi, boot, seq FROM pa
 // What a put and the raise of a boot write.
 
 pub const UPDATE_FLOOR: &str =
-    "UPDATE floor SET next = ?2, g_node = ?3, g_boot = ?4, g_seq = ?5, g_lo = ?6, g_hi = ?7, fails = ?8, until = ?9 WHERE token = ?1";
+    "UPDATE floor SET next = ?2, g_node = ?3, g_boot = ?4, g_seq = ?5, g_lo = ?6, g_hi = ?7, \
+        fails = ?8, until = ?9 WHERE token = ?1";
 
 pub const INSERT_PASS: &str =
     "INSERT INTO pass (number, token, lo, hi, boot, seq) VALUES (?1, ?2, ?3, ?4, ?5, ?6)";

@@ -67,6 +67,8 @@ pub fn bodies_are_worked()
     ensures another_kind { ask_with 3 3 ≡ None }
     ensures from_0 { ask_with 4 0 ≡ None }
     ensures from_10 { ask_with 4 10 ≡ None }
+    ensures floor_from_0 { read_again 0 8 (Floor 0 0) ≡ None }
+    ensures floor_from_10 { read_again 10 8 (Floor 0 0) ≡ None }
     ensures to_0 { ask_with 5 0 ≡ None }
     ensures to_10 { ask_with 5 10 ≡ None }
     ensures to_itself { ask_with 5 1 ≡ None }
@@ -78,8 +80,8 @@ pub fn bodies_are_worked()
     ensures grant_of_another { read_again 2 3 grant ≡ None }
     ensures deny_of_another { read_again 3 1 deny ≡ None }
     ensures node_0 { read_again 1 2 (Grant (record { node = 0; boot = 0; seq = 0 }) 0 0 0) ≡ None }
-    ensures last_numbers { read_again 1 2 (ask_of 4611686018427387903 4611686018427387903 9999 4611686018427387903 4611686018427387903)
-        ≡ Some (1, 2, ask_of 4611686018427387903 4611686018427387903 9999 4611686018427387903 4611686018427387903) }
+    ensures last_numbers { let last : ℕ = 4611686018427387903 in
+        read_again 1 2 (ask_of last last 9999 last last) ≡ Some (1, 2, ask_of last last 9999 last last) }
     ensures boot { read_again 1 2 (ask_of 4611686018427387904 0 0 0 0) ≡ None }
     ensures seq { read_again 1 2 (ask_of 0 4611686018427387904 0 0 0) ≡ None }
 

@@ -99,6 +99,14 @@ pub returns-clause-from_10 : goal.returns-clause-from_10
 unfolding body_at message_at vote_at denial_at floor_at proposal_at factor_at next_at
 returns-clause-from_10 c = refl
 
+pub returns-clause-floor_from_0 : goal.returns-clause-floor_from_0
+unfolding body_at message_at vote_at denial_at floor_at proposal_at factor_at next_at
+returns-clause-floor_from_0 c = refl
+
+pub returns-clause-floor_from_10 : goal.returns-clause-floor_from_10
+unfolding body_at message_at vote_at denial_at floor_at proposal_at factor_at next_at
+returns-clause-floor_from_10 c = refl
+
 pub returns-clause-to_0 : goal.returns-clause-to_0
 unfolding body_at message_at vote_at denial_at floor_at proposal_at factor_at next_at
 returns-clause-to_0 c = refl
