@@ -10,7 +10,6 @@ pub mod OwnedLemmas
 pub mod OwnerLemmas
 pub mod PeerLemmas
 pub mod RefusalLemmas
-pub mod RunLemmas
 pub mod SafetyLemmas
 pub mod ServingLemmas
 pub mod StepLemmas

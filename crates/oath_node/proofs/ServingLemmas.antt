@@ -2,7 +2,6 @@
 use Rattle.std.proofs.Common.{◌≡◌, ℕ, ◌+◌, ◌^◌, List, [], ◌∷◌, length, replicate, Option, Some, None, refl, sym, ap, subst, ◌∙◌, arith, ◌<◌, ◌≤◌, true, false}
 use Rattle.std.specs.Prelude.{Result, Ok, Err, IsErrAnd}
 use Rattle.std.specs.Map.Iter.{TakesFirst}
-use Rattle.std.specs.Option.{option_map}
 use Rattle.otp_core.specs.Limits.{Limits}
 use Rattle.token_file.specs.Credential.{Credential}
 use Rattle.admit_core.specs.Gate.{clear_gate}
@@ -11,7 +10,7 @@ use Rattle.floor_store.specs.Held.{Held}
 use Rattle.floor_store.specs.declared.fault.StoreFault.{StoreFault}
 use Rattle.floor_store.specs.declared.fault.StoreFault.TheVariants as broken
 use Rattle.vote_core.specs.NodeSet.{PlaceRecord}
-use Rattle.oath_node.specs.Alone.{IsAlone, ServesAlone, alone_place, floors_in, gates_in, gates_of, span_of}
+use Rattle.oath_node.specs.Alone.{IsAlone, ServesAlone, alone_place, floors_in, gates_in, gates_of}
 use Rattle.oath_node.specs.Calls.{FailsBy, IsMade, IsRefused}
 use Rattle.oath_node.specs.Hosted.{Hosted, IsSameNode, config_of}
 use Rattle.oath_node.specs.Machine.{Client, Config, Made, NodeEvent, NodeState, made_by_event, opened_node}
@@ -52,7 +51,6 @@ served law node book limits count server line h on =
 -- what the outputs of a line are, and the node that it leaves
 pub record IsGiven (new : Hosted Content) (book : List Credential) (limits : Limits) (count : ℕ) (server : Server) (line : Line) (outputs : OutputsRecord) : Type 0 where
   pub items : outputs.items ≡ Reply line.client (record { items = (service_of book limits server line).told.bytes }) ∷ []
-  pub pass : option_map span_of outputs.pass ≡ (service_of book limits server line).told.accepted
   pub serving : IsServing new book limits (count + 1) (service_of book limits server line).server
 
 pub given : AloneLaw → (old new : Hosted Content) (line : Line) (outputs : OutputsRecord)
@@ -67,7 +65,6 @@ given law old new line outputs made same runs book limits count server h =
     record {
       items = ap (λ (o : OutputsRecord). o.items) made.told ∙ ap (λ sends. items_of old.key me sends m.replies) s.sends
           ∙ ap (λ replies. items_of old.key me [] replies) s.replies;
-      pass = ap (λ (o : OutputsRecord). option_map span_of o.pass) made.told ∙ s.pass;
       serving = record {
         book_is = same.book ∙ h.book_is;
         limits_are = same.limits ∙ h.limits_are;

@@ -10,9 +10,8 @@ use Rattle.token_file.specs.declared.token.Kind.TheVariants.{Event}
 use Rattle.token_file.specs.declared.token.Password.{Password}
 use Rattle.token_file.specs.declared.token.Password.TheVariants.{NoneAllowed, NotChecked, Equal}
 use Rattle.oath_node.specs.ReferenceServer.{Line, Server, server_after, server_at}
-use Rattle.oath_node.specs.Report.{IsJustified, floor_before, report_of, results_before}
+use Rattle.oath_node.specs.Report.{IsJustified, LinePass, floor_before, report_of, results_before}
 use Rattle.oath_node.specs.Rules.{Standing, verdict}
-use Rattle.oath_node.specs.declared.report.LinePass.{LinePass}
 use Rattle.oath_node.specs.declared.rules.Verdict.{Verdict}
 
 -- ---- Rules
@@ -110,7 +109,7 @@ outcome_of lines =
     let report = report_of three_tokens narrowest_limits (0 ∷ 0 ∷ 0 ∷ []) lines in
     let server = server_of lines in
     record {
-      answers = map (λ answer. (answer.line, answer.client, answer.bytes.items)) report.answers;
+      answers = map (λ answer. (answer.line, answer.client, answer.bytes)) report.answers;
       passes = report.passes;
       floors = server.floors;
       results = server.front.results;

@@ -1,4 +1,5 @@
--- What a run of lines tells: what was accepted, and each answer; and when an acceptance is entitled to be one.
+-- What the reference server tells of a run of lines: what it accepts, and each answer; and when an acceptance is
+-- entitled to be one.
 use Rattle.std.specs.Prelude.{◌≡◌, ℕ, ◌+◌, List, [], ◌∷◌, ◌++◌, map, take, Option, Some, None, slice_get}
 use Rattle.otp_core.specs.Acceptance.{Acceptance}
 use Rattle.otp_core.specs.Limits.{Limits}
@@ -7,8 +8,19 @@ use Rattle.admit_core.specs.Entitled.{IsEntitled}
 use Rattle.admit_core.specs.Throttle.{Result}
 use Rattle.oath_node.specs.ReferenceServer.{Server, Line, Span, Told, Service, floor_of, results_of, service_of, server_after, server_at}
 use Rattle.vote_wire.specs.Request.{Request, IsLine}
-use Rattle.oath_node.specs.declared.report.LinePass.{LinePass}
-use Rattle.oath_node.specs.declared.report.LineAnswer.{LineAnswer}
+
+-- an accepted line: its number from 0, the token, and the factors that it uses up
+pub record LinePass : Type 0 where
+  pub began : ℕ
+  pub token : ℕ
+  pub lo : ℕ
+  pub hi : ℕ
+
+-- what a line is answered: its number from 0, its client, and the bytes without a line end
+pub record LineAnswer : Type 0 where
+  pub line : ℕ
+  pub client : ℕ
+  pub bytes : List ℕ
 
 -- what a run of lines tells
 pub record Report : Type 0 where
@@ -22,11 +34,7 @@ passes_at number (Some span) = record { began = number; token = span.token; lo =
 
 -- what the line of a number, which a client sent, is answered
 abbrev pub answer_at : ℕ → ℕ → List ℕ → LineAnswer
-answer_at number client bytes = record {
-  line = number;
-  client = client;
-  bytes = record { items = bytes };
-}
+answer_at number client bytes = record { line = number; client = client; bytes = bytes }
 
 -- what the line of this number was told comes before the rest
 abbrev pub told_before : ℕ → Line → Told → Report → Report
@@ -98,27 +106,3 @@ pub record IsJustified (book : List Credential) (limits : Limits) (floors : List
 abbrev pub AreJustified : List Credential → Limits → List ℕ → List Line → List LinePass → Type 0
 AreJustified book limits floors lines passes =
     (place : ℕ) (pass : LinePass) → slice_get passes place ≡ Some pass → IsJustified book limits floors lines pass
-
--- ---- How a report grows. Private contracts alone cite what follows: no public one rests on it
-
--- with one pass more
-abbrev pub with_pass : Report → LinePass → Report
-with_pass report pass = record { passes = report.passes ++ pass ∷ []; answers = report.answers }
-
--- with one answer more
-abbrev pub with_answer : Report → LineAnswer → Report
-with_answer report answer = record { passes = report.passes; answers = report.answers ++ answer ∷ [] }
-
--- with what was accepted with the line of this number
-abbrev pub with_passes : Report → ℕ → Option Span → Report
-with_passes report number accepted = record {
-  passes = report.passes ++ passes_at number accepted;
-  answers = report.answers;
-}
-
--- with what the line of this number was told
-abbrev pub with_told : Report → ℕ → ℕ → Told → Report
-with_told report number client told = record {
-  passes = report.passes ++ passes_at number told.accepted;
-  answers = report.answers ++ answer_at number client told.bytes ∷ [];
-}

@@ -1,6 +1,6 @@
 ghost use Rattle.std.specs.Prelude.{◌≡◌, ◌<◌, ◌≤◌, ◌^◌, ◌∷◌, ◌++◌, [], ℕ, List, Some, None, codes, false, length, replicate, true};
 ghost use Rattle.token_file.specs.declared.token.Password.TheVariants.{Equal, NoneAllowed, NotChecked};
-ghost use Rattle.admit_core.specs.Throttle.{Accepted as Passed, Failed};
+ghost use Rattle.admit_core.specs.Throttle.{Accepted as Passed, Failed, SpacesFailures};
 ghost use Rattle.oath_node.specs.Cases.{asking_node, config, content_with, datagram, denial, facts_of, first_line, full_node, grant, idle_node, line, node_with_kept, nothing_at_start, nothing_of_asking, rows_at_start, step_alone, step_among, told_at_start, told_of_asking};
 ghost use Rattle.oath_node.specs.Alone.{IsAlone, ServesAlone, alone_place};
 ghost use Rattle.oath_node.specs.Column.{column_fits};
@@ -9,7 +9,9 @@ ghost use Rattle.oath_node.specs.Machine.{Client, Config, NodeEvent, NodeState, 
 ghost use Rattle.oath_node.specs.Outputs.{outputs_of};
 ghost use Rattle.oath_node.specs.ReferenceServer.{Line, Server, restarted_server, service_of};
 ghost use Rattle.oath_node.specs.Refusals.{IsRefusal, KeepsFloors, SparesToken};
+ghost use Rattle.oath_node.specs.Report.{AreJustified, acceptances_of, report_of, results_in};
 ghost use Rattle.oath_node.specs.Rules.{Standing, ruling};
+ghost use Rattle.otp_core.specs.Acceptance.{HaveSingleUse, KeepRealTimeOrder};
 ghost use Rattle.otp_core.specs.Limits.{Limits};
 ghost use Rattle.token_file.specs.Credential.{Credential};
 ghost use Rattle.vote_core.specs.Cases.{free_row, pass, place, proposal};
@@ -22,7 +24,7 @@ ghost use Rattle.oath_node.specs.Examples.{IsJustifiedInRun, kept_in, lines_give
 ghost use Rattle.vote_wire.specs.declared.answer.Outcome.TheVariants.{Clock, Exhausted, Invalid, Password, Throttled, Unknown};
 ghost use Rattle.oath_node.specs.declared.rules.Verdict.TheVariants.{BadLine, Fails, Proposes, Refused};
 
-use admit_core::{gate_keeps_throttle, least_fit_is_least};
+use admit_core::{failures_are_spaced, gate_keeps_throttle, least_fit_is_least};
 
 /// What the rules make of some lines: the first rule that applies decides.
 pub fn rules_are_worked()
@@ -99,6 +101,24 @@ pub fn answers_are_given_again()
       front = record { results = (Failed 65 ∷ Failed 60 ∷ Passed ∷ []) ∷ [] ∷ [] ∷ []; answers = [] };
     } }
 {}
+
+/// Whatever lines the reference server answers, from these first free factors on, of which there is one for each
+/// token: it accepts no factor of a token twice, and none at or below an earlier one; each acceptance is entitled to
+/// be one; and the failures of each token are far apart.
+pub fn reference_server_is_safe()
+    ensures single_use { (book : List Credential) (limits : Limits) (floors : List ℕ) (lines : List Line)
+        → length floors ≡ length book → HaveSingleUse (acceptances_of (report_of book limits floors lines).passes) }
+    ensures in_order { (book : List Credential) (limits : Limits) (floors : List ℕ) (lines : List Line)
+        → length floors ≡ length book → KeepRealTimeOrder (acceptances_of (report_of book limits floors lines).passes) }
+    ensures entitled { (book : List Credential) (limits : Limits) (floors : List ℕ) (lines : List Line)
+        → length floors ≡ length book
+        → AreJustified book limits floors lines (report_of book limits floors lines).passes }
+    ensures spaced { (book : List Credential) (limits : Limits) (floors : List ℕ) (lines : List Line) (token : ℕ)
+        → SpacesFailures (results_in book limits floors lines token) }
+{
+    failures_are_spaced();
+    least_fit_is_least();
+}
 
 /// What is said of an acceptance of that run can be broken: by another token, another factor, a line that is none or
 /// isn't there, one that came while the token was closed, and one with a factor that is used up.

@@ -17,25 +17,25 @@
 //! What comes from elsewhere may be lost, repeated, reordered or forged. A datagram without the tag of the
 //! cluster's key is dropped, and so is one that isn't for this node, or is from another member than it says.
 //!
-//! A node that is alone needs no votes. [`LineServer`] is one that answers each line when it is asked, and
-//! [`run_lines`] has one answer a list of lines:
+//! A node that is alone needs no votes. [`LineServer`] is one that answers each line when it is asked:
 //!
 //! ```rust
-//! use oath_node::{ClientLine, run_lines};
+//! use oath_node::{ClientLine, LineServer};
 //! use otp_core::Settings;
 //! use token_file::{FromRead, read_book};
+//! use vote_wire::ClusterKey;
 //!
 //! let users = b"HOTP silver - 3132333435363738393031323334353637383930".as_slice();
 //! let settings = Settings::default();
 //! let (book, floors) = read_book(alloc, &mut FromRead::new(users), settings, 0)?;
-//! let lines = [ClientLine { client: 7, moment: 100, line: b"CHECK 1 silver 755224 -" }];
-//! let report = run_lines(alloc, &book, settings, &floors, &lines)?;
-//! for answer in report.answers() {
-//!     assert_eq!(rt; answer.bytes.as_slice(), b"OK 1 0".as_slice());
-//! }
+//! let key = ClusterKey::new(&[0; 32]).unwrap();
+//! let mut server = LineServer::new(alloc, &book, settings, &key, &floors)?;
+//! let line = ClientLine { client: 7, moment: 100, line: b"CHECK 1 silver 755224 -" };
+//! assert_eq!(rt; server.answer(&line)?.as_slice(), b"OK 1 0".as_slice());
 //! ```
 #![tactic(auto)]
 
+mod client_line;
 mod event;
 mod fault;
 mod handling;
@@ -48,25 +48,22 @@ mod node_tests;
 mod outputs;
 mod owner;
 mod parts;
-mod report;
 mod rules;
-mod run;
 mod server;
 mod settling;
 #[cfg(test)]
 mod tests;
 
+pub use client_line::ClientLine;
 pub use event::Event;
 pub use fault::{NodeFault, OpenFault};
 pub use item::Item;
 pub use items::Items;
 pub use laws::{
     answers_are_given_again, columns_are_worked, events_are_worked, one_node_answers_as_the_server,
-    outputs_are_few, promises_can_be_broken, refused_lines_change_gates_alone, rules_are_worked,
-    rulings_have_grounds, runs_are_worked,
+    outputs_are_few, promises_can_be_broken, reference_server_is_safe,
+    refused_lines_change_gates_alone, rules_are_worked, rulings_have_grounds, runs_are_worked,
 };
 pub use node::Node;
 pub use outputs::Outputs;
-pub use report::{LineAnswer, LinePass, LineReport};
-pub use run::{ClientLine, run_lines};
 pub use server::LineServer;

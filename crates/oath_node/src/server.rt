@@ -1,20 +1,18 @@
-ghost use Rattle.std.specs.Option.{option_map};
 ghost use Rattle.std.specs.Prelude.{◌≡◌, ℕ, length, IfErr, IfOk, List};
 ghost use Rattle.otp_core.specs.Limits.{Limits};
 ghost use Rattle.token_file.specs.Credential.{Credential};
-ghost use Rattle.oath_node.specs.Alone.{span_of};
-ghost use Rattle.oath_node.specs.ReferenceServer.{Server, server_at, service_of};
+ghost use Rattle.oath_node.specs.ReferenceServer.{Server, server_at};
 ghost use Rattle.oath_node.specs.Serving.{IsAnswered, IsServing};
 ghost use Rattle.oath_node.specs.declared.fault.OpenFault.{OpenFault};
 
+use crate::client_line::ClientLine;
 use crate::event::Event;
 use crate::fault::{NodeFault, OpenFault};
 use crate::item::Item;
 use crate::laws::one_node_answers_as_the_server;
 use crate::node::Node;
-use crate::run::ClientLine;
 use arrayvec::ArrayVec;
-use floor_store::{MemStore, Pass};
+use floor_store::MemStore;
 use otp_core::{Next, Settings};
 use std::alloc::Global;
 use std::marker::Model;
@@ -77,23 +75,6 @@ impl<'b> LineServer<'b> {
             → IsServing self.old book limits count server
             → IsAnswered self.new book limits count server line.now (λ bytes. bytes.items) result }
     {
-        let (bytes, _) = self.serve(line)?;
-        Ok(bytes)
-    }
-
-    /// The answer to a line, and the pass where it is accepted.
-    pub(crate) fn serve(
-        &mut self,
-        line: &ClientLine<'_>,
-    ) -> Result<(ArrayVec<u8, MAX_SENT_LEN>, Option<Pass>), NodeFault>
-        ensures answer { (book : List Credential) (limits : Limits) (count : ℕ) (server : Server)
-            → IsServing self.old book limits count server
-            → IsAnswered self.new book limits count server line.now (λ told. told.0.items) result }
-        ensures pass { (book : List Credential) (limits : Limits) (count : ℕ) (server : Server)
-            → IsServing self.old book limits count server
-            → IfOk result (λ told. option_map span_of told.1
-            ≡ (service_of book limits server line.now).told.accepted) }
-    {
         one_node_answers_as_the_server();
         let event = Event::Client {
             client: line.client,
@@ -102,7 +83,7 @@ impl<'b> LineServer<'b> {
         };
         let outputs = self.node.handle(event)?;
         match outputs.items().next() {
-            Some(Item::Reply { bytes, .. }) => Ok((bytes, outputs.pass())),
+            Some(Item::Reply { bytes, .. }) => Ok(bytes),
             // A node that is alone gives one reply.
             Some(Item::Datagram { .. }) => Err(NodeFault::Stopped),
             None => Err(NodeFault::Stopped),

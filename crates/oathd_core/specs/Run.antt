@@ -4,8 +4,7 @@ use Rattle.std.specs.Io.KnownBytes.{Appends}
 use Rattle.command_line.specs.Line.{line_of}
 use Rattle.otp_core.specs.Limits.{Limits}
 use Rattle.oath_node.specs.ReferenceServer.{Line, Server}
-use Rattle.oath_node.specs.Report.{report_from, report_of}
-use Rattle.oath_node.specs.declared.report.LineAnswer.{LineAnswer}
+use Rattle.oath_node.specs.Report.{LineAnswer, report_from, report_of}
 use Rattle.oathd_core.specs.Client.{LinesRead, client_lines}
 use Rattle.users_input.specs.Input.{TextLine, lines_of, users_file, users_part, rest_part}
 use Rattle.oathd_core.specs.declared.fault.Fault.{Fault}
@@ -25,7 +24,7 @@ pub data Run : Type 0 where
 
 -- the bytes of an answer
 abbrev pub bytes_of : LineAnswer → List ℕ
-bytes_of answer = answer.bytes.items
+bytes_of answer = answer.bytes
 
 -- the answers of one node to lines, from the first free factors of the import on
 abbrev pub answers_of : Limits → Import → List Line → List (List ℕ)

@@ -8,9 +8,8 @@ use Rattle.token_file.specs.Credential.{Credential}
 use Rattle.token_file.specs.declared.token.Password.TheVariants.{Equal, NoneAllowed}
 use Rattle.oath_node.specs.Examples.{IsJustifiedInRun, line_at, lines_of_a_run, narrowest_limits, three_tokens, token_of}
 use Rattle.oath_node.specs.ReferenceServer.{Line, server_after}
-use Rattle.oath_node.specs.Report.{floor_before, results_before}
+use Rattle.oath_node.specs.Report.{LinePass, floor_before, results_before}
 use Rattle.vote_wire.specs.Request.{Request, request_at}
-use Rattle.oath_node.specs.declared.report.LinePass.{LinePass}
 use Rattle.vote_wire.proofs.RequestLemmas.{request_of_line}
 use Rattle.oath_node.proofs.laws.promises_can_be_broken.Goals as goal
 
