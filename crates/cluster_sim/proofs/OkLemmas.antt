@@ -67,7 +67,7 @@ nonce_of (word ∷ nonce ∷ user ∷ code ∷ password ∷ []) r h = subst (λ 
 nonce_of (word ∷ nonce ∷ user ∷ first ∷ second ∷ password ∷ []) r h = subst (λ (q : Request). IsNonce q.nonce) (sym h.value) h.is_nonce
 nonce_of (a ∷ b ∷ c ∷ d ∷ e ∷ f ∷ g ∷ rest) r h = absurd h
 
-text_nonce : (line nonce text : List ℕ) → IsTextOf line nonce text → IsNonce nonce
+pub text_nonce : (line nonce text : List ℕ) → IsTextOf line nonce text → IsNonce nonce
 text_nonce line nonce text h = subst IsNonce (sym h.nonce_is) (nonce_of (fields_of (without_lf text)) h.request h.grammar.1)
 
 asked_nonce : (node client : ℕ) (line nonce : List ℕ) (o : Option WorldEvent) → IsAskedIn node client line nonce o → IsNonce nonce

@@ -12,6 +12,8 @@ use Rattle.oath_node.specs.Machine.{Config}
 use Rattle.vote_wire.specs.Answer.{answer_bytes}
 use Rattle.vote_wire.specs.declared.answer.Answer.TheVariants.{BadLine, Reply}
 use Rattle.vote_wire.specs.declared.answer.Outcome.{Outcome}
+use Rattle.cluster_sim.specs.Answered.{AreAnswered, NamePasses, TellTruth}
+use Rattle.cluster_sim.specs.Justified.{IsJustified}
 use Rattle.cluster_sim.specs.World.{WorldEvent, Happens, Cut, Restart, Says, Deliver, Ticks, Noise, Told, ReportValue}
 
 -- a user with the secret of the appendix
@@ -251,3 +253,29 @@ many_users = config_with (letter_users 33)
 -- three nodes that count each first free factor as 0
 abbrev pub many_floors : List (List ℕ)
 many_floors = [] ∷ [] ∷ [] ∷ []
+
+-- ---- what is promised of a run
+
+-- whether an acceptance by a run of these events at three nodes is justified
+abbrev pub IsJustifiedAmong : List WorldEvent → Acceptance → Type 0
+IsJustifiedAmong events accepted = IsJustified config three events accepted
+
+-- whether an acceptance of the fresh token at one node is justified
+abbrev pub IsJustifiedAlone : Acceptance → Type 0
+IsJustifiedAlone accepted = IsJustified config alone fresh_token accepted
+
+-- node 1 accepts the first factor in event 2, which began with the line of client 7 in event 0
+abbrev pub first_pass : Acceptance
+first_pass = acceptance 0 2 1 0 0
+
+-- whether a reply is told truly, where that is all that was accepted
+abbrev pub IsToldTruly : Told → Type 0
+IsToldTruly told = TellTruth second_factor_elsewhere (first_pass ∷ []) (told ∷ [])
+
+-- whether a reply names its acceptance, where that is all that was accepted
+abbrev pub NamesItsPass : Told → Type 0
+NamesItsPass told = NamePasses second_factor_elsewhere (first_pass ∷ []) (told ∷ [])
+
+-- whether that acceptance is answered, where these are all replies
+abbrev pub IsAnsweredBy : List Told → Type 0
+IsAnsweredBy answers = AreAnswered second_factor_elsewhere answers (first_pass ∷ [])

@@ -1,13 +1,13 @@
 ghost use Rattle.std.specs.Prelude.{◌≡◌, ◌+◌, ◌<◌, ◌^◌, List, [], ◌∷◌, ℕ, codes, false, length, true};
-ghost use Rattle.admit_core.specs.Throttle.{SpacesFailures};
+ghost use Rattle.admit_core.specs.Throttle.{Accepted as Passed, Failed, SpacesFailures};
 ghost use Rattle.otp_core.specs.Acceptance.{HaveSingleUse, KeepRealTimeOrder};
 ghost use Rattle.vote_core.specs.Safety.{HaveMajority};
 ghost use Rattle.oath_node.specs.Machine.{Config};
 ghost use Rattle.vote_wire.specs.declared.answer.Outcome.TheVariants.{Accepted, Busy, Clock, Exhausted, Invalid, Password, Spent, Throttled, Timeout, Unknown};
 ghost use Rattle.cluster_sim.specs.Answered.{AreAnswered, NamePasses, TellTruth};
-ghost use Rattle.cluster_sim.specs.Examples.{alone, config, eight_ticks, exhausted, five, four, fresh_token, gate_survives_restart, letter_lines, many_floors, many_users, nothing_happens, old_grants, one_voter_twice, acceptance, password_column, refusal_again, report_with, resynchronization, line_at, second_factor_elsewhere, span_against_one, split_two_to_two, stop_after_the_commit, stop_before_accepting, stop_in_a_line, stop_in_a_tick, stop_in_noise, stop_of_nothing, three, told_outcome, told_bad_line, two_submissions, with_password};
+ghost use Rattle.cluster_sim.specs.Examples.{IsAnsweredBy, IsJustifiedAlone, IsJustifiedAmong, IsToldTruly, NamesItsPass, alone, config, eight_ticks, exhausted, five, four, fresh_token, gate_survives_restart, letter_lines, many_floors, many_users, nothing_happens, old_grants, one_voter_twice, acceptance, password_column, refusal_again, report_with, resynchronization, line_at, second_factor_elsewhere, span_against_one, split_two_to_two, stop_after_the_commit, stop_before_accepting, stop_in_a_line, stop_in_a_tick, stop_in_noise, stop_of_nothing, three, told_outcome, told_bad_line, two_submissions, with_password};
 ghost use Rattle.cluster_sim.specs.Justified.{AreJustified};
-ghost use Rattle.cluster_sim.specs.Results.{results_of};
+ghost use Rattle.cluster_sim.specs.Results.{results_before, results_of};
 ghost use Rattle.cluster_sim.specs.SingleNode.{reference_answers, opening_server};
 ghost use Rattle.cluster_sim.specs.World.{WorldEvent, floor_before, passes_of, report_of};
 
@@ -129,4 +129,55 @@ pub fn stops_are_worked()
 pub fn busy_script_is_worked()
     ensures { report_of many_users many_floors (letter_lines 33)
         ≡ report_with [] (told_outcome 32 1 7 (codes "n") Busy ∷ []) 64 }
+{}
+
+/// The results of a token at a node, the newest first: its failures and its acceptances there, and nothing else.
+pub fn results_are_worked()
+    ensures all { results_of config alone fresh_token 1 0
+        ≡ Passed ∷ Failed 105 ∷ Failed 100 ∷ Passed ∷ [] }
+    ensures before { results_before config alone fresh_token 1 0 4 ≡ Failed 100 ∷ Passed ∷ [] }
+    ensures other_node { results_of config alone fresh_token 2 0 ≡ [] }
+    ensures other_token { results_of config alone fresh_token 1 1 ≡ [] }
+{}
+
+/// What is said of an acceptance can be broken: by another node, by an event that is no line or is a line that a stop
+/// lost, by another token or factor, and by a line that came while the token was closed or its factor used up.
+pub fn justifications_can_be_broken()
+    ensures node { IsJustifiedAmong second_factor_elsewhere (acceptance 0 2 2 0 0) → ⊥ }
+    ensures delivery { IsJustifiedAmong second_factor_elsewhere (acceptance 1 2 1 0 0) → ⊥ }
+    ensures no_event { IsJustifiedAmong second_factor_elsewhere (acceptance 9 9 1 0 0) → ⊥ }
+    ensures tick { IsJustifiedAmong eight_ticks (acceptance 1 1 1 0 0) → ⊥ }
+    ensures noise { IsJustifiedAmong nothing_happens (acceptance 2 2 2 0 0) → ⊥ }
+    ensures restart { IsJustifiedAmong old_grants (acceptance 2 2 1 0 0) → ⊥ }
+    ensures lost { IsJustifiedAmong (stop_in_a_line false) (acceptance 0 0 1 0 0) → ⊥ }
+    ensures token { IsJustifiedAlone (record (acceptance 0 0 1 0 0) { token = 1 }) → ⊥ }
+    ensures factor { IsJustifiedAlone (acceptance 0 0 1 1 1) → ⊥ }
+    ensures used_up { IsJustifiedAlone (acceptance 1 1 1 0 0) → ⊥ }
+    ensures closed { IsJustifiedAlone (acceptance 5 5 1 2 2) → ⊥ }
+{}
+
+/// What is said of answers can be broken: an `OK` without an acceptance, of another node, client, nonce or factor, told
+/// too early, or again to a client that didn't ask again; and an acceptance whose `OK` is missing, comes from another
+/// node, in another event, to another client, or with another nonce or factor.
+pub fn answers_can_be_broken()
+    ensures no_pass { TellTruth second_factor_elsewhere [] (told_outcome 2 1 7 (codes "a") (Accepted 0) ∷ []) → ⊥ }
+    ensures node { IsToldTruly (told_outcome 2 3 7 (codes "a") (Accepted 0)) → ⊥ }
+    ensures client { IsToldTruly (told_outcome 2 1 9 (codes "a") (Accepted 0)) → ⊥ }
+    ensures nonce { IsToldTruly (told_outcome 2 1 7 (codes "c") (Accepted 0)) → ⊥ }
+    ensures factor { IsToldTruly (told_outcome 2 1 7 (codes "a") (Accepted 1)) → ⊥ }
+    ensures early { IsToldTruly (told_outcome 1 1 7 (codes "a") (Accepted 0)) → ⊥ }
+    ensures again { IsToldTruly (told_outcome 3 1 7 (codes "a") (Accepted 0)) → ⊥ }
+    ensures names_no_pass { NamePasses second_factor_elsewhere [] (told_outcome 2 1 7 (codes "a") (Accepted 0) ∷ [])
+        → ⊥ }
+    ensures names_node { NamesItsPass (told_outcome 2 3 7 (codes "a") (Accepted 0)) → ⊥ }
+    ensures names_client { NamesItsPass (told_outcome 2 1 9 (codes "a") (Accepted 0)) → ⊥ }
+    ensures names_factor { NamesItsPass (told_outcome 2 1 7 (codes "a") (Accepted 1)) → ⊥ }
+    ensures names_early { NamesItsPass (told_outcome 1 1 7 (codes "a") (Accepted 0)) → ⊥ }
+    ensures names_again { NamesItsPass (told_outcome 3 1 7 (codes "a") (Accepted 0)) → ⊥ }
+    ensures missing { IsAnsweredBy [] → ⊥ }
+    ensures from_node { IsAnsweredBy (told_outcome 2 2 7 (codes "a") (Accepted 0) ∷ []) → ⊥ }
+    ensures in_event { IsAnsweredBy (told_outcome 3 1 7 (codes "a") (Accepted 0) ∷ []) → ⊥ }
+    ensures to_client { IsAnsweredBy (told_outcome 2 1 9 (codes "a") (Accepted 0) ∷ []) → ⊥ }
+    ensures with_nonce { IsAnsweredBy (told_outcome 2 1 7 (codes "c") (Accepted 0) ∷ []) → ⊥ }
+    ensures with_factor { IsAnsweredBy (told_outcome 2 1 7 (codes "a") (Accepted 1) ∷ []) → ⊥ }
 {}
