@@ -3,6 +3,7 @@
 use super::*;
 use otp_core::Settings;
 use std::alloc::{AllocError, Global};
+use std::fmt::Write as _;
 use std::io::{self, ErrorKind, Read, Write};
 use std::test::Fail;
 use vote_wire::ClusterKey;
@@ -160,6 +161,14 @@ fn prints_reports(rt: HostRuntime) -> Result<(), Fail> {
             deliver 1 2\ndeliver 2 5\ndeliver 2 6\n",
             "pass 0 4 1 0 0 0\nanswer 4 1 7 OK a 0\nanswer 7 2 8 NO b SPENT\nsent 7\n",
         ),
+        // a token that is closed through a restart
+        (
+            1,
+            "client 1 7 100 CHECK a silver 000000 -\n",
+            "restart 1\nclient 1 7 104 CHECK b silver 755224 -\nclient 1 7 105 CHECK c silver 755224 -\n",
+            "pass 3 3 1 0 0 0\nanswer 0 1 7 NO a INVALID\nanswer 2 1 7 NO b THROTTLED 1\n\
+            answer 3 1 7 OK c 0\nsent 0\n",
+        ),
     ] {
         let input = format!(in alloc; "{SILVER}{begin}{script}")?;
         assert!(rt;
@@ -167,6 +176,22 @@ fn prints_reports(rt: HostRuntime) -> Result<(), Fail> {
             "{script}"
         );
     }
+    Ok(())
+}
+
+/// Of 33 lines at once, each of another user, the first 32 wait for votes, and the last one finds the node busy.
+#[test]
+fn prints_that_a_node_is_busy(rt: HostRuntime) -> Result<(), Fail> {
+    let alloc = rt.alloc();
+    let mut users = String::new(alloc);
+    let mut script = String::new(alloc);
+    for user in 1..34 {
+        write!(users, "HOTP u{user} - 3132333435363738393031323334353637383930\n")?;
+        write!(script, "client 1 7 1000 CHECK {user} u{user} 755224 -\n")?;
+    }
+    let input = format!(in alloc; "{users}%%\n{script}")?;
+    let printed = "answer 32 1 7 NO 33 BUSY\nsent 64\n";
+    assert!(rt; ends_so(alloc, 3, 9999, input.as_str(), printed, "")?);
     Ok(())
 }
 
