@@ -1,0 +1,3 @@
+pub mod Address
+pub mod Examples
+pub mod Receipt

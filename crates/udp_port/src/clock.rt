@@ -1,0 +1,40 @@
+//! The system's clock.
+
+ghost use Rattle.std.specs.Prelude.{IfSome};
+ghost use Rattle.otp_core.specs.Range.{IsMoment};
+
+use node_turns::Clock;
+use otp_core::MOMENTS_END;
+use std::time::{Clock as TimeSource, SystemTime, UNIX_EPOCH};
+
+/// The system's clock, which tells whole seconds. It fails where the system has none, and where it is set before
+/// 1970-01-01 00:00:00 UTC or 2^40 seconds behind it or more. It keeps no record.
+#[derive(Drop)]
+pub struct SystemClock<'a, R: TimeSource> {
+    source: &'a R,
+}
+
+impl<'a, R: TimeSource> SystemClock<'a, R> {
+    /// The clock of this source.
+    pub fn new(source: &'a R) -> Self {
+        SystemClock { source }
+    }
+
+    /// The present moment.
+    fn now(&self) -> Option<u64>
+        ensures { IfSome result IsMoment }
+    {
+        let now = SystemTime::now(self.source).ok()?;
+        let seconds = now.duration_since(UNIX_EPOCH).ok()?.as_secs();
+        if seconds >= MOMENTS_END {
+            return None;
+        }
+        Some(seconds)
+    }
+}
+
+impl<R: TimeSource> Clock for SystemClock<'_, R> {
+    fn moment(&mut self) -> Option<u64> {
+        self.now()
+    }
+}
