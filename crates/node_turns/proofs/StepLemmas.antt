@@ -54,6 +54,7 @@ hands_in_ok held old new e0 e1 t event outputs replies total h few grows counted
     few = λ clean. omega (arith, sum, at_most, reply_count-few outputs.items, few clean);
   };
   tally = (refl, refl);
+  of_node = tt;
   does = λ clean room first run of.
       let member = member_of old in
       let s = of.stands.state in
@@ -92,6 +93,7 @@ hands_in_err held old new e t event fault h = record {
     few = λ clean. omega arith;
   };
   tally = (refl, refl);
+  of_node = tt;
   does = λ clean room first run of. record {
     done = [];
     event = event;
@@ -178,6 +180,7 @@ hands_in_more held a b c xs ys done result h k = record {
     few = λ clean. omega (arith, h.keeps.few (k.keeps.clean clean), k.keeps.few clean, more_events xs ys);
   };
   tally = (k.tally.0 ∙ h.tally.0, k.tally.1 ∙ h.tally.1);
+  of_node = k.of_node;
   does = λ clean room first run of.
       let clean_before = k.keeps.clean clean in
       let small : a.tally.replied + 264 * length xs < 2 ^ 64 = omega (arith, room, more_events xs ys) in
@@ -202,6 +205,7 @@ hands_in_less A held a b xs ys fault h = record {
     few = λ clean. omega (arith, h.keeps.few clean, more_events xs ys);
   };
   tally = h.tally;
+  of_node = h.of_node;
   does = λ clean room first run of.
       end_before A held first (member_of a.node) run xs ys b fault
       (h.does clean (omega (arith, room, more_events xs ys)) first run of);

@@ -7,11 +7,12 @@ use Rattle.floor_store.specs.Held.{Held}
 use Rattle.oath_node.specs.Hosted.{Hosted, IsSameNode, state_of}
 use Rattle.oath_node.specs.Machine.{Tick}
 use Rattle.node_turns.specs.Port.{Grows, PortEvent}
-use Rattle.node_turns.specs.Serving.{EndsSo, FailsAmong, Serves, Stands, served_in}
-use Rattle.node_turns.specs.Steps.{EventsEnd, HandsIn, IsClean, IsOf, Scene, TakesTurn, TurnEnds}
+use Rattle.node_turns.specs.Serving.{EndsByClock, EndsSo, FailsAmong, Serves, Stands, served_in}
+use Rattle.node_turns.specs.Steps.{EventsEnd, HandsIn, IsClean, IsLeftByClock, IsOf, IsOfNode, Scene, TakesTurn, TurnEnds}
 use Rattle.node_turns.specs.Turns.{Member, Receipt, Run, FromPeer, FromClient, Nothing, Failure, end_with, entry_of, events_of_turn, member_of, moments_for, moments_in, receives_in, run_at, run_with_events, run_with_receipt, run_with_turn, run_with_turns, tally_with, tick_at, while_going}
 use Rattle.node_turns.specs.declared.fault.ServeFault.{ServeFault}
 use Rattle.node_turns.specs.declared.fault.ServeFault.TheVariants.{Node, Port, Clock}
+use Rattle.node_turns.specs.declared.turns.Served.{Served}
 use Rattle.node_turns.specs.declared.turns.Tally.{Tally}
 use Rattle.node_turns.proofs.GrowLemmas.{grows_receives, grows_refl, grows_trans}
 use Rattle.node_turns.proofs.StepLemmas.{member_same, run_with_events-end, same_refl, same_trans}
@@ -65,6 +66,13 @@ on_ok : {A E : Type 0} (result : Result A E) (P : Type 0) → P → OnOk result 
 on_ok (Ok value) P h = h
 on_ok (Err fault) P h = tt
 
+left_by_clock : {A S : Type 0} (old new : Hosted S) (result : Result A ServeFault) → IsOfNode result
+    → IsLeftByClock old new result
+left_by_clock old new (Ok done) h = tt
+left_by_clock old new (Err (Node fault)) h = tt
+left_by_clock old new (Err Port) h = tt
+left_by_clock old new (Err Clock) h = absurd h
+
 -- a turn whose events are handed in
 pub turn_of_events : {A S : Type 0} (held : S → Held) (node : Hosted S) (e0 e1 : Option (List PortEvent)) (t : Tally)
     (new : Scene S) (asked told : Option (List (Option ℕ))) (receipt : Receipt) (result : Result A ServeFault)
@@ -90,6 +98,7 @@ turn_of_events held node e0 e1 t new asked told receipt result grows moments non
       };
       received = let e = h.tally.0 in omega (arith, e, one);
       faults = on_ok result (new.tally.faults < 16) faults;
+      clock = left_by_clock node new.node result h.of_node;
       does = λ clean room first run of.
           let start = received held first node e0 e1 t run receipt grows of in
           let same = ap (λ (u : Tally). (tally_with receipt u).received) of.tally in
@@ -116,6 +125,7 @@ turn_without_moment held node e0 e1 t asked told client bytes grows moments =
       };
       received = omega arith;
       faults = tt;
+      clock = refl;
       does = λ clean room first run of.
           ((received held first node e0 e1 t run receipt grows of).stands, refl);
     }
@@ -300,3 +310,30 @@ serves_less A held old first asked count turns now new told said fault below wit
           (t.does clean (omega (arith, fewer, small)) first run (h.of before small)));
       same = same_trans old now.node new.node h.same t.keeps.same;
     }
+
+-- a turn ends the run by the clock
+by_clock : (A : Type 0) {S : Type 0} (held : S → Held) (old : Hosted S) (first : Option (List PortEvent))
+    (asked : Option (List (Option ℕ))) (count turns : ℕ) (now new : Scene S) (told said : Option (List (Option ℕ)))
+    → turns < 2 ^ 32 → count < turns → IsSoFar held old first asked count now told
+    → TakesTurn {A = A} held now new told said (Err Clock) → EndsByClock held old new.node first asked turns
+by_clock A held old first asked count turns now new told said below within h t = record {
+  count = count;
+  within = within;
+  served = served_in now.tally;
+  kept = now.entries;
+  told = told;
+  before = subst (λ n. Serves held old n first now.entries asked told count (Ok (served_in now.tally))) (sym t.clock)
+      (serves_all held old first asked count now told (omega (arith, below, within)) h);
+}
+
+-- a turn ends the run, which is by the clock where the fault says so
+pub ends_by_clock : (A : Type 0) {S : Type 0} (held : S → Held) (old : Hosted S) (first : Option (List PortEvent))
+    (asked : Option (List (Option ℕ))) (count turns : ℕ) (now new : Scene S) (told said : Option (List (Option ℕ)))
+    (fault : ServeFault) → turns < 2 ^ 32 → count < turns → IsSoFar held old first asked count now told
+    → TakesTurn {A = A} held now new told said (Err fault) → (result : Result Served ServeFault) → result ≡ Err fault
+    → result ≡ Err Clock → EndsByClock held old new.node first asked turns
+ends_by_clock A held old first asked count turns now new told said (Node fault) below within h t result is clock =
+    absurd cc
+ends_by_clock A held old first asked count turns now new told said Port below within h t result is clock = absurd cc
+ends_by_clock A held old first asked count turns now new told said Clock below within h t result is clock =
+    by_clock A held old first asked count turns now new told said below within h t

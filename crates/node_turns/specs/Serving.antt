@@ -1,5 +1,5 @@
 -- What a run of turns does to a node, its port and its clock.
-use Rattle.std.specs.Prelude.{◌≡◌, ℕ, ◌≤◌, List, [], ◌∷◌, ◌++◌, length, map, Option, Some, None, Result, Ok, Err, OnOk}
+use Rattle.std.specs.Prelude.{◌≡◌, ℕ, ◌<◌, ◌≤◌, List, [], ◌∷◌, ◌++◌, length, map, Option, Some, None, Result, Ok, Err, OnOk}
 use Rattle.std.specs.Option.{option_map}
 use Rattle.floor_store.specs.Held.{Held}
 use Rattle.oath_node.specs.Calls.{Handles}
@@ -77,3 +77,14 @@ pub record Serves {S : Type 0} (held : S → Held) (old new : Hosted S) (first e
   pub exact : (held new.store).is_clean
       → EndsSo held first (member_of old) (run_at (state_of held old)) receipts new entries result
   pub same : IsSameNode old new
+
+-- A call is ended by the clock: so many turns were served before, fewer than were asked for, and the node is the one
+-- that these left.
+pub record EndsByClock {S : Type 0} (held : S → Held) (old new : Hosted S) (first : Option (List PortEvent))
+    (asked : Option (List (Option ℕ))) (turns : ℕ) : Type 0 where
+  pub count : ℕ
+  pub within : count < turns
+  pub served : Served
+  pub kept : Option (List PortEvent)
+  pub told : Option (List (Option ℕ))
+  pub before : Serves held old new first kept asked told count (Ok served)

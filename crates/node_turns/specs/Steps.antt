@@ -56,11 +56,24 @@ EventsEnd held first member run events new (Err (Node fault)) =
 EventsEnd held first member run events new (Err Port) = ⊥
 EventsEnd held first member run events new (Err Clock) = ⊥
 
+-- handing events in fails by the node alone
+abbrev pub IsOfNode : {A : Type 0} → Result A ServeFault → Type 0
+IsOfNode (Ok done) = Unit {0}
+IsOfNode (Err (Node fault)) = Unit {0}
+IsOfNode (Err Port) = ⊥
+IsOfNode (Err Clock) = ⊥
+
+-- a clock that fails leaves the node as it was, whatever the store is
+abbrev pub IsLeftByClock : {A S : Type 0} → Hosted S → Hosted S → Result A ServeFault → Type 0
+IsLeftByClock old new (Err Clock) = new ≡ old
+IsLeftByClock old new result = Unit {0}
+
 -- A step that hands events in.
 pub record HandsIn {A S : Type 0} (held : S → Held) (old new : Scene S) (events : List NodeEvent)
     (result : Result A ServeFault) : Type 0 where
   pub keeps : Keeps held old new [] (264 * length events)
   pub tally : (new.tally.received ≡ old.tally.received) × (new.tally.faults ≡ old.tally.faults)
+  pub of_node : IsOfNode result
   pub does : IsClean held new → old.tally.replied + 264 * length events < 2 ^ 64
       → (first : Option (List PortEvent)) (run : Run) → IsOf held first old run
       → EventsEnd held first (member_of old.node) run events new result
@@ -89,6 +102,7 @@ pub record TakesTurn {A S : Type 0} (held : S → Held) (old new : Scene S) (ask
   pub keeps : Keeps held old new (receipt ∷ []) 528
   pub received : new.tally.received ≤ old.tally.received + 1
   pub faults : OnOk result (new.tally.faults < 16)
+  pub clock : IsLeftByClock old.node new.node result
   pub does : IsClean held new → old.tally.replied + 528 < 2 ^ 64
       → (first : Option (List PortEvent)) (run : Run) → IsOf held first old run
       → TurnEnds held first (member_of old.node) run receipt new result

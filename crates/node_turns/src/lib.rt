@@ -19,4 +19,4 @@ pub use fault::ServeFault;
 pub use laws::turns_are_worked;
 pub use list_port::{Coming, ListClock, ListPort, PortEntry};
 pub use port::{MAX_DATAGRAM_LEN, Port, Received, Sender};
-pub use turns::{Served, run_turns};
+pub use turns::{Served, offer, run_turns};

@@ -1,9 +1,9 @@
 //! The turns of a node.
 
-ghost use Rattle.std.specs.Prelude.{◌≡◌, ◌<◌, ◌≤◌, ◌^◌, ◌∷◌, [], map};
+ghost use Rattle.std.specs.Prelude.{◌≡◌, ◌<◌, ◌≤◌, ◌^◌, ◌∷◌, [], Err, map};
 ghost use Rattle.oath_node.specs.Hosted.{event_of};
 ghost use Rattle.node_turns.specs.Port.{Grows};
-ghost use Rattle.node_turns.specs.Serving.{Serves};
+ghost use Rattle.node_turns.specs.Serving.{EndsByClock, Serves};
 ghost use Rattle.node_turns.specs.Steps.{HandsIn, TakesTurn, reply_count, scene};
 ghost use Rattle.node_turns.specs.Turns.{offer_of, tick_at};
 
@@ -36,7 +36,7 @@ struct Tally {
 }
 
 /// Offers what a call of a node sends and replies, in order. How many of these are replies.
-fn offer<P: Port>(port: &mut P, outputs: &Outputs<'_>) -> u64
+pub fn offer<P: Port>(port: &mut P, outputs: &Outputs<'_>) -> u64
     ensures offers { Grows (P.events port.old) (P.events port.new) (map offer_of outputs.now.items) }
     ensures replies { reply_count outputs.now.items < 2 ^ 64 → result ≡ reply_count outputs.now.items }
     ensures few { result ≤ reply_count outputs.now.items }
@@ -150,8 +150,11 @@ pub fn run_turns<S: FloorStore, P: Port, C: Clock>(
     clock: &mut C,
     turns: u32,
 ) -> Result<Served, ServeFault>
-    ensures { Serves S.held node.old node.new (P.events port.old) (P.events port.new)
+    ensures serves { Serves S.held node.old node.new (P.events port.old) (P.events port.new)
         (C.moments clock.old) (C.moments clock.new) turns result }
+    // a clock that fails changes nothing of the node, whatever the store is
+    ensures clock { result ≡ Err ServeFault.Clock
+        → EndsByClock S.held node.old node.new (P.events port.old) (C.moments clock.old) turns }
 {
     let mut tally = Tally::default();
     for _ in 0..turns {
