@@ -1,0 +1,43 @@
+-- What a store keeps, as text.
+use Rattle.std.specs.Prelude.{◌≡◌, ℕ, ◌+◌, List, [], ◌∷◌, ◌++◌, slice_get, Option, Some, codes}
+use Rattle.std.specs.Io.KnownBytes.{Appends}
+use Rattle.std.specs.Fmt.{decimal}
+use Rattle.command_line.specs.Line.{line_of}
+use Rattle.token_file.specs.Credential.{Credential}
+use Rattle.token_file.specs.Writing.{row_text}
+use Rattle.floor_store.specs.Records.{PassRecord, RowRecord}
+
+-- the tokens of a book in order, each with the first free factor of its row: a users file
+abbrev pub export_text : List Credential → List RowRecord → List ℕ
+export_text [] rows = []
+export_text (token ∷ book) [] = []
+export_text (token ∷ book) (row ∷ rows) = row_text token row.next ++ export_text book rows
+
+-- the row of the token with this number is written, and nothing else
+pub record WritesToken (book : List Credential) (rows : List RowRecord) (number : ℕ)
+    (old new : Option (List ℕ)) : Type 0 where
+  pub token : Credential
+  pub token_is : slice_get book number ≡ Some token
+  pub row : RowRecord
+  pub row_is : slice_get rows number ≡ Some row
+  pub written : Appends old new (row_text token row.next)
+
+-- a space, and a number
+abbrev pub spaced_number : ℕ → List ℕ
+spaced_number number = codes " " ++ decimal number
+
+-- a pass under its number: `pass NUMBER TOKEN LO HI BOOT SEQ`
+abbrev pub pass_line : ℕ → PassRecord → List ℕ
+pass_line number pass = line_of (
+    codes "pass" ++ spaced_number number ++ spaced_number pass.token
+    ++ spaced_number pass.lo ++ spaced_number pass.hi ++ spaced_number pass.boot ++ spaced_number pass.seq
+    )
+
+-- passes in order, numbered from a number on
+abbrev pub pass_lines : ℕ → List PassRecord → List ℕ
+pass_lines number [] = []
+pass_lines number (pass ∷ passes) = pass_line number pass ++ pass_lines (number + 1) passes
+
+-- the passes of an audit list in order of commit, numbered from 1 on
+abbrev pub audit_text : List PassRecord → List ℕ
+audit_text passes = pass_lines 1 passes

@@ -1,0 +1,57 @@
+ghost use Rattle.std.specs.Prelude.{◌≡◌, ◌≢◌, ◌<◌, ◌^◌, IfErr, OnOk, Some};
+ghost use Rattle.std.specs.Io.KnownBytes.{Appends};
+ghost use Rattle.sqlite.specs.Held.{state};
+ghost use Rattle.sqlite.specs.State.{HasCleanDisk};
+ghost use Rattle.oathd_store.specs.Fault.{IsOutputFault};
+ghost use Rattle.oathd_store.specs.Tables.{KeepsTables, WritesAudit};
+ghost use Rattle.oathd_store.specs.Text.{audit_text, pass_line};
+
+use crate::fault::Fault;
+use floor_sql::SqlStore;
+use floor_store::Pass;
+use sqlite::Alter;
+use std::alloc::Global;
+use std::io::Write;
+
+/// Writes a pass under its number.
+fn write_pass<W: Write>(writer: &mut W, number: u64, pass: Pass) -> Result<(), Fault>
+    ensures written { OnOk result (Appends (W.contents writer.old) (W.contents writer.new) (pass_line number pass)) }
+    ensures fault { IfErr result (λ fault. fault ≡ Fault.CannotWrite) }
+{
+    let (token, lo, hi) = (pass.token(), pass.lo().value(), pass.hi().value());
+    let (boot, seq) = (pass.boot(), pass.seq());
+    write!(writer, "pass {number} {token} {lo} {hi} {boot} {seq}\n").map_err(|_| Fault::CannotWrite)
+}
+
+/// Writes passes in order, each on a line of its own, numbered from 1 on.
+pub(crate) fn write_passes<W: Write>(writer: &mut W, passes: &[Pass]) -> Result<(), Fault>
+    ensures written { OnOk result (Appends (W.contents writer.old) (W.contents writer.new) (audit_text passes.now)) }
+    ensures fault { IfErr result (λ fault. fault ≡ Fault.CannotWrite) }
+{
+    for (index, pass) in passes.iter().enumerate() {
+        write_pass(writer, index as u64 + 1, *pass)?;
+    }
+    Ok(())
+}
+
+/// Writes the committed passes of a store in order of commit, each on a line of its own, `pass NUMBER TOKEN LO HI BOOT
+/// SEQ` with numbers from 1 on, and flushes it.
+///
+/// # Errors
+/// `Store` where the store is broken, or breaks at this call; then nothing is written. `CannotWrite`: a front of the
+/// text may have been written then.
+pub fn audit<S: Alter, W: Write>(
+    alloc: Global,
+    store: &mut SqlStore<S>,
+    writer: &mut W,
+) -> Result<(), Fault>
+    ensures written { HasCleanDisk (state S.Store store.new.conn)
+        → OnOk result (WritesAudit S.Store store.new (W.contents writer.old) (W.contents writer.new)) }
+    ensures keeps { KeepsTables S.Store store.old store.new }
+    ensures fault { IfErr result (IsOutputFault store.new.fault) }
+    ensures silent { IfErr result (λ fault. fault ≢ Fault.CannotWrite → writer.new ≡ writer.old) }
+{
+    let passes = store.passes(alloc)?;
+    write_passes(writer, &passes)?;
+    writer.flush().map_err(|_| Fault::CannotWrite)
+}
