@@ -33,14 +33,14 @@ use Rattle.floor_sql.proofs.TextLemmas.{query_over, by_param, by_one, self_read,
 
 -- ---- a refusal of the connection
 
-of_statement : (s : State) (sql : List ℕ) (params : Row) (e : Error) → IsPlain (understood s.now.schema sql) → IsNoStatement s sql params e → is_of_schema e ≡ false
+pub of_statement : (s : State) (sql : List ℕ) (params : Row) (e : Error) → IsPlain (understood s.now.schema sql) → IsNoStatement s sql params e → is_of_schema e ≡ false
 of_statement s sql params e plain (inl h) = absurd (subst IsPlain h.1 plain)
 of_statement s sql params e plain (inr h) = elim h.2 [
   | inl more ↦ ap is_of_schema more.1
   | inr other ↦ elim other [ inl count ↦ ap is_of_schema count.1 | inr clock ↦ ap is_of_schema clock.1 ]
 ]
 
-of_store : (cause : StoreError) → is_of_schema (store_error cause) ≡ false
+pub of_store : (cause : StoreError) → is_of_schema (store_error cause) ≡ false
 of_store OutOfMemory = refl
 of_store Io = refl
 of_store Corrupt = refl
@@ -85,7 +85,7 @@ of_query sql params old new e plain (inr h) =
     let none = (subst IsPlain h.1.is plain).0 in
     of_show old new sql h.0 _ e _ none h.2
 
-of_fault : (a b : Bool) → b ≡ false → (if a then Memory else if b then Unusable else Disk) ≢ Unusable
+pub of_fault : (a b : Bool) → b ≡ false → (if a then Memory else if b then Unusable else Disk) ≢ Unusable
 of_fault true b none is = cc
 of_fault false true none is = cc
 of_fault false false none is = cc
@@ -115,12 +115,12 @@ module _ {X Y : Type 0} (p : X → Bool) (f : X → Y) where
           ap (λ ys. f a ∷ ys) (none_kept xs rest) ∙ ap (λ y. f y ∷ []) same
       go false all on = on all
 
-filter_same : {X : Type 0} (p q : X → Bool) → ((x : X) → p x ≡ q x) → (xs : List X) → filter p xs ≡ filter q xs
+pub filter_same : {X : Type 0} (p q : X → Bool) → ((x : X) → p x ≡ q x) → (xs : List X) → filter p xs ≡ filter q xs
 filter_same p q same [] = refl
 filter_same p q same (x ∷ xs) = ap (λ b. cond b (x ∷ filter p xs) (filter p xs)) (same x) ∙ ap (λ ys. cond (q x) (x ∷ ys) ys) (filter_same p q same xs)
 
 -- where one row alone passes the test, the query shows that one
-only_shown : (filter_by project : List Term) (params : Row) (tree : ℕ) (trees : Trees) (rows : List Row) (found : Row) → overlay trees [] tree ≡ trees tree
+pub only_shown : (filter_by project : List Term) (params : Row) (tree : ℕ) (trees : Trees) (rows : List Row) (found : Row) → overlay trees [] tree ≡ trees tree
     → IsAnswer (query_over tree filter_by project) (overlay trees []) params rows → filter (picks filter_by params) (trees tree) ≡ found ∷ []
     → rows ≡ eval_all project (params ∷ found ∷ []) ∷ []
 only_shown filter_by project params tree trees rows found over a one =

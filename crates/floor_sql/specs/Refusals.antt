@@ -1,5 +1,5 @@
 -- Which fault a refusal of the connection is.
-use Rattle.std.specs.Prelude.{Bool, true, false, if◌then◌else◌}
+use Rattle.std.specs.Prelude.{◌≡◌, Bool, true, false, if◌then◌else◌}
 use Rattle.sqlite.specs.declared.error.ErrorCode.TheVariants.{OutOfMemory}
 use Rattle.sqlite.specs.declared.error.Error.{Error}
 use Rattle.sqlite.specs.declared.error.Error.TheVariants.{SqliteFailure, SqlInputError}
@@ -19,3 +19,9 @@ is_of_schema _ = false
 -- want of memory, a text that fits no schema, or else the disk
 abbrev pub fault_of : Error → StoreFault
 fault_of error = if is_want_of_memory error then Memory else if is_of_schema error then Unusable else Disk
+
+-- the fault is the one of a refusal of which this holds
+pub record IsFaultOf (Refuses : Error → Type 0) (fault : StoreFault) : Type 0 where
+  pub error : Error
+  pub refused : Refuses error
+  pub is : fault ≡ fault_of error

@@ -1,4 +1,4 @@
-ghost use Rattle.std.specs.Prelude.{◌≡◌, ◌≢◌, ◌≤◌, length, true, false, None, IsErrAnd, IsTrue, IfOk, IfErr, OnOk};
+ghost use Rattle.std.specs.Prelude.{◌≡◌, ◌≢◌, ◌≤◌, length, true, false, None, Err, IsErrAnd, IsTrue, IfOk, IfErr, OnOk};
 ghost use Rattle.sqlite.specs.Held.{state};
 ghost use Rattle.sqlite.specs.State.{HasCleanDisk};
 ghost use Rattle.floor_store.specs.Fault.{is_failure};
@@ -42,16 +42,16 @@ impl<S: Alter> Model for SqlStore<S> {
 impl<S: Alter> SqlStore<S> {
     ghost use Rattle.floor_store.specs.Held.{Breaks};
     ghost use Rattle.floor_store.specs.declared.fault.StoreFault.TheVariants.{AlreadyThere, Unusable};
-    ghost use Rattle.floor_sql.specs.Created.{Opens, has_own_table};
+    ghost use Rattle.floor_sql.specs.Created.{IsForeign, Opens, has_own_table};
     ghost use Rattle.floor_sql.specs.Stored.{MayCommit};
     ghost use Rattle.floor_sql.specs.Held.{Mirrors, HasAudit, sql_held};
-    ghost use Rattle.floor_sql.specs.Usable.{HasUsableNode, IsNode, IsUsable};
+    ghost use Rattle.floor_sql.specs.Usable.{HasUsableNode, HasUsablePasses, IsNode, IsUsable};
     ghost use Rattle.floor_sql.specs.Calls.{HandsBack, IsMade, IsOfNode, IsOpened, KeepsTables, ReadsAudit};
 
     /// Makes the store of this node, with these first free factors, in a database that has no table.
     /// The connection stands outside a transaction and has no limit on its steps. Beside a refusal it
     /// is handed back: `AlreadyThere` where a table with the name of one of a store's is there,
-    /// `Unusable` where only others are.
+    /// `Unusable` where none is and something else is.
     pub fn init(
         alloc: Global,
         mut conn: Connection<S>,
@@ -65,6 +65,9 @@ impl<S: Alter> SqlStore<S> {
         ensures found { has_own_table conn.schema ≡ true
             → IsErrAnd result (λ e. (e.0 ≡ conn) × (e.1 ≡ StoreFault.AlreadyThere)) }
         ensures there { IfErr result (λ e. e.1 ≡ StoreFault.AlreadyThere → has_own_table conn.schema ≡ true) }
+        ensures foreign { IsForeign conn.schema → IsErrAnd result (λ e. (e.0 ≡ conn) × (e.1 ≡ StoreFault.Unusable)) }
+        ensures unusable { IfErr result (λ e. e.1 ≡ StoreFault.Unusable → HasCleanDisk (state S.Store e.0)
+            → IsForeign conn.schema) }
         ensures failure { IfErr result (λ e. e.1 ≢ StoreFault.AlreadyThere → IsTrue (is_failure e.1)) }
         ensures refused { IfErr result (λ e. HandsBack S.Store conn e.0
             (MayCommit (Opens node floors.now) (state S.Store conn))) }
@@ -110,15 +113,17 @@ impl<S: Alter> SqlStore<S> {
     {
         // Outside a transaction the connection sees what was last committed.
         let _ = conn.is_autocommit();
-        match read_tables(alloc, &mut conn, node, tokens) {
-            Ok((mirror, passes)) => Ok(SqlStore {
-                conn,
-                mirror,
-                passes,
-                fault: None,
-            }),
-            Err(Refusal(fault)) => Err((conn, fault)),
-        }
+        let (mirror, passes) = match read_tables(alloc, &mut conn, node, tokens) {
+            Ok(read) => read,
+            Err(Refusal(fault)) => return Err((conn, fault)),
+        };
+        // It begins with what the tables hold.
+        Ok(SqlStore {
+            conn,
+            mirror,
+            passes,
+            fault: None,
+        })
     }
 
     /// The number of the node whose store the tables of a connection hold, and the connection. It
@@ -161,12 +166,15 @@ impl<S: Alter> SqlStore<S> {
         conn
     }
 
-    /// All committed passes, in order of commit.
+    /// All committed passes, in order of commit. `Unusable` where the table of passes is not as `open`
+    /// takes it.
     pub fn passes(&mut self, alloc: Global) -> Result<Vec<Pass>, StoreFault>
         ensures list { HasCleanDisk (state S.Store self.new.conn)
             → IfOk result (λ list. HasAudit S.Store self.new list.items) }
         ensures reads { ReadsAudit S.Store self.old self.new result }
         ensures breaks { IfErr result (Breaks (sql_held S.Store) self.old self.new) }
+        ensures unusable { HasCleanDisk (state S.Store self.new.conn) → result ≡ Err StoreFault.Unusable
+            → self.old.fault ≡ None → ¬ HasUsablePasses (state S.Store self.old.conn).now.trees }
     {
         if let Some(fault) = self.fault {
             return Err(fault);
@@ -193,7 +201,9 @@ fn pass_count(pass: &Option<Pass>) -> u64
 }
 
 impl<S: Alter> FloorStore for SqlStore<S> {
-    ghost use Rattle.std.specs.Prelude.{◌<◌, ◌++◌, Some, IsOk, slice_get};
+    ghost use Rattle.std.specs.Prelude.{◌+◌, ◌^◌, ◌<◌, ◌++◌, Some, IsOk, slice_get};
+    ghost use Rattle.floor_store.specs.declared.fault.StoreFault.TheVariants.{Unusable};
+    ghost use Rattle.floor_sql.specs.Stored.{HasOneRow};
     ghost use Rattle.floor_store.specs.Content.{with_row};
     ghost use Rattle.floor_store.specs.Held.{Breaks, RaisesBoot, Reads, Writes};
     ghost use Rattle.floor_store.specs.Range.{IsCount};
@@ -235,10 +245,14 @@ impl<S: Alter> FloorStore for SqlStore<S> {
     }
 
     /// Keeps the row of a token and, where one is given, appends the pass, in one transaction.
+    /// `Unusable` where its number would be beyond 2^62, or the token has not just one row.
     fn put(&mut self, token: u32, row: Row, pass: Option<Pass>) -> Result<(), StoreFault>
         requires { token < length self.old.mirror.rows }
         ensures writes { Writes (sql_held S.Store) self.old self.new (with_row self.old.mirror token row pass) result }
         ensures breaks { IfErr result (Breaks (sql_held S.Store) self.old self.new) }
+        ensures unusable { HasCleanDisk (state S.Store self.new.conn) → result ≡ Err StoreFault.Unusable
+            → self.old.fault ≡ None → HasOneRow ((state S.Store self.old.conn).now.trees 1) token
+            → 2 ^ 62 < self.old.passes + length (option_to_list pass) }
         ensures audit { HasCleanDisk (state S.Store self.new.conn) → OnOk result ((passes : _)
             → HasAudit S.Store self.old passes → HasAudit S.Store self.new (passes ++ option_to_list pass)) }
     {
@@ -259,12 +273,15 @@ impl<S: Alter> FloorStore for SqlStore<S> {
         Ok(())
     }
 
-    /// Raises the number of the boot by one, in a transaction, and answers it.
+    /// Raises the number of the boot by one, in a transaction, and answers it. `Unusable` where
+    /// `self` has not just one row.
     fn raise_boot(&mut self) -> Result<u64, StoreFault>
         ensures raises { RaisesBoot (sql_held S.Store) self.old self.new result }
         ensures value { IfOk result (λ boot. HasCleanDisk (state S.Store self.new.conn)
             → boot ≡ self.new.mirror.boot) }
         ensures range { IfOk result IsCount }
+        ensures unusable { HasCleanDisk (state S.Store self.new.conn) → result ≡ Err StoreFault.Unusable
+            → self.old.fault ≡ None → ¬ HasOneRow ((state S.Store self.old.conn).now.trees 0) 1 }
         ensures audit { HasCleanDisk (state S.Store self.new.conn) → OnOk result ((passes : _)
             → HasAudit S.Store self.old passes → HasAudit S.Store self.new passes) }
     {

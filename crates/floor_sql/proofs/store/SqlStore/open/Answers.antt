@@ -3,15 +3,15 @@ use Rattle.floor_sql.specs.Held.{IsKept}
 use Rattle.floor_sql.proofs.KeepLemmas.{leaves_mirror}
 use Rattle.floor_sql.proofs.store.SqlStore.open.Goals as goal
 
-pub returns-in-Ok-clause-content : goal.returns-in-Ok-clause-content
-returns-in-Ok-clause-content g c =
+pub returns-clause-content : goal.returns-clause-content
+returns-clause-content g c =
     let conn = c.read_tables.new.conn in
-    let kept : IsKept g.S.Store conn c.in-Ok.mirror c.in-Ok.passes None = search rules in
+    let kept : IsKept g.S.Store conn c.in-Ok.read.0 c.in-Ok.read.1 None = search rules in
     record {
       content = search rules;
       sound = record {
         works = refl;
-        settled = leaves_mirror g.S.Store conn c.in-Ok.mirror c.in-Ok.passes kept
+        settled = leaves_mirror g.S.Store conn c.in-Ok.read.0 c.in-Ok.read.1 kept
             (λ trees is_open may. g.met.S.Store.settled conn.store trees is_open may);
       };
       kept = record { idle = search rules; read = search rules; survives = search rules };
