@@ -175,7 +175,7 @@ happens_gated grounds law config e (Cut true a) w sized h =
 happens_gated grounds law config e (Cut false a) w sized h = restart_gated (length config.book) (node_of a w) w h
 happens_gated grounds law config e (Restart i) w sized h = restart_gated (length config.book) (Some i) w h
 
-run_gated : GroundLaw → GateLaw → (config : Config) (e : ℕ) (xs : List WorldEvent) (w : World) → Sized (length config.book) (cluster_of w) → Gated (length config.book) w → Gated (length config.book) (world_after_events config e xs w)
+pub run_gated : GroundLaw → GateLaw → (config : Config) (e : ℕ) (xs : List WorldEvent) (w : World) → Sized (length config.book) (cluster_of w) → Gated (length config.book) w → Gated (length config.book) (world_after_events config e xs w)
 unfolding world_after_events
 run_gated grounds law config e [] w sized h = h
 run_gated grounds law config e (x ∷ xs) w sized h =

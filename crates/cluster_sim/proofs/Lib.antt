@@ -24,3 +24,15 @@ mod Played
 mod Floors
 mod Reporting
 mod CopyLemmas
+mod Sound
+mod Waves
+mod Sweeps
+mod Turns
+mod Asks
+mod Servers
+mod Grants
+mod Proposals
+mod Seqs
+mod RoundLaw
+mod Unique
+mod RoundReports

@@ -5,6 +5,8 @@ pub mod Journal
 pub mod Justified
 pub mod Refinement
 pub mod Results
+pub mod RoundExamples
+pub mod Rounds
 pub mod Run
 pub mod SingleNode
 pub mod World

@@ -8,8 +8,10 @@ ghost use Rattle.cluster_sim.specs.Answered.{AreAnswered, NamePasses, TellTruth}
 ghost use Rattle.cluster_sim.specs.Examples.{IsAnsweredBy, IsJustifiedAlone, IsJustifiedAmong, IsToldTruly, NamesItsPass, alone, config, eight_ticks, exhausted, five, four, fresh_token, gate_survives_restart, letter_lines, many_floors, many_users, nothing_happens, old_grants, one_voter_twice, acceptance, password_column, refusal_again, report_with, resynchronization, line_at, second_factor_elsewhere, span_against_one, split_two_to_two, stop_after_the_commit, stop_before_accepting, stop_in_a_line, stop_in_a_tick, stop_in_noise, stop_of_nothing, three, told_outcome, told_bad_line, two_submissions, with_password};
 ghost use Rattle.cluster_sim.specs.Justified.{AreJustified};
 ghost use Rattle.cluster_sim.specs.Results.{results_before, results_of};
+ghost use Rattle.cluster_sim.specs.RoundExamples.{line_after_sweep, lines_after_loss, not_level, one_line, one_lost, rounds_from_start, swept, three_lines, two_lines};
+ghost use Rattle.cluster_sim.specs.Rounds.{IsSettled, RoundsAreTheReference, RoundsAreThese, RoundsByCount, RoundsReported, SweepLevels, SweepSettles, TurnLevels, events_with_rounds};
 ghost use Rattle.cluster_sim.specs.SingleNode.{reference_answers, opening_server};
-ghost use Rattle.cluster_sim.specs.World.{WorldEvent, floor_before, passes_of, report_of};
+ghost use Rattle.cluster_sim.specs.World.{WorldEvent, floor_before, opening_world, passes_of, report_of};
 
 use admit_core::{failures_are_spaced, gate_keeps_throttle};
 use oath_node::rulings_have_grounds;
@@ -57,6 +59,26 @@ pub fn one_node_is_the_reference()
     ensures { (config : Config) (floors : List ℕ) (events : List WorldEvent) → 1 + length events < 2 ^ 62 →
         (report_of config (floors ∷ []) events).answers
         ≡ reference_answers config 0 events (opening_server floors) }
+{
+    rulings_have_grounds();
+    gate_keeps_throttle();
+}
+
+/// Whatever was before: the turn of a live member brings the others up to its floors, a sweep levels the floors of all
+/// live members, and both leave nothing waiting. A sweep of a strict majority settles it.
+pub fn sweep_levels()
+    ensures turn { TurnLevels }
+    ensures sweep { SweepLevels }
+    ensures settles { SweepSettles }
+{}
+
+/// Whatever was before: among a strict majority of settled members, lines that come one at a time are answered as one
+/// server with those members as its front ends answers them, as long as there are numbers for proposals.
+pub fn rounds_are_the_reference()
+    ensures rounds { RoundsAreTheReference }
+    ensures counted { RoundsByCount }
+    ensures these { RoundsAreThese }
+    ensures reported { RoundsReported }
 {
     rulings_have_grounds();
     gate_keeps_throttle();
@@ -180,4 +202,28 @@ pub fn answers_can_be_broken()
     ensures to_client { IsAnsweredBy (told_outcome 2 1 9 (codes "a") (Accepted 0) ∷ []) → ⊥ }
     ensures with_nonce { IsAnsweredBy (told_outcome 2 1 7 (codes "c") (Accepted 0) ∷ []) → ⊥ }
     ensures with_factor { IsAnsweredBy (told_outcome 2 1 7 (codes "a") (Accepted 1) ∷ []) → ⊥ }
+
+/// Rounds worked through: two and three of them, after a node is lost, after a sweep; and what happens where members
+/// are no majority, where the line waits already, and where floors aren't level.
+pub fn rounds_are_worked()
+    ensures two { report_of config three (rounds_from_start (1 ∷ 2 ∷ []) two_lines)
+        ≡ report_with (acceptance 0 2 1 0 0 ∷ acceptance 3 5 2 1 1 ∷ [])
+        (told_outcome 2 1 7 (codes "a") (Accepted 0) ∷ told_outcome 5 2 8 (codes "b") (Accepted 1) ∷ []) 6 }
+    ensures three { report_of config three (rounds_from_start (1 ∷ 2 ∷ []) three_lines)
+        ≡ report_with (acceptance 0 2 1 0 0 ∷ acceptance 3 5 2 1 1 ∷ [])
+        (told_outcome 2 1 7 (codes "a") (Accepted 0) ∷ told_outcome 5 2 8 (codes "b") (Accepted 1)
+        ∷ told_outcome 6 1 9 (codes "c") Invalid ∷ []) 6 }
+    ensures after_loss { report_of config three (events_with_rounds config three one_lost (2 ∷ 3 ∷ []) lines_after_loss)
+        ≡ report_with (acceptance 5 7 3 1 1 ∷ [])
+        (told_outcome 4 3 8 (codes "b") Invalid ∷ told_outcome 7 3 8 (codes "c") (Accepted 1) ∷ []) 8 }
+    ensures after_sweep { report_of config three (events_with_rounds config three swept (2 ∷ 3 ∷ []) line_after_sweep)
+        ≡ report_with (acceptance 35 37 3 1 1 ∷ [])
+        (told_outcome 33 3 8 (codes "b") Timeout ∷ told_outcome 37 3 8 (codes "c") (Accepted 1) ∷ []) 54 }
+    ensures no_majority { report_of config three (rounds_from_start (1 ∷ []) one_line) ≡ report_with [] [] 2 }
+    ensures waits_already { report_of config three
+        (events_with_rounds config three (line_at 1 7 1000 (codes "CHECK a silver 755224 -") ∷ []) (1 ∷ 2 ∷ []) one_line)
+        ≡ report_with [] [] 2 }
+    ensures not_level { report_of config not_level (events_with_rounds config not_level [] (1 ∷ 2 ∷ []) one_line)
+        ≡ report_with [] [] 3 }
+    ensures settled { IsSettled config (1 ∷ 2 ∷ []) (opening_world config three) }
 {}

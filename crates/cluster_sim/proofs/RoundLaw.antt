@@ -1,0 +1,380 @@
+-- Rounds among settled members are answered as the one server answers them.
+use Rattle.std.proofs.Common.{◌≡◌, ℕ, suc, ◌+◌, ◌-◌, ◌*◌, ◌^◌, ◌<◌, ◌≤◌, ⊎_elim, true, false, cond, List, [], ◌∷◌, ◌++◌, length, map, Some, None, refl, sym, ap, ◌∙◌, subst, arith, eqb, leb}
+use Rattle.std.proofs.lemmas.Bool.{cond_both, cond-true, cond-false, eqb-true, eqb-false, eq-eqb, ne_eqb, cases_eq, both_ways}
+use Rattle.std.proofs.lemmas.List.{append-nil, append_assoc}
+use mathlib.Core.Path.{fun_ext}
+use Rattle.admit_core.specs.Gate.{GateRecord}
+use Rattle.admit_core.specs.Throttle.{Accepted, Failed, Result}
+use Rattle.answer_ring.specs.Answers.{KeptAnswer, kept_with}
+use Rattle.cluster_sim.proofs.BelowLaws.{GateLaw, GroundLaw, RulingLaw}
+use Rattle.cluster_sim.proofs.Gates.{Gated, all_gated, run_gated}
+use Rattle.cluster_sim.proofs.Proposals.{Proposing, Rounded, proposal_moved, round_is}
+use Rattle.cluster_sim.proofs.Seqs.{run_n, run_seq}
+use Rattle.cluster_sim.proofs.Servers.{OthersSame, first_live}
+use Rattle.cluster_sim.proofs.Sound.{AllSound, no_owners, run_sound}
+use Rattle.cluster_sim.proofs.Turns.{sound_of, sweep_levels}
+use Rattle.cluster_sim.proofs.Waves.{run_append, says, set_all, set_at, set_off}
+use Rattle.cluster_sim.specs.Answered.{ok_bytes}
+use Rattle.cluster_sim.specs.FrontEnds.{Front, Served, served_by_ruling, served_line, server_with_front, standing_of}
+use Rattle.cluster_sim.specs.Results.{results_in, results_with_failure, results_with_pass}
+use Rattle.cluster_sim.specs.Rounds.{AreAnswersTo, AreAtLive, HaveNumbers, IsAnswerTo, IsSettled, RoundLine, RoundsAreTheReference, RoundsByCount, ServesAsOne, SweepSettles, first_of, front_at, is_live, line_event, next_at, round_events, rounds_events, server_after_lines, server_of, sweep_events}
+use Rattle.cluster_sim.specs.World.{Told, World, opening_world, place_at, told_reply, world_after_event, world_after_events, world_of, world_with_made}
+use Rattle.floor_store.specs.Content.{Content}
+use Rattle.floor_store.specs.Records.{RowRecord}
+use Rattle.oath_node.specs.Grounds.{HasGrounds, IsSameStanding}
+use Rattle.oath_node.specs.Machine.{Config, Made, NodeState, gate_with_failure, is_owned, made_by_ruling, node_with_answer, node_with_failure, reply_made, ruling_at, standing_at}
+use Rattle.oath_node.specs.Rules.{Again, Denied, Fitting, Outside, Ruling, Waiting, Wrong}
+use Rattle.vote_core.proofs.Basics.{row_cases}
+use Rattle.vote_core.specs.Rows.{row, row_with_gate}
+use Rattle.vote_core.specs.Schedule.{content_with_gate, envelope_from}
+use Rattle.vote_core.specs.Voting.{VoterState}
+use Rattle.vote_wire.specs.Answer.{answer_bytes}
+use Rattle.vote_wire.specs.Request.{without_lf}
+use Rattle.vote_wire.specs.declared.answer.Answer.TheVariants.{BadLine, Reply as ReplyAnswer}
+use Rattle.vote_wire.specs.declared.answer.Outcome.{Outcome}
+
+abbrev tokens_of : Config → ℕ
+tokens_of config = length config.book
+
+-- ---- the server judges as the node does
+
+same_standing : GateLaw → (config : Config) (live : List ℕ) (w : World) (l : RoundLine) → AllSound (tokens_of config) w → Gated (tokens_of config) w → IsSettled config live w → is_live live l.node ≡ true
+    → IsSameStanding (tokens_of config) (standing_at (w.nodes l.node) l.client l.moment (without_lf l.line)) (standing_of (server_of live w) (front_at w l.node) l.client l.moment (without_lf l.line))
+same_standing law config live w l sound gated calm here =
+    let i = l.node in
+    let x = w.nodes i in
+    let none = calm.none i here in
+    record {
+      kept = refl;
+      waiting = ap (λ os. is_owned os l.client (without_lf l.line)) (no_owners (tokens_of config) x (sound i) none);
+      full = ap (λ qs. leb 32 (length qs)) none;
+      next = λ t lt. calm.level i (first_of live) t here (first_live live i here) lt;
+      wait = λ t lt. ap (λ (g : GateRecord). g.until - l.moment) (gated.gates i t lt) ∙ law.waits (results_in w.history i t) l.moment;
+    }
+
+-- what the server does with a ruling
+abbrev in_server : List ℕ → World → RoundLine → Ruling → Served
+in_server live w l r = served_by_ruling (server_of live w) l.node l.client l.moment (without_lf l.line) r
+
+abbrev served_at : Config → List ℕ → World → RoundLine → Served
+served_at config live w l = served_line config (server_of live w) l.node l.client l.moment l.line
+
+served_is : GateLaw → RulingLaw → (config : Config) (live : List ℕ) (w : World) (l : RoundLine) → AllSound (tokens_of config) w → Gated (tokens_of config) w → IsSettled config live w → is_live live l.node ≡ true
+    → in_server live w l (ruling_at config (w.nodes l.node) l.client l.moment l.line) ≡ served_at config live w l
+served_is law rules config live w l sound gated calm here =
+    ap (λ r. in_server live w l r)
+    (rules config.book config.limits (standing_at (w.nodes l.node) l.client l.moment (without_lf l.line)) (standing_of (server_of live w) (front_at w l.node) l.client l.moment (without_lf l.line)) l.moment l.line
+    (same_standing law config live w l sound gated calm here))
+
+-- ---- a round done
+
+pub record RoundDone (config : Config) (live : List ℕ) (e end : ℕ) (l : RoundLine) (w v : World) (t : Served) : Type 0 where
+  pub calm : IsSettled config live v
+  pub answer : Told
+  pub told : v.told ≡ w.told ++ answer ∷ []
+  pub is : IsAnswerTo e end l t.reply answer
+  pub server : server_of live v ≡ t.server
+  pub seqs : (j : ℕ) → is_live live j ≡ true → (v.nodes j).voter.seq ≤ (w.nodes j).voter.seq + 1
+
+-- ---- the server after a round
+
+-- one front end, by what is seen of its node
+front_is : (v : World) (i : ℕ) (results : ℕ → List Result) (answers : List KeptAnswer) → ((u : ℕ) → results_in v.history i u ≡ results u) → (v.nodes i).answers ≡ answers
+    → front_at v i ≡ record { results = results; answers = answers }
+front_is v i results answers p q =
+    ap (λ (f : ℕ → List Result). record { results = f; answers = (v.nodes i).answers }) (fun_ext p)
+    ∙ ap (λ (a : List KeptAnswer). record { results = results; answers = a }) q
+
+-- the server, by its floors and the one front end that changed
+server_moved : (live : List ℕ) (i : ℕ) (w v : World) (floors : ℕ → ℕ) (front : Front) → OthersSame i w v → ((u : ℕ) → next_at v (first_of live) u ≡ floors u) → front_at v i ≡ front
+    → server_of live v ≡ server_with_front i front (record { floors = floors; fronts = front_at w })
+server_moved live i w v floors front h p q =
+    ap (λ (f : ℕ → ℕ). record { floors = f; fronts = front_at v }) (fun_ext p)
+    ∙ ap (λ (f : ℕ → Front). record { floors = floors; fronts = f }) (fun_ext each)
+  where
+    each : (j : ℕ) → front_at v j ≡ cond (eqb j i) front (front_at w j)
+    each j =
+        cond_both (eqb j i) front (front_at w j) (λ f. front_at v j ≡ f)
+        (λ z. ap (λ m. front_at v m) (eqb-true j i z) ∙ q)
+        (λ z. front_is v j (results_in w.history j) (w.nodes j).answers (λ u. h.results j u (eqb-false j i z)) (h.answers j (eqb-false j i z)))
+
+-- nothing changed
+server_same : (live : List ℕ) (w v : World) → ((u : ℕ) → next_at v (first_of live) u ≡ next_at w (first_of live) u) → ((j : ℕ) → (v.nodes j).answers ≡ (w.nodes j).answers)
+    → ((j u : ℕ) → results_in v.history j u ≡ results_in w.history j u) → server_of live v ≡ server_of live w
+server_same live w v p q r =
+    ap (λ (f : ℕ → ℕ). record { floors = f; fronts = front_at v }) (fun_ext p)
+    ∙ ap (λ (f : ℕ → Front). record { floors = next_at w (first_of live); fronts = f }) (fun_ext (λ j. front_is v j (results_in w.history j) (w.nodes j).answers (r j) (q j)))
+
+-- ---- a round in which nothing is proposed
+
+-- what a line makes of a node where nothing is proposed
+record Plain (w : World) (l : RoundLine) (o : Made) (bytes : List ℕ) : Type 0 where
+  sends : o.sends ≡ []
+  pass : o.pass ≡ None
+  voter : o.state.voter ≡ (w.nodes l.node).voter
+  next : (u : ℕ) → (row o.state.content u).next ≡ next_at w l.node u
+  running : o.state.running ≡ true
+  replies : o.replies ≡ record { client = l.client; bytes = bytes } ∷ []
+
+abbrev after_plain : ℕ → World → RoundLine → Made → World
+after_plain e w l o = world_with_made e l.node o w
+
+plain_next : (e : ℕ) (w : World) (l : RoundLine) (o : Made) (bytes : List ℕ) → Plain w l o bytes → (j u : ℕ) → next_at (after_plain e w l o) j u ≡ next_at w j u
+unfolding world_with_made
+plain_next e w l o bytes h j u = set_all (λ m y. (row y.content u).next ≡ next_at w m u) l.node o.state w.nodes (h.next u) (λ m. refl) j
+
+plain_others : (e : ℕ) (w : World) (l : RoundLine) (o : Made) → OthersSame l.node w (after_plain e w l o)
+unfolding world_with_made
+plain_others e w l o = record {
+  answers = λ j ne. ap (λ (y : NodeState). y.answers) (set_off l.node j o.state w.nodes ne);
+  results = λ j u ne. cond-false (eqb j l.node) (results_with_failure u o.failed (results_with_pass u o.pass (results_in w.history j u))) (results_in w.history j u) (ne_eqb j l.node ne);
+}
+
+plain_own : (e : ℕ) (w : World) (l : RoundLine) (o : Made) (bytes : List ℕ) → Plain w l o bytes → (u : ℕ) → results_in (after_plain e w l o).history l.node u ≡ results_with_failure u o.failed (results_in w.history l.node u)
+unfolding world_with_made
+plain_own e w l o bytes h u =
+    let rs = results_in w.history l.node u in
+    cond-true (eqb l.node l.node) (results_with_failure u o.failed (results_with_pass u o.pass rs)) rs (eq-eqb l.node l.node refl) ∙ ap (λ p. results_with_failure u o.failed (results_with_pass u p rs)) h.pass
+
+plain_node : (e : ℕ) (w : World) (l : RoundLine) (o : Made) → (after_plain e w l o).nodes l.node ≡ o.state
+unfolding world_with_made
+plain_node e w l o = set_at l.node o.state w.nodes
+
+-- the server is as it was
+plain_same : (live : List ℕ) (e : ℕ) (w : World) (l : RoundLine) (o : Made) (bytes : List ℕ) → Plain w l o bytes → o.failed ≡ None → o.state.answers ≡ (w.nodes l.node).answers
+    → server_of live (after_plain e w l o) ≡ server_of live w
+plain_same live e w l o bytes h none answers =
+    let v = after_plain e w l o in
+    let others = plain_others e w l o in
+    server_same live w v (plain_next e w l o bytes h (first_of live))
+    (λ j. ⊎_elim (λ (q : j ≡ l.node). ap (λ m. (v.nodes m).answers) q ∙ ap (λ (y : NodeState). y.answers) (plain_node e w l o) ∙ answers ∙ ap (λ m. (w.nodes m).answers) (sym q)) (λ (ne : j ≡ l.node → ⊥). others.answers j ne) (cases_eq j l.node))
+    (λ j u. ⊎_elim
+    (λ (q : j ≡ l.node).
+    ap (λ m. results_in v.history m u) q ∙ plain_own e w l o bytes h u ∙ ap (λ f. results_with_failure u f (results_in w.history l.node u)) none ∙ ap (λ m. results_in w.history m u) (sym q))
+    (λ (ne : j ≡ l.node → ⊥). others.results j u ne) (cases_eq j l.node))
+
+-- one front end changed
+plain_moved : (live : List ℕ) (e : ℕ) (w : World) (l : RoundLine) (o : Made) (bytes : List ℕ) (results : ℕ → List Result) → Plain w l o bytes → ((u : ℕ) → results_with_failure u o.failed (results_in w.history l.node u) ≡ results u)
+    → server_of live (after_plain e w l o) ≡ server_with_front l.node (record { results = results; answers = o.state.answers }) (server_of live w)
+plain_moved live e w l o bytes results h own =
+    let v = after_plain e w l o in
+    server_moved live l.node w v (next_at w (first_of live)) (record { results = results; answers = o.state.answers }) (plain_others e w l o) (plain_next e w l o bytes h (first_of live))
+    (front_is v l.node results o.state.answers (λ u. plain_own e w l o bytes h u ∙ own u) (ap (λ (y : NodeState). y.answers) (plain_node e w l o)))
+
+plain_done : (config : Config) (live : List ℕ) (e : ℕ) (w : World) (l : RoundLine) (o : Made) (bytes : List ℕ) (t : Served) → IsSettled config live w → is_live live l.node ≡ true → Plain w l o bytes → t.reply ≡ Some bytes
+    → server_of live (after_plain e w l o) ≡ t.server → RoundDone config live e (suc e) l w (after_plain e w l o) t
+unfolding world_with_made
+plain_done config live e w l o bytes t calm here h reply server =
+    let i = l.node in
+    let v = after_plain e w l o in
+    let next = plain_next e w l o bytes h in
+    record {
+      calm = record {
+        ascending = calm.ascending;
+        majority = calm.majority;
+        up = λ m at. ((calm.up m at).0, set_all (λ m y. is_live live m ≡ true → y.running ≡ true) i o.state w.nodes (λ _. h.running) (λ m at. (calm.up m at).1) m at);
+        none = λ m at. set_all (λ m y. is_live live m ≡ true → y.voter.pending ≡ []) i o.state w.nodes (λ at. ap (λ (z : VoterState). z.pending) h.voter ∙ calm.none i at) calm.none m at;
+        level = λ a b u p q lt. next a u ∙ calm.level a b u p q lt ∙ sym (next b u);
+      };
+      answer = record { event = e; node = i; client = l.client; bytes = bytes };
+      told = ap (λ rs. w.told ++ map (told_reply e i) rs) h.replies;
+      is = record { since = omega arith; before = omega arith; node = refl; client = refl; bytes = reply };
+      server = server;
+      seqs = λ j at. set_all (λ m y. y.voter.seq ≤ (w.nodes m).voter.seq + 1) i o.state w.nodes (one_more (ap (λ (z : VoterState). z.seq) h.voter)) (λ m. omega arith) j;
+    }
+  where
+    one_more : {a b : ℕ} → a ≡ b → a ≤ b + 1
+    one_more q = omega (arith, q)
+
+made_sent : (e i : ℕ) (o : Made) (w : World) → o.sends ≡ [] → (world_with_made e i o w).sent ≡ w.sent ++ []
+unfolding world_with_made
+made_sent e i o w q = ap (λ s. w.sent ++ map (envelope_from i) s) q
+
+-- of a round: what it leaves, and that it hands on what was sent in it
+abbrev Done : Config → List ℕ → ℕ → World → RoundLine → Served → Type 0
+Done config live e w l t =
+    RoundDone config live e (length (round_events config live e w l) + e) l w (world_after_events config e (round_events config live e w l) w) t
+    × Rounded live (line_event l) (round_events config live e w l) w (world_after_events config e (round_events config live e w l) w)
+
+-- such a round is the line alone
+plain_round : (config : Config) (live : List ℕ) (e : ℕ) (w : World) (l : RoundLine) (o : Made) (t : Served) → world_after_event config e (line_event l) w ≡ after_plain e w l o → o.sends ≡ []
+    → RoundDone config live e (suc e) l w (after_plain e w l o) t → Done config live e w l t
+unfolding world_after_events
+plain_round config live e w l o t is quiet h =
+    let v = after_plain e w l o in
+    let events : round_events config live e w l ≡ line_event l ∷ [] = round_is config live e w l v [] [] is (made_sent e l.node o w quiet) (sym (append-nil v.sent)) in
+    let z : suc e ≡ 1 + e = omega arith in
+    let rounded : Rounded live (line_event l) (line_event l ∷ []) w v = record { more = []; sent = made_sent e l.node o w quiet; events = refl } in
+    subst (λ xs. RoundDone config live e (length xs + e) l w (world_after_events config e xs w) t × Rounded live (line_event l) xs w (world_after_events config e xs w)) (sym events)
+    (subst (λ y. RoundDone config live e (1 + e) l w y t × Rounded live (line_event l) (line_event l ∷ []) w y) (sym is) (subst (λ m. RoundDone config live e m l w v t) z h, rounded))
+
+-- ---- by the ruling
+
+-- the gate alone changes
+gate_next : (c : Content) (t : ℕ) (g : GateRecord) (u : ℕ) → (row (content_with_gate t g c) u).next ≡ (row c u).next
+gate_next c t g u =
+    ⊎_elim (λ (e : row (content_with_gate t g c) u ≡ row c u). ap (λ (z : RowRecord). z.next) e)
+    (λ (z : (u ≡ t) × (row (content_with_gate t g c) u ≡ row_with_gate g (row c t))). ap (λ (y : RowRecord). y.next) z.1 ∙ ap (λ k. (row c k).next) (sym z.0))
+    (row_cases c t (row_with_gate g (row c t)) None u)
+
+line_made : (config : Config) (live : List ℕ) (e : ℕ) (w : World) (l : RoundLine) (r : Ruling) → IsSettled config live w → is_live live l.node ≡ true → ruling_at config (w.nodes l.node) l.client l.moment l.line ≡ r
+    → world_after_event config e (line_event l) w ≡ world_with_made e l.node (made_by_ruling (place_at w l.node) l.client l.moment (without_lf l.line) r (w.nodes l.node)) w
+line_made config live e w l r calm here q =
+    let i = l.node in
+    says config e i l.client l.moment l.line w (calm.up i here).0 (calm.up i here).1
+    ∙ ap (λ z. world_with_made e i (made_by_ruling (place_at w i) l.client l.moment (without_lf l.line) z (w.nodes i)) w) q
+
+-- the line is answered at once, and its answer kept
+denied_round : (config : Config) (live : List ℕ) (e : ℕ) (w : World) (l : RoundLine) (nonce : List ℕ) (outcome : Outcome) → IsSettled config live w → is_live live l.node ≡ true
+    → ruling_at config (w.nodes l.node) l.client l.moment l.line ≡ Denied nonce outcome → Done config live e w l (in_server live w l (Denied nonce outcome))
+unfolding made_by_ruling
+denied_round config live e w l nonce outcome calm here q =
+    let text = answer_bytes (ReplyAnswer nonce outcome) in
+    let o = reply_made l.client text None (node_with_answer l.client (without_lf l.line) text (w.nodes l.node)) in
+    let h : Plain w l o text = record { sends = refl; pass = refl; voter = refl; next = λ u. refl; running = (calm.up l.node here).1; replies = refl } in
+    let t = in_server live w l (Denied nonce outcome) in
+    plain_round config live e w l o t (line_made config live e w l (Denied nonce outcome) calm here q) refl
+    (plain_done config live e w l o text t calm here h refl (plain_moved live e w l o text (results_in w.history l.node) h (λ u. refl)))
+
+-- it is a failure too
+wrong_round : (config : Config) (live : List ℕ) (e : ℕ) (w : World) (l : RoundLine) (nonce : List ℕ) (outcome : Outcome) (token : ℕ) → IsSettled config live w → is_live live l.node ≡ true
+    → ruling_at config (w.nodes l.node) l.client l.moment l.line ≡ Wrong nonce outcome token → Done config live e w l (in_server live w l (Wrong nonce outcome token))
+unfolding made_by_ruling
+wrong_round config live e w l nonce outcome token calm here q =
+    let x = w.nodes l.node in
+    let text = answer_bytes (ReplyAnswer nonce outcome) in
+    let o = reply_made l.client text (Some (token, l.moment)) (node_with_answer l.client (without_lf l.line) text (node_with_failure token l.moment x)) in
+    let h : Plain w l o text = record {
+      sends = refl;
+      pass = refl;
+      voter = refl;
+      next = gate_next x.content token (gate_with_failure x.content token l.moment);
+      running = (calm.up l.node here).1;
+      replies = refl;
+    } in
+    let t = in_server live w l (Wrong nonce outcome token) in
+    plain_round config live e w l o t (line_made config live e w l (Wrong nonce outcome token) calm here q) refl
+    (plain_done config live e w l o text t calm here h refl
+    (plain_moved live e w l o text (λ u. cond (eqb token u) (Failed l.moment ∷ results_in w.history l.node u) (results_in w.history l.node u)) h (λ u. refl)))
+
+-- the line proposes, and what it proposes is accepted
+fitting_round : (config : Config) (live : List ℕ) (e : ℕ) (w : World) (l : RoundLine) (nonce : List ℕ) (token lo hi : ℕ) → Proposing config live w l nonce token lo hi
+    → Done config live e w l (in_server live w l (Fitting nonce token lo hi))
+fitting_round config live e w l nonce t lo hi h =
+    let i = l.node in
+    let calm = h.calm in
+    let both = proposal_moved config live e w l nonce t lo hi h in
+    let moved = both.0 in
+    let v = world_after_events config e (round_events config live e w l) w in
+    let first = first_of live in
+    let first_here = first_live live i h.here in
+    let rs = results_in w.history i in
+    let kept = kept_with (w.nodes i).answers (record { client = l.client; line = without_lf l.line; text = ok_bytes nonce hi }) in (
+      record {
+        calm = record {
+          ascending = calm.ascending;
+          majority = subst (λ m. m < 2 * length live) (sym moved.n) calm.majority;
+          up = moved.up;
+          none = moved.none;
+          level = λ a b u p r lt.
+              ⊎_elim (λ (k : u ≡ t). ap (λ m. next_at v a m) k ∙ moved.raised a p ∙ sym (ap (λ m. next_at v b m) k ∙ moved.raised b r))
+              (λ (ne : u ≡ t → ⊥). moved.rest a u p ne ∙ calm.level a b u p r lt ∙ sym (moved.rest b u r ne)) (cases_eq u t);
+        };
+        answer = record { event = moved.event; node = i; client = l.client; bytes = ok_bytes nonce hi };
+        told = moved.told;
+        is = record { since = moved.since; before = moved.before; node = refl; client = refl; bytes = refl };
+        server = server_moved live i w v (λ u. cond (eqb t u) (hi + 1) (next_at w first u)) (record { results = λ u. cond (eqb t u) (Accepted ∷ rs u) (rs u); answers = kept }) moved.others
+            (λ u. cond_both (eqb t u) (hi + 1) (next_at w first u) (λ m. next_at v first u ≡ m)
+            (λ q. ap (λ m. next_at v first m) (sym (eqb-true t u q)) ∙ moved.raised first first_here) (λ q. moved.rest first u first_here (λ r. eqb-false t u q (sym r))))
+            (front_is v i (λ u. cond (eqb t u) (Accepted ∷ rs u) (rs u)) kept moved.own moved.answers);
+        seqs = moved.seqs;
+      },
+      both.1,
+    )
+
+by_ruling : GroundLaw → (config : Config) (live : List ℕ) (e : ℕ) (w : World) (l : RoundLine) → AllSound (tokens_of config) w → IsSettled config live w → is_live live l.node ≡ true → (w.nodes l.node).voter.seq < 2 ^ 62 → (r : Ruling)
+    → ruling_at config (w.nodes l.node) l.client l.moment l.line ≡ r → HasGrounds config.book config.limits (standing_at (w.nodes l.node) l.client l.moment (without_lf l.line)) l.moment l.line r
+    → Done config live e w l (in_server live w l r)
+unfolding made_by_ruling
+by_ruling grounds config live e w l sound calm here room Outside q g =
+    let bytes = answer_bytes BadLine in
+    let o = reply_made l.client bytes None (w.nodes l.node) in
+    let h : Plain w l o bytes = record { sends = refl; pass = refl; voter = refl; next = λ u. refl; running = (calm.up l.node here).1; replies = refl } in
+    let t = in_server live w l Outside in
+    plain_round config live e w l o t (line_made config live e w l Outside calm here q) refl (plain_done config live e w l o bytes t calm here h refl (plain_same live e w l o bytes h refl refl))
+by_ruling grounds config live e w l sound calm here room (Again text) q g =
+    let o = reply_made l.client text None (w.nodes l.node) in
+    let h : Plain w l o text = record { sends = refl; pass = refl; voter = refl; next = λ u. refl; running = (calm.up l.node here).1; replies = refl } in
+    let t = in_server live w l (Again text) in
+    plain_round config live e w l o t (line_made config live e w l (Again text) calm here q) refl (plain_done config live e w l o text t calm here h refl (plain_same live e w l o text h refl refl))
+by_ruling grounds config live e w l sound calm here room Waiting q g =
+    let idle : is_owned (w.nodes l.node).owners l.client (without_lf l.line) ≡ false = ap (λ os. is_owned os l.client (without_lf l.line)) (no_owners (tokens_of config) (w.nodes l.node) (sound l.node) (calm.none l.node here)) in
+    absurd (both_ways (is_owned (w.nodes l.node).owners l.client (without_lf l.line)) idle g)
+by_ruling grounds config live e w l sound calm here room (Denied nonce outcome) q g = denied_round config live e w l nonce outcome calm here q
+by_ruling grounds config live e w l sound calm here room (Wrong nonce outcome token) q g = wrong_round config live e w l nonce outcome token calm here q
+by_ruling grounds config live e w l sound calm here room (Fitting nonce token lo hi) q g =
+    fitting_round config live e w l nonce token lo hi (record { sound = sound; calm = calm; here = here; judged = q; known = g.within; free = g.free; span = g.span.ordered; room = room })
+
+-- ---- one round, and all
+
+pub round_done : GroundLaw → GateLaw → RulingLaw → (config : Config) (live : List ℕ) (e : ℕ) (w : World) (l : RoundLine) → AllSound (tokens_of config) w → Gated (tokens_of config) w → IsSettled config live w → is_live live l.node ≡ true
+    → (w.nodes l.node).voter.seq < 2 ^ 62 → Done config live e w l (served_at config live w l)
+round_done grounds law rules config live e w l sound gated calm here room =
+    let x = w.nodes l.node in
+    subst (λ t. Done config live e w l t) (served_is law rules config live w l sound gated calm here)
+    (by_ruling grounds config live e w l sound calm here room (ruling_at config x l.client l.moment l.line) refl (grounds config.book config.limits (standing_at x l.client l.moment (without_lf l.line)) l.moment l.line))
+
+-- a number more for one line, and enough for the rest
+pub room_for_one : (a n : ℕ) → a + suc n ≤ 2 ^ 62 → a < 2 ^ 62
+room_for_one a n h = omega (arith, h)
+
+pub room_for_more : (a b n : ℕ) → b ≤ a + 1 → a + suc n ≤ 2 ^ 62 → b + n ≤ 2 ^ 62
+room_for_more a b n h k = omega (arith, h, k)
+
+rounds_done : GroundLaw → GateLaw → RulingLaw → (config : Config) (live : List ℕ) (ls : List RoundLine) (e : ℕ) (w : World) → AllSound (tokens_of config) w → Gated (tokens_of config) w → IsSettled config live w → AreAtLive live ls
+    → HaveNumbers live w ls → ServesAsOne config live e w (world_after_events config e (rounds_events config live e w ls) w) ls
+unfolding world_after_events
+rounds_done grounds law rules config live [] e w sound gated calm here last = record { answers = []; told = sym (append-nil w.told); are = refl; settled = calm; server = refl }
+rounds_done grounds law rules config live (l ∷ ls) e w sound gated calm here last =
+    let xs = round_events config live e w l in
+    let w1 = world_after_events config e xs w in
+    let one = (round_done grounds law rules config live e w l sound gated calm here.0 (room_for_one (w.nodes l.node).voter.seq (length ls) (last l.node here.0))).0 in
+    let rest = rounds_done grounds law rules config live ls (length xs + e) w1 (run_sound config (tokens_of config) e xs w sound) (run_gated grounds law config e xs w (λ i. (sound i).kept.size) gated) one.calm here.1
+    (λ i at. room_for_more (w.nodes i).voter.seq (w1.nodes i).voter.seq (length ls) (one.seqs i at) (last i at)) in
+    let ys = rounds_events config live (length xs + e) w1 ls in
+    subst (λ z. ServesAsOne config live e w z (l ∷ ls)) (sym (run_append config xs ys e w)) (record {
+      answers = one.answer ∷ rest.answers;
+      told = rest.told ∙ ap (λ a. a ++ rest.answers) one.told ∙ append_assoc w.told (one.answer ∷ []) rest.answers;
+      are = (one.is, subst (λ s. AreAnswersTo config live (length xs + e) w1 s ls rest.answers) one.server rest.are);
+      settled = rest.settled;
+      server = rest.server ∙ ap (λ s. server_after_lines config s ls) one.server;
+    })
+
+pub rounds_are_the_reference : GroundLaw → GateLaw → RulingLaw → RoundsAreTheReference
+rounds_are_the_reference grounds law rules config floors before live lines h =
+    rounds_done grounds law rules config live lines (length before) (world_of config floors before) (sound_of config floors before) (all_gated grounds law config floors before) h.settled h.at_live h.numbers
+
+-- a run from the start uses up at most one number for each event
+pub rounds_by_count : RoundsByCount
+rounds_by_count config floors before live lines few =
+    λ i _. within ((world_of config floors before).nodes i).voter.seq (length before) (length lines) (run_seq config 0 before (opening_world config floors) 0 (λ i. omega arith) i) few
+  where
+    within : (a b n : ℕ) → a ≤ b + 0 → b + n ≤ 2 ^ 62 → a + n ≤ 2 ^ 62
+    within a b n h k = omega (arith, h, k)
+
+-- ---- a sweep settles
+
+pub sweep_settles : SweepSettles
+sweep_settles config floors before live ascending most up =
+    let w = world_of config floors before in
+    let xs = sweep_events config live (length before) w in
+    let z : length before + 0 ≡ length before = omega arith in
+    let same : world_of config floors (before ++ xs) ≡ world_after_events config (length before) xs w = run_append config before xs 0 (opening_world config floors) ∙ ap (λ m. world_after_events config m xs w) z in
+    let swept = sweep_levels config floors before live up in
+    subst (λ v. IsSettled config live v) (sym same) (record {
+      ascending = ascending;
+      majority = subst (λ m. m < 2 * length live) (sym (run_n config (length before) xs w)) most;
+      up = swept.0;
+      none = λ i at. (swept.1 i at).0.0;
+      level = λ i j t p q lt. (swept.1 i p).1 t lt ∙ sym ((swept.1 j q).1 t lt);
+    })

@@ -1,0 +1,22 @@
+-- What a report that ends in rounds says.
+use Rattle.std.proofs.Common.{◌≡◌, ◌+◌, ◌++◌, length, ap, ◌∙◌, arith}
+use Rattle.cluster_sim.proofs.BelowLaws.{GateLaw, GroundLaw, RulingLaw}
+use Rattle.cluster_sim.proofs.RoundLaw.{rounds_are_the_reference}
+use Rattle.cluster_sim.proofs.Unique.{rounds_are_these}
+use Rattle.cluster_sim.proofs.Waves.{run_append}
+use Rattle.cluster_sim.specs.Rounds.{RoundsReported, rounds_events}
+use Rattle.cluster_sim.specs.World.{World, opening_world, world_after_events, world_of}
+
+pub rounds_reported : GroundLaw → GateLaw → RulingLaw → RoundsReported
+rounds_reported grounds law rules config floors before rounds live lines h are =
+    let w = world_of config floors before in
+    let ys = rounds_events config live (length before) w lines in
+    let done = rounds_are_the_reference grounds law rules config floors before live lines h in
+    let z : length before + 0 ≡ length before = omega arith in
+    let same : rounds ≡ ys = (rounds_are_these grounds law rules config floors before live lines h).1 rounds are in
+    record {
+      more = done.answers;
+      told = ap (λ xs. (world_of config floors (before ++ xs)).told) same
+          ∙ ap (λ (v : World). v.told) (run_append config before ys 0 (opening_world config floors) ∙ ap (λ m. world_after_events config m ys w) z) ∙ done.told;
+      are = done.are;
+    }

@@ -1,0 +1,51 @@
+-- Sweeps and rounds to reckon with, at three nodes with the one token of RFC 4226, Appendix D.
+use Rattle.std.specs.Prelude.{ℕ, List, [], ◌∷◌, ◌++◌, length, codes}
+use Rattle.cluster_sim.specs.Examples.{config, three, line_at, delivery, tick_of, first_at_1}
+use Rattle.cluster_sim.specs.Rounds.{RoundLine, events_with_rounds, sweep_events}
+use Rattle.cluster_sim.specs.World.{WorldEvent, world_of}
+
+-- a client's line at a node, at a moment
+abbrev pub round_at : ℕ → ℕ → ℕ → List ℕ → RoundLine
+round_at node client moment line = record { node = node; client = client; moment = moment; line = line }
+
+-- the first code at node 1, and the second at node 2
+abbrev pub two_lines : List RoundLine
+two_lines =
+    round_at 1 7 1000 (codes "CHECK a silver 755224 -") ∷ round_at 2 8 1000 (codes "CHECK b silver 287082 -") ∷ []
+
+-- and the first one again
+abbrev pub three_lines : List RoundLine
+three_lines = two_lines ++ round_at 1 9 1000 (codes "CHECK c silver 755224 -") ∷ []
+
+-- rounds for these lines, with nothing before
+abbrev pub rounds_from_start : List ℕ → List RoundLine → List WorldEvent
+rounds_from_start live lines = events_with_rounds config three [] live lines
+
+-- the first code at node 1 alone
+abbrev pub one_line : List RoundLine
+one_line = round_at 1 7 1000 (codes "CHECK a silver 755224 -") ∷ []
+
+-- node 2 has granted the first code to node 1, which is lost; a tick of node 2 tells node 3
+abbrev pub one_lost : List WorldEvent
+one_lost = first_at_1 ∷ delivery 2 0 ∷ tick_of 2 ∷ delivery 3 4 ∷ []
+
+-- nodes 2 and 3 serve on: the first code is taken, the second one isn't
+abbrev pub lines_after_loss : List RoundLine
+lines_after_loss =
+    round_at 3 8 1000 (codes "CHECK b silver 755224 -") ∷ round_at 3 8 1005 (codes "CHECK c silver 287082 -") ∷ []
+
+-- node 1 is lost before any tick, and a line waits at node 3
+abbrev pub one_waits : List WorldEvent
+one_waits = first_at_1 ∷ delivery 2 0 ∷ line_at 3 8 1000 (codes "CHECK b silver 755224 -") ∷ []
+
+-- then nodes 2 and 3 have a sweep
+abbrev pub swept : List WorldEvent
+swept = one_waits ++ sweep_events config (2 ∷ 3 ∷ []) (length one_waits) (world_of config three one_waits)
+
+-- a line of the second code
+abbrev pub line_after_sweep : List RoundLine
+line_after_sweep = round_at 3 8 1005 (codes "CHECK c silver 287082 -") ∷ []
+
+-- three nodes, of which the second counts the first factor as used up
+abbrev pub not_level : List (List ℕ)
+not_level = (0 ∷ []) ∷ (1 ∷ []) ∷ (0 ∷ []) ∷ []
