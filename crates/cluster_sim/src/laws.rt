@@ -202,6 +202,7 @@ pub fn answers_can_be_broken()
     ensures to_client { IsAnsweredBy (told_outcome 2 1 9 (codes "a") (Accepted 0) ∷ []) → ⊥ }
     ensures with_nonce { IsAnsweredBy (told_outcome 2 1 7 (codes "c") (Accepted 0) ∷ []) → ⊥ }
     ensures with_factor { IsAnsweredBy (told_outcome 2 1 7 (codes "a") (Accepted 1) ∷ []) → ⊥ }
+{}
 
 /// Rounds worked through: two and three of them, after a node is lost, after a sweep; and what happens where members
 /// are no majority, where the line waits already, and where floors aren't level.
