@@ -1,0 +1,28 @@
+-- What ends a cluster before its time.
+use Rattle.std.specs.Prelude.{ℕ}
+use Rattle.oathd_cluster.specs.declared.fault.Fault.{Fault}
+use Rattle.oathd_cluster.specs.declared.fault.Fault.TheVariants.{Memory, CannotRead, CannotWrite, Users, InputLine, Socket, Node}
+use Rattle.users_input.specs.declared.fault.InputFault.{InputFault}
+use Rattle.users_input.specs.declared.fault.InputFault.TheVariants as input
+use Rattle.users_input.specs.declared.fault.UsersFault.{UsersFault}
+use Rattle.users_input.specs.declared.fault.UsersFault.TheVariants as users
+
+-- the exit status: 3 where a node failed, 4 where a socket did, 1 for the rest
+abbrev pub status_of : Fault → ℕ
+status_of Memory = 1
+status_of CannotRead = 1
+status_of CannotWrite = 1
+status_of (Users fault) = 1
+status_of (InputLine number) = 1
+status_of Socket = 4
+status_of (Node fault) = 3
+
+-- what a fault of the input is for a cluster
+abbrev pub input_fault_of : InputFault → Fault
+input_fault_of input.Memory = Memory
+input_fault_of input.CannotRead = CannotRead
+
+-- what a users file that isn't taken is for a cluster
+abbrev pub users_fault_of : UsersFault → Fault
+users_fault_of users.Memory = Memory
+users_fault_of (users.File fault) = Users fault

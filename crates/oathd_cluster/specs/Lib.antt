@@ -1,0 +1,5 @@
+pub mod Examples
+pub mod Fault
+pub mod Line
+pub mod Rounds
+pub mod Run

@@ -1,0 +1,13 @@
+-- What can end the rounds of a cluster; private contracts alone cite what stands here.
+use Rattle.oathd_cluster.specs.declared.fault.Fault.{Fault}
+use Rattle.oathd_cluster.specs.declared.fault.Fault.TheVariants.{Memory, CannotRead, CannotWrite, Users, InputLine, Socket, Node}
+
+-- a socket or a node failed
+abbrev pub IsOfRounds : Fault → Type 0
+IsOfRounds Memory = ⊥
+IsOfRounds CannotRead = ⊥
+IsOfRounds CannotWrite = ⊥
+IsOfRounds (Users fault) = ⊥
+IsOfRounds (InputLine number) = ⊥
+IsOfRounds Socket = Unit {0}
+IsOfRounds (Node fault) = Unit {0}

@@ -1,0 +1,31 @@
+//! What the command `cluster` of `oathd` does, over any reader and writer: it runs the nodes of a cluster in one
+//! process, each over a UDP socket of its own on this machine, and sends the lines of the input to them, one after the
+//! other.
+//!
+//! ```rust
+//! use oathd_cluster::{Setup, run_cluster};
+//! use otp_core::Settings;
+//! use vote_wire::ClusterKey;
+//!
+//! let mut input = b"HOTP silver - 3132333435363738393031323334353637383930\n%%\n\
+//!     1 1000 CHECK 1 silver 755224 -\n".as_slice();
+//! let mut output = Vec::new(alloc);
+//! let key = ClusterKey::new(&[0; 32]).unwrap();
+//! run_cluster(alloc, &rt, 3, Settings::default(), 0, &key, 1000, &mut input, &mut output)?;
+//! assert!(rt; output.as_slice() == b"1 OK 1 0\n".as_slice());
+//! ```
+#![tactic(auto)]
+
+mod answer;
+mod fault;
+mod laws;
+mod line;
+mod rounds;
+mod run;
+mod sockets;
+#[cfg(test)]
+mod tests;
+
+pub use fault::Fault;
+pub use laws::cluster_lines_are_worked;
+pub use run::run_cluster;

@@ -1,0 +1,100 @@
+//! The sockets of a cluster.
+
+ghost use Rattle.std.specs.Prelude.{◌≡◌, ◌≤◌, length};
+
+use crate::fault::Fault;
+use crate::rounds::{Cluster, Member};
+use floor_store::MemStore;
+use oath_node::Node;
+use otp_core::{Next, Settings};
+use std::alloc::Global;
+use std::net::{Ipv4Addr, Net, SocketAddr, SocketAddrV4, UdpSocket};
+use std::time::Duration;
+use token_file::{Book, MAX_TOKENS};
+use udp_port::UdpPort;
+use vote_core::Place;
+use vote_wire::ClusterKey;
+
+/// How long a receive waits, in milliseconds.
+const WAIT_MILLIS: u64 = 20;
+
+/// A socket at an address of its own on this machine, and that address.
+fn bind<N: Net>(net: &N) -> Result<(UdpSocket, SocketAddrV4), Fault> {
+    let any = SocketAddr::V4(SocketAddrV4::new(Ipv4Addr::LOCALHOST, 0));
+    let Ok(socket) = UdpSocket::bind(net, any) else {
+        return Err(Fault::Socket);
+    };
+    if socket
+        .set_read_timeout(Some(Duration::from_millis(WAIT_MILLIS)))
+        .is_err()
+    {
+        return Err(Fault::Socket);
+    }
+    match socket.local_addr() {
+        Ok(SocketAddr::V4(address)) => Ok((socket, address)),
+        Ok(SocketAddr::V6(_)) | Err(_) => Err(Fault::Socket),
+    }
+}
+
+/// A node over a fresh store in memory.
+fn open_node<'b>(
+    alloc: Global,
+    book: &'b Book,
+    settings: Settings,
+    key: &'b ClusterKey,
+    place: Place,
+    floors: &[Next],
+) -> Result<Node<'b, MemStore>, Fault>
+    requires { length floors.now ≡ length book.now }
+{
+    // No book has more tokens.
+    if floors.len() > MAX_TOKENS {
+        return Err(Fault::Memory);
+    }
+    let Ok(store) = MemStore::new(alloc, floors) else {
+        return Err(Fault::Memory);
+    };
+    // A fresh store in memory can raise its boot, so that a node that isn't opened found no memory.
+    match Node::open(alloc, book, settings, place, key, store) {
+        Ok(node) => Ok(node),
+        Err(_) => Err(Fault::Memory),
+    }
+}
+
+/// A cluster of so many nodes, 1 to 9, each over a fresh store in memory and a socket of its own.
+pub(crate) fn open_cluster<'b, N: Net>(
+    alloc: Global,
+    net: &N,
+    nodes: u8,
+    book: &'b Book,
+    settings: Settings,
+    key: &'b ClusterKey,
+    floors: &[Next],
+) -> Result<Cluster<'b, UdpPort>, Fault>
+    requires last { nodes ≤ 9 }
+    requires as_many { length floors.now ≡ length book.now }
+{
+    let mut sockets = Vec::new(alloc);
+    let mut addresses = Vec::new(alloc);
+    for _ in 0..nodes {
+        let (socket, address) = bind(net)?;
+        sockets.push(socket)?;
+        addresses.push(address)?;
+    }
+    // The first is taken off first.
+    sockets.as_mut_slice().reverse();
+    let mut members = Vec::new(alloc);
+    for me in 1..=nodes {
+        let (Some(place), Some(socket)) = (Place::new(me, nodes), sockets.pop()) else {
+            return Err(Fault::Socket);
+        };
+        let node = open_node(alloc, book, settings, key, place, floors)?;
+        let port = UdpPort::new(socket, addresses.to_vec(alloc)?);
+        members.push(Member { node, port })?;
+    }
+    let (socket, _) = bind(net)?;
+    Ok(Cluster {
+        members,
+        client: UdpPort::new(socket, addresses),
+    })
+}
