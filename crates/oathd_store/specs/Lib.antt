@@ -1,3 +1,5 @@
+pub mod Commands
 pub mod Fault
 pub mod Tables
 pub mod Text
+pub mod Users

@@ -1,0 +1,70 @@
+-- A users file is read, or is not.
+use Rattle.std.proofs.Common.{◌≡◌, ℕ, List, Option, Some, None, IfSome, subst}
+use Rattle.std.specs.Prelude.{Ok, Err, IsTrue}
+use Rattle.otp_core.specs.Limits.{Limits}
+use Rattle.floor_store.specs.declared.fault.StoreFault.{StoreFault}
+use Rattle.floor_store.specs.Content.{opening_content}
+use Rattle.floor_sql.specs.Held.{SqlHeld}
+use Rattle.token_file.specs.Credential.{Credential}
+use Rattle.token_file.specs.Source.{OfText}
+use Rattle.token_file.specs.UsersFile.{IsCutOff, book_of, import_of, instant_of, is_of_text}
+use Rattle.token_file.specs.declared.fault.FileFault.{FileFault}
+use Rattle.token_file.specs.declared.fault.LineFault.TheVariants.{Read}
+use Rattle.oathd_store.specs.Commands.{HasImport, HasMade, IsRefused}
+use Rattle.oathd_store.specs.Users.{IsImported, IsUnread}
+use Rattle.oathd_store.specs.declared.fault.Fault.{Fault}
+use Rattle.oathd_store.specs.declared.fault.Fault.TheVariants.{Memory, CannotWrite, NoClock, Users, Store, Socket}
+
+-- what a source tells of its text is so of the reader's
+pub of_reader : (a left : Option (List ℕ)) (P : List ℕ → Type 0) → left ≡ a → OfText left P → IfSome a P
+of_reader None left P is h = tt
+of_reader (Some text) left P is h = subst (λ (o : Option (List ℕ)). OfText o P) is h
+
+module _ (limits : Limits) (moment longest : ℕ) where
+  pub unread : (a left : Option (List ℕ)) (fault : FileFault) → left ≡ a
+      → (IsTrue (is_of_text fault.kind) → OfText left (λ text. book_of longest (instant_of limits moment) text ≡ Err (fault.line, fault.kind)))
+      → (fault.kind ≡ Read → OfText left (λ text. IsCutOff Read longest (instant_of limits moment) text fault.line))
+      → IfSome a (IsUnread limits moment longest (Users fault))
+  unread None left fault is h k = tt
+  unread (Some text) left fault is h k = (
+    (λ t. subst (λ (o : Option (List ℕ)). OfText o (λ text. book_of longest (instant_of limits moment) text ≡ Err (fault.line, fault.kind))) is (h t)),
+    (λ t. subst (λ (o : Option (List ℕ)). OfText o (λ text. IsCutOff Read longest (instant_of limits moment) text fault.line)) is (k t)),
+  )
+
+  -- no memory
+  pub no_memory : (a : Option (List ℕ)) → IfSome a (IsUnread limits moment longest Memory)
+  no_memory None = tt
+  no_memory (Some text) = tt
+
+  -- ---- the commands
+
+  refused_text : (fault : Fault) (text : List ℕ) → IsUnread limits moment longest fault text → IsRefused limits moment longest fault text
+  refused_text Memory text h = tt
+  refused_text CannotWrite text h = h
+  refused_text NoClock text h = h
+  refused_text (Users fault) text h = h
+  refused_text (Store fault) text h = absurd h
+  refused_text Socket text h = h
+
+  -- the users file is not imported
+  pub refused : (a : Option (List ℕ)) (fault : Fault) → IfSome a (IsUnread limits moment longest fault) → IfSome a (IsRefused limits moment longest fault)
+  refused None fault h = tt
+  refused (Some text) fault h = refused_text fault text h
+
+  -- the store refuses
+  pub refused_by_store : (a : Option (List ℕ)) (fault : StoreFault) (book : List Credential) (floors : List ℕ)
+      → IfSome a (IsImported limits moment longest book floors) → IfSome a (IsRefused limits moment longest (Store fault))
+  refused_by_store None fault book floors h = tt
+  refused_by_store (Some text) fault book floors h = record { book = book; floors = floors; imported = h }
+
+  -- the store is made
+  pub made : {S : Type 0} (a : Option (List ℕ)) (store : SqlHeld S) (book : List Credential) (floors : List ℕ)
+      → IfSome a (IsImported limits moment longest book floors) → store.mirror ≡ opening_content floors → store.passes ≡ 0 → store.fault ≡ None
+      → IfSome a (HasMade limits moment longest store)
+  made None store book floors h content no_passes works = tt
+  made (Some text) store book floors h content no_passes works = record {
+    import = record { book = book; floors = floors; imported = h };
+    content = content;
+    no_passes = no_passes;
+    works = works;
+  }
