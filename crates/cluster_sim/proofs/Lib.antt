@@ -36,3 +36,4 @@ mod Seqs
 mod RoundLaw
 mod Unique
 mod RoundReports
+mod RoundPlay

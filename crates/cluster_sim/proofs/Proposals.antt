@@ -45,7 +45,7 @@ pub round_run : (config : Config) (e : ℕ) (w : World) (d : WorldEvent) (w1 : W
 unfolding world_after_events
 round_run config e w d w1 xs ys is = ap (λ a. world_after_events config (suc e) (xs ++ ys) a) is ∙ run_append config xs ys (suc e) w1
 
-handed_append : (test : Envelope → Bool) (k : ℕ) (ls ms : List Envelope) → deliveries test k (ls ++ ms) ≡ deliveries test k ls ++ deliveries test (length ls + k) ms
+pub handed_append : (test : Envelope → Bool) (k : ℕ) (ls ms : List Envelope) → deliveries test k (ls ++ ms) ≡ deliveries test k ls ++ deliveries test (length ls + k) ms
 handed_append test k [] ms = let z : k ≡ 0 + k = omega arith in ap (λ m. deliveries test m ms) z
 handed_append test k (l ∷ ls) ms =
     let z : length ls + suc k ≡ suc (length ls) + k = omega arith in

@@ -20,9 +20,10 @@ use Rattle.cluster_sim.specs.declared.script.Act.TheVariants.{Client as ClientAc
 use Rattle.cluster_sim.specs.declared.script.WorldEvent.{WorldEvent}
 use Rattle.cluster_sim.specs.declared.script.WorldEvent.TheVariants.{Happens as HappensEvent, Cut as CutEvent, Restart as RestartEvent}
 
--- a datagram, and the node that sent it
+-- a datagram, the node that sent it, and the one that it is for
 pub record Letter : Type 0 where
   pub sender : ℕ
+  pub receiver : ℕ
   pub bytes : List ℕ
 
 -- a proposal, and the event in which it was begun
@@ -80,7 +81,8 @@ journal_with_note event node begun pass journal =
 -- the datagrams among the items of the node
 abbrev pub sent_items : ℕ → List Item → List Letter
 sent_items node [] = []
-sent_items node (Datagram to bytes ∷ items) = record { sender = node; bytes = bytes.items } ∷ sent_items node items
+sent_items node (Datagram to bytes ∷ items) =
+    record { sender = node; receiver = to; bytes = bytes.items } ∷ sent_items node items
 sent_items node (Reply client bytes ∷ items) = sent_items node items
 
 -- its replies, in this event
@@ -114,6 +116,7 @@ journal_with_outputs event node is_told (Some outputs) journal = journal_with ev
 abbrev pub letter_of : List ℕ → Envelope → Letter
 letter_of key envelope = record {
   sender = envelope.sender;
+  receiver = envelope.receiver;
   bytes = datagram_bytes key envelope.sender envelope.receiver envelope.message;
 }
 

@@ -6,6 +6,7 @@ pub mod Justified
 pub mod Refinement
 pub mod Results
 pub mod RoundExamples
+pub mod RoundRun
 pub mod Rounds
 pub mod Run
 pub mod SingleNode

@@ -284,13 +284,15 @@ RoundsAreThese =
 
 -- ---- A report
 
--- these answers are those that were told before, then one to each line as the server gives it, within its own round
-pub record AreServed (config : Config) (floors : List (List ℕ)) (before : List WorldEvent) (live : List ℕ)
+-- Of events that end in rounds: these answers are those that were told before, then one to each line as the server gives
+-- it, within its own round; and the live members are settled again.
+pub record AreServed (config : Config) (floors : List (List ℕ)) (before rounds : List WorldEvent) (live : List ℕ)
     (lines : List RoundLine) (answers : List Told) : Type 0 where
   pub more : List Told
   pub told : answers ≡ (report_of config floors before).answers ++ more
   pub are : AreAnswersTo config live (length before) (world_of config floors before)
       (server_of live (world_of config floors before)) lines more
+  pub settled : IsSettled config live (world_of config floors (before ++ rounds))
 
 -- the report of events that end in rounds has an answer more to each line, as the server gives it
 abbrev pub RoundsReported : Type 0
@@ -299,4 +301,19 @@ RoundsReported =
     (lines : List RoundLine)
     → let old = world_of config floors before in
     AreServable config live old lines → AreRounds config live (length before) old lines rounds
-    → AreServed config floors before live lines (report_of config floors (before ++ rounds)).answers
+    → AreServed config floors before rounds live lines (report_of config floors (before ++ rounds)).answers
+
+-- events that end in a sweep of a strict majority that isn't stopped
+pub record EndInSweep (config : Config) (floors : List (List ℕ)) (events : List WorldEvent)
+    (live : List ℕ) : Type 0 where
+  pub start : List WorldEvent
+  pub are : events ≡ start ++ sweep_events config live (length start) (world_of config floors start)
+  pub ascending : IsAscending live
+  pub majority : length floors < 2 * length live
+  pub up : AreUp live (world_of config floors start)
+
+-- they settle its members
+abbrev pub SweepEndSettles : Type 0
+SweepEndSettles =
+    (config : Config) (floors : List (List ℕ)) (events : List WorldEvent) (live : List ℕ)
+    → EndInSweep config floors events live → IsSettled config live (world_of config floors events)

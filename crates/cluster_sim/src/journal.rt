@@ -1,6 +1,6 @@
 //! What all nodes sent, began, accepted and told.
 
-ghost use Rattle.std.specs.Prelude.{◌≡◌, ◌++◌, ◌≤◌, [], IfNone, IfSome, None, OnOk, Some, slice_get};
+ghost use Rattle.std.specs.Prelude.{◌≡◌, ◌++◌, ◌≤◌, [], IfNone, IfSome, None, OnOk, Some, length, slice_get};
 ghost use Rattle.cluster_sim.specs.Journal.{journal_with_note, journal_with_told, sent_items, start_event, told_items};
 
 use crate::report::{WorldAnswer, WorldPass};
@@ -11,10 +11,11 @@ use std::alloc::{AllocError, Global};
 use std::marker::Model;
 use vote_wire::MAX_SENT_LEN;
 
-/// A datagram, and the node that sent it.
+/// A datagram, the node that sent it, and the one that it is for.
 #[derive(Debug, Drop)]
 pub(crate) struct Datagram {
     pub(crate) from: u8,
+    pub(crate) to: u8,
     pub(crate) bytes: ArrayVec<u8, MAX_SENT_LEN>,
 }
 
@@ -23,7 +24,11 @@ impl Model for Datagram {
 
     ghost Value = { Letter };
 
-    ghost view = { λ datagram. record { sender = datagram.from; bytes = datagram.bytes.items } };
+    ghost view = { λ datagram. record {
+      sender = datagram.from;
+      receiver = datagram.to;
+      bytes = datagram.bytes.items;
+    } };
 }
 
 /// A proposal, and the event in which it was begun.
@@ -99,6 +104,13 @@ impl Journal {
         self.sent.get(k as usize)
     }
 
+    /// How many datagrams were sent.
+    pub(crate) fn sent_count(&self) -> u64
+        ensures { result ≡ length self.now.sent }
+    {
+        self.sent.len() as u64
+    }
+
     /// Takes in what a node began and accepted in an event.
     pub(crate) fn note(
         &mut self,
@@ -162,8 +174,12 @@ fn tell_items(
 {
     for item in items {
         match item {
-            Item::Datagram { to: _, bytes } => {
-                sent.push(Datagram { from: node, bytes })?;
+            Item::Datagram { to, bytes } => {
+                sent.push(Datagram {
+                    from: node,
+                    to,
+                    bytes,
+                })?;
             }
             Item::Reply { client, bytes } => {
                 answers.push(WorldAnswer {

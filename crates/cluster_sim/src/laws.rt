@@ -9,7 +9,7 @@ ghost use Rattle.cluster_sim.specs.Examples.{IsAnsweredBy, IsJustifiedAlone, IsJ
 ghost use Rattle.cluster_sim.specs.Justified.{AreJustified};
 ghost use Rattle.cluster_sim.specs.Results.{results_before, results_of};
 ghost use Rattle.cluster_sim.specs.RoundExamples.{line_after_sweep, lines_after_loss, not_level, one_line, one_lost, rounds_from_start, swept, three_lines, two_lines};
-ghost use Rattle.cluster_sim.specs.Rounds.{IsSettled, RoundsAreTheReference, RoundsAreThese, RoundsByCount, RoundsReported, SweepLevels, SweepSettles, TurnLevels, events_with_rounds};
+ghost use Rattle.cluster_sim.specs.Rounds.{IsSettled, RoundsAreTheReference, RoundsAreThese, RoundsByCount, RoundsReported, SweepEndSettles, SweepLevels, SweepSettles, TurnLevels, events_with_rounds};
 ghost use Rattle.cluster_sim.specs.SingleNode.{reference_answers, opening_server};
 ghost use Rattle.cluster_sim.specs.World.{WorldEvent, floor_before, opening_world, passes_of, report_of};
 
@@ -70,6 +70,7 @@ pub fn sweep_levels()
     ensures turn { TurnLevels }
     ensures sweep { SweepLevels }
     ensures settles { SweepSettles }
+    ensures settles_at_end { SweepEndSettles }
 {}
 
 /// Whatever was before: among a strict majority of settled members, lines that come one at a time are answered as one

@@ -31,6 +31,7 @@ mod hosting;
 mod journal;
 mod laws;
 mod report;
+mod rounds;
 mod run;
 mod script;
 mod simulation;
@@ -45,5 +46,6 @@ pub use laws::{
     sweep_levels, world_is_safe,
 };
 pub use report::{Report, WorldAnswer, WorldPass};
+pub use rounds::{RoundLine, run_rounds};
 pub use run::run_world;
 pub use script::{Act, WorldEvent};

@@ -1,6 +1,6 @@
 //! A run of a script, from the opening of the nodes to the report.
 
-ghost use Rattle.std.specs.Prelude.{[], ◌≡◌, ◌≤◌, ℕ, List, IfOk, OnOk, Some, length, map, slice_get, slice_index_or};
+ghost use Rattle.std.specs.Prelude.{[], ◌≡◌, ◌≤◌, ◌++◌, ℕ, List, IfOk, OnOk, Some, length, map, slice_get, slice_index_or};
 ghost use Rattle.std.specs.Global.{Vec};
 ghost use Rattle.otp_core.specs.Acceptance.{HaveSingleUse, KeepRealTimeOrder};
 ghost use Rattle.otp_core.specs.Range.{IsNext};
@@ -11,13 +11,16 @@ ghost use Rattle.cluster_sim.specs.Answered.{AreAnswered, NamePasses, TellTruth}
 ghost use Rattle.cluster_sim.specs.Journal.{AreSpelledAlong, IsHost, IsRun, event_of, no_journal, simulation_of};
 ghost use Rattle.cluster_sim.specs.Justified.{AreJustified};
 ghost use Rattle.cluster_sim.specs.Results.{results_of};
+ghost use Rattle.cluster_sim.specs.Rounds.{AreRounds, AreServable, AreServed, RoundLine};
 ghost use Rattle.cluster_sim.specs.Run.{floor_lists, run_of};
 ghost use Rattle.cluster_sim.specs.SingleNode.{opening_server, reference_answers};
-ghost use Rattle.cluster_sim.specs.World.{World, floor_at, floor_before, opening_node, opening_world, report_of, world_after_events};
+ghost use Rattle.cluster_sim.specs.World.{World, WorldEvent as Event, floor_at, floor_before, opening_node, opening_world, report_of, world_after_events, world_of};
 
 use crate::fault::SimFault;
 use crate::journal::Journal;
-use crate::laws::{answers_belong_to_passes, one_node_is_the_reference, world_is_safe};
+use crate::laws::{
+    answers_belong_to_passes, one_node_is_the_reference, rounds_are_the_reference, world_is_safe,
+};
 use crate::report::Report;
 use crate::script::WorldEvent;
 use crate::simulation::happen;
@@ -39,7 +42,7 @@ fn list_is_in_range(list: &[Next])
 }
 
 /// Each first free factor of each node is in range.
-fn floors_are_in_range(floors: &[Vec<Next>])
+pub(crate) fn floors_are_in_range(floors: &[Vec<Next>])
     ensures { (node token : ℕ) → IsNext (floor_at (floor_lists floors.now) node token) }
 {
     for list in floors {
@@ -73,7 +76,7 @@ fn open_node<'b>(
 }
 
 /// Opens a node for each list of first free factors, in that order.
-fn open_nodes<'b>(
+pub(crate) fn open_nodes<'b>(
     alloc: Global,
     book: &'b Book,
     settings: Settings,
@@ -99,7 +102,7 @@ fn open_nodes<'b>(
 }
 
 /// Lets these events happen, in their order.
-fn play(
+pub(crate) fn play(
     nodes: &mut [Node<'_, MemStore>],
     journal: &mut Journal,
     key: &ClusterKey,
@@ -147,7 +150,7 @@ fn run_script(
 }
 
 /// The report of all that was taken in.
-fn report_of_journal(journal: Journal) -> Report
+pub(crate) fn report_of_journal(journal: Journal) -> Report
     ensures { result ≡ record {
       passes = journal.passes;
       answers = journal.answers;
@@ -214,6 +217,14 @@ pub fn run_world(
         length floors.now ≡ 1
         → IfOk result (λ report. report.answers ≡ reference_answers run.config 0 run.events server) }
 
+    // Where the events end in rounds among members that are settled then, each line of those is answered within its own
+    // round as one server answers it, and the members are settled again.
+    ensures served { let run = run_of book.now settings key.now floors.now events.now in
+        (before rounds : List Event) (live : List ℕ) (lines : List RoundLine) → run.events ≡ before ++ rounds
+        → AreServable run.config live (world_of run.config run.floors before) lines
+        → AreRounds run.config live (length before) (world_of run.config run.floors before) lines rounds
+        → IfOk result (λ report. AreServed run.config run.floors before rounds live lines report.answers) }
+
     // The failures of a token at a node are far apart.
     ensures spaced { let run = run_of book.now settings key.now floors.now events.now in
         (node token : ℕ) → SpacesFailures (results_of run.config run.floors run.events node token) }
@@ -221,5 +232,6 @@ pub fn run_world(
     world_is_safe();
     answers_belong_to_passes();
     one_node_is_the_reference();
+    rounds_are_the_reference();
     run_script(alloc, book, settings, key, floors, events)
 }

@@ -99,6 +99,35 @@ fn compare<R: Abort + AllocGlobal>(
     sent: u64,
 ) -> Result<(), Fail> {
     let report = report_at(rt.alloc(), n, events)?;
+    compare_report(rt, &report, passes, answers, sent)
+}
+
+/// What rounds among live members come to after some events, as `report_at` has them.
+fn rounds_at(
+    alloc: Global,
+    n: usize,
+    before: &[WorldEvent<'_>],
+    live: &[u8],
+    lines: &[RoundLine<'_>],
+) -> Result<Report, Fail> {
+    if n < 1 || n > 9 {
+        return Err("how many nodes".into());
+    }
+    let settings = Settings::new(5, 1, 9).ok_or("settings")?;
+    let key = ClusterKey::new(&[0; 32]).ok_or("a key")?;
+    let (book, floors) = read_book(alloc, &mut FromRead::new(SILVER), settings, 0)?;
+    let lists = lists_of(alloc, &floors, n)?;
+    Ok(run_rounds(alloc, &book, settings, &key, &lists, before, live, lines)?)
+}
+
+/// Compares a whole report.
+fn compare_report<R: Abort + AllocGlobal>(
+    rt: &R,
+    report: &Report,
+    passes: &[Pass],
+    answers: &[Text],
+    sent: u64,
+) -> Result<(), Fail> {
     assert_eq!(rt; report.passes().len(), passes.len());
     for (pass, &(began, ended, node, lo, hi)) in report.passes().iter().zip(passes) {
         assert_eq!(rt; (pass.began, pass.ended, pass.node), (began, ended, node));
@@ -278,4 +307,64 @@ fn noise_is_dropped(rt: HostRuntime) -> Result<(), Fail> {
         delivery(2, 0),
     ];
     compare(&rt, 3, &events, &[], &[], 0)
+}
+
+/// A client's line at a node, for a round.
+fn round(node: u64, client: u64, moment: u64, line: &[u8]) -> RoundLine<'_> {
+    RoundLine {
+        node,
+        client,
+        moment,
+        line,
+    }
+}
+
+/// Nodes 1 and 2 of three answer three lines, the last of which gives a factor that is used up.
+#[test]
+fn three_rounds(rt: HostRuntime) -> Result<(), Fail> {
+    let lines = [
+        round(1, 7, 1000, b"CHECK a silver 755224 -"),
+        round(2, 8, 1000, b"CHECK b silver 287082 -"),
+        round(1, 9, 1000, b"CHECK c silver 755224 -"),
+    ];
+    let report = rounds_at(rt.alloc(), 3, &[], &[1, 2], &lines)?;
+    let passes = [(0, 2, 1, 0, 0), (3, 5, 2, 1, 1)];
+    let answers: [Text; 3] = [
+        (2, 1, 7, b"OK a 0"),
+        (5, 2, 8, b"OK b 1"),
+        (6, 1, 9, b"NO c INVALID"),
+    ];
+    compare_report(&rt, &report, &passes, &answers, 6)
+}
+
+/// Node 1 is lost, and a tick of node 2 levels the floors of the other two, which serve on.
+#[test]
+fn rounds_after_a_loss(rt: HostRuntime) -> Result<(), Fail> {
+    let before = [first_at_1(), delivery(2, 0), tick(2), delivery(3, 4)];
+    let lines = [
+        round(3, 8, 1000, b"CHECK b silver 755224 -"),
+        round(3, 8, 1005, b"CHECK c silver 287082 -"),
+    ];
+    let report = rounds_at(rt.alloc(), 3, &before, &[2, 3], &lines)?;
+    let answers: [Text; 2] = [(4, 3, 8, b"NO b INVALID"), (7, 3, 8, b"OK c 1")];
+    compare_report(&rt, &report, &[(5, 7, 3, 1, 1)], &answers, 8)
+}
+
+/// One member of three is no majority: its line gets no answer.
+#[test]
+fn round_without_majority(rt: HostRuntime) -> Result<(), Fail> {
+    let lines = [round(1, 7, 1000, b"CHECK a silver 755224 -")];
+    let report = rounds_at(rt.alloc(), 3, &[], &[1], &lines)?;
+    compare_report(&rt, &report, &[], &[], 2)
+}
+
+/// What is shown of a line for a round has no byte of it.
+#[test]
+fn round_line_hides_its_text(rt: HostRuntime) -> Result<(), Fail> {
+    let shown = format!(in rt.alloc(); "{:?}", round(1, 7, 1000, b"CHECK a silver 755224 -"))?;
+    assert_eq!(rt;
+        shown.as_str(),
+        "RoundLine { node: 1, client: 7, moment: 1000, .. }"
+    );
+    Ok(())
 }

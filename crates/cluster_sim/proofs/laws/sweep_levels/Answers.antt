@@ -1,3 +1,4 @@
+use Rattle.cluster_sim.proofs.RoundReports.{sweep_end_settles}
 use Rattle.cluster_sim.proofs.RoundLaw.{sweep_settles}
 use Rattle.cluster_sim.proofs.Turns.{sweep_levels, turn_levels}
 use Rattle.cluster_sim.proofs.laws.sweep_levels.Goals as goal
@@ -10,3 +11,6 @@ returns-clause-sweep c = sweep_levels
 
 pub returns-clause-settles : goal.returns-clause-settles
 returns-clause-settles c = sweep_settles
+
+pub returns-clause-settles_at_end : goal.returns-clause-settles_at_end
+returns-clause-settles_at_end c = sweep_end_settles

@@ -20,7 +20,7 @@ returns-clause-plays c key config w h spelled =
     let inside = c.datagram-2.inside in
     let what = Peer inside.from (envelope_at key c.as_slice.result.now) in
     let same = handed_is c.one_spelling.ensures.again key w c.args.journal.now.sent c.args.k c.in-Some.datagram.now h.recorded.sent spelled c.in-Some.ensures.some
-    (record { sender = inside.from; bytes = c.as_slice.result.now }) (ap (λ (b : List ℕ). record { sender = inside.from; bytes = b }) c.as_slice.ensures.value ∙ c.datagram-2.view_is) in
+    (record { sender = inside.from; receiver = inside.to; bytes = c.as_slice.result.now }) (ap (λ (b : List ℕ). record { sender = inside.from; receiver = inside.to; bytes = b }) c.as_slice.ensures.value ∙ c.datagram-2.view_is) in
     act_turn config key c.args.event what (Deliver c.args.node c.args.k) w c.args.is_told (record { nodes = c.ask-outputs.new.nodes; journal = c.take.new.journal }) c.take.result same
     (turn_plays config key c.args.event c.args.node what w c.args.is_told c.ask-outputs.result (record { nodes = c.args.nodes.now; journal = c.args.journal.now }) c.ask-outputs.new.nodes c.take.new.journal
     c.take.result h c.ask-outputs.ensures.len (c.ask-outputs.ensures.asks config key w.n w.nodes h.n h.hosts) c.take.ensures)

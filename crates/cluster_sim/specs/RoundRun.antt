@@ -1,0 +1,41 @@
+-- Rounds of a simulation, as their caller writes them down, and what its calls make of a world.
+use Rattle.std.specs.Prelude.{◌≡◌, ℕ, ◌+◌, List, length, map, drop, take, Result, IfOk}
+use Rattle.oath_node.specs.Machine.{Config}
+use Rattle.cluster_sim.specs.Journal.{AreSpelled, IsRun, SimulationRecord}
+use Rattle.cluster_sim.specs.Rounds.{RoundLine, deliveries, is_between}
+use Rattle.cluster_sim.specs.World.{World, WorldEvent, world_after_events}
+use Rattle.cluster_sim.specs.declared.rounds.RoundLine.{RoundLine as CallerLine}
+
+-- the line of a caller
+abbrev pub round_line : CallerLine → RoundLine
+round_line line = record { node = line.node; client = line.client; moment = line.moment; line = line.line.now }
+
+-- the lines of a caller
+abbrev pub round_lines : List CallerLine → List RoundLine
+round_lines lines = map round_line lines
+
+-- whatever happens from this event on, each datagram that is sent reads as it was meant
+abbrev pub StaySpelled : Config → ℕ → World → Type 0
+StaySpelled config first world = (events : List WorldEvent) → AreSpelled (world_after_events config first events world)
+
+-- these events happened to a world, from the first of this number on, and the next one has that number
+pub record HaveHappened (config : Config) (key : List ℕ) (first : ℕ) (events : List WorldEvent) (world : World)
+    (simulation : SimulationRecord) (next : ℕ) : Type 0 where
+  pub run : IsRun config key (world_after_events config first events world) simulation
+  pub count : next ≡ length events + first
+
+-- A call on a simulation that lets events happen, which the world decides, from the first of this number on, and gives
+-- the number of the next one, unless memory ran out.
+abbrev pub PlaysEvents : {E : Type 0} → List ℕ → ℕ → (Config → World → List WorldEvent) → SimulationRecord
+    → SimulationRecord → Result ℕ E → Type 0
+PlaysEvents key first events old new result =
+    (config : Config) (world : World) → IsRun config key world old → StaySpelled config first world
+    → IfOk result (λ next. HaveHappened config key first (events config world) world new next)
+
+-- the delivery of the datagram of that number, if it was sent from a live member to a live member
+abbrev pub delivery_of : List ℕ → ℕ → World → List WorldEvent
+delivery_of live k world = deliveries (is_between live) k (take 1 (drop k world.sent))
+
+-- the deliveries of all datagrams from that number on that were sent from a live member to a live member
+abbrev pub deliveries_from : List ℕ → ℕ → World → List WorldEvent
+deliveries_from live k world = deliveries (is_between live) k (drop k world.sent)

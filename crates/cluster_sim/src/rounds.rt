@@ -1,0 +1,269 @@
+//! Rounds: lines that come one at a time, each answered among the live members before the next one comes.
+
+ghost use Rattle.std.specs.Prelude.{[], ◌≡◌, ◌≤◌, ◌∷◌, ◌&&◌, ℕ, List, IfOk, Some, length, map, slice_get};
+ghost use Rattle.std.specs.Global.{Vec};
+ghost use Rattle.cluster_sim.specs.Journal.{event_of, simulation_of};
+ghost use Rattle.cluster_sim.specs.RoundRun.{PlaysEvents, deliveries_from, delivery_of, round_line, round_lines};
+ghost use Rattle.cluster_sim.specs.Rounds.{AreAtLive, AreServable, AreServed, EndInSweep, HaveNumbers, events_with_rounds, is_live, round_events, rounds_events};
+ghost use Rattle.cluster_sim.specs.Run.{run_of};
+ghost use Rattle.cluster_sim.specs.World.{report_of, world_of};
+
+use crate::fault::SimFault;
+use crate::journal::{Datagram, Journal};
+use crate::laws::{rounds_are_the_reference, sweep_levels};
+use crate::report::Report;
+use crate::run::{floors_are_in_range, open_nodes, play, report_of_journal};
+use crate::script::{Act, WorldEvent};
+use crate::simulation::happen;
+use floor_store::MemStore;
+use oath_node::{Node, rulings_have_grounds};
+use otp_core::{Next, Settings};
+use std::alloc::Global;
+use std::fmt;
+use token_file::{Book, MAX_TOKENS};
+use vote_wire::ClusterKey;
+
+/// A client's line at a node, at a moment in seconds since 1970-01-01 00:00:00 UTC. Nodes are counted from 1 on.
+#[derive(Clone, Copy)]
+pub struct RoundLine<'a> {
+    pub node: u64,
+    pub client: u64,
+    pub moment: u64,
+    pub line: &'a [u8],
+}
+
+/// It shows no byte of the line, which may have codes and a password.
+impl<'a> fmt::Debug for RoundLine<'a> {
+    fn fmt<W: fmt::Write>(&self, f: &mut fmt::Formatter<W>) -> fmt::Result {
+        f.debug_struct("RoundLine")
+            .field("node", &self.node)
+            .field("client", &self.client)
+            .field("moment", &self.moment)
+            .finish_non_exhaustive()
+    }
+}
+
+/// Whether a node is one of these.
+fn is_among(live: &[u8], node: u8) -> bool
+    ensures { result ≡ is_live live.now node }
+{
+    for member in live {
+        if *member == node {
+            return true;
+        }
+    }
+    false
+}
+
+/// Whether a datagram goes from a live member to a live member.
+fn is_between_live(live: &[u8], datagram: &Datagram) -> bool
+    ensures { result ≡ (is_live live.now datagram.now.sender && is_live live.now datagram.now.receiver) }
+{
+    is_among(live, datagram.from) && is_among(live, datagram.to)
+}
+
+/// Lets one event happen, and gives the number of the next one.
+fn play_one(
+    nodes: &mut [Node<'_, MemStore>],
+    journal: &mut Journal,
+    key: &ClusterKey,
+    number: u64,
+    event: WorldEvent<'_>,
+) -> Result<u64, SimFault>
+    requires { length nodes.old ≤ 9 }
+    ensures plays { PlaysEvents key.now number (λ config world. event_of key.now event.entry ∷ [])
+        (simulation_of nodes.old journal.old) (simulation_of nodes.new journal.new) result }
+    ensures len { length nodes.new ≡ length nodes.old }
+{
+    // No run has so many events.
+    let Some(next) = number.checked_add(1) else {
+        return Err(SimFault::Memory);
+    };
+    happen(nodes, journal, key, number, event)?;
+    Ok(next)
+}
+
+/// Hands on the datagram of a number, if it goes from a live member to a live member, and gives the number of the
+/// next event.
+fn hand_on_one(
+    nodes: &mut [Node<'_, MemStore>],
+    journal: &mut Journal,
+    key: &ClusterKey,
+    live: &[u8],
+    k: u64,
+    number: u64,
+) -> Result<u64, SimFault>
+    requires { length nodes.old ≤ 9 }
+    ensures plays { PlaysEvents key.now number (λ config world. delivery_of live.now k world)
+        (simulation_of nodes.old journal.old) (simulation_of nodes.new journal.new) result }
+    ensures len { length nodes.new ≡ length nodes.old }
+{
+    let Some(datagram) = journal.datagram(k) else {
+        return Ok(number);
+    };
+    if !is_between_live(live, datagram) {
+        return Ok(number);
+    }
+    let node = u64::from(datagram.to);
+    let event = WorldEvent::Happens(Act::Deliver { node, k });
+    play_one(nodes, journal, key, number, event)
+}
+
+/// Hands on the datagrams from a number up to the last one that was sent before this call, of which each goes from a
+/// live member to a live member, and gives the number of the next event.
+fn hand_on(
+    nodes: &mut [Node<'_, MemStore>],
+    journal: &mut Journal,
+    key: &ClusterKey,
+    live: &[u8],
+    first: u64,
+    number: u64,
+) -> Result<u64, SimFault>
+    requires { length nodes.old ≤ 9 }
+    ensures plays { PlaysEvents key.now number (λ config world. deliveries_from live.now first world)
+        (simulation_of nodes.old journal.old) (simulation_of nodes.new journal.new) result }
+    ensures len { length nodes.new ≡ length nodes.old }
+{
+    let mut next = number;
+    for k in first..journal.sent_count() {
+        next = hand_on_one(nodes, journal, key, live, k, next)?;
+    }
+    Ok(next)
+}
+
+/// Plays a round: the line, then what it sent between live members, then what those sent between them; and gives the
+/// number of the next event.
+fn play_round(
+    nodes: &mut [Node<'_, MemStore>],
+    journal: &mut Journal,
+    key: &ClusterKey,
+    live: &[u8],
+    number: u64,
+    line: RoundLine<'_>,
+) -> Result<u64, SimFault>
+    requires { length nodes.old ≤ 9 }
+    ensures plays { PlaysEvents key.now number
+        (λ config world. round_events config live.now number world (round_line line.entry))
+        (simulation_of nodes.old journal.old) (simulation_of nodes.new journal.new) result }
+    ensures len { length nodes.new ≡ length nodes.old }
+{
+    let RoundLine {
+        node,
+        client,
+        moment,
+        line,
+    } = line;
+    let act = Act::Client {
+        node,
+        client,
+        moment,
+        line,
+    };
+    let first = journal.sent_count();
+    let asked = play_one(nodes, journal, key, number, WorldEvent::Happens(act))?;
+    let second = journal.sent_count();
+    let answered = hand_on(nodes, journal, key, live, first, asked)?;
+    hand_on(nodes, journal, key, live, second, answered)
+}
+
+/// Plays a round for each line, in their order, and gives the number of the next event.
+fn play_rounds(
+    nodes: &mut [Node<'_, MemStore>],
+    journal: &mut Journal,
+    key: &ClusterKey,
+    live: &[u8],
+    number: u64,
+    lines: &[RoundLine<'_>],
+) -> Result<u64, SimFault>
+    requires { length nodes.old ≤ 9 }
+    ensures plays { PlaysEvents key.now number
+        (λ config world. rounds_events config live.now number world (round_lines lines.now))
+        (simulation_of nodes.old journal.old) (simulation_of nodes.new journal.new) result }
+    ensures len { length nodes.new ≡ length nodes.old }
+{
+    let mut next = number;
+    for line in lines {
+        next = play_round(nodes, journal, key, live, next, *line)?;
+    }
+    Ok(next)
+}
+
+/// Runs a script and then the rounds: opens the nodes, lets the events happen, plays the rounds, and makes the report.
+fn run_script_and_rounds(
+    alloc: Global,
+    book: &Book,
+    settings: Settings,
+    key: &ClusterKey,
+    floors: &[Vec<Next>],
+    before: &[WorldEvent<'_>],
+    live: &[u8],
+    lines: &[RoundLine<'_>],
+) -> Result<Report, SimFault>
+    requires last { length floors.now ≤ 9 }
+    requires each { (k : ℕ) (list : Vec ℕ) → slice_get floors.now k ≡ Some list
+        → length list.items ≡ length book.now }
+    ensures { let run = run_of book.now settings key.now floors.now before.now in
+        let all = events_with_rounds run.config run.floors run.events live.now (round_lines lines.now) in
+        IfOk result (λ report. report ≡ report_of run.config run.floors all) }
+{
+    // No book has more.
+    if book.len() > MAX_TOKENS {
+        return Err(SimFault::Memory);
+    }
+    rulings_have_grounds();
+    floors_are_in_range(floors);
+    let mut nodes = open_nodes(alloc, book, settings, key, floors)?;
+    let mut journal = Journal::new(alloc);
+    let cluster: &mut [Node<'_, MemStore>] = &mut nodes;
+    play(cluster, &mut journal, key, before)?;
+    let _next = play_rounds(cluster, &mut journal, key, live, before.len() as u64, lines)?;
+    Ok(report_of_journal(journal))
+}
+
+/// Runs a script as [`run_world`](crate::run_world) does, and then a round for each line: the line comes at its node,
+/// and each datagram that is sent in this round from a live member to a live member comes to its receiver, in the order
+/// of sending, until none is left. What else is sent is lost. It tells what was accepted and answered in all.
+///
+/// # Errors
+/// `Memory` where there is none, and then there is no report.
+pub fn run_rounds(
+    alloc: Global,
+    book: &Book,
+    settings: Settings,
+    key: &ClusterKey,
+    floors: &[Vec<Next>],
+    before: &[WorldEvent<'_>],
+    live: &[u8],
+    lines: &[RoundLine<'_>],
+) -> Result<Report, SimFault>
+    requires first { 1 ≤ length floors.now }
+    requires last { length floors.now ≤ 9 }
+    requires each { (k : ℕ) (list : Vec ℕ) → slice_get floors.now k ≡ Some list
+        → length list.items ≡ length book.now }
+
+    // The report is exactly that of the events before, and then of a round for each line.
+    ensures report { let run = run_of book.now settings key.now floors.now before.now in
+        let all = events_with_rounds run.config run.floors run.events live.now (round_lines lines.now) in
+        IfOk result (λ report. report ≡ report_of run.config run.floors all) }
+
+    // Among a strict majority that is settled after the events before, each line is answered within its own round as one
+    // server answers it, and the members are settled again.
+    ensures served { let run = run_of book.now settings key.now floors.now before.now in
+        let old = world_of run.config run.floors run.events in
+        let rounds = rounds_events run.config live.now (length run.events) old (round_lines lines.now) in
+        AreServable run.config live.now old (round_lines lines.now) → IfOk result (λ report.
+        AreServed run.config run.floors run.events rounds live.now (round_lines lines.now) report.answers) }
+
+    // A sweep at the end of the events before settles such a majority.
+    ensures levelled { let run = run_of book.now settings key.now floors.now before.now in
+        let old = world_of run.config run.floors run.events in
+        let rounds = rounds_events run.config live.now (length run.events) old (round_lines lines.now) in
+        EndInSweep run.config run.floors run.events live.now
+        → AreAtLive live.now (round_lines lines.now) → HaveNumbers live.now old (round_lines lines.now)
+        → IfOk result (λ report.
+        AreServed run.config run.floors run.events rounds live.now (round_lines lines.now) report.answers) }
+{
+    sweep_levels();
+    rounds_are_the_reference();
+    run_script_and_rounds(alloc, book, settings, key, floors, before, live, lines)
+}
