@@ -4,8 +4,6 @@ use Rattle.oathd_cluster.specs.declared.fault.Fault.{Fault}
 use Rattle.oathd_cluster.specs.declared.fault.Fault.TheVariants.{Memory, CannotRead, CannotWrite, Users, InputLine, Socket, Node}
 use Rattle.users_input.specs.declared.fault.InputFault.{InputFault}
 use Rattle.users_input.specs.declared.fault.InputFault.TheVariants as input
-use Rattle.users_input.specs.declared.fault.UsersFault.{UsersFault}
-use Rattle.users_input.specs.declared.fault.UsersFault.TheVariants as users
 
 -- the exit status: 3 where a node failed, 4 where a socket did, 1 for the rest
 abbrev pub status_of : Fault → ℕ
@@ -21,8 +19,3 @@ status_of (Node fault) = 3
 abbrev pub input_fault_of : InputFault → Fault
 input_fault_of input.Memory = Memory
 input_fault_of input.CannotRead = CannotRead
-
--- what a users file that isn't taken is for a cluster
-abbrev pub users_fault_of : UsersFault → Fault
-users_fault_of users.Memory = Memory
-users_fault_of (users.File fault) = Users fault

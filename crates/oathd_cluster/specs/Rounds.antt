@@ -11,3 +11,13 @@ IsOfRounds (Users fault) = ⊥
 IsOfRounds (InputLine number) = ⊥
 IsOfRounds Socket = Unit {0}
 IsOfRounds (Node fault) = Unit {0}
+
+-- there was no memory, or a socket couldn't be had
+abbrev pub IsOfOpening : Fault → Type 0
+IsOfOpening Memory = Unit {0}
+IsOfOpening CannotRead = ⊥
+IsOfOpening CannotWrite = ⊥
+IsOfOpening (Users fault) = ⊥
+IsOfOpening (InputLine number) = ⊥
+IsOfOpening Socket = Unit {0}
+IsOfOpening (Node fault) = ⊥

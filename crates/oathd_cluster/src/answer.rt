@@ -4,7 +4,7 @@ ghost use Rattle.std.specs.Prelude.{◌≡◌, ◌≤◌, IfErr, IfSome, OnOk};
 ghost use Rattle.std.specs.Io.KnownBytes.{Appends};
 ghost use Rattle.command_line.specs.Line.{line_of};
 ghost use Rattle.oathd_cluster.specs.Line.{node_lines};
-ghost use Rattle.oathd_cluster.specs.Run.{EndsSo, reply_text};
+ghost use Rattle.oathd_cluster.specs.Run.{EndsSo, IsBehindUsers, reply_text};
 ghost use Rattle.users_input.specs.Input.{lines_of};
 
 use crate::fault::Fault;
@@ -43,6 +43,7 @@ pub(crate) fn answer_lines<B: BufRead + Drop, W: Write, P: Port + Drop>(
     requires { nodes ≤ 9 }
     ensures ends { IfSome (B.remaining input.reader) (λ text. EndsSo
         (node_lines nodes first (lines_of input.room text)) result (W.contents writer.old) (W.contents writer.new)) }
+    ensures behind { IfErr result IsBehindUsers }
 {
     let mut line = Vec::new(alloc);
     let mut buffer = [0; MAX_DATAGRAM_LEN];

@@ -6,7 +6,7 @@ use oath_node::NodeFault;
 use std::alloc::{AllocError, AllocFailed};
 use thiserror::Error;
 use token_file::FileFault;
-use users_input::{InputFault, UsersFault};
+use users_input::InputFault;
 
 /// What ends a cluster before its time. The text lacks the program's name.
 #[derive(Clone, Copy, Debug, PartialEq, Eq, Error)]
@@ -61,19 +61,6 @@ impl From<InputFault> for Fault {
         match fault {
             InputFault::Memory => Fault::Memory,
             InputFault::CannotRead => Fault::CannotRead,
-        }
-    }
-}
-
-impl From<UsersFault> for Fault {
-    ghost use Rattle.oathd_cluster.specs.Fault.{users_fault_of};
-
-    ghost from_gives = { λ users fault. fault ≡ users_fault_of users };
-
-    fn from(fault: UsersFault) -> Self {
-        match fault {
-            UsersFault::Memory => Fault::Memory,
-            UsersFault::File(fault) => Fault::Users(fault),
         }
     }
 }

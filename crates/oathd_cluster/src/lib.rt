@@ -7,11 +7,11 @@
 //! use otp_core::Settings;
 //! use vote_wire::ClusterKey;
 //!
-//! let mut input = b"HOTP silver - 3132333435363738393031323334353637383930\n%%\n\
-//!     1 1000 CHECK 1 silver 755224 -\n".as_slice();
+//! let users = b"HOTP silver - 3132333435363738393031323334353637383930".as_slice();
+//! let mut lines = b"1 1000 CHECK 1 silver 755224 -\n".as_slice();
 //! let mut output = Vec::new(alloc);
 //! let key = ClusterKey::new(&[0; 32]).unwrap();
-//! run_cluster(alloc, &rt, 3, Settings::default(), 0, &key, 1000, &mut input, &mut output)?;
+//! run_cluster(alloc, &rt, 3, Settings::default(), 0, &key, users, 1000, &mut lines, &mut output)?;
 //! assert!(rt; output.as_slice() == b"1 OK 1 0\n".as_slice());
 //! ```
 #![tactic(auto)]

@@ -1,6 +1,7 @@
 //! The sockets of a cluster.
 
-ghost use Rattle.std.specs.Prelude.{◌≡◌, ◌≤◌, length};
+ghost use Rattle.std.specs.Prelude.{◌≡◌, ◌≤◌, length, IfErr};
+ghost use Rattle.oathd_cluster.specs.Rounds.{IsOfOpening};
 
 use crate::fault::Fault;
 use crate::rounds::{Cluster, Member};
@@ -19,7 +20,9 @@ use vote_wire::ClusterKey;
 const WAIT_MILLIS: u64 = 20;
 
 /// A socket at an address of its own on this machine, and that address.
-fn bind<N: Net>(net: &N) -> Result<(UdpSocket, SocketAddrV4), Fault> {
+fn bind<N: Net>(net: &N) -> Result<(UdpSocket, SocketAddrV4), Fault>
+    ensures { IfErr result IsOfOpening }
+{
     let any = SocketAddr::V4(SocketAddrV4::new(Ipv4Addr::LOCALHOST, 0));
     let Ok(socket) = UdpSocket::bind(net, any) else {
         return Err(Fault::Socket);
@@ -46,6 +49,7 @@ fn open_node<'b>(
     floors: &[Next],
 ) -> Result<Node<'b, MemStore>, Fault>
     requires { length floors.now ≡ length book.now }
+    ensures { IfErr result IsOfOpening }
 {
     // No book has more tokens.
     if floors.len() > MAX_TOKENS {
@@ -73,6 +77,7 @@ pub(crate) fn open_cluster<'b, N: Net>(
 ) -> Result<Cluster<'b, UdpPort>, Fault>
     requires last { nodes ≤ 9 }
     requires as_many { length floors.now ≡ length book.now }
+    ensures { IfErr result IsOfOpening }
 {
     let mut sockets = Vec::new(alloc);
     let mut addresses = Vec::new(alloc);
