@@ -1,3 +1,4 @@
+pub mod FailureLemmas
 pub mod GrowLemmas
 pub mod StepLemmas
 pub mod TurnLemmas

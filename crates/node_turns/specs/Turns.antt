@@ -1,6 +1,6 @@
 -- A run of a node over a port and a clock: what is received is handed to the node, and what the node sends and replies
 -- is offered.
-use Rattle.std.specs.Prelude.{ℕ, ◌+◌, ◌%◌, nat_eq, Bool, if◌then◌else◌, List, [], ◌∷◌, ◌++◌, length, map, filter, Option, Some, None, true, false}
+use Rattle.std.specs.Prelude.{◌≡◌, ℕ, ◌+◌, ◌%◌, nat_eq, not, Bool, if◌then◌else◌, List, [], ◌∷◌, ◌++◌, length, map, filter, Option, Some, None, true, false}
 use Rattle.std.specs.List.{flat_map}
 use Rattle.vote_core.specs.NodeSet.{PlaceRecord}
 use Rattle.oath_node.specs.Hosted.{Hosted, config_of, envelope_at}
@@ -159,3 +159,27 @@ abbrev pub run_with_turns : Member → List Receipt → Run → Run
 run_with_turns member [] run = run
 run_with_turns member (receipt ∷ receipts) run =
     run_with_turns member receipts (while_going run.end (run_with_turn member receipt run) run)
+
+-- ---- Faults of the port
+
+-- the offers among these entries
+abbrev pub offers_in : List PortEvent → List PortEvent
+offers_in entries = filter (λ entry. not (is_receive entry)) entries
+
+-- a receive that failed
+abbrev pub is_failure : Receipt → Bool
+is_failure (FromPeer from bytes) = false
+is_failure (FromClient client bytes moment) = false
+is_failure Nothing = false
+is_failure Failure = true
+
+-- these receipts but for the receives that failed
+abbrev pub without_failures : List Receipt → List Receipt
+without_failures receipts = filter (λ receipt. not (is_failure receipt)) receipts
+
+-- two runs made the same node, offered the same list and counted the same
+pub record DoesTheSame (a b : Run) : Type 0 where
+  pub node : a.node ≡ b.node
+  pub offers : offers_in a.entries ≡ offers_in b.entries
+  pub received : a.tally.received ≡ b.tally.received
+  pub replied : a.tally.replied ≡ b.tally.replied

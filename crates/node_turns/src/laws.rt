@@ -1,6 +1,6 @@
-ghost use Rattle.std.specs.Prelude.{◌≡◌, ◌∷◌, [], ◌++◌, Some, None, replicate};
+ghost use Rattle.std.specs.Prelude.{◌≡◌, ◌∷◌, [], ◌++◌, List, Some, None, replicate};
 ghost use Rattle.node_turns.specs.TurnExamples.{going_with, line_without_moment, no_line, noise, run_of};
-ghost use Rattle.node_turns.specs.Turns.{Failure, Nothing, moments_in};
+ghost use Rattle.node_turns.specs.Turns.{DoesTheSame, Failure, Member, Nothing, Receipt, Run, moments_in, run_with_turns, without_failures};
 ghost use Rattle.node_turns.specs.declared.fault.ServeFault.TheVariants.{Clock, Port};
 
 /// What some turns of a member of three come to.
@@ -18,4 +18,12 @@ pub fn turns_are_worked()
     // the clock is asked for a client's datagram alone
     ensures asked { moments_in (noise ∷ Nothing ∷ no_line ∷ Failure ∷ line_without_moment ∷ [])
         ≡ Some 100 ∷ None ∷ [] }
+{}
+
+/// Receives that fail change nothing of a run that goes on: the node, the offers and the counts are those of a run that
+/// is handed the rest alone. What becomes of an offer is nowhere asked, so that it is the same list where each fails.
+pub fn faults_change_no_offer()
+    ensures { (member : Member) (receipts : List Receipt) (start : Run) → start.end ≡ None
+        → (run_with_turns member receipts start).end ≡ None
+        → DoesTheSame (run_with_turns member receipts start) (run_with_turns member (without_failures receipts) start) }
 {}
