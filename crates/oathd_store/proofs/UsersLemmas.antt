@@ -11,6 +11,7 @@ use Rattle.token_file.specs.UsersFile.{IsCutOff, book_of, import_of, instant_of,
 use Rattle.token_file.specs.declared.fault.FileFault.{FileFault}
 use Rattle.token_file.specs.declared.fault.LineFault.TheVariants.{Read}
 use Rattle.oathd_store.specs.Commands.{HasImport, HasMade, IsRefused}
+use Rattle.oathd_store.specs.Fault.{IsStoreFault}
 use Rattle.oathd_store.specs.Users.{IsImported, IsUnread}
 use Rattle.oathd_store.specs.declared.fault.Fault.{Fault}
 use Rattle.oathd_store.specs.declared.fault.Fault.TheVariants.{Memory, CannotWrite, NoClock, Users, Store, Socket}
@@ -56,6 +57,21 @@ module _ (limits : Limits) (moment longest : ℕ) where
       → IfSome a (IsImported limits moment longest book floors) → IfSome a (IsRefused limits moment longest (Store fault))
   refused_by_store None fault book floors h = tt
   refused_by_store (Some text) fault book floors h = record { book = book; floors = floors; imported = h }
+
+  refused_at : (fault : Fault) (text : List ℕ) (book : List Credential) (floors : List ℕ) → IsImported limits moment longest book floors text
+      → IsStoreFault fault → IsRefused limits moment longest fault text
+  refused_at Memory text book floors h is = absurd is
+  refused_at CannotWrite text book floors h is = absurd is
+  refused_at NoClock text book floors h is = absurd is
+  refused_at (Users fault) text book floors h is = absurd is
+  refused_at (Store fault) text book floors h is = record { book = book; floors = floors; imported = h }
+  refused_at Socket text book floors h is = absurd is
+
+  -- the same, of whatever fault of a store
+  pub refused_so : (a : Option (List ℕ)) (fault : Fault) (book : List Credential) (floors : List ℕ)
+      → IfSome a (IsImported limits moment longest book floors) → IsStoreFault fault → IfSome a (IsRefused limits moment longest fault)
+  refused_so None fault book floors h is = tt
+  refused_so (Some text) fault book floors h is = refused_at fault text book floors h is
 
   -- the store is made
   pub made : {S : Type 0} (a : Option (List ℕ)) (store : SqlHeld S) (book : List Credential) (floors : List ℕ)

@@ -1,16 +1,20 @@
 //! The commands over a users file and a database. The users file is read first, and the database opened then.
 
-ghost use Rattle.std.specs.Prelude.{IfErr, IfOk, IfSome};
+ghost use Rattle.std.specs.Prelude.{◌≡◌, false, length, IfErr, IfOk, IfSome, None};
 ghost use Rattle.otp_core.specs.Range.{IsMoment};
+ghost use Rattle.floor_sql.specs.Calls.{IsOpened};
 ghost use Rattle.floor_sql.specs.Usable.{IsNode};
 ghost use Rattle.oathd_store.specs.Commands.{HasMade, IsRefused};
+ghost use Rattle.oathd_store.specs.Fault.{IsStoreFault};
+ghost use Rattle.oathd_store.specs.Users.{IsImported};
 
 use crate::database::Database;
 use crate::fault::Fault;
-use crate::users::read_users;
+use crate::users::{Users, read_users};
 use floor_sql::SqlStore;
+use floor_store::{FloorStore, StoreFault};
 use otp_core::Settings;
-use sqlite::Alter;
+use sqlite::{Alter, Connection};
 use std::alloc::Global;
 use std::io::Read;
 
@@ -40,4 +44,74 @@ pub fn init<R: Read + Drop, S: Alter + Drop, D: Database<S>>(
         Ok(store) => Ok(store),
         Err((_, fault)) => Err(Fault::Store(fault)),
     }
+}
+
+/// Opens the store of a node that the tables of a connection hold. It has the tokens of the users file.
+fn open_store<S: Alter + Drop>(
+    alloc: Global,
+    conn: Connection<S>,
+    node: u8,
+    users: &Users,
+) -> Result<SqlStore<S>, Fault>
+    requires { conn.in_transaction ≡ false }
+    ensures opened { IfOk result (IsOpened S.Store conn node (length users.now.book)) }
+    ensures tokens { IfOk result (λ store. length store.mirror.rows ≡ length users.now.book) }
+    ensures fault { IfErr result IsStoreFault }
+{
+    let tokens = users.book.len() as u32;
+    let store = match SqlStore::open(alloc, conn, node, tokens) {
+        Ok(store) => store,
+        Err((_, fault)) => return Err(Fault::Store(fault)),
+    };
+    if store.tokens() != tokens {
+        // The disk did not return what was written.
+        return Err(Fault::Store(StoreFault::Unusable));
+    }
+    Ok(store)
+}
+
+/// The same, of the node that the tables name where none is given.
+fn open_named<S: Alter + Drop>(
+    alloc: Global,
+    conn: Connection<S>,
+    node: Option<u8>,
+    users: &Users,
+) -> Result<SqlStore<S>, Fault>
+    requires { conn.in_transaction ≡ false }
+    ensures tokens { IfOk result (λ store. length store.mirror.rows ≡ length users.now.book) }
+    ensures works { IfOk result (λ store. store.fault ≡ None) }
+    ensures fault { IfErr result IsStoreFault }
+{
+    if let Some(node) = node {
+        return open_store(alloc, conn, node, users);
+    }
+    match SqlStore::node_of(conn) {
+        Ok((conn, node)) => open_store(alloc, conn, node, users),
+        Err((_, fault)) => Err(Fault::Store(fault)),
+    }
+}
+
+/// Reads a users file, and opens the store of its tokens: that of the node given, or of the node that the tables name
+/// where none is given. The first free factors are the store's. The settings are those of the server.
+///
+/// # Errors
+/// `Users` where the users file has a fault or can't be read; the database is not opened then. `Store`: `Unusable` where
+/// the tables aren't those of such a store, `Disk` and `Memory`. `Memory`.
+pub fn open<R: Read + Drop, S: Alter + Drop, D: Database<S>>(
+    alloc: Global,
+    reader: R,
+    settings: Settings,
+    node: Option<u8>,
+    database: D,
+) -> Result<(Users, SqlStore<S>), Fault>
+    ensures users { IfOk result (λ opened. IfSome (R.remaining reader)
+        (IsImported settings 0 16777216 opened.0.book opened.0.floors.items)) }
+    ensures tokens { IfOk result (λ opened. length opened.1.mirror.rows ≡ length opened.0.book) }
+    ensures works { IfOk result (λ opened. opened.1.fault ≡ None) }
+    ensures fault { IfErr result (λ fault. IfSome (R.remaining reader) (IsRefused settings 0 16777216 fault)) }
+{
+    let users = read_users(alloc, reader, settings, 0)?;
+    let conn = database.connect()?;
+    let store = open_named(alloc, conn, node, &users)?;
+    Ok((users, store))
 }

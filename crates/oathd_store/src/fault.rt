@@ -3,6 +3,8 @@ ghost use Rattle.oathd_store.specs.declared.fault.Fault.TheVariants.{Store, User
 
 use command_line::ProgramFault;
 use floor_store::StoreFault;
+use node_turns::ServeFault;
+use oath_node::{NodeFault, OpenFault};
 use thiserror::Error;
 use token_file::FileFault;
 
@@ -56,5 +58,35 @@ impl From<FileFault> for Fault {
 
     fn from(fault: FileFault) -> Self {
         Fault::Users(fault)
+    }
+}
+
+impl From<OpenFault> for Fault {
+    ghost use Rattle.oathd_store.specs.Fault.{open_fault_of};
+
+    ghost from_gives = { λ opening fault. fault ≡ open_fault_of opening };
+
+    fn from(fault: OpenFault) -> Self {
+        match fault {
+            OpenFault::Memory => Fault::Memory,
+            OpenFault::Store(fault) => Fault::Store(fault),
+        }
+    }
+}
+
+impl From<ServeFault> for Fault {
+    ghost use Rattle.oathd_store.specs.Fault.{serve_fault_of};
+
+    ghost from_gives = { λ turns fault. fault ≡ serve_fault_of turns };
+
+    fn from(fault: ServeFault) -> Self {
+        match fault {
+            ServeFault::Node(NodeFault::Store(fault)) => Fault::Store(fault),
+            ServeFault::Node(NodeFault::Spent | NodeFault::Stopped) => {
+                Fault::Store(StoreFault::Spent)
+            }
+            ServeFault::Port => Fault::Socket,
+            ServeFault::Clock => Fault::NoClock,
+        }
     }
 }

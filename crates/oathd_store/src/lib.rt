@@ -6,11 +6,13 @@ mod database;
 mod fault;
 mod passes;
 mod rows;
+mod serving;
 mod users;
 
-pub use commands::init;
+pub use commands::{init, open};
 pub use database::Database;
 pub use fault::Fault;
 pub use passes::audit;
 pub use rows::export;
+pub use serving::{open_node, serve};
 pub use users::{Users, read_users};
