@@ -7,6 +7,8 @@ mod fault;
 mod passes;
 mod rows;
 mod serving;
+#[cfg(test)]
+mod tests;
 mod users;
 
 pub use commands::{init, open};
