@@ -1,5 +1,5 @@
 -- The first number of a window's list that fits is the least of the window that does.
-use Rattle.std.proofs.Common.{◌≡◌, ℕ, zero, suc, ◌+◌, ◌-◌, ◌^◌, ◌<◌, ◌≤◌, ⊎_elim, ◌↔◌, Bool, true, ◌&&◌, eqb, nat_lt, List, ◌∷◌, Option, Some, None, filter, unwrap_or, refl, sym, ap, ◌∙◌, subst, arith}
+use Rattle.std.proofs.Common.{◌≡◌, ℕ, ℤ, zero, suc, ◌+◌, ◌-◌, ◌^◌, ◌<◌, ◌≤◌, ⊎_elim, ◌↔◌, Bool, true, ◌&&◌, eqb, nat_lt, List, ◌∷◌, Option, Some, None, filter, unwrap_or, refl, sym, ap, ◌∙◌, subst, arith}
 use Rattle.std.specs.List.{find, list_any, range_with_len}
 use Rattle.std.specs.List.{Contains}
 use Rattle.std.specs.Option.{option_map}
@@ -12,9 +12,10 @@ use Rattle.token_file.specs.Credential.{Credential, period_of}
 use Rattle.token_file.specs.declared.token.Kind.{Kind}
 use Rattle.otp_core.specs.Totp.{step_of}
 use Rattle.otp_core.specs.Limits.{Limits}
-use Rattle.admit_core.specs.Window.{IsFactorBetween, InPeriodWindow, InWindow, AreEnds, factors_between, period_window_numbers, window_numbers}
+use Rattle.admit_core.specs.Window.{InPeriodWindow, InWindow, AreEnds, factors_below, period_window_numbers, window_numbers}
 use Rattle.admit_core.specs.Fit.{Submission, Check, Resync, code_at, Fits, IsLeastBetween, NoneBetween, IsLeastIn, NoneIn, fits_from, last_used, first_fit}
-use Rattle.admit_core.proofs.WindowLemmas.{IsWithinReach-between, IsWithinSkew-between}
+use Rattle.admit_core.specs.Drift.{token_step}
+use Rattle.admit_core.proofs.WindowLemmas.{IsFactorBelow, IsWithinReach-below, IsWithinSkew-below}
 
 -- ---- the numbers of a range that pass one test, the first that passes another, and membership
 
@@ -95,105 +96,105 @@ in_range_member p k (suc n) a =
     ⊎_elim here next (or_cases (eqb k a) (list_any (λ m. eqb k m) rest) e))
     (λ pa. next)
 
--- ---- factors from one number to another
+-- ---- factors from one number on and below another
 
--- a number is in the range of the list, and below 2 ^ 62, exactly where it is a factor between
-between : (first last m : ℕ) → first ≤ m → m < first + (last + 1 - first) → nat_lt m (2 ^ 62) ≡ true → IsFactorBetween first last m
-between first last m low high t = record { from = low; to = omega arith; factor = ltb-true m (2 ^ 62) t }
+-- a number is in the range of the list, and below 2 ^ 62, exactly where it is a factor below
+below : (first end m : ℕ) → first ≤ m → m < first + (end - first) → nat_lt m (2 ^ 62) ≡ true → IsFactorBelow first end m
+below first end m low high t = record { from = low; to = omega arith; factor = ltb-true m (2 ^ 62) t }
 
-between_high : (first last m : ℕ) → IsFactorBetween first last m → m < first + (last + 1 - first)
-between_high first last m h = omega (arith, h.from, h.to)
+below_high : (first end m : ℕ) → IsFactorBelow first end m → m < first + (end - first)
+below_high first end m h = omega (arith, h.from, h.to)
 
-between_factor : (first last m : ℕ) → IsFactorBetween first last m → nat_lt m (2 ^ 62) ≡ true
-between_factor first last m h = lt-ltb m (2 ^ 62) h.factor
+below_factor : (first end m : ℕ) → IsFactorBelow first end m → nat_lt m (2 ^ 62) ≡ true
+below_factor first end m h = lt-ltb m (2 ^ 62) h.factor
 
-pub factors_between-member : (first last k : ℕ) → (list_any (λ m. eqb k m) (factors_between first last) ≡ true) ↔ IsFactorBetween first last k
-factors_between-member first last k = (
-  (λ e. let h = in_range_member (λ m. nat_lt m (2 ^ 62)) k (last + 1 - first) first e in between first last k h.0 h.1 h.2),
-  (λ h. member_in_range (λ m. nat_lt m (2 ^ 62)) k (last + 1 - first) first h.from (between_high first last k h) (between_factor first last k h)),
+pub factors_below-member : (first end k : ℕ) → (list_any (λ m. eqb k m) (factors_below first end) ≡ true) ↔ IsFactorBelow first end k
+factors_below-member first end k = (
+  (λ e. let h = in_range_member (λ m. nat_lt m (2 ^ 62)) k (end - first) first e in below first end k h.0 h.1 h.2),
+  (λ h. member_in_range (λ m. nat_lt m (2 ^ 62)) k (end - first) first h.from (below_high first end k h) (below_factor first end k h)),
 )
 
 -- ---- the test of a submission
 
-fits_from-true : (c : Credential) (first last : ℕ) (s : Submission) (m : ℕ) → IsFactorBetween first last m → fits_from c (factors_between first last) s m ≡ true
-    → Fits c s m (last_used s m) × IsFactorBetween first last (last_used s m)
-fits_from-true c first last (Check code) m h e = ((refl, (bytes_eq-Decides (code_at c m) code).0 e), h)
-fits_from-true c first last (Resync given given_next) m h e =
-    let window = factors_between first last in
+fits_from-true : (c : Credential) (first end : ℕ) (s : Submission) (m : ℕ) → IsFactorBelow first end m → fits_from c (factors_below first end) s m ≡ true
+    → Fits c s m (last_used s m) × IsFactorBelow first end (last_used s m)
+fits_from-true c first end (Check code) m h e = ((refl, (bytes_eq-Decides (code_at c m) code).0 e), h)
+fits_from-true c first end (Resync given given_next) m h e =
+    let window = factors_below first end in
     let parts = and_parts (bytes_eq (code_at c m) given) (bytes_eq (code_at c (m + 1)) given_next && list_any (λ n. eqb (m + 1) n) window) e in
     let later = and_parts (bytes_eq (code_at c (m + 1)) given_next) (list_any (λ n. eqb (m + 1) n) window) parts.1 in
-    ((refl, (bytes_eq-Decides _ _).0 parts.0, (bytes_eq-Decides _ _).0 later.0), (factors_between-member first last (m + 1)).0 later.1)
+    ((refl, (bytes_eq-Decides _ _).0 parts.0, (bytes_eq-Decides _ _).0 later.0), (factors_below-member first end (m + 1)).0 later.1)
 
-fits-fits_from : (c : Credential) (first last : ℕ) (s : Submission) (m n : ℕ) → Fits c s m n → IsFactorBetween first last m → IsFactorBetween first last n
-    → fits_from c (factors_between first last) s m ≡ true
-fits-fits_from c first last (Check code) m n fits h k = (bytes_eq-Decides _ _).1 fits.1
-fits-fits_from c first last (Resync given given_next) m n fits h k =
-    let window = factors_between first last in
+fits-fits_from : (c : Credential) (first end : ℕ) (s : Submission) (m n : ℕ) → Fits c s m n → IsFactorBelow first end m → IsFactorBelow first end n
+    → fits_from c (factors_below first end) s m ≡ true
+fits-fits_from c first end (Check code) m n fits h k = (bytes_eq-Decides _ _).1 fits.1
+fits-fits_from c first end (Resync given given_next) m n fits h k =
+    let window = factors_below first end in
     and_from (bytes_eq (code_at c m) given) (bytes_eq (code_at c (m + 1)) given_next && list_any (λ n. eqb (m + 1) n) window) ((bytes_eq-Decides _ _).1 fits.1)
     (and_from (bytes_eq (code_at c (m + 1)) given_next) (list_any (λ n. eqb (m + 1) n) window) ((bytes_eq-Decides _ _).1 (ap (code_at c) (sym fits.0) ∙ fits.2))
-    ((factors_between-member first last (m + 1)).1 (subst (IsFactorBetween first last) fits.0 k)))
+    ((factors_below-member first end (m + 1)).1 (subst (IsFactorBelow first end) fits.0 k)))
 
 Fits-last : (c : Credential) (s : Submission) (m n : ℕ) → Fits c s m n → n ≡ last_used s m
 Fits-last c (Check code) m n fits = fits.0
 Fits-last c (Resync given given_next) m n fits = fits.0
 
--- ---- the first that fits, over the factors from one number to another
+-- ---- the first that fits, over the factors from one number on and below another
 
-found_least : (c : Credential) (s : Submission) (first last m : ℕ) → find (fits_from c (factors_between first last) s) (factors_between first last) ≡ Some m
-    → IsLeastIn (IsFactorBetween first last) c s m (last_used s m)
-found_least c s first last m e =
-    let test = fits_from c (factors_between first last) s in
-    let found = found_in_range (λ k. nat_lt k (2 ^ 62)) test (last + 1 - first) first m e in
-    let here = between first last m found.low found.high found.passes in
-    let fits = fits_from-true c first last s m here found.found in
+found_least : (c : Credential) (s : Submission) (first end m : ℕ) → find (fits_from c (factors_below first end) s) (factors_below first end) ≡ Some m
+    → IsLeastIn (IsFactorBelow first end) c s m (last_used s m)
+found_least c s first end m e =
+    let test = fits_from c (factors_below first end) s in
+    let found = found_in_range (λ k. nat_lt k (2 ^ 62)) test (end - first) first m e in
+    let here = below first end m found.low found.high found.passes in
+    let fits = fits_from-true c first end s m here found.found in
     record {
       fits = fits.0;
       first = here;
       last = fits.1;
       least = λ k n fits_k in_k in_n.
-          let lower : k < m → m ≤ k = λ l. absurd (found.least k in_k.from l (between_factor first last k in_k) (fits-fits_from c first last s k n fits_k in_k in_n)) in
+          let lower : k < m → m ≤ k = λ l. absurd (found.least k in_k.from l (below_factor first end k in_k) (fits-fits_from c first end s k n fits_k in_k in_n)) in
           let not_lower : m ≤ k → m ≤ k = λ l. l in
           ⊎_elim lower not_lower (cases_lt k m);
     }
 
-missed_none : (c : Credential) (s : Submission) (first last : ℕ) → find (fits_from c (factors_between first last) s) (factors_between first last) ≡ None
-    → NoneIn (IsFactorBetween first last) c s
-missed_none c s first last e m n fits in_m in_n =
-    none_in_range (λ k. nat_lt k (2 ^ 62)) (fits_from c (factors_between first last) s) (last + 1 - first) first e m in_m.from
-    (between_high first last m in_m) (between_factor first last m in_m) (fits-fits_from c first last s m n fits in_m in_n)
+missed_none : (c : Credential) (s : Submission) (first end : ℕ) → find (fits_from c (factors_below first end) s) (factors_below first end) ≡ None
+    → NoneIn (IsFactorBelow first end) c s
+missed_none c s first end e m n fits in_m in_n =
+    none_in_range (λ k. nat_lt k (2 ^ 62)) (fits_from c (factors_below first end) s) (end - first) first e m in_m.from
+    (below_high first end m in_m) (below_factor first end m in_m) (fits-fits_from c first end s m n fits in_m in_n)
 
 abbrev with_last : Submission → ℕ → ℕ × ℕ
 with_last s lo = (lo, last_used s lo)
 
 -- by what the search found
-some_least : (c : Credential) (s : Submission) (first last lo hi : ℕ) (o : Option ℕ) → find (fits_from c (factors_between first last) s) (factors_between first last) ≡ o
-    → option_map (with_last s) o ≡ Some (lo, hi) → IsLeastIn (IsFactorBetween first last) c s lo hi
-some_least c s first last lo hi None f e = absurd (cc)
-some_least c s first last lo hi (Some m) f e =
+some_least : (c : Credential) (s : Submission) (first end lo hi : ℕ) (o : Option ℕ) → find (fits_from c (factors_below first end) s) (factors_below first end) ≡ o
+    → option_map (with_last s) o ≡ Some (lo, hi) → IsLeastIn (IsFactorBelow first end) c s lo hi
+some_least c s first end lo hi None f e = absurd (cc)
+some_least c s first end lo hi (Some m) f e =
     let pair : with_last s m ≡ (lo, hi) = ap (λ (o : Option (ℕ × ℕ)). unwrap_or o (lo, hi)) e in
-    subst (λ (w : ℕ × ℕ). IsLeastIn (IsFactorBetween first last) c s w.0 w.1) pair (found_least c s first last m f)
+    subst (λ (w : ℕ × ℕ). IsLeastIn (IsFactorBelow first end) c s w.0 w.1) pair (found_least c s first end m f)
 
-least_some : (c : Credential) (s : Submission) (first last lo hi : ℕ) → IsLeastIn (IsFactorBetween first last) c s lo hi
-    → (o : Option ℕ) → find (fits_from c (factors_between first last) s) (factors_between first last) ≡ o → option_map (with_last s) o ≡ Some (lo, hi)
-least_some c s first last lo hi h None f = absurd (missed_none c s first last f lo hi h.fits h.first h.last)
-least_some c s first last lo hi h (Some m) f =
-    let found = found_least c s first last m f in
+least_some : (c : Credential) (s : Submission) (first end lo hi : ℕ) → IsLeastIn (IsFactorBelow first end) c s lo hi
+    → (o : Option ℕ) → find (fits_from c (factors_below first end) s) (factors_below first end) ≡ o → option_map (with_last s) o ≡ Some (lo, hi)
+least_some c s first end lo hi h None f = absurd (missed_none c s first end f lo hi h.fits h.first h.last)
+least_some c s first end lo hi h (Some m) f =
+    let found = found_least c s first end m f in
     let low = found.least lo hi h.fits h.first h.last in
     let high = h.least m (last_used s m) found.fits found.first found.last in
     let same : m ≡ lo = omega arith in
     ap (λ (k : ℕ). Some (with_last s k)) same ∙ ap (λ (k : ℕ). Some (lo, k)) (sym (Fits-last c s lo hi h.fits))
 
-none_missed : (c : Credential) (s : Submission) (first last : ℕ) → NoneIn (IsFactorBetween first last) c s
-    → (o : Option ℕ) → find (fits_from c (factors_between first last) s) (factors_between first last) ≡ o → option_map (with_last s) o ≡ None
-none_missed c s first last h None f = refl
-none_missed c s first last h (Some m) f =
-    let found = found_least c s first last m f in
+none_missed : (c : Credential) (s : Submission) (first end : ℕ) → NoneIn (IsFactorBelow first end) c s
+    → (o : Option ℕ) → find (fits_from c (factors_below first end) s) (factors_below first end) ≡ o → option_map (with_last s) o ≡ None
+none_missed c s first end h None f = refl
+none_missed c s first end h (Some m) f =
+    let found = found_least c s first end m f in
     absurd (h m (last_used s m) found.fits found.first found.last)
 
-missed : (c : Credential) (s : Submission) (first last : ℕ) (o : Option ℕ) → find (fits_from c (factors_between first last) s) (factors_between first last) ≡ o
-    → option_map (with_last s) o ≡ None → NoneIn (IsFactorBetween first last) c s
-missed c s first last None f e = missed_none c s first last f
-missed c s first last (Some m) f e = absurd (cc)
+missed : (c : Credential) (s : Submission) (first end : ℕ) (o : Option ℕ) → find (fits_from c (factors_below first end) s) (factors_below first end) ≡ o
+    → option_map (with_last s) o ≡ None → NoneIn (IsFactorBelow first end) c s
+missed c s first end None f e = missed_none c s first end f
+missed c s first end (Some m) f e = absurd (cc)
 
 -- ---- the same over an equal set
 
@@ -208,55 +209,55 @@ IsLeastIn-same same c s lo hi h = record {
 flip : {P Q : ℕ → Type 0} → ((m : ℕ) → P m ↔ Q m) → (m : ℕ) → Q m ↔ P m
 flip same m = ((same m).1, (same m).0)
 
-first_fit-some : {Q : ℕ → Type 0} (first last : ℕ) → ((m : ℕ) → IsFactorBetween first last m ↔ Q m) → (c : Credential) (s : Submission) (lo hi : ℕ)
-    → (first_fit c (factors_between first last) s ≡ Some (lo, hi)) ↔ IsLeastIn Q c s lo hi
-first_fit-some first last same c s lo hi = (
-  (λ e. IsLeastIn-same same c s lo hi (some_least c s first last lo hi _ refl e)),
-  (λ h. least_some c s first last lo hi (IsLeastIn-same (flip same) c s lo hi h) _ refl),
+first_fit-some : {Q : ℕ → Type 0} (first end : ℕ) → ((m : ℕ) → IsFactorBelow first end m ↔ Q m) → (c : Credential) (s : Submission) (lo hi : ℕ)
+    → (first_fit c (factors_below first end) s ≡ Some (lo, hi)) ↔ IsLeastIn Q c s lo hi
+first_fit-some first end same c s lo hi = (
+  (λ e. IsLeastIn-same same c s lo hi (some_least c s first end lo hi _ refl e)),
+  (λ h. least_some c s first end lo hi (IsLeastIn-same (flip same) c s lo hi h) _ refl),
 )
 
-first_fit-none : {Q : ℕ → Type 0} (first last : ℕ) → ((m : ℕ) → IsFactorBetween first last m ↔ Q m) → (c : Credential) (s : Submission)
-    → (first_fit c (factors_between first last) s ≡ None) ↔ NoneIn Q c s
-first_fit-none first last same c s = (
-  (λ e m n fits in_m in_n. missed c s first last _ refl e m n fits ((same m).1 in_m) ((same n).1 in_n)),
-  (λ h. none_missed c s first last (λ m n fits in_m in_n. h m n fits ((same m).0 in_m) ((same n).0 in_n)) _ refl),
+first_fit-none : {Q : ℕ → Type 0} (first end : ℕ) → ((m : ℕ) → IsFactorBelow first end m ↔ Q m) → (c : Credential) (s : Submission)
+    → (first_fit c (factors_below first end) s ≡ None) ↔ NoneIn Q c s
+first_fit-none first end same c s = (
+  (λ e m n fits in_m in_n. missed c s first end _ refl e m n fits ((same m).1 in_m) ((same n).1 in_n)),
+  (λ h. none_missed c s first end (λ m n fits in_m in_n. h m n fits ((same m).0 in_m) ((same n).0 in_n)) _ refl),
 )
 
 -- ---- by the period of the token
 
-period_window-some : (period : Option ℕ) (reach : ℕ) (limits : Limits) (next moment : ℕ) (c : Credential) (s : Submission) (lo hi : ℕ)
-    → (first_fit c (period_window_numbers period reach limits next moment) s ≡ Some (lo, hi)) ↔ IsLeastIn (InPeriodWindow period reach limits next moment) c s lo hi
-period_window-some None reach limits next moment c s lo hi = first_fit-some _ _ (λ m. IsWithinReach-between _ _ next reach m refl refl) c s lo hi
-period_window-some (Some period) reach limits next moment c s lo hi = first_fit-some _ _ (λ m. IsWithinSkew-between _ _ next (step_of moment 0 period) limits.skew m refl refl) c s lo hi
+period_window-some : (period : Option ℕ) (reach : ℕ) (limits : Limits) (next : ℕ) (drift : ℤ) (moment : ℕ) (c : Credential) (s : Submission) (lo hi : ℕ)
+    → (first_fit c (period_window_numbers period reach limits next drift moment) s ≡ Some (lo, hi)) ↔ IsLeastIn (InPeriodWindow period reach limits next drift moment) c s lo hi
+period_window-some None reach limits next drift moment c s lo hi = first_fit-some _ _ (λ m. IsWithinReach-below next reach m) c s lo hi
+period_window-some (Some period) reach limits next drift moment c s lo hi = first_fit-some _ _ (λ m. IsWithinSkew-below next (token_step limits drift (step_of moment 0 period)) limits.skew m) c s lo hi
 
-pub window-some : (kind : Kind) (reach : ℕ) (limits : Limits) (next moment : ℕ) (c : Credential) (s : Submission) (lo hi : ℕ)
-    → (first_fit c (window_numbers kind reach limits next moment) s ≡ Some (lo, hi)) ↔ IsLeastIn (InWindow kind reach limits next moment) c s lo hi
+pub window-some : (kind : Kind) (reach : ℕ) (limits : Limits) (next : ℕ) (drift : ℤ) (moment : ℕ) (c : Credential) (s : Submission) (lo hi : ℕ)
+    → (first_fit c (window_numbers kind reach limits next drift moment) s ≡ Some (lo, hi)) ↔ IsLeastIn (InWindow kind reach limits next drift moment) c s lo hi
 window-some kind = period_window-some (period_of kind)
 
-period_window-none : (period : Option ℕ) (reach : ℕ) (limits : Limits) (next moment : ℕ) (c : Credential) (s : Submission)
-    → (first_fit c (period_window_numbers period reach limits next moment) s ≡ None) ↔ NoneIn (InPeriodWindow period reach limits next moment) c s
-period_window-none None reach limits next moment c s = first_fit-none _ _ (λ m. IsWithinReach-between _ _ next reach m refl refl) c s
-period_window-none (Some period) reach limits next moment c s = first_fit-none _ _ (λ m. IsWithinSkew-between _ _ next (step_of moment 0 period) limits.skew m refl refl) c s
+period_window-none : (period : Option ℕ) (reach : ℕ) (limits : Limits) (next : ℕ) (drift : ℤ) (moment : ℕ) (c : Credential) (s : Submission)
+    → (first_fit c (period_window_numbers period reach limits next drift moment) s ≡ None) ↔ NoneIn (InPeriodWindow period reach limits next drift moment) c s
+period_window-none None reach limits next drift moment c s = first_fit-none _ _ (λ m. IsWithinReach-below next reach m) c s
+period_window-none (Some period) reach limits next drift moment c s = first_fit-none _ _ (λ m. IsWithinSkew-below next (token_step limits drift (step_of moment 0 period)) limits.skew m) c s
 
-pub window-none : (kind : Kind) (reach : ℕ) (limits : Limits) (next moment : ℕ) (c : Credential) (s : Submission)
-    → (first_fit c (window_numbers kind reach limits next moment) s ≡ None) ↔ NoneIn (InWindow kind reach limits next moment) c s
+pub window-none : (kind : Kind) (reach : ℕ) (limits : Limits) (next : ℕ) (drift : ℤ) (moment : ℕ) (c : Credential) (s : Submission)
+    → (first_fit c (window_numbers kind reach limits next drift moment) s ≡ None) ↔ NoneIn (InWindow kind reach limits next drift moment) c s
 window-none kind = period_window-none (period_of kind)
 
 -- ---- the list has just the numbers of the window
 
-factors_between-contains : {Q : ℕ → Type 0} (first last : ℕ) → ((m : ℕ) → IsFactorBetween first last m ↔ Q m) → (m : ℕ) → Contains (factors_between first last) m ↔ Q m
-factors_between-contains first last same m = (
-  (λ h. (same m).0 ((factors_between-member first last m).0 (list_any-from_Contains nat_eq_equiv m (factors_between first last) h))),
-  (λ h. Contains-from_any eqb-true m (factors_between first last) ((factors_between-member first last m).1 ((same m).1 h))),
+factors_below-contains : {Q : ℕ → Type 0} (first end : ℕ) → ((m : ℕ) → IsFactorBelow first end m ↔ Q m) → (m : ℕ) → Contains (factors_below first end) m ↔ Q m
+factors_below-contains first end same m = (
+  (λ h. (same m).0 ((factors_below-member first end m).0 (list_any-from_Contains nat_eq_equiv m (factors_below first end) h))),
+  (λ h. Contains-from_any eqb-true m (factors_below first end) ((factors_below-member first end m).1 ((same m).1 h))),
 )
 
-period_window_numbers-contains : (period : Option ℕ) (reach : ℕ) (limits : Limits) (next moment m : ℕ)
-    → Contains (period_window_numbers period reach limits next moment) m ↔ InPeriodWindow period reach limits next moment m
-period_window_numbers-contains None reach limits next moment m = factors_between-contains _ _ (λ m. IsWithinReach-between _ _ next reach m refl refl) m
-period_window_numbers-contains (Some period) reach limits next moment m = factors_between-contains _ _ (λ m. IsWithinSkew-between _ _ next (step_of moment 0 period) limits.skew m refl refl) m
+period_window_numbers-contains : (period : Option ℕ) (reach : ℕ) (limits : Limits) (next : ℕ) (drift : ℤ) (moment m : ℕ)
+    → Contains (period_window_numbers period reach limits next drift moment) m ↔ InPeriodWindow period reach limits next drift moment m
+period_window_numbers-contains None reach limits next drift moment m = factors_below-contains _ _ (λ m. IsWithinReach-below next reach m) m
+period_window_numbers-contains (Some period) reach limits next drift moment m = factors_below-contains _ _ (λ m. IsWithinSkew-below next (token_step limits drift (step_of moment 0 period)) limits.skew m) m
 
-pub window_numbers-contains : (kind : Kind) (reach : ℕ) (limits : Limits) (next moment m : ℕ)
-    → Contains (window_numbers kind reach limits next moment) m ↔ InWindow kind reach limits next moment m
+pub window_numbers-contains : (kind : Kind) (reach : ℕ) (limits : Limits) (next : ℕ) (drift : ℤ) (moment m : ℕ)
+    → Contains (window_numbers kind reach limits next drift moment) m ↔ InWindow kind reach limits next drift moment m
 window_numbers-contains kind = period_window_numbers-contains (period_of kind)
 
 -- ---- what is least, or missing, between the ends of a set is so in the set

@@ -3,7 +3,7 @@ use Rattle.std.specs.Prelude.{ℕ, List, codes, Option, Some}
 use Rattle.hmac_core.specs.declared.hash.Hash.{Hash}
 use Rattle.hmac_core.specs.declared.hash.Hash.TheVariants.{Sha1, Sha256}
 use Rattle.otp_core.specs.Examples.{secret_of_20, secret_of_32}
-use Rattle.otp_core.specs.Limits.{Limits}
+use Rattle.otp_core.specs.Limits.{Limits, limits_of}
 use Rattle.otp_core.specs.declared.digits.Digits.{Digits}
 use Rattle.otp_core.specs.declared.digits.Digits.TheVariants.{Six, Eight}
 use Rattle.token_file.specs.Credential.{Credential}
@@ -52,10 +52,10 @@ right = Some (codes "pw")
 abbrev pub wrong : Option (List ℕ)
 wrong = Some (codes "pW")
 
--- a look-ahead, a skew and a range
-abbrev pub limits_of : ℕ → ℕ → ℕ → Limits
-limits_of look_ahead skew range = record { look_ahead = look_ahead; skew = skew; range = range }
-
--- a look-ahead of 3, a skew of 1 and a range of 8
+-- a look-ahead of 3, a skew of 1, a range of 8 and no drift
 abbrev pub some_limits : Limits
 some_limits = limits_of 3 1 8
+
+-- the same with a drift
+abbrev pub drifting : ℕ → Limits
+drifting drift = record some_limits { drift = drift }

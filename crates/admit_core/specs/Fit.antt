@@ -1,5 +1,5 @@
 -- When a submission fits a token, and the least factor at which it does (RFC 4226, sections 7.2 and 7.4).
-use Rattle.std.specs.Prelude.{ℕ, ◌+◌, ◌≡◌, ◌≤◌, ◌==◌, ◌&&◌, Bool, List, Option}
+use Rattle.std.specs.Prelude.{ℕ, ℤ, ◌+◌, ◌≡◌, ◌≤◌, ◌==◌, ◌&&◌, Bool, List, Option}
 use Rattle.std.specs.List.{find, list_any}
 use Rattle.std.specs.Option.{option_map}
 use Rattle.std.specs.Str.{bytes_eq}
@@ -44,9 +44,9 @@ reach_of limits (Check code) = limits.look_ahead
 reach_of limits (Resync first second) = limits.range
 
 -- the window of a submission
-abbrev pub InWindowOf : Credential → Limits → ℕ → ℕ → Submission → ℕ → Type 0
-InWindowOf credential limits next moment submission =
-    InWindow credential.kind (reach_of limits submission) limits next moment
+abbrev pub InWindowOf : Credential → Limits → ℕ → ℤ → ℕ → Submission → ℕ → Type 0
+InWindowOf credential limits next drift moment submission =
+    InWindow credential.kind (reach_of limits submission) limits next drift moment
 
 -- lo..hi fit, lie in a set of factors, and nothing that does begins lower
 pub record IsLeastIn (InSet : ℕ → Type 0) (credential : Credential) (submission : Submission) (lo hi : ℕ) : Type 0 where
@@ -62,14 +62,14 @@ NoneIn InSet credential submission =
     (lo hi : ℕ) → Fits credential submission lo hi → InSet lo → InSet hi → ⊥
 
 -- lo..hi are the least in the window that fit
-abbrev pub IsLeastFit : Credential → Limits → ℕ → ℕ → Submission → ℕ → ℕ → Type 0
-IsLeastFit credential limits next moment submission =
-    IsLeastIn (InWindowOf credential limits next moment submission) credential submission
+abbrev pub IsLeastFit : Credential → Limits → ℕ → ℤ → ℕ → Submission → ℕ → ℕ → Type 0
+IsLeastFit credential limits next drift moment submission =
+    IsLeastIn (InWindowOf credential limits next drift moment submission) credential submission
 
 -- nothing in the window fits
-abbrev pub NothingFits : Credential → Limits → ℕ → ℕ → Submission → Type 0
-NothingFits credential limits next moment submission =
-    NoneIn (InWindowOf credential limits next moment submission) credential submission
+abbrev pub NothingFits : Credential → Limits → ℕ → ℤ → ℕ → Submission → Type 0
+NothingFits credential limits next drift moment submission =
+    NoneIn (InWindowOf credential limits next drift moment submission) credential submission
 
 -- whether a submission fits from a number of the window on
 abbrev pub fits_from : Credential → List ℕ → Submission → ℕ → Bool
@@ -89,7 +89,7 @@ first_fit credential window submission =
     option_map (λ lo. (lo, last_used submission lo)) (find (fits_from credential window submission) window)
 
 -- the first, in ascending order, of the window's factors from which it fits
-abbrev pub least_fit : Credential → Limits → ℕ → ℕ → Submission → Option (ℕ × ℕ)
-least_fit credential limits next moment submission =
-    let window = window_numbers credential.kind (reach_of limits submission) limits next moment in
+abbrev pub least_fit : Credential → Limits → ℕ → ℤ → ℕ → Submission → Option (ℕ × ℕ)
+least_fit credential limits next drift moment submission =
+    let window = window_numbers credential.kind (reach_of limits submission) limits next drift moment in
     first_fit credential window submission

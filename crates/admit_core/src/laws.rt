@@ -1,17 +1,19 @@
-ghost use Rattle.std.specs.Prelude.{◌≡◌, ℕ, ◌-◌, ◌*◌, ◌+◌, ◌<◌, ◌≤◌, ◌↔◌, List, [], ◌∷◌, ◌++◌, codes, length, map, replicate, Some, None, Contains};
+ghost use Rattle.std.specs.Prelude.{◌≡◌, ℕ, ℤ, pos, negsuc, ◌-◌, ◌*◌, ◌+◌, ◌<◌, ◌≤◌, ◌↔◌, List, [], ◌∷◌, ◌++◌, codes, length, map, replicate, Some, None, Contains};
 ghost use Rattle.std.specs.List.{range_with_len};
 ghost use Rattle.hmac_core.specs.declared.hash.Hash.{Hash};
+ghost use Rattle.admit_core.specs.Drift.{kept_drift, token_step};
 ghost use Rattle.admit_core.specs.Entitled.{IsEntitled};
-ghost use Rattle.admit_core.specs.Examples.{checked, limits_of, right, some_limits, token_of, token_of_equal_codes, token_of_kind, token_of_sha256, token_with, wrong};
+ghost use Rattle.admit_core.specs.Examples.{checked, drifting, right, some_limits, token_of, token_of_equal_codes, token_of_kind, token_of_sha256, token_with, wrong};
 ghost use Rattle.admit_core.specs.Fit.{Check, Resync, Submission, Fits, InWindowOf, IsLeastBetween, NoneBetween, least_fit, IsLeastFit, NothingFits};
 ghost use Rattle.admit_core.specs.Gate.{IsGate, clear_gate, with_failure};
 ghost use Rattle.admit_core.specs.Password.{PasswordFits};
 ghost use Rattle.admit_core.specs.Throttle.{Result, Failed, Accepted, counted_failures, gate_after, wait_after, IsOpenAfter, AreGated, SpacesFailures};
 ghost use Rattle.otp_core.specs.Examples.{secret_of_20};
-ghost use Rattle.otp_core.specs.Limits.{Limits};
+ghost use Rattle.otp_core.specs.Limits.{Limits, limits_of};
 ghost use Rattle.otp_core.specs.declared.digits.Digits.{Digits};
+ghost use Rattle.admit_core.specs.Undrifted.{InUndriftedWindow, undrifted_numbers};
 ghost use Rattle.admit_core.specs.Window.{InCheckWindow, InResyncWindow, InWindow, AreEnds, window_numbers};
-ghost use Rattle.token_file.specs.Credential.{Credential};
+ghost use Rattle.token_file.specs.Credential.{Credential, period_of};
 ghost use Rattle.token_file.specs.declared.token.Kind.{Kind};
 ghost use Rattle.token_file.specs.declared.token.Password.{Password};
 
@@ -38,103 +40,171 @@ pub fn failures_are_spaced()
 /// is none exactly where nothing in the window fits. It is what the searches find between the ends of
 /// the window.
 pub fn least_fit_is_least()
-    ensures some { (credential : Credential) (limits : Limits) (next moment : ℕ) (submission : Submission)
-        (lo hi : ℕ) → (least_fit credential limits next moment submission ≡ Some (lo, hi))
-        ↔ IsLeastFit credential limits next moment submission lo hi }
-    ensures none { (credential : Credential) (limits : Limits) (next moment : ℕ) (submission : Submission) →
-        (least_fit credential limits next moment submission ≡ None)
-        ↔ NothingFits credential limits next moment submission }
-    ensures numbers { (kind : Kind) (reach : ℕ) (limits : Limits) (next moment number : ℕ) →
-        Contains (window_numbers kind reach limits next moment) number
-        ↔ InWindow kind reach limits next moment number }
+    ensures some { (credential : Credential) (limits : Limits) (next : ℕ) (drift : ℤ) (moment : ℕ)
+        (submission : Submission) (lo hi : ℕ) →
+        (least_fit credential limits next drift moment submission ≡ Some (lo, hi))
+        ↔ IsLeastFit credential limits next drift moment submission lo hi }
+    ensures none { (credential : Credential) (limits : Limits) (next : ℕ) (drift : ℤ) (moment : ℕ)
+        (submission : Submission) →
+        (least_fit credential limits next drift moment submission ≡ None)
+        ↔ NothingFits credential limits next drift moment submission }
+    ensures numbers { (kind : Kind) (reach : ℕ) (limits : Limits) (next : ℕ) (drift : ℤ) (moment number : ℕ) →
+        Contains (window_numbers kind reach limits next drift moment) number
+        ↔ InWindow kind reach limits next drift moment number }
 
     // from the contracts of the windows and the searches
-    ensures found { (credential : Credential) (limits : Limits) (next moment : ℕ) (submission : Submission)
-        (first last lo hi : ℕ) → AreEnds (InWindowOf credential limits next moment submission) first last →
+    ensures found { (credential : Credential) (limits : Limits) (next : ℕ) (drift : ℤ) (moment : ℕ)
+        (submission : Submission) (first last lo hi : ℕ) →
+        AreEnds (InWindowOf credential limits next drift moment submission) first last →
         IsLeastBetween credential first last submission lo hi →
-        least_fit credential limits next moment submission ≡ Some (lo, hi) }
-    ensures missed { (credential : Credential) (limits : Limits) (next moment : ℕ) (submission : Submission)
-        (first last : ℕ) → AreEnds (InWindowOf credential limits next moment submission) first last →
+        least_fit credential limits next drift moment submission ≡ Some (lo, hi) }
+    ensures missed { (credential : Credential) (limits : Limits) (next : ℕ) (drift : ℤ) (moment : ℕ)
+        (submission : Submission) (first last : ℕ) →
+        AreEnds (InWindowOf credential limits next drift moment submission) first last →
         NoneBetween credential first last submission →
-        least_fit credential limits next moment submission ≡ None }
-    ensures empty { (credential : Credential) (limits : Limits) (next moment : ℕ) (submission : Submission) →
-        ((number : ℕ) → InWindowOf credential limits next moment submission number → ⊥) →
-        least_fit credential limits next moment submission ≡ None }
+        least_fit credential limits next drift moment submission ≡ None }
+    ensures empty { (credential : Credential) (limits : Limits) (next : ℕ) (drift : ℤ) (moment : ℕ)
+        (submission : Submission) →
+        ((number : ℕ) → InWindowOf credential limits next drift moment submission number → ⊥) →
+        least_fit credential limits next drift moment submission ≡ None }
 {}
 
 /// The windows of event tokens and of time tokens, worked through at their ends.
 pub fn windows_are_worked()
-    ensures events { window_numbers Kind.Event 10 some_limits 7 0 ≡ range_with_len 7 11 }
-    ensures last_events { window_numbers Kind.Event 10 some_limits 4611686018427387902 0
+    ensures events { window_numbers Kind.Event 10 some_limits 7 (pos 0) 0 ≡ range_with_len 7 11 }
+    ensures last_events { window_numbers Kind.Event 10 some_limits 4611686018427387902 (pos 0) 0
         ≡ 4611686018427387902 ∷ 4611686018427387903 ∷ [] }
-    ensures no_events { window_numbers Kind.Event 10 some_limits 4611686018427387904 0 ≡ [] }
-    ensures steps { window_numbers Kind.Time30 10 some_limits 0 0 ∷ window_numbers Kind.Time30 10 some_limits 0 59
-        ∷ window_numbers Kind.Time30 10 some_limits 0 90 ∷ window_numbers Kind.Time30 10 some_limits 4 90
-        ∷ window_numbers Kind.Time30 10 some_limits 5 90 ∷ window_numbers Kind.Time60 10 some_limits 0 59
-        ∷ window_numbers Kind.Time60 10 some_limits 0 120 ∷ window_numbers Kind.Time30 10 (limits_of 3 0 8) 0 90
-        ∷ window_numbers Kind.Time30 10 (limits_of 3 10 8) 0 60 ∷ []
+    ensures no_events { window_numbers Kind.Event 10 some_limits 4611686018427387904 (pos 0) 0 ≡ [] }
+    ensures steps { window_numbers Kind.Time30 10 some_limits 0 (pos 0) 0
+        ∷ window_numbers Kind.Time30 10 some_limits 0 (pos 0) 59
+        ∷ window_numbers Kind.Time30 10 some_limits 0 (pos 0) 90
+        ∷ window_numbers Kind.Time30 10 some_limits 4 (pos 0) 90
+        ∷ window_numbers Kind.Time30 10 some_limits 5 (pos 0) 90
+        ∷ window_numbers Kind.Time60 10 some_limits 0 (pos 0) 59
+        ∷ window_numbers Kind.Time60 10 some_limits 0 (pos 0) 120
+        ∷ window_numbers Kind.Time30 10 (limits_of 3 0 8) 0 (pos 0) 90
+        ∷ window_numbers Kind.Time30 10 (limits_of 3 10 8) 0 (pos 0) 60 ∷ []
         ≡ (0 ∷ 1 ∷ []) ∷ (0 ∷ 1 ∷ 2 ∷ []) ∷ (2 ∷ 3 ∷ 4 ∷ []) ∷ (4 ∷ []) ∷ [] ∷ (0 ∷ 1 ∷ []) ∷ (1 ∷ 2 ∷ 3 ∷ [])
         ∷ (3 ∷ []) ∷ range_with_len 0 13 ∷ [] }
-    ensures in_events { InWindow Kind.Event 10 some_limits 7 0 7 × InWindow Kind.Event 10 some_limits 7 0 17
-        × InWindow Kind.Event 10 some_limits 4611686018427387902 0 4611686018427387903 }
-    ensures no_event_below { InWindow Kind.Event 10 some_limits 7 0 6 → ⊥ }
-    ensures no_event_beyond { InWindow Kind.Event 10 some_limits 7 0 18 → ⊥ }
-    ensures no_event_at_the_end { InWindow Kind.Event 10 some_limits 4611686018427387902 0 4611686018427387904 → ⊥ }
-    ensures check_window { InCheckWindow Kind.Event some_limits 7 0 10
-        × (InCheckWindow Kind.Event some_limits 7 0 11 → ⊥) }
-    ensures resync_window { InResyncWindow Kind.Event some_limits 7 0 15
-        × (InResyncWindow Kind.Event some_limits 7 0 16 → ⊥) }
-    ensures in_steps { InWindow Kind.Time30 10 some_limits 0 90 2 × InWindow Kind.Time30 10 some_limits 0 90 4
-        × InWindow Kind.Time60 10 some_limits 0 120 1 × InWindow Kind.Time60 10 some_limits 0 120 3
-        × InWindow Kind.Time30 10 (limits_of 3 0 8) 0 90 3 }
-    ensures no_step_before { (InWindow Kind.Time30 10 some_limits 0 90 1 → ⊥)
-        × (InWindow Kind.Time30 10 (limits_of 3 0 8) 0 90 2 → ⊥) }
-    ensures no_step_after { (InWindow Kind.Time30 10 some_limits 0 90 5 → ⊥)
-        × (InWindow Kind.Time30 10 (limits_of 3 0 8) 0 90 4 → ⊥) }
-    ensures no_step_below { InWindow Kind.Time30 10 some_limits 4 90 3 → ⊥ }
+    ensures in_events { InWindow Kind.Event 10 some_limits 7 (pos 0) 0 7
+        × InWindow Kind.Event 10 some_limits 7 (pos 0) 0 17
+        × InWindow Kind.Event 10 some_limits 4611686018427387902 (pos 0) 0 4611686018427387903 }
+    ensures no_event_below { InWindow Kind.Event 10 some_limits 7 (pos 0) 0 6 → ⊥ }
+    ensures no_event_beyond { InWindow Kind.Event 10 some_limits 7 (pos 0) 0 18 → ⊥ }
+    ensures no_event_at_the_end { InWindow Kind.Event 10 some_limits 4611686018427387902 (pos 0) 0
+        4611686018427387904 → ⊥ }
+    ensures check_window { InCheckWindow Kind.Event some_limits 7 (pos 0) 0 10
+        × (InCheckWindow Kind.Event some_limits 7 (pos 0) 0 11 → ⊥) }
+    ensures resync_window { InResyncWindow Kind.Event some_limits 7 (pos 0) 0 15
+        × (InResyncWindow Kind.Event some_limits 7 (pos 0) 0 16 → ⊥) }
+    ensures in_steps { InWindow Kind.Time30 10 some_limits 0 (pos 0) 90 2
+        × InWindow Kind.Time30 10 some_limits 0 (pos 0) 90 4
+        × InWindow Kind.Time60 10 some_limits 0 (pos 0) 120 1 × InWindow Kind.Time60 10 some_limits 0 (pos 0) 120 3
+        × InWindow Kind.Time30 10 (limits_of 3 0 8) 0 (pos 0) 90 3 }
+    ensures no_step_before { (InWindow Kind.Time30 10 some_limits 0 (pos 0) 90 1 → ⊥)
+        × (InWindow Kind.Time30 10 (limits_of 3 0 8) 0 (pos 0) 90 2 → ⊥) }
+    ensures no_step_after { (InWindow Kind.Time30 10 some_limits 0 (pos 0) 90 5 → ⊥)
+        × (InWindow Kind.Time30 10 (limits_of 3 0 8) 0 (pos 0) 90 4 → ⊥) }
+    ensures no_step_below { InWindow Kind.Time30 10 some_limits 4 (pos 0) 90 3 → ⊥ }
+    ensures in_drifted_steps { InWindow Kind.Time30 10 (drifting 3) 0 (negsuc 1) 90 0
+        × InWindow Kind.Time30 10 (drifting 3) 0 (negsuc 1) 90 2 × InWindow Kind.Time30 10 (drifting 3) 0 (pos 2) 90 4
+        × InWindow Kind.Time30 10 (drifting 3) 0 (pos 2) 90 6 × InWindow Kind.Time30 10 (drifting 3) 0 (pos 9) 90 7 }
+    ensures no_drifted_step { (InWindow Kind.Time30 10 (drifting 3) 0 (negsuc 1) 90 3 → ⊥)
+        × (InWindow Kind.Time30 10 (drifting 3) 0 (pos 2) 90 3 → ⊥)
+        × (InWindow Kind.Time30 10 (drifting 3) 0 (pos 2) 90 7 → ⊥)
+        × (InWindow Kind.Time30 10 (drifting 3) 0 (pos 9) 90 8 → ⊥) }
     ensures ends { AreEnds (λ number. number < 5) 0 4 × (AreEnds (λ number. number < 5) 0 5 → ⊥)
         × (AreEnds (λ number. number < 5) 1 4 → ⊥) × (AreEnds (λ number. ⊥) 1 0 → ⊥) }
 {}
 
+/// Drifts of time tokens, worked through: the steps at their clocks, the windows around them, one that is empty and one
+/// that begins below 0 among them, and what acceptances keep. An event token has none.
+pub fn drifts_are_worked()
+    ensures clocks { map (λ drift. token_step (drifting 3) drift 8) (negsuc 9 ∷ negsuc 1 ∷ pos 0 ∷ pos 3 ∷ pos 10 ∷ [])
+        ≡ pos 5 ∷ pos 6 ∷ pos 8 ∷ pos 11 ∷ pos 11 ∷ [] }
+    ensures behind { window_numbers Kind.Time30 10 (drifting 10) 2 (pos 0) 120
+        ∷ window_numbers Kind.Time30 10 (drifting 10) 4 (negsuc 0) 180
+        ∷ window_numbers Kind.Time30 10 (drifting 10) 5 (negsuc 1) 240
+        ∷ window_numbers Kind.Time30 10 (drifting 10) 6 (negsuc 2) 270 ∷ []
+        ≡ (3 ∷ 4 ∷ 5 ∷ []) ∷ (4 ∷ 5 ∷ 6 ∷ []) ∷ (5 ∷ 6 ∷ 7 ∷ []) ∷ (6 ∷ 7 ∷ []) ∷ [] }
+    ensures brought_nearer { window_numbers Kind.Time30 10 (drifting 1) 0 (negsuc 2) 240
+        ∷ window_numbers Kind.Time30 10 (drifting 1) 0 (pos 3) 240
+        ∷ window_numbers Kind.Time30 10 (drifting 0) 0 (negsuc 2) 240 ∷ []
+        ≡ (6 ∷ 7 ∷ 8 ∷ []) ∷ (8 ∷ 9 ∷ 10 ∷ []) ∷ (7 ∷ 8 ∷ 9 ∷ []) ∷ [] }
+    ensures ahead { window_numbers Kind.Time60 10 (drifting 10) 0 (pos 2) 120 ≡ 3 ∷ 4 ∷ 5 ∷ [] }
+    ensures below_0 { window_numbers Kind.Time30 10 (drifting 10) 0 (negsuc 1) 30
+        ∷ window_numbers Kind.Time30 10 (drifting 10) 0 (negsuc 0) 0
+        ∷ window_numbers Kind.Time30 10 (drifting 10) 0 (negsuc 1) 0
+        ∷ window_numbers Kind.Time30 10 (drifting 10) 0 (negsuc 9) 0 ∷ []
+        ≡ (0 ∷ []) ∷ (0 ∷ []) ∷ [] ∷ [] ∷ [] }
+    ensures events { window_numbers Kind.Event 3 (drifting 10) 7 (negsuc 4) 240
+        ∷ window_numbers Kind.Event 3 (drifting 10) 7 (pos 5) 240 ∷ [] ≡ replicate 2 (7 ∷ 8 ∷ 9 ∷ 10 ∷ []) }
+    ensures kept { kept_drift Kind.Time30 (drifting 10) 120 3 ∷ kept_drift Kind.Time30 (drifting 10) 180 4
+        ∷ kept_drift Kind.Time30 (drifting 10) 240 5 ∷ kept_drift Kind.Time30 (drifting 10) 269 8
+        ∷ kept_drift Kind.Time30 (drifting 10) 60 4 ∷ kept_drift Kind.Time60 (drifting 10) 120 3 ∷ []
+        ≡ negsuc 0 ∷ negsuc 1 ∷ negsuc 2 ∷ pos 0 ∷ pos 2 ∷ pos 1 ∷ [] }
+    ensures kept_nearer { kept_drift Kind.Time30 (drifting 1) 180 4 ∷ kept_drift Kind.Time30 (drifting 1) 60 4
+        ∷ kept_drift Kind.Time30 (drifting 0) 120 3 ∷ [] ≡ negsuc 0 ∷ pos 1 ∷ pos 0 ∷ [] }
+    ensures no_drift_of_events { kept_drift Kind.Event (drifting 10) 120 3 ≡ pos 0 }
+{}
+
+/// Where the settings allow no drift, every window is the one without a drift, whatever is stored, and nothing is kept.
+pub fn no_drift_is_as_before()
+    ensures window { (kind : Kind) (reach : ℕ) (limits : Limits) (next : ℕ) (drift : ℤ) (moment number : ℕ) →
+        limits.drift ≡ 0 → InWindow kind reach limits next drift moment number
+        ↔ InUndriftedWindow (period_of kind) reach limits next moment number }
+    ensures numbers { (kind : Kind) (reach : ℕ) (limits : Limits) (next : ℕ) (drift : ℤ) (moment : ℕ) →
+        limits.drift ≡ 0 → window_numbers kind reach limits next drift moment
+        ≡ undrifted_numbers (period_of kind) reach limits next moment }
+    ensures kept { (kind : Kind) (limits : Limits) (moment hi : ℕ) →
+        limits.drift ≡ 0 → kept_drift kind limits moment hi ≡ pos 0 }
+{}
+
 /// What fits a token, worked through with the codes of the standards: within the window and past each of its ends.
 pub fn fits_are_worked()
-    ensures checks { least_fit (token_of_kind Kind.Event) some_limits 0 0 (Check (codes "755224"))
-        ∷ least_fit (token_of_kind Kind.Event) some_limits 0 0 (Check (codes "969429"))
-        ∷ least_fit (token_of_kind Kind.Event) some_limits 0 0 (Check (codes "338314"))
-        ∷ least_fit (token_of_kind Kind.Event) some_limits 1 0 (Check (codes "338314"))
-        ∷ least_fit (token_of_kind Kind.Event) some_limits 1 0 (Check (codes "755224")) ∷ []
+    ensures checks { least_fit (token_of_kind Kind.Event) some_limits 0 (pos 0) 0 (Check (codes "755224"))
+        ∷ least_fit (token_of_kind Kind.Event) some_limits 0 (pos 0) 0 (Check (codes "969429"))
+        ∷ least_fit (token_of_kind Kind.Event) some_limits 0 (pos 0) 0 (Check (codes "338314"))
+        ∷ least_fit (token_of_kind Kind.Event) some_limits 1 (pos 0) 0 (Check (codes "338314"))
+        ∷ least_fit (token_of_kind Kind.Event) some_limits 1 (pos 0) 0 (Check (codes "755224")) ∷ []
         ≡ Some (0, 0) ∷ Some (3, 3) ∷ None ∷ Some (4, 4) ∷ None ∷ [] }
-    ensures resyncs { least_fit (token_of_kind Kind.Event) some_limits 0 0 (Resync (codes "162583") (codes "399871"))
-        ∷ least_fit (token_of_kind Kind.Event) (limits_of 100 1 7) 0 0 (Resync (codes "162583") (codes "399871"))
-        ∷ least_fit (token_of_kind Kind.Event) some_limits 0 0 (Resync (codes "399871") (codes "162583"))
-        ∷ least_fit (token_of_kind Kind.Event) some_limits 0 0 (Resync (codes "287922") (codes "399871"))
-        ∷ least_fit (token_of_kind Kind.Event) some_limits 1 0 (Resync (codes "755224") (codes "287082")) ∷ []
+    ensures resyncs { least_fit (token_of_kind Kind.Event) some_limits 0 (pos 0) 0
+        (Resync (codes "162583") (codes "399871"))
+        ∷ least_fit (token_of_kind Kind.Event) (limits_of 100 1 7) 0 (pos 0) 0
+        (Resync (codes "162583") (codes "399871"))
+        ∷ least_fit (token_of_kind Kind.Event) some_limits 0 (pos 0) 0 (Resync (codes "399871") (codes "162583"))
+        ∷ least_fit (token_of_kind Kind.Event) some_limits 0 (pos 0) 0 (Resync (codes "287922") (codes "399871"))
+        ∷ least_fit (token_of_kind Kind.Event) some_limits 1 (pos 0) 0 (Resync (codes "755224") (codes "287082")) ∷ []
         ≡ Some (7, 8) ∷ None ∷ None ∷ None ∷ None ∷ [] }
-    ensures equal_codes { least_fit token_of_equal_codes some_limits 0 0 (Check (codes "132707"))
-        ∷ least_fit token_of_equal_codes some_limits 1 0 (Check (codes "132707"))
-        ∷ least_fit token_of_equal_codes some_limits 0 0 (Resync (codes "132707") (codes "132707")) ∷ []
+    ensures equal_codes { least_fit token_of_equal_codes some_limits 0 (pos 0) 0 (Check (codes "132707"))
+        ∷ least_fit token_of_equal_codes some_limits 1 (pos 0) 0 (Check (codes "132707"))
+        ∷ least_fit token_of_equal_codes some_limits 0 (pos 0) 0 (Resync (codes "132707") (codes "132707")) ∷ []
         ≡ Some (0, 0) ∷ Some (1, 1) ∷ Some (0, 1) ∷ [] }
-    ensures steps { least_fit (token_of_kind Kind.Time30) some_limits 0 59 (Check (codes "359152"))
-        ∷ least_fit (token_of_kind Kind.Time30) some_limits 0 59 (Check (codes "969429"))
-        ∷ least_fit (token_of_kind Kind.Time30) some_limits 0 59 (Resync (codes "287082") (codes "359152"))
-        ∷ least_fit (token_of_kind Kind.Time60) some_limits 0 59 (Check (codes "359152")) ∷ []
+    ensures steps { least_fit (token_of_kind Kind.Time30) some_limits 0 (pos 0) 59 (Check (codes "359152"))
+        ∷ least_fit (token_of_kind Kind.Time30) some_limits 0 (pos 0) 59 (Check (codes "969429"))
+        ∷ least_fit (token_of_kind Kind.Time30) some_limits 0 (pos 0) 59 (Resync (codes "287082") (codes "359152"))
+        ∷ least_fit (token_of_kind Kind.Time60) some_limits 0 (pos 0) 59 (Check (codes "359152")) ∷ []
         ≡ Some (2, 2) ∷ None ∷ Some (1, 2) ∷ None ∷ [] }
+    ensures drifts { map (λ drift. least_fit (token_of_kind Kind.Time30) (drifting 10) 2 drift 240
+        (Check (codes "254676")))
+        (negsuc 2 ∷ negsuc 1 ∷ negsuc 0 ∷ pos 0 ∷ []) ≡ Some (5, 5) ∷ Some (5, 5) ∷ None ∷ None ∷ [] }
     ensures other_codes { least_fit (token_of Password.NoneAllowed secret_of_20 Kind.Event Digits.Eight Hash.Sha1)
-        some_limits 0 0 (Check (codes "84755224")) ≡ Some (0, 0) }
-    ensures other_hashes { least_fit token_of_sha256 some_limits 0 59 (Check (codes "46119246")) ≡ Some (1, 1) }
+        some_limits 0 (pos 0) 0 (Check (codes "84755224")) ≡ Some (0, 0) }
+    ensures other_hashes { least_fit token_of_sha256 some_limits 0 (pos 0) 59 (Check (codes "46119246")) ≡ Some (1, 1) }
     ensures fits { Fits (token_of_kind Kind.Event) (Check (codes "755224")) 0 0
         × (Fits (token_of_kind Kind.Event) (Check (codes "755224")) 0 1 → ⊥) }
     ensures fits_in_a_row { Fits (token_of_kind Kind.Event) (Resync (codes "755224") (codes "287082")) 0 1
         × (Fits token_of_equal_codes (Resync (codes "132707") (codes "132707")) 0 0 → ⊥) }
-    ensures not_least { (IsLeastFit token_of_equal_codes some_limits 0 0 (Check (codes "132707")) 1 1 → ⊥)
+    ensures not_least { (IsLeastFit token_of_equal_codes some_limits 0 (pos 0) 0 (Check (codes "132707")) 1 1 → ⊥)
         × (IsLeastBetween token_of_equal_codes 0 2 (Check (codes "132707")) 1 1 → ⊥) }
-    ensures below { (IsLeastFit (token_of_kind Kind.Event) some_limits 1 0 (Check (codes "755224")) 0 0 → ⊥)
+    ensures below { (IsLeastFit (token_of_kind Kind.Event) some_limits 1 (pos 0) 0 (Check (codes "755224")) 0 0 → ⊥)
         × (IsLeastBetween (token_of_kind Kind.Event) 1 2 (Check (codes "755224")) 0 0 → ⊥) }
-    ensures beyond { (IsLeastFit (token_of_kind Kind.Event) some_limits 0 0 (Check (codes "338314")) 4 4 → ⊥)
-        × (IsLeastFit (token_of_kind Kind.Event) (limits_of 100 1 7) 0 0 (Resync (codes "162583") (codes "399871"))
-        7 8 → ⊥)
+    ensures beyond { (IsLeastFit (token_of_kind Kind.Event) some_limits 0 (pos 0) 0 (Check (codes "338314")) 4 4 → ⊥)
+        × (IsLeastFit (token_of_kind Kind.Event) (limits_of 100 1 7) 0 (pos 0) 0
+        (Resync (codes "162583") (codes "399871")) 7 8 → ⊥)
         × (IsLeastBetween (token_of_kind Kind.Event) 0 7 (Resync (codes "162583") (codes "399871")) 7 8 → ⊥) }
-    ensures something_fits { (NothingFits (token_of_kind Kind.Event) some_limits 0 0 (Check (codes "969429")) → ⊥)
+    ensures something_fits { (NothingFits (token_of_kind Kind.Event) some_limits 0 (pos 0) 0
+        (Check (codes "969429")) → ⊥)
         × (NoneBetween (token_of_kind Kind.Event) 3 3 (Check (codes "969429")) → ⊥) }
 {}
 
@@ -171,22 +241,26 @@ pub fn promises_can_be_broken()
     ensures password_where_none_is { PasswordFits Password.NoneAllowed right → ⊥ }
     ensures no_password { PasswordFits checked None → ⊥ }
     ensures wrong_password { PasswordFits checked wrong → ⊥ }
-    ensures entitled { IsEntitled (token_of_kind Kind.Event) some_limits 105 (Check (codes "755224")) None 0
+    ensures entitled { IsEntitled (token_of_kind Kind.Event) some_limits 105 (Check (codes "755224")) None 0 (pos 0)
         (Failed 100 ∷ []) 0 0 }
-    ensures with_a_password { IsEntitled (token_of_kind Kind.Event) some_limits 105 (Check (codes "755224")) right 0
+    ensures with_a_password { IsEntitled (token_of_kind Kind.Event) some_limits 105
+        (Check (codes "755224")) right 0 (pos 0)
         [] 0 0 → ⊥ }
-    ensures without_a_password { IsEntitled (token_with checked) some_limits 105 (Check (codes "755224")) None 0
+    ensures without_a_password { IsEntitled (token_with checked) some_limits 105 (Check (codes "755224")) None 0 (pos 0)
         [] 0 0 → ⊥ }
-    ensures with_another_password { IsEntitled (token_with checked) some_limits 105 (Check (codes "755224")) wrong 0
+    ensures with_another_password { IsEntitled (token_with checked) some_limits 105
+        (Check (codes "755224")) wrong 0 (pos 0)
         [] 0 0 → ⊥ }
     ensures a_second_early { IsEntitled (token_of_kind Kind.Event) some_limits 104 (Check (codes "755224")) None 0
-        (Failed 100 ∷ []) 0 0 → ⊥ }
+        (pos 0) (Failed 100 ∷ []) 0 0 → ⊥ }
     ensures past_all_moments { IsEntitled (token_of_kind Kind.Event) some_limits 1099511627776 (Check (codes "755224"))
-        None 0 [] 0 0 → ⊥ }
-    ensures not_the_least { IsEntitled token_of_equal_codes some_limits 0 (Check (codes "132707")) None 0 [] 1 1 → ⊥ }
+        None 0 (pos 0) [] 0 0 → ⊥ }
+    ensures not_the_least { IsEntitled token_of_equal_codes some_limits 0 (Check (codes "132707")) None 0
+        (pos 0) [] 1 1 → ⊥ }
     ensures below_the_window { IsEntitled (token_of_kind Kind.Event) some_limits 0 (Check (codes "755224")) None 1
-        [] 0 0 → ⊥ }
-    ensures beyond_the_window { IsEntitled (token_of_kind Kind.Event) some_limits 0 (Check (codes "338314")) None 0
+        (pos 0) [] 0 0 → ⊥ }
+    ensures beyond_the_window { IsEntitled (token_of_kind Kind.Event) some_limits 0
+        (Check (codes "338314")) None 0 (pos 0)
         [] 4 4 → ⊥ }
     ensures spaced { SpacesFailures (Failed 115 ∷ Failed 105 ∷ Failed 100 ∷ [])
         × SpacesFailures (Failed 100 ∷ Accepted ∷ Failed 100 ∷ []) }

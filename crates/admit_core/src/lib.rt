@@ -3,6 +3,7 @@
 //! 7.4; RFC 6238, sections 5.2 and 6). Nothing here takes memory.
 #![tactic(auto)]
 
+mod drift;
 mod gate;
 mod laws;
 mod password;
@@ -11,10 +12,12 @@ mod search;
 mod tests;
 mod windows;
 
+pub use drift::drift_after;
 pub use gate::Gate;
 pub use laws::{
-    failures_are_spaced, fits_are_worked, gate_keeps_throttle, least_fit_is_least,
-    promises_can_be_broken, throttle_is_worked, windows_are_worked,
+    drifts_are_worked, failures_are_spaced, fits_are_worked, gate_keeps_throttle,
+    least_fit_is_least, no_drift_is_as_before, promises_can_be_broken, throttle_is_worked,
+    windows_are_worked,
 };
 pub use password::password_fits;
 pub use search::{find_check, find_resync};

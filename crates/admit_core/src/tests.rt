@@ -1,7 +1,9 @@
-use crate::{Gate, find_check, find_resync, password_fits, resync_window, window};
+ghost use Rattle.otp_core.specs.Range.{IsMoment};
+
+use crate::{Gate, drift_after, find_check, find_resync, password_fits, resync_window, window};
 use arrayvec::ArrayVec;
 use hmac_core::Hash;
-use otp_core::{Code, Digits, Factor, Next, Secret, Settings};
+use otp_core::{Code, Digits, Drift, Factor, Next, Secret, Settings};
 use std::test::Fail;
 use token_file::{Kind, Password, Token};
 
@@ -49,11 +51,121 @@ fn windows(rt: HostRuntime) -> Result<(), Fail> {
     for (kind, next, moment, check, resync) in rows {
         let token = token(SECRET, kind, Password::NoneAllowed).ok_or("a token")?;
         let next = Next::new(next).ok_or("a first free factor")?;
-        assert_eq!(rt; numbers(window(&token, next, moment, &settings)), check);
         assert_eq!(rt;
-            numbers(resync_window(&token, next, moment, &settings)),
+            numbers(window(&token, next, Drift::default(), moment, &settings)),
+            check
+        );
+        assert_eq!(rt;
+            numbers(resync_window(&token, next, Drift::default(), moment, &settings)),
             resync
         );
+    }
+    Ok(())
+}
+
+/// Windows of a skew of 1 that a stored drift moves: brought into what the settings allow, from 0 on, and down to
+/// none. Those of an event token stay.
+#[test]
+fn drifted_windows(rt: HostRuntime) -> Result<(), Fail> {
+    let rows = [
+        (10, Kind::Time30, 4, -1, 180, Some((4, 6))),
+        (10, Kind::Time30, 6, -3, 270, Some((6, 7))),
+        (10, Kind::Time30, 0, 10, 29, Some((9, 11))),
+        (10, Kind::Time60, 0, 3, 120, Some((4, 6))),
+        (1, Kind::Time30, 0, -3, 240, Some((6, 8))),
+        (1, Kind::Time30, 0, 10, 240, Some((8, 10))),
+        (0, Kind::Time30, 0, -3, 240, Some((7, 9))),
+        (10, Kind::Time30, 0, -2, 30, Some((0, 0))),
+        (10, Kind::Time30, 0, -2, 0, None),
+        (10, Kind::Time30, 7, -5, 240, None),
+        (10, Kind::Event, 7, -5, 240, Some((7, 16))),
+    ];
+    for (allowed, kind, next, drift, moment, want) in rows {
+        let token = token(SECRET, kind, Password::NoneAllowed).ok_or("a token")?;
+        let settings = Settings::new(9, 1, 9).ok_or("settings")?;
+        let settings = settings.with_drift(allowed).ok_or("settings")?;
+        let next = Next::new(next).ok_or("a first free factor")?;
+        let drift = Drift::new(drift).ok_or("a drift")?;
+        let check = window(&token, next, drift, moment, &settings);
+        let resync = resync_window(&token, next, drift, moment, &settings);
+        assert_eq!(rt; numbers(check), want, "at {moment}");
+        assert_eq!(rt; numbers(resync), want, "at {moment}");
+    }
+    Ok(())
+}
+
+/// What a token keeps.
+#[derive(Clone, Copy)]
+struct Kept {
+    next: Next,
+    drift: Drift,
+}
+
+/// The factor that one code is accepted for, and what is kept then.
+fn accept(
+    token: &Token,
+    kept: Kept,
+    moment: u64,
+    settings: &Settings,
+    given: &Code,
+) -> Option<(Factor, Kept)>
+    requires { IsMoment moment }
+{
+    let ends = window(token, kept.next, kept.drift, moment, settings)?;
+    let hi = find_check(token, ends, given)?;
+    let next = Next::after(hi);
+    let drift = drift_after(token, hi, moment, settings);
+    Some((hi, Kept { next, drift }))
+}
+
+/// A clock that loses a step a minute, at three settings: the factors, and the drifts that are kept.
+#[test]
+fn slow_clock(rt: HostRuntime) -> Result<(), Fail> {
+    let token = token(SECRET, Kind::Time30, Password::NoneAllowed).ok_or("a token")?;
+    let rows = [
+        (10, 120, b"969429", 2, 0, Some((3, -1))),
+        (10, 180, b"338314", 4, -1, Some((4, -2))),
+        (10, 240, b"254676", 5, -2, Some((5, -3))),
+        (10, 270, b"520489", 6, -3, None),
+        (1, 120, b"969429", 2, 0, Some((3, -1))),
+        (1, 180, b"338314", 4, -1, Some((4, -1))),
+        (1, 240, b"254676", 5, -1, None),
+        (1, 270, b"520489", 5, -1, Some((9, 0))),
+        (0, 120, b"969429", 2, 0, Some((3, 0))),
+        (0, 180, b"338314", 4, 0, None),
+        (0, 240, b"254676", 4, 0, None),
+        (0, 270, b"520489", 4, 0, Some((9, 0))),
+    ];
+    for (allowed, moment, given, next, drift, want) in rows {
+        let settings = Settings::new(10, 1, 100).ok_or("settings")?;
+        let settings = settings.with_drift(allowed).ok_or("settings")?;
+        let next = Next::new(next).ok_or("a first free factor")?;
+        let drift = Drift::new(drift).ok_or("a drift")?;
+        let given = Code::new(given).ok_or("a code")?;
+        let accepted = accept(&token, Kept { next, drift }, moment, &settings, &given);
+        let seen = accepted.map(|found| (found.0.value(), found.1.drift.steps()));
+        assert_eq!(rt; seen, want, "at {moment}, drift {allowed}");
+    }
+    Ok(())
+}
+
+/// The drift that an acceptance keeps: either way, brought into what the settings allow, and of an event token none.
+#[test]
+fn kept_drifts(rt: HostRuntime) -> Result<(), Fail> {
+    let rows = [
+        (10, Kind::Time30, 4, 60, 2),
+        (10, Kind::Time30, 8, 269, 0),
+        (10, Kind::Time60, 1, 179, -1),
+        (3, Kind::Time30, (1 << 62) - 1, 0, 3),
+        (3, Kind::Time30, 0, (1 << 40) - 1, -3),
+        (10, Kind::Event, 4, 60, 0),
+    ];
+    for (allowed, kind, hi, moment, want) in rows {
+        let token = token(SECRET, kind, Password::NoneAllowed).ok_or("a token")?;
+        let settings = Settings::default().with_drift(allowed).ok_or("settings")?;
+        let hi = Factor::new(hi).ok_or("a factor")?;
+        let kept = drift_after(&token, hi, moment, &settings);
+        assert_eq!(rt; kept.steps(), want, "at {moment}");
     }
     Ok(())
 }

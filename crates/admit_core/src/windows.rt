@@ -1,30 +1,39 @@
-ghost use Rattle.std.specs.Prelude.{ℕ, ◌<◌, ◌≤◌, IfSome, IfNone};
+ghost use Rattle.std.specs.Prelude.{ℕ, ◌<◌, ◌≤◌, pos, ◌+ℤ◌, IfSome, IfNone};
 ghost use Rattle.admit_core.specs.Window.{InCheckWindow, InResyncWindow, InWindow, IsWithinReach, IsWithinSkew, IsFactorBetween, AreEnds};
 ghost use Rattle.otp_core.specs.Range.{IsMoment};
 ghost use Rattle.otp_core.specs.Totp.{step_of};
 
-use otp_core::{FACTORS_END, Factor, Next, Settings, step};
+use otp_core::{Drift, FACTORS_END, Factor, Next, Settings, step};
 use token_file::{Kind, Token};
 
 /// The greatest factor.
 const LAST_FACTOR: u64 = FACTORS_END - 1;
 
 /// The first and the last factor that a check may take (RFC 4226, sections 7.2 and 7.4; RFC 6238,
-/// sections 5.2 and 6), or `None` where there is none. The moment is in seconds since 1970-01-01
-/// 00:00:00 UTC.
+/// sections 5.2 and 6), or `None` where there is none. A time token's window moves with its clock's drift, which
+/// is first brought to the nearest one that the settings allow. The moment is in seconds since 1970-01-01 00:00:00
+/// UTC.
 pub fn window(
     token: &Token,
     next: Next,
+    drift: Drift,
     moment: u64,
     settings: &Settings,
 ) -> Option<(Factor, Factor)>
     requires { IsMoment moment }
     ensures ends { IfSome result
-        (λ ends. AreEnds (InCheckWindow token.now.kind settings.now next moment) ends.0 ends.1) }
+        (λ ends. AreEnds (InCheckWindow token.now.kind settings.now next drift moment) ends.0 ends.1) }
     ensures none { IfNone result
-        ((number : ℕ) → InCheckWindow token.now.kind settings.now next moment number → ⊥) }
+        ((number : ℕ) → InCheckWindow token.now.kind settings.now next drift moment number → ⊥) }
 {
-    window_of(token.kind(), settings.look_ahead(), settings, next, moment)
+    window_of(
+        token.kind(),
+        settings.look_ahead(),
+        settings,
+        next,
+        drift,
+        moment,
+    )
 }
 
 /// The first and the last factor that a resynchronization may take (RFC 4226, section 7.4; RFC 6238,
@@ -32,16 +41,24 @@ pub fn window(
 pub fn resync_window(
     token: &Token,
     next: Next,
+    drift: Drift,
     moment: u64,
     settings: &Settings,
 ) -> Option<(Factor, Factor)>
     requires { IsMoment moment }
     ensures ends { IfSome result
-        (λ ends. AreEnds (InResyncWindow token.now.kind settings.now next moment) ends.0 ends.1) }
+        (λ ends. AreEnds (InResyncWindow token.now.kind settings.now next drift moment) ends.0 ends.1) }
     ensures none { IfNone result
-        ((number : ℕ) → InResyncWindow token.now.kind settings.now next moment number → ⊥) }
+        ((number : ℕ) → InResyncWindow token.now.kind settings.now next drift moment number → ⊥) }
 {
-    window_of(token.kind(), settings.range(), settings, next, moment)
+    window_of(
+        token.kind(),
+        settings.range(),
+        settings,
+        next,
+        drift,
+        moment,
+    )
 }
 
 /// The ends of a window by the kind of its token, and the reach of an event token.
@@ -50,16 +67,21 @@ fn window_of(
     reach: u64,
     settings: &Settings,
     next: Next,
+    drift: Drift,
     moment: u64,
 ) -> Option<(Factor, Factor)>
     requires reach { reach ≤ 1000 }
     requires moment { IsMoment moment }
     ensures ends { IfSome result
-        (λ ends. AreEnds (InWindow kind reach settings.now next moment) ends.0 ends.1) }
-    ensures none { IfNone result ((number : ℕ) → InWindow kind reach settings.now next moment number → ⊥) }
+        (λ ends. AreEnds (InWindow kind reach settings.now next drift moment) ends.0 ends.1) }
+    ensures none { IfNone result
+        ((number : ℕ) → InWindow kind reach settings.now next drift moment number → ⊥) }
 {
     match kind.period() {
-        Some(period) => steps_around(next, moment, period, settings.skew()),
+        Some(period) => {
+            let drift = Drift::allowed(i64::from(drift.steps()), *settings);
+            steps_around(next, drift, moment, period, settings.skew())
+        }
         None => reach_from(next, reach),
     }
 }
@@ -74,17 +96,29 @@ fn reach_from(next: Next, reach: u64) -> Option<(Factor, Factor)>
     ends(first, first + reach)
 }
 
-/// The first and the last free step that is at most so many before or after the present one.
-fn steps_around(next: Next, moment: u64, period: u64, skew: u64) -> Option<(Factor, Factor)>
+/// The first and the last free step that is at most so many before or after the one at the token's clock.
+fn steps_around(
+    next: Next,
+    drift: Drift,
+    moment: u64,
+    period: u64,
+    skew: u64,
+) -> Option<(Factor, Factor)>
     requires moment { IsMoment moment }
     requires period { 0 < period }
     requires skew { skew ≤ 10 }
     ensures ends { IfSome result
-        (λ ends. AreEnds (IsWithinSkew next (step_of moment 0 period) skew) ends.0 ends.1) }
-    ensures none { IfNone result ((number : ℕ) → IsWithinSkew next (step_of moment 0 period) skew number → ⊥) }
+        (λ ends. AreEnds (IsWithinSkew next (pos (step_of moment 0 period) +ℤ drift) skew) ends.0 ends.1) }
+    ensures none { IfNone result
+        ((number : ℕ) → IsWithinSkew next (pos (step_of moment 0 period) +ℤ drift) skew number → ⊥) }
 {
-    let now = step(moment, 0, period)?.value();
-    ends(next.value().max(now.saturating_sub(skew)), now + skew)
+    let now = step(moment, 0, period)?.value() as i64 + i64::from(drift.steps());
+    let last = now + skew as i64;
+    if last < 0 {
+        return None;
+    }
+    let first = (next.value() as i64).max(now - skew as i64);
+    ends(first as u64, last as u64)
 }
 
 /// The first and the last factor between two numbers.

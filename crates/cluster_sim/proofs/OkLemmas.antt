@@ -1,5 +1,5 @@
 -- An OK tells its nonce and its last factor.
-use Rattle.std.proofs.Common.{◌≡◌, ℕ, zero, suc, ⊎_elim, List, [], ◌∷◌, ◌++◌, true, false, get_or, drop, Option, Some, None, refl, sym, ap, ◌∙◌, subst, arith}
+use Rattle.std.proofs.Common.{◌≡◌, ℕ, zero, suc, ⊎_elim, List, [], ◌∷◌, ◌++◌, true, false, get_or, drop, Option, Some, None, refl, sym, ap, ◌∙◌, subst, arith, ℤ, pos}
 use Rattle.std.specs.Prelude.{All, slice_get}
 use Rattle.std.specs.Char.{IsAsciiAlphanumeric}
 use Rattle.std.specs.Int.{IsInRange}
@@ -83,13 +83,13 @@ asked_nonce node client line nonce (Some (Cut true (Noise i from read))) h = abs
 asked_nonce node client line nonce (Some (Cut false a)) h = absurd h
 asked_nonce node client line nonce (Some (Restart i)) h = absurd h
 
-window_factor : (kind : Kind) (reach : ℕ) (limits : Limits) (next moment m : ℕ) → InWindow kind reach limits next moment m → IsFactor m
-window_factor Event reach limits next moment m h = h.factor
-window_factor Time30 reach limits next moment m h = h.factor
-window_factor Time60 reach limits next moment m h = h.factor
+window_factor : (kind : Kind) (reach : ℕ) (limits : Limits) (next : ℕ) (drift : ℤ) (moment m : ℕ) → InWindow kind reach limits next drift moment m → IsFactor m
+window_factor Event reach limits next drift moment m h = h.factor
+window_factor Time30 reach limits next drift moment m h = h.factor
+window_factor Time60 reach limits next drift moment m h = h.factor
 
 last_factor : (config : Config) (moment : ℕ) (line : List ℕ) (token next : ℕ) (results : List Result) (lo hi : ℕ) → IsGround config moment line token next results lo hi → IsFactor hi
-last_factor config moment line token next results lo hi g = window_factor g.credential.kind _ config.limits next moment hi g.entitled.fit.last
+last_factor config moment line token next results lo hi g = window_factor g.credential.kind _ config.limits next (pos 0) moment hi g.entitled.fit.last
 
 ground_factor : (config : Config) (next : ℕ) (results : List Result) (p : Acceptance) (o : Option WorldEvent) → IsGroundOf config next results p o → IsFactor p.hi
 ground_factor config next results p None h = absurd h

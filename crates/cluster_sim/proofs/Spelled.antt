@@ -1,5 +1,5 @@
 -- Whatever happens, each datagram that a node sends is in the peer format.
-use Rattle.std.proofs.Common.{◌≡◌, ◌≢◌, ℕ, zero, suc, ◌+◌, ◌-◌, ◌^◌, ◌<◌, ◌≤◌, true, false, cond, not, ⊎_elim, List, [], ◌∷◌, length, map, Option, Some, None, refl, sym, subst, arith, eqb, leb, ltb, take}
+use Rattle.std.proofs.Common.{◌≡◌, ◌≢◌, ℕ, zero, suc, ◌+◌, ◌-◌, ◌^◌, ◌<◌, ◌≤◌, true, false, cond, not, ⊎_elim, List, [], ◌∷◌, length, map, Option, Some, None, refl, sym, subst, arith, eqb, leb, ltb, take, ℤ}
 use Rattle.std.specs.Prelude.{filter}
 use Rattle.std.specs.List.{slice_get}
 use Rattle.std.proofs.lemmas.Bool.{cond_both, eqb-true, eqb-false, and_parts, not-true, ltb-true, leb-true}
@@ -234,10 +234,10 @@ IsFineEvent (Peer from None) = Unit {0}
 IsFineEvent (Peer from (Some l)) = HasSpelling l.sender l.receiver l.message
 IsFineEvent Tick = Unit {0}
 
-window_factor : (k : Kind) (reach : ℕ) (limits : Limits) (next moment m : ℕ) → InWindow k reach limits next moment m → m < 2 ^ 62
-window_factor Event reach limits next moment m h = h.factor
-window_factor Time30 reach limits next moment m h = h.factor
-window_factor Time60 reach limits next moment m h = h.factor
+window_factor : (k : Kind) (reach : ℕ) (limits : Limits) (next : ℕ) (drift : ℤ) (moment m : ℕ) → InWindow k reach limits next drift moment m → m < 2 ^ 62
+window_factor Event reach limits next drift moment m h = h.factor
+window_factor Time30 reach limits next drift moment m h = h.factor
+window_factor Time60 reach limits next drift moment m h = h.factor
 
 still : (me : ℕ) (x : NodeState) → IsFine x.content x.voter → IsFineMade me (quiet_made x)
 still me x h = record { fine = h; sends = tt }
@@ -254,7 +254,7 @@ ruled config place x client moment text line (Wrong nonce outcome token) few p h
 ruled config place x client moment text line (Fitting nonce token lo hi) few p h g =
     cond_both (ltb x.voter.seq (2 ^ 62)) _ (quiet_made (stopped_node x)) (λ m. IsFineMade place.me m)
     (λ b. (let s = proposed place token lo hi x.content x.voter p h (ltb-true x.voter.seq (2 ^ 62) b) (omega (arith, g.within, few))
-    (window_factor g.credential.kind _ config.limits _ moment lo g.fit.first) (window_factor g.credential.kind _ config.limits _ moment hi g.fit.last) g.span in
+    (window_factor g.credential.kind _ config.limits _ _ moment lo g.fit.first) (window_factor g.credential.kind _ config.limits _ _ moment hi g.fit.last) g.span in
     record { fine = s.fine; sends = s.sends }))
     (λ _. record { fine = h; sends = tt })
 

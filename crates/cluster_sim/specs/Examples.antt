@@ -29,7 +29,7 @@ user_named name = record {
 
 -- a look-ahead of 5 and a range of 9, over this book
 abbrev pub config_with : List Credential → Config
-config_with book = record { book = book; limits = record { look_ahead = 5; skew = 1; range = 9 } }
+config_with book = record { book = book; limits = record { look_ahead = 5; skew = 1; range = 9; drift = 0 } }
 
 -- one user
 abbrev pub config : Config

@@ -1,5 +1,5 @@
 -- When an acceptance is justified by a client's line. It knows no votes, grants or messages.
-use Rattle.std.specs.Prelude.{◌≡◌, ℕ, true, false, List, Option, Some, None, slice_get}
+use Rattle.std.specs.Prelude.{◌≡◌, ℕ, true, false, List, Option, Some, None, slice_get, pos}
 use Rattle.otp_core.specs.Acceptance.{Acceptance}
 use Rattle.token_file.specs.Credential.{Credential}
 use Rattle.admit_core.specs.Entitled.{IsEntitled}
@@ -18,7 +18,8 @@ pub record IsGround (config : Config) (moment : ℕ) (line : List ℕ) (token ne
   pub credential : Credential
   pub is_token : slice_get config.book token ≡ Some credential
   pub user : credential.name ≡ request.user
-  pub entitled : IsEntitled credential config.limits moment request.submission request.password next results lo hi
+  pub entitled : IsEntitled credential config.limits moment request.submission request.password next (pos 0) results
+      lo hi
 
 -- the act is such a line at the node of the acceptance
 abbrev pub IsGroundIn : Config → ℕ → List Result → Acceptance → Act → Type 0

@@ -1,5 +1,5 @@
 -- What the rules propose is a span, and free.
-use Rattle.std.proofs.Common.{◌≡◌, ℕ, ◌^◌, ◌≤◌, ◌<◌, false, Option, Some, None, refl, arith, List}
+use Rattle.std.proofs.Common.{◌≡◌, ℕ, ◌^◌, ◌≤◌, ◌<◌, false, Option, Some, None, refl, arith, List, ℤ, pos}
 use Rattle.std.specs.Prelude.{◌==◌, nat_lt, slice_get}
 use Rattle.std.proofs.lemmas.Bool.{cond_both, lt-ltb, le-ltb}
 use Rattle.otp_core.specs.Limits.{Limits}
@@ -22,25 +22,25 @@ use Rattle.vote_wire.specs.declared.answer.Outcome.TheVariants.{Exhausted, Passw
 abbrev pub Suits : ℕ → ℕ → Verdict → Type 0
 Suits token next v = IfProposes v (λ t lo hi. IsSpan lo hi) × IfProposes v (λ t lo hi. (t ≡ token) × (next ≤ lo))
 
-free_of_window : (kind : Kind) (reach : ℕ) (limits : Limits) (next moment m : ℕ) → InWindow kind reach limits next moment m → next ≤ m
-free_of_window Event reach limits next moment m h = h.free
-free_of_window Time30 reach limits next moment m h = h.free
-free_of_window Time60 reach limits next moment m h = h.free
+free_of_window : (kind : Kind) (reach : ℕ) (limits : Limits) (next : ℕ) (drift : ℤ) (moment m : ℕ) → InWindow kind reach limits next drift moment m → next ≤ m
+free_of_window Event reach limits next drift moment m h = h.free
+free_of_window Time30 reach limits next drift moment m h = h.free
+free_of_window Time60 reach limits next drift moment m h = h.free
 
 span_of_fit : (c : Credential) (s : Submission) (lo hi : ℕ) → Fits c s lo hi → IsSpan lo hi
 span_of_fit c (Check code) lo hi h = record { ordered = omega (arith, h.0); short = omega (arith, h.0) }
 span_of_fit c (Resync first second) lo hi h = record { ordered = omega (arith, h.0); short = omega (arith, h.0) }
 
 fit_suits : FitLaw → (limits : Limits) (next moment : ℕ) (r : Request) (token : ℕ) (c : Credential)
-    → (fit : Option (ℕ × ℕ)) → least_fit c limits next moment r.submission ≡ fit → Suits token next (fit_verdict r token fit)
+    → (fit : Option (ℕ × ℕ)) → least_fit c limits next (pos 0) moment r.submission ≡ fit → Suits token next (fit_verdict r token fit)
 fit_suits law limits next moment r token c None e = (tt, tt)
 fit_suits law limits next moment r token c (Some (lo, hi)) e =
-    let least = (law c limits next moment r.submission lo hi).0 e in
-    (span_of_fit c r.submission lo hi least.fits, (refl, free_of_window c.kind (reach_of limits r.submission) limits next moment lo least.first))
+    let least = (law c limits next (pos 0) moment r.submission lo hi).0 e in
+    (span_of_fit c r.submission lo hi least.fits, (refl, free_of_window c.kind (reach_of limits r.submission) limits next (pos 0) moment lo least.first))
 
 remaining_suits : FitLaw → (limits : Limits) (next moment : ℕ) (r : Request) (token : ℕ) (c : Credential) → Suits token next (remaining_verdict limits next moment r token c)
 remaining_suits law limits next moment r token c =
-    cond_both (next == 2 ^ 62) (Refused r.nonce Exhausted) (fit_verdict r token (least_fit c limits next moment r.submission)) (Suits token next)
+    cond_both (next == 2 ^ 62) (Refused r.nonce Exhausted) (fit_verdict r token (least_fit c limits next (pos 0) moment r.submission)) (Suits token next)
     (λ _. (tt, tt)) (λ _. fit_suits law limits next moment r token c _ refl)
 
 open_suits : FitLaw → (limits : Limits) (next moment : ℕ) (r : Request) (token : ℕ) (c : Credential) → Suits token next (open_verdict limits next moment r token c)

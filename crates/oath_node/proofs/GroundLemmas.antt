@@ -1,5 +1,5 @@
 -- What becomes of a line has its grounds.
-use Rattle.std.proofs.Common.{◌≡◌, ℕ, ◌^◌, ◌≤◌, Bool, false, cond, List, length, Option, Some, None, refl, ap, ◌∙◌, arith}
+use Rattle.std.proofs.Common.{◌≡◌, ℕ, ◌^◌, ◌≤◌, Bool, false, cond, List, length, Option, Some, None, refl, ap, ◌∙◌, arith, ℤ, pos}
 use Rattle.std.specs.Prelude.{◌==◌, ◌↔◌, nat_lt, slice_get}
 use Rattle.std.proofs.lemmas.Bool.{cond_both, ltb-true, ltb-false}
 use Rattle.std.proofs.lemmas.Option.{slice_get_within}
@@ -25,8 +25,8 @@ use Rattle.vote_wire.proofs.RequestLemmas.{line_of_request}
 
 -- what is found is the least fit: a law of admit_core
 abbrev pub FitLaw : Type 0
-FitLaw = (c : Credential) (limits : Limits) (next moment : ℕ) (s : Submission) (lo hi : ℕ)
-    → (least_fit c limits next moment s ≡ Some (lo, hi)) ↔ IsLeastFit c limits next moment s lo hi
+FitLaw = (c : Credential) (limits : Limits) (next : ℕ) (drift : ℤ) (moment : ℕ) (s : Submission) (lo hi : ℕ)
+    → (least_fit c limits next drift moment s ≡ Some (lo, hi)) ↔ IsLeastFit c limits next drift moment s lo hi
 
 -- a request in the grammar, at a moment in range, for the user of a token that is open, with room for one more
 record IsAdmissible (book : List Credential) (s : Standing) (moment : ℕ) (line : List ℕ) (r : Request) (token : ℕ) (c : Credential) : Type 0 where
@@ -37,10 +37,10 @@ record IsAdmissible (book : List Credential) (s : Standing) (moment : ℕ) (line
   user : c.name ≡ r.user
   is_open : s.wait token ≤ 0
 
-free_of : (kind : Kind) (reach : ℕ) (limits : Limits) (next moment m : ℕ) → InWindow kind reach limits next moment m → next ≤ m
-free_of Event reach limits next moment m h = h.free
-free_of Time30 reach limits next moment m h = h.free
-free_of Time60 reach limits next moment m h = h.free
+free_of : (kind : Kind) (reach : ℕ) (limits : Limits) (next : ℕ) (drift : ℤ) (moment m : ℕ) → InWindow kind reach limits next drift moment m → next ≤ m
+free_of Event reach limits next drift moment m h = h.free
+free_of Time30 reach limits next drift moment m h = h.free
+free_of Time60 reach limits next drift moment m h = h.free
 
 span_of : (c : Credential) (s : Submission) (lo hi : ℕ) → Fits c s lo hi → IsSpan lo hi
 span_of c (Check code) lo hi h = record { ordered = omega (arith, h.0); short = omega (arith, h.0) }
@@ -48,11 +48,11 @@ span_of c (Resync first second) lo hi h = record { ordered = omega (arith, h.0);
 
 fit_grounds : FitLaw → (book : List Credential) (limits : Limits) (s : Standing) (moment : ℕ) (line : List ℕ) (r : Request) (token : ℕ) (c : Credential)
     → IsAdmissible book s moment line r token c → PasswordFits c.password r.password
-    → (fit : Option (ℕ × ℕ)) → least_fit c limits (s.next token) moment r.submission ≡ fit → HasGrounds book limits s moment line (verdict_ruling (fit_verdict r token fit))
+    → (fit : Option (ℕ × ℕ)) → least_fit c limits (s.next token) (pos 0) moment r.submission ≡ fit → HasGrounds book limits s moment line (verdict_ruling (fit_verdict r token fit))
 fit_grounds law book limits s moment line r token c h password None e =
     record { refused = tt; within = slice_get_within book token c h.is_token; in_range = h.in_range; is_open = h.is_open }
 fit_grounds law book limits s moment line r token c h password (Some (lo, hi)) e =
-    let fit = (law c limits (s.next token) moment r.submission lo hi).0 e in
+    let fit = (law c limits (s.next token) (pos 0) moment r.submission lo hi).0 e in
     record {
       room = h.room;
       within = slice_get_within book token c h.is_token;
@@ -66,7 +66,7 @@ fit_grounds law book limits s moment line r token c h password (Some (lo, hi)) e
       is_open = h.is_open;
       password = password;
       fit = fit;
-      free = free_of c.kind (reach_of limits r.submission) limits (s.next token) moment lo fit.first;
+      free = free_of c.kind (reach_of limits r.submission) limits (s.next token) (pos 0) moment lo fit.first;
       span = span_of c r.submission lo hi fit.fits;
     }
 
@@ -74,7 +74,7 @@ remaining_grounds : FitLaw → (book : List Credential) (limits : Limits) (s : S
     → IsAdmissible book s moment line r token c → PasswordFits c.password r.password
     → HasGrounds book limits s moment line (verdict_ruling (remaining_verdict limits (s.next token) moment r token c))
 remaining_grounds law book limits s moment line r token c h password =
-    cond_both (s.next token == 2 ^ 62) (Refused r.nonce Exhausted) (fit_verdict r token (least_fit c limits (s.next token) moment r.submission))
+    cond_both (s.next token == 2 ^ 62) (Refused r.nonce Exhausted) (fit_verdict r token (least_fit c limits (s.next token) (pos 0) moment r.submission))
     (λ v. HasGrounds book limits s moment line (verdict_ruling v))
     (λ _. tt)
     (λ _. fit_grounds law book limits s moment line r token c h password _ refl)

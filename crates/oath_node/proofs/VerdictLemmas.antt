@@ -1,5 +1,5 @@
 -- On what grounds the rules propose factors or count a failure, and what that makes of a server.
-use Rattle.std.proofs.Common.{◌≡◌, ℕ, zero, suc, ◌+◌, ◌*◌, ◌<◌, ◌≤◌, ⊎_elim, inr, List, [], ◌∷◌, length, get_or, set, Some, refl, sym, subst, arith}
+use Rattle.std.proofs.Common.{◌≡◌, ℕ, zero, suc, ◌+◌, ◌*◌, ◌<◌, ◌≤◌, ⊎_elim, inr, List, [], ◌∷◌, length, get_or, set, Some, refl, sym, subst, arith, ℤ, pos}
 use Rattle.std.specs.Prelude.{slice_get}
 use Rattle.std.proofs.lemmas.Bool.{cases_eq}
 use Rattle.std.proofs.lemmas.List.{length-set, get_or-set_same, get_or-set_other}
@@ -25,7 +25,7 @@ pub record Grounds (book : List Credential) (limits : Limits) (s : Server) (l : 
   pub credential : Credential
   pub token_is : slice_get book token ≡ Some credential
   pub user : credential.name ≡ request.user
-  pub entitled : IsEntitled credential limits l.moment request.submission request.password (floor_of s token) (results_of s token) lo hi
+  pub entitled : IsEntitled credential limits l.moment request.submission request.password (floor_of s token) (pos 0) (results_of s token) lo hi
 
 -- a ruling that proposes factors has its grounds, and one that counts a failure comes while the token is open
 abbrev pub HasGrounds : List Credential → Limits → Server → Line → Ruling → Type 0
@@ -80,10 +80,10 @@ length-floors_after floors (Wrong nonce outcome token) = refl
 length-floors_after floors (Fitting nonce token lo hi) = length-set floors token (hi + 1)
 
 -- the window is free
-free_of_window : (kind : Kind) (reach : ℕ) (limits : Limits) (next moment m : ℕ) → InWindow kind reach limits next moment m → next ≤ m
-free_of_window Event reach limits next moment m h = h.free
-free_of_window Time30 reach limits next moment m h = h.free
-free_of_window Time60 reach limits next moment m h = h.free
+free_of_window : (kind : Kind) (reach : ℕ) (limits : Limits) (next : ℕ) (drift : ℤ) (moment m : ℕ) → InWindow kind reach limits next drift moment m → next ≤ m
+free_of_window Event reach limits next drift moment m h = h.free
+free_of_window Time30 reach limits next drift moment m h = h.free
+free_of_window Time60 reach limits next drift moment m h = h.free
 
 ordered_of_fit : (c : Credential) (s : Submission) (lo hi : ℕ) → Fits c s lo hi → lo ≤ hi
 ordered_of_fit c (Check code) lo hi h = omega (arith, h.0)
@@ -92,7 +92,7 @@ ordered_of_fit c (Resync first second) lo hi h = omega (arith, h.0)
 pub free : (book : List Credential) (limits : Limits) (s : Server) (l : Line) (token lo hi : ℕ) → Grounds book limits s l token lo hi
     → floor_of s token ≤ lo
 free book limits s l token lo hi g =
-    free_of_window g.credential.kind (reach_of limits g.request.submission) limits (floor_of s token) l.moment lo g.entitled.fit.first
+    free_of_window g.credential.kind (reach_of limits g.request.submission) limits (floor_of s token) (pos 0) l.moment lo g.entitled.fit.first
 
 pub ordered : (book : List Credential) (limits : Limits) (s : Server) (l : Line) (token lo hi : ℕ) → Grounds book limits s l token lo hi
     → lo ≤ hi

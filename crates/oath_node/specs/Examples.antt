@@ -35,7 +35,7 @@ three_tokens =
 
 -- a look-ahead of 5 and a range of 9
 abbrev pub narrow_limits : Limits
-narrow_limits = record { look_ahead = 5; skew = 1; range = 9 }
+narrow_limits = record { look_ahead = 5; skew = 1; range = 9; drift = 0 }
 
 -- what stands for the first token, the second or the third
 abbrev pub by_token : ℕ → ℕ → ℕ → ℕ → ℕ
@@ -85,7 +85,7 @@ lines_given_again =
 
 -- a look-ahead of 1 and a range of 2
 abbrev pub narrowest_limits : Limits
-narrowest_limits = record { look_ahead = 1; skew = 0; range = 2 }
+narrowest_limits = record { look_ahead = 1; skew = 0; range = 2; drift = 0 }
 
 -- What a run comes to: each answer with the number of its line and the client, what was accepted, and the first free
 -- factors and the results that the server is left with.

@@ -1,5 +1,5 @@
 -- On what grounds the rules decide: what a line meets whose factors are proposed, and what one that fails.
-use Rattle.std.specs.Prelude.{◌≡◌, ℕ, ◌<◌, ◌≤◌, true, false, List, length, Some, slice_get}
+use Rattle.std.specs.Prelude.{◌≡◌, ℕ, ◌<◌, ◌≤◌, true, false, List, length, Some, slice_get, pos}
 use Rattle.otp_core.specs.Limits.{Limits}
 use Rattle.otp_core.specs.Range.{IsMoment}
 use Rattle.token_file.specs.Credential.{Credential}
@@ -40,7 +40,7 @@ pub record IsFitting (book : List Credential) (limits : Limits) (standing : Stan
   pub in_range : IsMoment moment
   pub is_open : standing.wait token ≤ 0
   pub password : PasswordFits credential.password request.password
-  pub fit : IsLeastFit credential limits (standing.next token) moment request.submission lo hi
+  pub fit : IsLeastFit credential limits (standing.next token) (pos 0) moment request.submission lo hi
   pub free : standing.next token ≤ lo
   pub span : IsSpan lo hi
 

@@ -1,6 +1,6 @@
 -- What the reference server tells of a run of lines: what it accepts, and each answer; and when an acceptance is
 -- entitled to be one.
-use Rattle.std.specs.Prelude.{◌≡◌, ℕ, ◌+◌, List, [], ◌∷◌, ◌++◌, map, take, Option, Some, None, slice_get}
+use Rattle.std.specs.Prelude.{◌≡◌, ℕ, ◌+◌, List, [], ◌∷◌, ◌++◌, map, take, Option, Some, None, slice_get, pos}
 use Rattle.otp_core.specs.Acceptance.{Acceptance}
 use Rattle.otp_core.specs.Limits.{Limits}
 use Rattle.token_file.specs.Credential.{Credential}
@@ -99,7 +99,7 @@ pub record IsJustified (book : List Credential) (limits : Limits) (floors : List
   pub token : slice_get book pass.token ≡ Some credential
   pub user : credential.name ≡ request.user
   pub entitled : IsEntitled credential limits line.moment request.submission request.password
-      (floor_before book limits floors lines pass.token pass.began)
+      (floor_before book limits floors lines pass.token pass.began) (pos 0)
       (results_before book limits floors lines pass.token pass.began) pass.lo pass.hi
 
 -- each pass of a list is

@@ -1,6 +1,6 @@
 -- The rules by which a line is answered. The first that applies decides: read upwards from `ruling`, or, where no
 -- answer is kept and no line waits, from `verdict`.
-use Rattle.std.specs.Prelude.{ℕ, ◌^◌, ◌==◌, nat_lt, Bool, List, Option, Some, None, if◌then◌else◌, slice_get}
+use Rattle.std.specs.Prelude.{ℕ, ◌^◌, ◌==◌, nat_lt, Bool, List, Option, Some, None, if◌then◌else◌, slice_get, pos}
 use Rattle.otp_core.specs.Limits.{Limits}
 use Rattle.token_file.specs.Credential.{Credential, place_of}
 use Rattle.admit_core.specs.Fit.{least_fit}
@@ -49,7 +49,7 @@ abbrev pub remaining_verdict : Limits → ℕ → ℕ → Request → ℕ → Cr
 remaining_verdict limits next moment request token credential =
     if next == 2 ^ 62
     then Refused request.nonce Exhausted
-    else fit_verdict request token (least_fit credential limits next moment request.submission)
+    else fit_verdict request token (least_fit credential limits next (pos 0) moment request.submission)
 
 -- a password that isn't as the token's column says: PASSWORD, a failure
 abbrev pub open_verdict : Limits → ℕ → ℕ → Request → ℕ → Credential → Verdict

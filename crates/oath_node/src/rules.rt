@@ -12,7 +12,7 @@ use admit_core::{
     find_check, find_resync, least_fit_is_least, password_fits, resync_window, window,
 };
 use floor_store::{FloorStore, Row, StoreFault};
-use otp_core::{FACTORS_END, Factor, MOMENTS_END, Next, Settings};
+use otp_core::{Drift, FACTORS_END, Factor, MOMENTS_END, Next, Settings};
 use token_file::{Book, Token, TokenId};
 use vote_wire::{Codes, Line, Nonce, Outcome};
 
@@ -53,7 +53,8 @@ fn open_verdict(
     if next.value() == FACTORS_END {
         return Verdict::Refused(request.to_nonce(), Outcome::Exhausted);
     }
-    match find_fit(token, next, settings, moment, request.codes()) {
+    let drift = Drift::default();
+    match find_fit(token, next, drift, settings, moment, request.codes()) {
         Some((lo, hi)) => Verdict::Proposes {
             nonce: request.to_nonce(),
             token: id,
@@ -68,22 +69,23 @@ fn open_verdict(
 fn find_fit(
     token: &Token,
     next: Next,
+    drift: Drift,
     settings: Settings,
     moment: u64,
     codes: &Codes,
 ) -> Option<(Factor, Factor)>
     requires { IsMoment moment }
-    ensures { result ≡ least_fit token.now settings next moment (submission_of codes.now) }
+    ensures { result ≡ least_fit token.now settings next drift moment (submission_of codes.now) }
 {
     least_fit_is_least();
     match codes {
         Codes::One(code) => {
-            let window = window(token, next, moment, &settings)?;
+            let window = window(token, next, drift, moment, &settings)?;
             let factor = find_check(token, window, code)?;
             Some((factor, factor))
         }
         Codes::Two(first, second) => {
-            let window = resync_window(token, next, moment, &settings)?;
+            let window = resync_window(token, next, drift, moment, &settings)?;
             let lo = find_resync(token, window, first, second)?;
             Some((lo, factor_after(lo)))
         }

@@ -17,7 +17,8 @@ pub record GivesNumbers (found : Found) (limits : Limits) (moment : ℕ) : Type 
   pub skew_given : number_at found (codes "skew") ≡ Some limits.skew
   pub range_given : number_at found (codes "range") ≡ Some limits.range
   pub moment_given : number_at found (codes "moment") ≡ Some moment
-  pub limits_in_range : AreLimits limits.look_ahead limits.skew limits.range
+  pub no_drift : limits.drift ≡ 0
+  pub limits_in_range : AreLimits limits
   pub moment_in_range : IsMoment moment
 
 -- so many nodes, these numbers and this path of a key, if any, are given, and in their ranges

@@ -1,5 +1,6 @@
 -- How far a server looks for a code.
-use Rattle.std.specs.Prelude.{ℕ, ◌≤◌}
+use Rattle.std.specs.Prelude.{ℕ, ◌≤◌, ℤ, pos, neg_ℤ}
+use Rattle.std.specs.Int.{int_max, int_min}
 
 -- the settings of a server
 pub record Limits : Type 0 where
@@ -9,11 +10,21 @@ pub record Limits : Type 0 where
   pub skew : ℕ
   -- factors past the first free one, for a resynchronization of an event token (RFC 4226, section 7.4)
   pub range : ℕ
+  -- time steps by which the clock of a time token may have drifted, ahead or behind (RFC 6238, section 6)
+  pub drift : ℕ
 
--- the ranges of these three numbers
-abbrev pub AreLimits : ℕ → ℕ → ℕ → Type 0
-AreLimits look_ahead skew range = (look_ahead ≤ 100) × (skew ≤ 10) × (range ≤ 1000)
+-- a look-ahead, a skew and a range, and no drift
+abbrev pub limits_of : ℕ → ℕ → ℕ → Limits
+limits_of look_ahead skew range = record { look_ahead = look_ahead; skew = skew; range = range; drift = 0 }
+
+-- the ranges of the four numbers
+abbrev pub AreLimits : Limits → Type 0
+AreLimits limits = (limits.look_ahead ≤ 100) × (limits.skew ≤ 10) × (limits.range ≤ 1000) × (limits.drift ≤ 10)
 
 -- the settings of a server that is given none
 abbrev pub default_limits : Limits
-default_limits = record { look_ahead = 10; skew = 1; range = 100 }
+default_limits = limits_of 10 1 100
+
+-- of the drifts that the settings allow, the one nearest to so many time steps
+abbrev pub allowed_drift : Limits → ℤ → ℤ
+allowed_drift limits steps = int_max (neg_ℤ (pos limits.drift)) (int_min steps (pos limits.drift))

@@ -1,4 +1,4 @@
-ghost use Rattle.std.specs.Prelude.{◌≡◌, ◌<◌, ◌==◌, nat_le, if◌then◌else◌, ℕ, true, [], ◌∷◌, codes, map, replicate};
+ghost use Rattle.std.specs.Prelude.{◌≡◌, ◌<◌, ◌==◌, nat_le, if◌then◌else◌, ℕ, true, pos, negsuc, [], ◌∷◌, codes, map, replicate};
 ghost use Rattle.std.specs.List.{range_with_len};
 ghost use Rattle.hmac_core.specs.declared.hash.Hash.{Hash};
 ghost use Rattle.otp_core.specs.Acceptance.{HasMajority, HaveSingleUse, KeepRealTimeOrder, LetsGo, majority_of, size};
@@ -6,8 +6,8 @@ ghost use Rattle.otp_core.specs.Code.{IsCode, decimal_digits};
 ghost use Rattle.otp_core.specs.Digits.{count_of};
 ghost use Rattle.otp_core.specs.Examples.{accepted, accepted_at, accepted_of_other, floor_back_in, floor_of_first, floor_until, secret_of_20, secret_of_32, secret_of_64, witnessed};
 ghost use Rattle.otp_core.specs.Hotp.{code_of, factor_mac, truncation_of};
-ghost use Rattle.otp_core.specs.Limits.{AreLimits, default_limits};
-ghost use Rattle.otp_core.specs.Range.{IsFactor, IsMoment, IsNext, IsSecret};
+ghost use Rattle.otp_core.specs.Limits.{AreLimits, allowed_drift, default_limits, limits_of};
+ghost use Rattle.otp_core.specs.Range.{IsDrift, IsFactor, IsMoment, IsNext, IsSecret};
 ghost use Rattle.otp_core.specs.Totp.{step_of};
 ghost use Rattle.otp_core.specs.declared.digits.Digits.{Digits};
 
@@ -33,9 +33,10 @@ pub fn ranges_are_worked()
     ensures moments { IsMoment 1099511627775 × (IsMoment 1099511627776 → ⊥) }
     ensures secrets { (IsSecret [] → ⊥) × IsSecret (7 ∷ []) × IsSecret (replicate 128 7)
         × (IsSecret (replicate 129 7) → ⊥) }
-    ensures limits { AreLimits 100 10 1000 × (AreLimits 101 0 0 → ⊥) × (AreLimits 0 11 0 → ⊥)
-        × (AreLimits 0 0 1001 → ⊥) }
-    ensures defaults { default_limits ≡ record { look_ahead = 10; skew = 1; range = 100 } }
+    ensures limits { AreLimits (record { look_ahead = 100; skew = 10; range = 1000; drift = 10 })
+        × (AreLimits (limits_of 101 0 0) → ⊥) × (AreLimits (limits_of 0 11 0) → ⊥)
+        × (AreLimits (limits_of 0 0 1001) → ⊥) × (AreLimits (record (limits_of 0 0 0) { drift = 11 }) → ⊥) }
+    ensures defaults { default_limits ≡ record { look_ahead = 10; skew = 1; range = 100; drift = 0 } }
     ensures counts { (count_of Digits.Six ≡ 6) × (count_of Digits.Seven ≡ 7) × (count_of Digits.Eight ≡ 8) }
     ensures codes { IsCode (codes "012345") × IsCode (codes "23456789") }
     ensures short_code { IsCode (codes "12345") → ⊥ }
@@ -43,6 +44,17 @@ pub fn ranges_are_worked()
     ensures no_digits { (IsCode (codes "12345/") → ⊥) × (IsCode (codes ":23456") → ⊥) }
     ensures steps { (step_of 29 0 30 ≡ 0) × (step_of 59 0 30 ≡ 1) × (step_of 60 0 30 ≡ 2) × (step_of 119 0 60 ≡ 1)
         × (step_of 159 100 30 ≡ 1) }
+{}
+
+/// The ranges of a drift at their ends, and drifts brought into those that settings allow.
+pub fn drifts_are_worked()
+    ensures drifts { IsDrift (negsuc 9) × IsDrift (pos 10) }
+    ensures beyond { (IsDrift (negsuc 10) → ⊥) × (IsDrift (pos 11) → ⊥) }
+    ensures allowed { map (allowed_drift (record default_limits { drift = 3 }))
+        (negsuc 3 ∷ negsuc 2 ∷ negsuc 1 ∷ pos 0 ∷ pos 3 ∷ pos 4 ∷ [])
+        ≡ negsuc 2 ∷ negsuc 2 ∷ negsuc 1 ∷ pos 0 ∷ pos 3 ∷ pos 3 ∷ [] }
+    ensures none_allowed { map (allowed_drift default_limits) (negsuc 9 ∷ pos 0 ∷ pos 10 ∷ [])
+        ≡ pos 0 ∷ pos 0 ∷ pos 0 ∷ [] }
 {}
 
 /// What the theorems promise of acceptances is broken by one code twice and by an older code after a newer one,

@@ -1,5 +1,5 @@
 ghost use Rattle.std.specs.Prelude.{◌≡◌, ◌↔◌, ◌≤◌, IsSome, IfSome};
-ghost use Rattle.otp_core.specs.Limits.{Limits, AreLimits, default_limits};
+ghost use Rattle.otp_core.specs.Limits.{Limits, AreLimits, default_limits, limits_of};
 
 use std::marker::Model;
 
@@ -12,12 +12,16 @@ const MAX_SKEW: u64 = 10;
 /// The farthest that a resynchronization looks past the first free counter.
 const MAX_RANGE: u64 = 1000;
 
+/// The most time steps that a token's clock may have drifted.
+const MAX_DRIFT: u64 = 10;
+
 /// How far a server looks for a code.
 #[derive(Clone, Copy, Debug, PartialEq, Eq)]
 pub struct Settings {
     look_ahead: u64,
     skew: u64,
     range: u64,
+    drift: u64,
 }
 
 impl Model for Settings {
@@ -29,24 +33,30 @@ impl Model for Settings {
       look_ahead = settings.look_ahead;
       skew = settings.skew;
       range = settings.range;
+      drift = settings.drift;
     } };
 
-    ghost invariant = { λ settings. AreLimits settings.look_ahead settings.skew settings.range };
+    ghost invariant = { λ settings. AreLimits (record {
+      look_ahead = settings.look_ahead;
+      skew = settings.skew;
+      range = settings.range;
+      drift = settings.drift;
+    }) };
 
     ghost inverse = { λ limits. record {
       look_ahead = limits.look_ahead;
       skew = limits.skew;
       range = limits.range;
+      drift = limits.drift;
     } };
 }
 
 impl Settings {
-    /// These settings, or `None` where the look-ahead is above 100, the skew above 10 or the range
-    /// above 1,000.
+    /// These settings, with no drift, or `None` where the look-ahead is above 100, the skew above 10 or the
+    /// range above 1,000.
     pub fn new(look_ahead: u64, skew: u64, range: u64) -> Option<Self>
-        ensures valid { IsSome result ↔ AreLimits look_ahead skew range }
-        ensures value { IfSome result
-            (λ settings. settings ≡ record { look_ahead = look_ahead; skew = skew; range = range }) }
+        ensures valid { IsSome result ↔ AreLimits (limits_of look_ahead skew range) }
+        ensures value { IfSome result (λ settings. settings ≡ limits_of look_ahead skew range) }
     {
         if look_ahead > MAX_LOOK_AHEAD || skew > MAX_SKEW || range > MAX_RANGE {
             return None;
@@ -55,7 +65,19 @@ impl Settings {
             look_ahead,
             skew,
             range,
+            drift: 0,
         })
+    }
+
+    /// The settings with this drift, or `None` where it is above 10.
+    pub fn with_drift(self, drift: u64) -> Option<Self>
+        ensures valid { IsSome result ↔ (drift ≤ 10) }
+        ensures value { IfSome result (λ settings. settings ≡ record self { drift = drift }) }
+    {
+        if drift > MAX_DRIFT {
+            return None;
+        }
+        Some(Settings { drift, ..self })
     }
 
     /// How many factors past the first free one a check of an event token may take (RFC 4226,
@@ -84,17 +106,27 @@ impl Settings {
     {
         self.range
     }
+
+    /// How many time steps the clock of a time token may have drifted, ahead or behind (RFC 6238, section 6):
+    /// 0 to 10.
+    pub fn drift(self) -> u64
+        ensures value { result ≡ self.drift }
+        ensures range { result ≤ 10 }
+    {
+        self.drift
+    }
 }
 
 impl Default for Settings {
     ghost is_default = { λ settings. settings ≡ default_limits };
 
-    /// A look-ahead of 10, a skew of 1 and a range of 100.
+    /// A look-ahead of 10, a skew of 1, a range of 100 and no drift.
     fn default() -> Self {
         Settings {
             look_ahead: 10,
             skew: 1,
             range: 100,
+            drift: 0,
         }
     }
 }

@@ -1,4 +1,4 @@
-use crate::{Code, Codes, Digits, Factor, Next, Secret, Settings, code, step, truncate};
+use crate::{Code, Codes, Digits, Drift, Factor, Next, Secret, Settings, code, step, truncate};
 use hmac_core::{Hash, Mac};
 use std::test::Fail;
 
@@ -83,7 +83,28 @@ fn ranges(rt: HostRuntime) {
         (settings.look_ahead(), settings.skew(), settings.range()),
         (10, 1, 100)
     );
+    assert_eq!(rt; settings.drift(), 0);
     assert_eq!(rt; Settings::new(10, 11, 100), None);
+}
+
+/// Drifts at the ends of their range, and brought into that of the settings.
+#[test]
+fn drifts(rt: HostRuntime) -> Result<(), Fail> {
+    let none = Settings::default();
+    let three = none.with_drift(3).ok_or("settings")?;
+    assert_eq!(rt; none.with_drift(10).map(Settings::drift), Some(10));
+    assert_eq!(rt; none.with_drift(11), None);
+    assert_eq!(rt; three.with_drift(0), Some(none));
+    assert_eq!(rt; Drift::new(-10).map(Drift::steps), Some(-10));
+    assert_eq!(rt; Drift::new(10).map(Drift::steps), Some(10));
+    assert_eq!(rt; Drift::new(-11), None);
+    assert_eq!(rt; Drift::new(11), None);
+    assert_eq!(rt; Drift::default().steps(), 0);
+    for (steps, want) in [(-4, -3), (-3, -3), (2, 2), (1 << 62, 3)] {
+        assert_eq!(rt; Drift::allowed(steps, three).steps(), want, "{steps}");
+        assert_eq!(rt; Drift::allowed(steps, none), Drift::default(), "{steps}");
+    }
+    Ok(())
 }
 
 /// No byte of a secret is shown.

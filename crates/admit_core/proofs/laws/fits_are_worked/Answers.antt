@@ -21,6 +21,10 @@ pub returns-clause-steps : goal.returns-clause-steps
 unfolding code_at sha1_steps.first_words sha1_steps.schedule sha1_steps.rounds sha1_steps.compress sha1_steps.hash_after sha1_steps.digest_bytes sha1_steps.sha1
 returns-clause-steps c = refl
 
+pub returns-clause-drifts : goal.returns-clause-drifts
+unfolding code_at sha1_steps.first_words sha1_steps.schedule sha1_steps.rounds sha1_steps.compress sha1_steps.hash_after sha1_steps.digest_bytes sha1_steps.sha1
+returns-clause-drifts c = refl
+
 pub returns-clause-other_codes : goal.returns-clause-other_codes
 unfolding code_at sha1_steps.first_words sha1_steps.schedule sha1_steps.rounds sha1_steps.compress sha1_steps.hash_after sha1_steps.digest_bytes sha1_steps.sha1
 returns-clause-other_codes c = refl

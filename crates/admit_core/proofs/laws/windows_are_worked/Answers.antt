@@ -1,5 +1,6 @@
 -- The lists are computed, and so are the ends.
 use Rattle.std.proofs.Common.{◌<◌, ◌≤◌, lit<, lit≤, arith}
+use Rattle.std.proofs.lemmas.Int.{ints}
 use Rattle.admit_core.proofs.laws.windows_are_worked.Goals as goal
 
 pub returns-clause-in_events : goal.returns-clause-in_events
@@ -32,23 +33,40 @@ returns-clause-resync_window c = (
 
 pub returns-clause-in_steps : goal.returns-clause-in_steps
 returns-clause-in_steps c = (
-  record { free = lit≤ tt; recent = lit≤ tt; near = lit≤ tt; factor = lit< tt },
-  record { free = lit≤ tt; recent = lit≤ tt; near = lit≤ tt; factor = lit< tt },
-  record { free = lit≤ tt; recent = lit≤ tt; near = lit≤ tt; factor = lit< tt },
-  record { free = lit≤ tt; recent = lit≤ tt; near = lit≤ tt; factor = lit< tt },
-  record { free = lit≤ tt; recent = lit≤ tt; near = lit≤ tt; factor = lit< tt },
+  record { free = lit≤ tt; recent = omega (arith, ints); near = omega (arith, ints); factor = lit< tt },
+  record { free = lit≤ tt; recent = omega (arith, ints); near = omega (arith, ints); factor = lit< tt },
+  record { free = lit≤ tt; recent = omega (arith, ints); near = omega (arith, ints); factor = lit< tt },
+  record { free = lit≤ tt; recent = omega (arith, ints); near = omega (arith, ints); factor = lit< tt },
+  record { free = lit≤ tt; recent = omega (arith, ints); near = omega (arith, ints); factor = lit< tt },
 )
 
 pub returns-clause-no_step_before : goal.returns-clause-no_step_before
 returns-clause-no_step_before c = (
-  λ h. let e : 3 ≤ 2 = h.recent in omega (arith, e),
-  λ h. let e : 3 ≤ 2 = h.recent in omega (arith, e),
+  λ h. let e = h.recent in omega (arith, ints),
+  λ h. let e = h.recent in omega (arith, ints),
 )
 
 pub returns-clause-no_step_after : goal.returns-clause-no_step_after
 returns-clause-no_step_after c = (
-  λ h. let e : 5 ≤ 4 = h.near in omega (arith, e),
-  λ h. let e : 4 ≤ 3 = h.near in omega (arith, e),
+  λ h. let e = h.near in omega (arith, ints),
+  λ h. let e = h.near in omega (arith, ints),
+)
+
+pub returns-clause-in_drifted_steps : goal.returns-clause-in_drifted_steps
+returns-clause-in_drifted_steps c = (
+  record { free = lit≤ tt; recent = omega (arith, ints); near = omega (arith, ints); factor = lit< tt },
+  record { free = lit≤ tt; recent = omega (arith, ints); near = omega (arith, ints); factor = lit< tt },
+  record { free = lit≤ tt; recent = omega (arith, ints); near = omega (arith, ints); factor = lit< tt },
+  record { free = lit≤ tt; recent = omega (arith, ints); near = omega (arith, ints); factor = lit< tt },
+  record { free = lit≤ tt; recent = omega (arith, ints); near = omega (arith, ints); factor = lit< tt },
+)
+
+pub returns-clause-no_drifted_step : goal.returns-clause-no_drifted_step
+returns-clause-no_drifted_step c = (
+  λ h. let e = h.near in omega (arith, ints),
+  λ h. let e = h.recent in omega (arith, ints),
+  λ h. let e = h.near in omega (arith, ints),
+  λ h. let e = h.near in omega (arith, ints),
 )
 
 pub returns-clause-no_step_below : goal.returns-clause-no_step_below

@@ -1,5 +1,5 @@
 -- What the line says and what stood before it are computed, and differ.
-use Rattle.std.proofs.Common.{◌≡◌, ℕ, ◌≤◌, List, [], Some, None, ◌⊎◌, inl, inr, refl, arith, ap, sym, ◌∙◌, subst}
+use Rattle.std.proofs.Common.{◌≡◌, ℕ, ◌≤◌, List, [], Some, None, ◌⊎◌, inl, inr, refl, arith, ap, sym, ◌∙◌, subst, pos}
 use Rattle.std.specs.Prelude.{codes, slice_index}
 use Rattle.admit_core.specs.Entitled.{IsEntitled}
 use Rattle.admit_core.specs.Fit.{Check, code_at}
@@ -28,13 +28,13 @@ check nonce code = record { nonce = nonce; user = codes "silver"; submission = C
 -- a ground is entitled by the request that the line gives
 entitled : (moment : ℕ) (line : List ℕ) (next : ℕ) (results : List Result) (lo hi : ℕ) (request : Request)
     → IsGround config moment line 0 next results lo hi → request_at line ≡ Some request
-    → IsEntitled silver config.limits moment request.submission request.password next results lo hi
+    → IsEntitled silver config.limits moment request.submission request.password next (pos 0) results lo hi
 entitled moment line next results lo hi request h r =
     let read = request_of_line line h.request h.grammar in
     let same : h.request ≡ request = same_some h.request request (sym read ∙ r) in
     let user : h.credential ≡ silver = same_some h.credential silver (sym h.is_token) in
-    let by_request = subst (λ (request : Request). IsEntitled h.credential config.limits moment request.submission request.password next results lo hi) same h.entitled in
-    subst (λ (credential : Credential). IsEntitled credential config.limits moment request.submission request.password next results lo hi) user by_request
+    let by_request = subst (λ (request : Request). IsEntitled h.credential config.limits moment request.submission request.password next (pos 0) results lo hi) same h.entitled in
+    subst (λ (credential : Credential). IsEntitled credential config.limits moment request.submission request.password next (pos 0) results lo hi) user by_request
 
 other_code : codes "755224" ≡ codes "287082" → ⊥
 other_code e = let first : 55 ≡ 50 = ap (λ (code : List ℕ). slice_index code 0) e in omega (arith, first)

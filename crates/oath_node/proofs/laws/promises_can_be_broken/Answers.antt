@@ -1,5 +1,5 @@
 -- What the line says and what stood before it are computed, and differ.
-use Rattle.std.proofs.Common.{◌≡◌, ℕ, ◌≤◌, List, [], ◌∷◌, Some, None, ◌⊎◌, inl, inr, refl, arith, ap, sym, ◌∙◌, subst}
+use Rattle.std.proofs.Common.{◌≡◌, ℕ, ◌≤◌, List, [], ◌∷◌, Some, None, ◌⊎◌, inl, inr, refl, arith, ap, sym, ◌∙◌, subst, pos}
 use Rattle.std.specs.Prelude.{codes, slice_get, slice_index}
 use Rattle.admit_core.specs.Entitled.{IsEntitled}
 use Rattle.admit_core.specs.Fit.{Check, code_at}
@@ -33,16 +33,16 @@ credential_is pass credential j t = same_some j.credential credential (sym j.tok
 entitled : (pass : LinePass) (line : Line) (request : Request) (credential : Credential) (j : IsJustifiedInRun pass)
     → slice_get lines_of_a_run pass.began ≡ Some line → request_at line.text ≡ Some request → slice_get three_tokens pass.token ≡ Some credential
     → IsEntitled credential narrowest_limits line.moment request.submission request.password
-    (floor_before three_tokens narrowest_limits (0 ∷ 0 ∷ 0 ∷ []) lines_of_a_run pass.token pass.began)
+    (floor_before three_tokens narrowest_limits (0 ∷ 0 ∷ 0 ∷ []) lines_of_a_run pass.token pass.began) (pos 0)
     (results_before three_tokens narrowest_limits (0 ∷ 0 ∷ 0 ∷ []) lines_of_a_run pass.token pass.began) pass.lo pass.hi
 entitled pass line request credential j l r t =
     let next = floor_before three_tokens narrowest_limits (0 ∷ 0 ∷ 0 ∷ []) lines_of_a_run pass.token pass.began in
     let results = results_before three_tokens narrowest_limits (0 ∷ 0 ∷ 0 ∷ []) lines_of_a_run pass.token pass.began in
-    let by_line = subst (λ (line : Line). IsEntitled j.credential narrowest_limits line.moment j.request.submission j.request.password next results pass.lo pass.hi)
+    let by_line = subst (λ (line : Line). IsEntitled j.credential narrowest_limits line.moment j.request.submission j.request.password next (pos 0) results pass.lo pass.hi)
     (same_some j.line line (sym j.began ∙ l)) j.entitled in
-    let by_request = subst (λ (request : Request). IsEntitled j.credential narrowest_limits line.moment request.submission request.password next results pass.lo pass.hi)
+    let by_request = subst (λ (request : Request). IsEntitled j.credential narrowest_limits line.moment request.submission request.password next (pos 0) results pass.lo pass.hi)
     (request_is pass line request j l r) by_line in
-    subst (λ (credential : Credential). IsEntitled credential narrowest_limits line.moment request.submission request.password next results pass.lo pass.hi)
+    subst (λ (credential : Credential). IsEntitled credential narrowest_limits line.moment request.submission request.password next (pos 0) results pass.lo pass.hi)
     (credential_is pass credential j t) by_request
 
 -- the token silver, and a CHECK for it

@@ -22,10 +22,11 @@ returns-clause-secrets c = (
 
 pub returns-clause-limits : goal.returns-clause-limits
 returns-clause-limits c = (
-  (lit≤ tt, lit≤ tt, lit≤ tt),
+  (lit≤ tt, lit≤ tt, lit≤ tt, lit≤ tt),
   λ h. let e : 101 ≤ 100 = h.0 in omega (arith, e),
   λ h. let e : 11 ≤ 10 = h.1 in omega (arith, e),
   λ h. let e : 1001 ≤ 1000 = h.2 in omega (arith, e),
+  λ h. let e : 11 ≤ 10 = h.3 in omega (arith, e),
 )
 
 pub returns-clause-codes : goal.returns-clause-codes
