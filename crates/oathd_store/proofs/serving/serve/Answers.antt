@@ -10,7 +10,7 @@ abbrev failed : Fault → Result Served Fault
 failed fault = Err fault
 
 pub returns-in-Ok : goal.returns-in-Ok
-returns-in-Ok g c = record { turns = (c.run_turns.result, c.run_turns.ensures, sym (ap serve_end c.in-Ok.is)) }
+returns-in-Ok g c = record { turns = (c.run_turns.result, c.run_turns.ensures.serves, sym (ap serve_end c.in-Ok.is)) }
 
 pub returns-in-Err : goal.returns-in-Err
-returns-in-Err g c = record { turns = (c.run_turns.result, c.run_turns.ensures, ap failed c.from.ensures ∙ sym (ap serve_end c.in-Err.is)) }
+returns-in-Err g c = record { turns = (c.run_turns.result, c.run_turns.ensures.serves, ap failed c.from.ensures ∙ sym (ap serve_end c.in-Err.is)) }
