@@ -15,7 +15,7 @@ use Rattle.users_input.proofs.LineLemmas.{lines_none}
 use Rattle.oathd_cluster.specs.Fault.{input_fault_of}
 use Rattle.oathd_cluster.specs.Line.{LinesRead, NodeLine, node_line_of, node_lines, with_line}
 use Rattle.oathd_cluster.specs.Rounds.{IsOfRounds}
-use Rattle.oathd_cluster.specs.Run.{EndsSo, Reply, WritesFirst, WritesReplies, printed, reply_text}
+use Rattle.oathd_cluster.specs.Run.{EndsSo, IsBehindUsers, Reply, WritesFirst, WritesReplies, printed, reply_text}
 use Rattle.oathd_cluster.specs.declared.fault.Fault.{Fault}
 use Rattle.oathd_cluster.specs.declared.fault.Fault.TheVariants as fault
 
@@ -143,3 +143,18 @@ module _ (nodes : ℕ) (all : LinesRead) (number room : ℕ) (left old : Option 
   ends_rounds new h (fault.InputLine n) of = absurd of
   ends_rounds new h fault.Socket of = writes_first new h
   ends_rounds new h (fault.Node f) of = writes_first new h
+
+-- ---- Which faults come behind the users file
+
+pub input_behind : (f : InputFault) → IsBehindUsers (input_fault_of f)
+input_behind input.Memory = tt
+input_behind input.CannotRead = tt
+
+pub rounds_behind : (f : Fault) → IsOfRounds f → IsBehindUsers f
+rounds_behind fault.Memory of = absurd of
+rounds_behind fault.CannotRead of = absurd of
+rounds_behind fault.CannotWrite of = absurd of
+rounds_behind (fault.Users f) of = absurd of
+rounds_behind (fault.InputLine n) of = absurd of
+rounds_behind fault.Socket of = tt
+rounds_behind (fault.Node f) of = tt

@@ -1,13 +1,14 @@
 -- A users file is refused, or a cluster isn't opened.
 use Rattle.std.proofs.Common.{◌≡◌, ℕ, List, Option, Some, None, IfSome, subst, refl}
 use Rattle.std.specs.Prelude.{Result, Ok, Err, IsErrAnd, IsTrue}
+use Rattle.std.proofs.KnownBytes.{Appends-nil}
 use Rattle.otp_core.specs.Limits.{Limits}
 use Rattle.token_file.specs.Source.{OfText}
 use Rattle.token_file.specs.UsersFile.{book_of, instant_of, is_of_text}
 use Rattle.token_file.specs.declared.fault.FileFault.{FileFault}
 use Rattle.oathd_cluster.specs.Line.{LinesRead}
 use Rattle.oathd_cluster.specs.Rounds.{IsOfOpening}
-use Rattle.oathd_cluster.specs.Run.{EndsSo, RefusesUsers, WritesFirst}
+use Rattle.oathd_cluster.specs.Run.{EndsSo, IsOfUsers, RefusesUsers, WritesFirst}
 use Rattle.oathd_cluster.specs.declared.fault.Fault.{Fault}
 use Rattle.oathd_cluster.specs.declared.fault.Fault.TheVariants as fault
 use Rattle.oathd_cluster.proofs.AnswerLemmas.{nothing_written}
@@ -35,3 +36,15 @@ unopened (Some text) lines (fault.Users f) out h = absurd h
 unopened (Some text) lines (fault.InputLine n) out h = absurd h
 unopened (Some text) lines fault.Socket out h = none_first (lines text) out
 unopened (Some text) lines (fault.Node f) out h = absurd h
+
+-- where the users file is refused nothing is written
+pub unread : (known : Option (List ℕ)) (lines : List ℕ → LinesRead) (f : Fault) (out : Option (List ℕ)) → IsOfUsers f
+    → IfSome known (λ text. EndsSo (lines text) (Err f) out out)
+unread None lines f out h = tt
+unread (Some text) lines fault.Memory out h = absurd h
+unread (Some text) lines fault.CannotRead out h = absurd h
+unread (Some text) lines fault.CannotWrite out h = absurd h
+unread (Some text) lines (fault.Users f) out h = Appends-nil out
+unread (Some text) lines (fault.InputLine n) out h = absurd h
+unread (Some text) lines fault.Socket out h = absurd h
+unread (Some text) lines (fault.Node f) out h = absurd h

@@ -58,3 +58,8 @@ RefusesUsers limits moment longest text fault = Unit {0}
 abbrev pub IsBehindUsers : Fault → Type 0
 IsBehindUsers (Users fault) = ⊥
 IsBehindUsers fault = Unit {0}
+
+-- a fault is one of a users file. Private contracts alone cite it.
+abbrev pub IsOfUsers : Fault → Type 0
+IsOfUsers (Users fault) = Unit {0}
+IsOfUsers fault = ⊥

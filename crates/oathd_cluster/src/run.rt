@@ -3,7 +3,7 @@
 ghost use Rattle.std.specs.Prelude.{◌≡◌, ◌+◌, ◌≤◌, length, take, IfErr, IfOk, IfSome};
 ghost use Rattle.otp_core.specs.Range.{IsMoment};
 ghost use Rattle.oathd_cluster.specs.Line.{node_lines};
-ghost use Rattle.oathd_cluster.specs.Run.{EndsSo, IsBehindUsers, RefusesUsers};
+ghost use Rattle.oathd_cluster.specs.Run.{EndsSo, IsBehindUsers, IsOfUsers, RefusesUsers};
 ghost use Rattle.users_input.specs.Input.{lines_of};
 
 use crate::answer::answer_lines;
@@ -30,6 +30,7 @@ fn read_users<U: Read + Drop>(
     ensures floors { IfOk result (λ read. length read.1.items ≡ length read.0) }
     ensures fault { IfErr result (λ fault. IfSome (U.remaining users)
         (λ text. RefusesUsers settings moment 16777216 text fault)) }
+    ensures kind { IfErr result IsOfUsers }
 {
     let mut source = FromRead::new(users);
     match read_book(alloc, &mut source, settings, moment) {

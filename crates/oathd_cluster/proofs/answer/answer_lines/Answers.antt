@@ -1,5 +1,5 @@
 use Rattle.std.proofs.Common.{◌≡◌, ◌+◌, ℕ, List, Some, None, IfSome, ap, sym, subst, ◌∙◌}
-use Rattle.std.specs.Prelude.{Result}
+use Rattle.std.specs.Prelude.{IfErr, Result}
 use Rattle.std.specs.Io.KnownBytes.{Appends}
 use Rattle.std.proofs.lemmas.Option.{IfSome_then}
 use Rattle.command_line.specs.Line.{line_of}
@@ -8,9 +8,9 @@ use Rattle.users_input.specs.declared.fault.InputFault.TheVariants as input
 use Rattle.oathd_cluster.specs.Fault.{input_fault_of}
 use Rattle.oathd_cluster.specs.Line as value
 use Rattle.oathd_cluster.specs.Line.{node_line_of, node_lines}
-use Rattle.oathd_cluster.specs.Run.{EndsSo, reply_text}
+use Rattle.oathd_cluster.specs.Run.{EndsSo, IsBehindUsers, reply_text}
 use Rattle.oathd_cluster.specs.declared.fault.Fault.{Fault}
-use Rattle.oathd_cluster.proofs.AnswerLemmas.{answering_next, answering_start, end_by, ends_all, ends_bad, ends_cut, ends_failed, ends_rounds}
+use Rattle.oathd_cluster.proofs.AnswerLemmas.{answering_next, answering_start, end_by, ends_all, ends_bad, ends_cut, ends_failed, ends_rounds, input_behind, rounds_behind}
 use Rattle.oathd_cluster.proofs.answer.answer_lines.Goals as goal
 
 pub loop-number-init : goal.loop-number-init
@@ -29,6 +29,7 @@ returns-in_err-next_line g c =
           (λ (r : Result Unit Fault). EndsSo (node_lines nodes c.args.first (lines_of c.args.input.room text)) r old new)
           c.from_residual.ensures.1
           (ends_failed nodes _ c.loop-number.number c.loop-number.input.room (g.B.Read.remaining c.loop-number.input.reader) old new h f));
+      behind = end_by c.from_residual.result (input_fault_of f) (λ (r : Result Unit Fault). IfErr r IsBehindUsers) c.from_residual.ensures.1 (input_behind f);
     }
 
 pub returns-in-End : goal.returns-in-End
@@ -41,6 +42,7 @@ returns-in-End g c =
       ends = IfSome_then (g.B.Read.remaining c.args.input.reader) c.loop-number.invariant
           (λ text h. ends_all c.args.nodes _ c.loop-number.number c.loop-number.input.room a (g.W.Write.contents c.args.writer.now)
           (g.W.Write.contents c.loop-number.writer) h line c.next_line.new.self.room b takes);
+      behind = tt;
     }
 
 pub returns-in-Cut : goal.returns-in-Cut
@@ -53,6 +55,7 @@ returns-in-Cut g c =
       ends = IfSome_then (g.B.Read.remaining c.args.input.reader) c.loop-number.invariant
           (λ text h. ends_cut c.args.nodes _ c.loop-number.number c.loop-number.input.room a (g.W.Write.contents c.args.writer.now)
           (g.W.Write.contents c.loop-number.writer) h line c.next_line.new.self.room b takes);
+      behind = tt;
     }
 
 pub returns-in-None : goal.returns-in-None
@@ -67,6 +70,7 @@ returns-in-None g c =
       ends = IfSome_then (g.B.Read.remaining c.args.input.reader) c.loop-number.invariant
           (λ text h. ends_bad c.args.nodes _ c.loop-number.number c.loop-number.input.room a (g.W.Write.contents c.args.writer.now)
           (g.W.Write.contents c.loop-number.writer) h line c.next_line.new.self.room b takes is);
+      behind = tt;
     }
 
 pub returns-in_err-len-in-Some : goal.returns-in_err-len-in-Some
@@ -82,6 +86,8 @@ returns-in_err-len-in-Some g c =
           c.from_residual-in_err-len-in-Some.ensures.1
           (ends_rounds nodes _ c.loop-number.number c.loop-number.input.room (g.B.Read.remaining c.loop-number.input.reader) old new h f
           c.in_err-len-in-Some.ensures.fault));
+      behind = end_by c.from_residual-in_err-len-in-Some.result f (λ (r : Result Unit Fault). IfErr r IsBehindUsers)
+          c.from_residual-in_err-len-in-Some.ensures.1 (rounds_behind f c.in_err-len-in-Some.ensures.fault);
     }
 
 pub loop-number-preserved : goal.loop-number-preserved
@@ -106,4 +112,5 @@ returns g c = record {
   ends = IfSome_then (g.B.Read.remaining c.args.input.reader) c.loop-number.invariant
       (λ text h. ends_failed c.args.nodes _ c.loop-number.number c.loop-number.input.room (g.B.Read.remaining c.loop-number.input.reader)
       (g.W.Write.contents c.args.writer.now) (g.W.Write.contents c.loop-number.writer) h input.Memory);
+  behind = tt;
 }
