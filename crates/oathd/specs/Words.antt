@@ -9,7 +9,7 @@ use Rattle.otp_core.specs.Range.{IsMoment}
 use Rattle.oathd_core.specs.Request.{HasMoment}
 use Rattle.oathd_core.specs.declared.request.Request.TheVariants.{Lines, Secret}
 use Rattle.oathd.specs.declared.words.Task.{Task}
-use Rattle.oathd.specs.declared.words.Task.TheVariants.{Run, Sim}
+use Rattle.oathd.specs.declared.words.Task.TheVariants.{Run, Sim, Cluster}
 
 -- these numbers are given, and in their ranges
 pub record GivesNumbers (found : Found) (limits : Limits) (moment : ℕ) : Type 0 where
@@ -22,7 +22,7 @@ pub record GivesNumbers (found : Found) (limits : Limits) (moment : ℕ) : Type 
   pub moment_in_range : IsMoment moment
 
 -- so many nodes, these numbers and this path of a key, if any, are given, and in their ranges
-pub record AsksForSim (found : Found) (nodes : ℕ) (limits : Limits) (moment : ℕ) (key : Option (List ℕ)) : Type 0 where
+pub record AsksForNodes (found : Found) (nodes : ℕ) (limits : Limits) (moment : ℕ) (key : Option (List ℕ)) : Type 0 where
   pub nodes_given : number_at found (codes "N") ≡ Some nodes
   pub first : 1 ≤ nodes
   pub last : nodes ≤ 9
@@ -34,7 +34,10 @@ abbrev pub AsksFor : List ℕ → Found → Task → Type 0
 AsksFor name found (Run (Lines settings moment)) = (name ≡ codes "lines") × GivesNumbers found settings moment
 AsksFor name found (Run (Secret hex)) = (name ≡ codes "secret") × (first_value found (codes "HEX") ≡ Some hex.now)
 AsksFor name found (Sim nodes settings moment key) =
-    (name ≡ codes "sim") × AsksForSim found nodes settings moment (option_map (λ path. path.now) key)
+    (name ≡ codes "sim") × AsksForNodes found nodes settings moment (option_map (λ path. path.now) key)
+AsksFor name found (Cluster users nodes settings moment key) =
+    (name ≡ codes "cluster") × (first_value found (codes "USERS") ≡ Some users.now)
+    × AsksForNodes found nodes settings moment (option_map (λ path. path.now) key)
 
 -- the command with this name, and these values, ask for nothing
 abbrev pub AsksForNothing : List ℕ → Found → Type 0
@@ -44,3 +47,4 @@ AsksForNothing name found = (task : Task) → AsksFor name found task → ⊥
 abbrev pub IsInRange : Task → Type 0
 IsInRange (Run request) = HasMoment request
 IsInRange (Sim nodes settings moment key) = (1 ≤ nodes) × (nodes ≤ 9) × IsMoment moment
+IsInRange (Cluster users nodes settings moment key) = (1 ≤ nodes) × (nodes ≤ 9) × IsMoment moment

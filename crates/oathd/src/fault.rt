@@ -10,6 +10,9 @@ pub(crate) enum Fault<'a> {
     /// A simulation ends so.
     #[error("{0}")]
     Sim(oathd_sim::Fault),
+    /// A cluster ends so.
+    #[error("{0}")]
+    Cluster(oathd_cluster::Fault),
     /// The file with this path can't be read.
     #[error("cannot read {0}")]
     CannotReadFile(&'a str),
@@ -23,6 +26,7 @@ impl ProgramFault for Fault<'_> {
     fn status(self) -> u8 {
         match self {
             Fault::Run(fault) => fault.status(),
+            Fault::Cluster(fault) => fault.status(),
             Fault::Sim(_) | Fault::CannotReadFile(_) => 1,
         }
     }
@@ -43,5 +47,11 @@ impl From<oathd_core::Fault> for Fault<'_> {
 impl From<oathd_sim::Fault> for Fault<'_> {
     fn from(fault: oathd_sim::Fault) -> Self {
         Fault::Sim(fault)
+    }
+}
+
+impl From<oathd_cluster::Fault> for Fault<'_> {
+    fn from(fault: oathd_cluster::Fault) -> Self {
+        Fault::Cluster(fault)
     }
 }

@@ -7,11 +7,14 @@ use crate::fault::Fault;
 use crate::key::read_key;
 use crate::words::{Task, read_words};
 use command_line::{OutsideFault, exit_status, explain, flushed};
+use oathd_cluster::run_cluster;
 use oathd_core::{Request, run};
 use oathd_sim::run_sim;
 use otp_core::Settings;
 use std::alloc::Global;
+use std::fs;
 use std::io::{BufWriter, Read, Write};
+use std::net::Net;
 use std::rt::Files;
 use token_file::MAX_FILE_LEN;
 
@@ -61,8 +64,44 @@ fn simulate<'a, F: Files, R: Read, O: Write>(
     Ok(())
 }
 
+/// Runs a cluster of so many nodes over the users file at this path, under the key of the file named, if any, and sends
+/// it the lines of the input. The output holds back what it is given until it is flushed.
+fn run_nodes<'a, F: Files + Net, R: Read, O: Write>(
+    alloc: Global,
+    files: &F,
+    users: &'a str,
+    nodes: u8,
+    settings: Settings,
+    moment: u64,
+    key: Option<&'a str>,
+    reader: &mut R,
+    held: &mut O,
+) -> Result<(), Fault<'a>>
+    requires first { 1 ≤ nodes }
+    requires last { nodes ≤ 9 }
+    requires moment { IsMoment moment }
+{
+    let key = read_key(alloc, files, key)?;
+    let Ok(file) = fs::open(files, users) else {
+        return Err(Fault::CannotReadFile(users));
+    };
+    run_cluster(
+        alloc,
+        files,
+        nodes,
+        settings,
+        moment,
+        &key,
+        file,
+        MAX_FILE_LEN,
+        reader,
+        held,
+    )?;
+    Ok(())
+}
+
 /// Does what the words ask for, or writes what clap has to say of them. Gives the exit status.
-fn follow<'a, F: Files, R: Read, O: Write, E: Write>(
+fn follow<'a, F: Files + Net, R: Read, O: Write, E: Write>(
     alloc: Global,
     files: &F,
     words: &'a [String],
@@ -87,13 +126,22 @@ fn follow<'a, F: Files, R: Read, O: Write, E: Write>(
         } => simulate(
             alloc, files, nodes, settings, moment, key, reader, &mut held,
         )?,
+        Task::Cluster {
+            users,
+            nodes,
+            settings,
+            moment,
+            key,
+        } => run_nodes(
+            alloc, files, users, nodes, settings, moment, key, reader, &mut held,
+        )?,
     }
     Ok(0)
 }
 
 /// Does what the words of the process ask for, where they could be had. The text of a fault goes to the errors,
 /// behind the program's name. Gives the exit status.
-pub(crate) fn serve<F: Files, R: Read, O: Write, E: Write>(
+pub(crate) fn serve<F: Files + Net, R: Read, O: Write, E: Write>(
     alloc: Global,
     files: &F,
     words: Result<Vec<String>, OutsideFault>,

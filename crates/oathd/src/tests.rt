@@ -114,6 +114,12 @@ fn refuses_words(rt: HostRuntime) -> Result<(), Fail> {
         ("oathd sim 3 3", 2),
         ("oathd sim 3 --skew 11", 2),
         ("oathd sim 3 --key", 2),
+        ("oathd cluster", 2),
+        ("oathd cluster users", 2),
+        ("oathd cluster users 0", 2),
+        ("oathd cluster users 10", 2),
+        ("oathd cluster users 3 3", 2),
+        ("oathd cluster users 3 --range 1001", 2),
         ("oathd lines --key k", 2),
         ("oathd secret", 2),
         ("oathd secret 00 00", 2),
@@ -124,6 +130,7 @@ fn refuses_words(rt: HostRuntime) -> Result<(), Fail> {
         ("oathd -V", 0),
         ("oathd lines --help", 0),
         ("oathd sim --help", 0),
+        ("oathd cluster --help", 0),
         ("oathd secret --help", 0),
     ] {
         let words = words_of(alloc, text)?;
@@ -193,6 +200,7 @@ fn help_is_narrow(rt: HostRuntime) -> Result<(), Fail> {
         "oathd -h",
         "oathd lines --help",
         "oathd sim --help",
+        "oathd cluster --help",
         "oathd secret --help",
     ] {
         let help = told(alloc, text)?;
@@ -269,6 +277,11 @@ fn statuses_and_texts(rt: HostRuntime) -> Result<(), Fail> {
             "oathd sim 9",
             "%%\ntick 1\n\ntick\n",
             (1, "", "oathd: script line 3\n"),
+        ),
+        (
+            "oathd cluster no-such-file 3",
+            "1 1000 CHECK 1 silver 755224 -\n",
+            (1, "", "oathd: cannot read no-such-file\n"),
         ),
         // the key file's faults come before those of the users file
         (

@@ -2,7 +2,7 @@ ghost use Rattle.std.specs.Prelude.{◌≡◌, ◌≤◌, ℕ, List, Option, Som
 ghost use Rattle.clap.specs.Matches.{first_value, found_of};
 ghost use Rattle.command_line.specs.Number.{number_at};
 ghost use Rattle.otp_core.specs.Limits.{Limits};
-ghost use Rattle.oathd.specs.Words.{AsksFor, AsksForNothing, AsksForSim, GivesNumbers, IsInRange};
+ghost use Rattle.oathd.specs.Words.{AsksFor, AsksForNothing, AsksForNodes, GivesNumbers, IsInRange};
 
 use clap::error::ErrorKind;
 use clap::{Arg, ArgAction, ArgMatches, Command, Error};
@@ -18,6 +18,19 @@ pub(crate) enum Task<'a> {
     Run(Request<'a>),
     /// To run the script of the input over a cluster.
     Sim {
+        /// How many nodes there are: 1 to 9.
+        nodes: u8,
+        settings: Settings,
+        /// The moment at which the users are imported, in seconds since 1970-01-01 00:00:00 UTC: 0 to
+        /// 1099511627775.
+        moment: u64,
+        /// The path of the file of the cluster's key, if one is named.
+        key: Option<&'a str>,
+    },
+    /// To run a cluster over sockets of this machine, and to send it the lines of the input.
+    Cluster {
+        /// The path of the users file.
+        users: &'a str,
         /// How many nodes there are: 1 to 9.
         nodes: u8,
         settings: Settings,
@@ -107,6 +120,27 @@ Example, which prints pass 0 2 1 0 0 0, answer 2 1 7 OK a 0 and sent 3:
         'client 1 7 100 CHECK a silver 755224 -' \\
         'deliver 2 0' 'deliver 1 2' | oathd sim 3";
 
+/// What the help of the command `cluster` says of its input.
+const CLUSTER_HELP: &str = "\
+USERS is a users file as the command lines takes it. N nodes begin with it, each
+with a store in memory and a UDP socket of its own on this machine. Standard
+input has the lines of a client.
+
+A line is NODE MOMENT REQUEST, with single spaces: the number of a node, seconds
+since 1970-01-01 00:00:00 UTC, and what the client says to that node. Each node
+then has one receive after the other, until the reply is there, and these lines
+are printed:
+    NODE REPLY
+    NODE -              no reply came after 64 rounds
+
+Beside the status of the command lines, it is 3 where a node failed, and 4 where
+a socket did.
+
+Example, which prints 1 OK a 0 and 2 NO b INVALID:
+    echo 'HOTP silver - 3132333435363738393031323334353637383930' > users
+    printf '%s\\n' '1 100 CHECK a silver 755224 -' \\
+        '2 100 CHECK b silver 755224 -' | oathd cluster users 3";
+
 /// What the help of the command `secret` says besides its word.
 const SECRET_HELP: &str = "\
 HEX can be seen by other users of the machine while the program runs, and stays
@@ -176,12 +210,10 @@ fn lines_command<'a>(alloc: Global) -> Result<Command<'a>, AllocError> {
 /// The numbers of nodes that there may be.
 const NODE_COUNTS: [&str; 9] = ["1", "2", "3", "4", "5", "6", "7", "8", "9"];
 
-/// The command `sim`.
-fn sim_command<'a>(alloc: Global) -> Result<Command<'a>, AllocError> {
-    Command::new(alloc, "sim")
-        .about("Runs a script of what happens to the nodes of a cluster")
+/// A command with what all commands take that run nodes: how many, the limits, the moment and the key.
+fn with_nodes<'a>(alloc: Global, command: Command<'a>) -> Result<Command<'a>, AllocError> {
+    command
         .next_line_help(true)
-        .after_help(SIM_HELP)
         .arg(
             Arg::new(alloc, "N")
                 .required(true)
@@ -203,6 +235,28 @@ fn sim_command<'a>(alloc: Global) -> Result<Command<'a>, AllocError> {
                     "A file of the cluster's key: 16 to 64 bytes in hexadecimal.\nWithout it the key is 32 zeros",
                 ),
         )
+}
+
+/// The command `sim`.
+fn sim_command<'a>(alloc: Global) -> Result<Command<'a>, AllocError> {
+    let command = Command::new(alloc, "sim")
+        .about("Runs a script of what happens to the nodes of a cluster")
+        .after_help(SIM_HELP);
+    with_nodes(alloc, command)
+}
+
+/// The command `cluster`.
+fn cluster_command<'a>(alloc: Global) -> Result<Command<'a>, AllocError> {
+    let command = Command::new(alloc, "cluster")
+        .about("Runs the nodes of a cluster over sockets, and sends them lines")
+        .after_help(CLUSTER_HELP)
+        .arg(
+            Arg::new(alloc, "USERS")
+                .required(true)
+                .action(ArgAction::Set)
+                .help("The path of the users file"),
+        )?;
+    with_nodes(alloc, command)
 }
 
 /// The command `secret`.
@@ -228,6 +282,7 @@ pub(crate) fn command<'a>(alloc: Global) -> Result<Command<'a>, AllocError> {
         .subcommand_required(true)
         .subcommand(lines_command(alloc)?)?
         .subcommand(sim_command(alloc)?)?
+        .subcommand(cluster_command(alloc)?)?
         .subcommand(secret_command(alloc)?)
 }
 
@@ -277,12 +332,32 @@ fn nodes_of(matches: &ArgMatches<'_>) -> Option<u8>
 fn sim_task<'a>(matches: &ArgMatches<'a>) -> Option<Task<'a>>
     ensures some { IfSome result (AsksFor (codes "sim") (found_of matches.now)) }
     ensures none { IfNone result ((nodes : ℕ) (limits : Limits) (moment : ℕ) (key : Option (List ℕ))
-        → AsksForSim (found_of matches.now) nodes limits moment key → ⊥) }
+        → AsksForNodes (found_of matches.now) nodes limits moment key → ⊥) }
 {
     let nodes = nodes_of(matches)?;
     let (settings, moment) = numbers_of(matches)?;
     let key = matches.get_str("key");
     Some(Task::Sim {
+        nodes,
+        settings,
+        moment,
+        key,
+    })
+}
+
+/// What the values of the command `cluster` ask for, or `None` where they ask for nothing.
+fn cluster_task<'a>(matches: &ArgMatches<'a>) -> Option<Task<'a>>
+    ensures some { IfSome result (AsksFor (codes "cluster") (found_of matches.now)) }
+    ensures none { IfNone result ((users : List ℕ) (nodes : ℕ) (limits : Limits) (moment : ℕ) (key : Option (List ℕ))
+        → first_value (found_of matches.now) (codes "USERS") ≡ Some users
+        → AsksForNodes (found_of matches.now) nodes limits moment key → ⊥) }
+{
+    let users = matches.get_str("USERS")?;
+    let nodes = nodes_of(matches)?;
+    let (settings, moment) = numbers_of(matches)?;
+    let key = matches.get_str("key");
+    Some(Task::Cluster {
+        users,
         nodes,
         settings,
         moment,
@@ -307,6 +382,7 @@ fn task_of<'a>(name: &str, matches: &ArgMatches<'a>) -> Option<Task<'a>>
     match name {
         "lines" => lines_task(matches),
         "sim" => sim_task(matches),
+        "cluster" => cluster_task(matches),
         "secret" => secret_task(matches),
         _ => None,
     }
@@ -328,6 +404,7 @@ pub(crate) fn read_words<'a>(alloc: Global, words: &'a [String]) -> Result<Task<
         None => {
             let mut usage = match name {
                 "sim" => sim_command(alloc)?.bin_name("oathd sim")?,
+                "cluster" => cluster_command(alloc)?.bin_name("oathd cluster")?,
                 _ => lines_command(alloc)?.bin_name("oathd lines")?,
             };
             Err(number_error(alloc, &mut usage, values, &NUMBERS)?)
