@@ -3,7 +3,7 @@ ghost use Rattle.otp_core.specs.Range.{IsMoment};
 use crate::{Gate, drift_after, find_check, find_resync, password_fits, resync_window, window};
 use arrayvec::ArrayVec;
 use hmac_core::Hash;
-use otp_core::{Code, Digits, Drift, Factor, Next, Secret, Settings};
+use otp_core::{Code, Digits, Drift, Factor, MOMENTS_END, Next, Secret, Settings};
 use std::test::Fail;
 use token_file::{Kind, Password, Token};
 
@@ -86,6 +86,9 @@ fn drifted_windows(rt: HostRuntime) -> Result<(), Fail> {
         let settings = settings.with_drift(allowed).ok_or("settings")?;
         let next = Next::new(next).ok_or("a first free factor")?;
         let drift = Drift::new(drift).ok_or("a drift")?;
+        if moment >= MOMENTS_END {
+            return Err("a moment".into());
+        }
         let check = window(&token, next, drift, moment, &settings);
         let resync = resync_window(&token, next, drift, moment, &settings);
         assert_eq!(rt; numbers(check), want, "at {moment}");

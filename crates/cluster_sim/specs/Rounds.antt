@@ -284,8 +284,8 @@ RoundsAreThese =
 
 -- ---- A report
 
--- Of events that end in rounds: these answers are those that were told before, then one to each line as the server gives
--- it, within its own round; and the live members are settled again.
+-- Of events that end in rounds: these answers are those that were told before, then one to each line as the server
+-- gives it, within its own round; and the live members are settled again.
 pub record AreServed (config : Config) (floors : List (List ℕ)) (before rounds : List WorldEvent) (live : List ℕ)
     (lines : List RoundLine) (answers : List Told) : Type 0 where
   pub more : List Told

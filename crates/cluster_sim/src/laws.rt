@@ -223,7 +223,8 @@ pub fn rounds_are_worked()
         (told_outcome 33 3 8 (codes "b") Timeout ∷ told_outcome 37 3 8 (codes "c") (Accepted 1) ∷ []) 54 }
     ensures no_majority { report_of config three (rounds_from_start (1 ∷ []) one_line) ≡ report_with [] [] 2 }
     ensures waits_already { report_of config three
-        (events_with_rounds config three (line_at 1 7 1000 (codes "CHECK a silver 755224 -") ∷ []) (1 ∷ 2 ∷ []) one_line)
+        (events_with_rounds config three (line_at 1 7 1000 (codes "CHECK a silver 755224 -") ∷ [])
+        (1 ∷ 2 ∷ []) one_line)
         ≡ report_with [] [] 2 }
     ensures not_level { report_of config not_level (events_with_rounds config not_level [] (1 ∷ 2 ∷ []) one_line)
         ≡ report_with [] [] 3 }

@@ -246,8 +246,8 @@ pub fn run_rounds(
         let all = events_with_rounds run.config run.floors run.events live.now (round_lines lines.now) in
         IfOk result (λ report. report ≡ report_of run.config run.floors all) }
 
-    // Among a strict majority that is settled after the events before, each line is answered within its own round as one
-    // server answers it, and the members are settled again.
+    // Among a strict majority that is settled after the events before, each line is answered within its own round as
+    // one server answers it, and the members are settled again.
     ensures served { let run = run_of book.now settings key.now floors.now before.now in
         let old = world_of run.config run.floors run.events in
         let rounds = rounds_events run.config live.now (length run.events) old (round_lines lines.now) in

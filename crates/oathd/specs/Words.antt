@@ -22,7 +22,8 @@ pub record GivesNumbers (found : Found) (limits : Limits) (moment : ℕ) : Type 
   pub moment_in_range : IsMoment moment
 
 -- so many nodes, these numbers and this path of a key, if any, are given, and in their ranges
-pub record AsksForNodes (found : Found) (nodes : ℕ) (limits : Limits) (moment : ℕ) (key : Option (List ℕ)) : Type 0 where
+pub record AsksForNodes (found : Found) (nodes : ℕ) (limits : Limits) (moment : ℕ)
+    (key : Option (List ℕ)) : Type 0 where
   pub nodes_given : number_at found (codes "N") ≡ Some nodes
   pub first : 1 ≤ nodes
   pub last : nodes ≤ 9

@@ -1,5 +1,6 @@
 -- Inputs and runs that the laws work through.
 use Rattle.std.specs.Prelude.{ℕ, List, [], ◌∷◌, Option, Some, codes}
+use Rattle.otp_core.specs.Limits.{default_limits}
 use Rattle.oath_node.specs.ReferenceServer.{Line}
 use Rattle.token_file.specs.declared.fault.FileFault.{FileFault}
 use Rattle.token_file.specs.declared.fault.LineFault.{LineFault}
@@ -21,7 +22,7 @@ fault_at line kind = record { line = line; kind = kind }
 -- the run of the usual server, over a users file and an input of at most so many bytes
 abbrev pub run_at_most : ℕ → ℕ → List ℕ → Run
 run_at_most longest limit text =
-    run_of (record { limits = record { look_ahead = 10; skew = 1; range = 100; drift = 0 }; moment = 0 }) longest limit text
+    run_of (record { limits = default_limits; moment = 0 }) longest limit text
 
 -- two lines are answered, and the seventh line of the input is bad
 abbrev pub answered : Run

@@ -15,7 +15,8 @@ pub record HasImport (limits : Limits) (moment longest : ℕ) (text : List ℕ) 
   pub imported : IsImported limits moment longest book floors text
 
 -- The store holds the first free factors of a users file's import and nothing else, and works.
-pub record HasMade {S : Type 0} (limits : Limits) (moment longest : ℕ) (store : SqlHeld S) (text : List ℕ) : Type 0 where
+pub record HasMade {S : Type 0} (limits : Limits) (moment longest : ℕ) (store : SqlHeld S)
+    (text : List ℕ) : Type 0 where
   pub import : HasImport limits moment longest text
   pub content : store.mirror ≡ opening_content import.floors
   pub no_passes : store.passes ≡ 0

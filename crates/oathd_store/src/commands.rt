@@ -24,7 +24,8 @@ use std::io::Read;
 ///
 /// # Errors
 /// `Users` where the users file has a fault or can't be read; the database is not opened then. `Store`:
-/// `AlreadyThere` where a store is there, `Unusable` where the database has other tables, `Disk` and `Memory`. `Memory`.
+/// `AlreadyThere` where a store is there, `Unusable` where the database has other tables, `Disk` and `Memory`.
+/// `Memory`.
 pub fn init<R: Read + Drop, S: Alter + Drop, D: Database<S>>(
     alloc: Global,
     reader: R,
@@ -95,8 +96,8 @@ fn open_named<S: Alter + Drop>(
 /// where none is given. The first free factors are the store's. The settings are those of the server.
 ///
 /// # Errors
-/// `Users` where the users file has a fault or can't be read; the database is not opened then. `Store`: `Unusable` where
-/// the tables aren't those of such a store, `Disk` and `Memory`. `Memory`.
+/// `Users` where the users file has a fault or can't be read; the database is not opened then. `Store`: `Unusable`
+/// where the tables aren't those of such a store, `Disk` and `Memory`. `Memory`.
 pub fn open<R: Read + Drop, S: Alter + Drop, D: Database<S>>(
     alloc: Global,
     reader: R,

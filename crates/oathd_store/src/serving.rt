@@ -54,7 +54,8 @@ pub fn serve<S: FloorStore, P: Port, C: Clock>(
     clock: &mut C,
     turns: u32,
 ) -> Result<Served, Fault>
-    ensures turns { (end : Result Served ServeFault) × Serves S.held node.old node.new (P.events port.old) (P.events port.new)
+    ensures turns { (end : Result Served ServeFault)
+        × Serves S.held node.old node.new (P.events port.old) (P.events port.new)
         (C.moments clock.old) (C.moments clock.new) turns end × (result ≡ serve_end end) }
 {
     match run_turns(node, port, clock, turns) {
