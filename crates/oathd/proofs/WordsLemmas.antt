@@ -1,6 +1,7 @@
 -- What the words of a command don't ask for.
 use Rattle.std.proofs.Common.{◌≡◌, ℕ, List, Option, Some, None, length, sym, ap, ◌∙◌, arith}
 use Rattle.std.specs.Prelude.{IfNone, codes}
+use Rattle.clap.specs.Matches.{first_value}
 use Rattle.clap.specs.declared.parser.matches.Found.{Found}
 use Rattle.otp_core.specs.Limits.{Limits}
 use Rattle.oathd_core.specs.declared.request.Request.TheVariants.{Lines, Secret}
@@ -45,3 +46,8 @@ pub no_cluster : (result : Option Task) (name : List ℕ) (found : Found) → na
     → IfNone result (AsksForNothing name found)
 no_cluster None name found is none = not_for_cluster name found is none
 no_cluster (Some task) name found is none = tt
+
+-- what holds anyway holds where there is no result
+pub where_none : {A : Type 0} (result : Option A) (P : Type 0) → P → IfNone result P
+where_none None P p = p
+where_none (Some x) P p = tt

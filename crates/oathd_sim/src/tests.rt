@@ -186,7 +186,10 @@ fn prints_that_a_node_is_busy(rt: HostRuntime) -> Result<(), Fail> {
     let mut users = String::new(alloc);
     let mut script = String::new(alloc);
     for user in 1..34 {
-        write!(users, "HOTP u{user} - 3132333435363738393031323334353637383930\n")?;
+        write!(
+            users,
+            "HOTP u{user} - 3132333435363738393031323334353637383930\n"
+        )?;
         write!(script, "client 1 7 1000 CHECK {user} u{user} 755224 -\n")?;
     }
     let input = format!(in alloc; "{users}%%\n{script}")?;
