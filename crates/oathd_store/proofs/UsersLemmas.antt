@@ -1,16 +1,18 @@
 -- A users file is read, or is not.
-use Rattle.std.proofs.Common.{◌≡◌, ℕ, List, Option, Some, None, IfSome, subst}
-use Rattle.std.specs.Prelude.{Ok, Err, IsTrue}
+use Rattle.std.proofs.Common.{◌≡◌, ℕ, List, Option, Some, None, IfSome, IfOk, refl, sym, subst}
+use Rattle.std.specs.Prelude.{Result, Ok, Err, IsTrue}
+use Rattle.sqlite.specs.Store.{Ghosts}
+use Rattle.sqlite.specs.Held as sql
 use Rattle.otp_core.specs.Limits.{Limits}
 use Rattle.floor_store.specs.declared.fault.StoreFault.{StoreFault}
-use Rattle.floor_store.specs.Content.{opening_content}
+use Rattle.floor_sql.specs.Calls.{IsMade, IsOpened}
 use Rattle.floor_sql.specs.Held.{SqlHeld}
 use Rattle.token_file.specs.Credential.{Credential}
 use Rattle.token_file.specs.Source.{OfText}
 use Rattle.token_file.specs.UsersFile.{IsCutOff, book_of, import_of, instant_of, is_of_text}
 use Rattle.token_file.specs.declared.fault.FileFault.{FileFault}
 use Rattle.token_file.specs.declared.fault.LineFault.TheVariants.{Read}
-use Rattle.oathd_store.specs.Commands.{HasImport, HasMade, IsRefused}
+use Rattle.oathd_store.specs.Commands.{HasImport, HasMade, HasOpened, IsRefused}
 use Rattle.oathd_store.specs.Fault.{IsStoreFault}
 use Rattle.oathd_store.specs.Users.{IsImported, IsUnread}
 use Rattle.oathd_store.specs.declared.fault.Fault.{Fault}
@@ -74,13 +76,35 @@ module _ (limits : Limits) (moment longest : ℕ) where
   refused_so (Some text) fault book floors h is = refused_at fault text book floors h is
 
   -- the store is made
-  pub made : {S : Type 0} (a : Option (List ℕ)) (store : SqlHeld S) (book : List Credential) (floors : List ℕ)
-      → IfSome a (IsImported limits moment longest book floors) → store.mirror ≡ opening_content floors → store.passes ≡ 0 → store.fault ≡ None
-      → IfSome a (HasMade limits moment longest store)
-  made None store book floors h content no_passes works = tt
-  made (Some text) store book floors h content no_passes works = record {
+  pub made : {S : Type 0} (g : Ghosts S) (node : ℕ) (a : Option (List ℕ)) (conn : sql.Held S) (store : SqlHeld S) (book : List Credential) (floors given : List ℕ)
+      → IfSome a (IsImported limits moment longest book floors) → given ≡ floors → IsMade g conn node given store
+      → IfSome a (HasMade g limits moment longest node store)
+  made g node None conn store book floors given h same is = tt
+  made g node (Some text) conn store book floors given h same is = record {
     import = record { book = book; floors = floors; imported = h };
-    content = content;
-    no_passes = no_passes;
-    works = works;
+    conn = conn;
+    made = subst (λ (fs : List ℕ). IsMade g conn node fs store) same is;
+  }
+
+module _ {S : Type 0} (g : Ghosts S) (conn : sql.Held S) (node tokens : ℕ) where
+  -- the store of the node that is given is opened
+  pub opened_given : (result : Result (SqlHeld S) Fault) (given : Option ℕ) → given ≡ Some node
+      → IfOk result (IsOpened g conn node tokens) → IfOk result (HasOpened g given tokens)
+  opened_given (Err fault) given e is = tt
+  opened_given (Ok store) given e is = record {
+    conn = conn;
+    node = node;
+    is_given = subst (λ (o : Option ℕ). IfSome o (λ n. node ≡ n)) (sym e) refl;
+    opened = is;
+  }
+
+  -- the store of whatever node is opened
+  pub opened_any : (result : Result (SqlHeld S) Fault) (given : Option ℕ) → given ≡ None
+      → IfOk result (IsOpened g conn node tokens) → IfOk result (HasOpened g given tokens)
+  opened_any (Err fault) given e is = tt
+  opened_any (Ok store) given e is = record {
+    conn = conn;
+    node = node;
+    is_given = subst (λ (o : Option ℕ). IfSome o (λ n. node ≡ n)) (sym e) tt;
+    opened = is;
   }

@@ -1,8 +1,10 @@
 -- What the commands over a users file and a database come to.
-use Rattle.std.specs.Prelude.{◌≡◌, ℕ, List, Option, None, length}
+use Rattle.std.specs.Prelude.{◌≡◌, ℕ, List, Option, IfSome}
+use Rattle.sqlite.specs.Store.{Ghosts}
+use Rattle.sqlite.specs.Held as sql
 use Rattle.otp_core.specs.Limits.{Limits}
 use Rattle.token_file.specs.Credential.{Credential}
-use Rattle.floor_store.specs.Content.{opening_content}
+use Rattle.floor_sql.specs.Calls.{IsMade, IsOpened}
 use Rattle.floor_sql.specs.Held.{SqlHeld}
 use Rattle.oathd_store.specs.Users.{IsImported, IsUnread}
 use Rattle.oathd_store.specs.declared.fault.Fault.{Fault}
@@ -14,13 +16,20 @@ pub record HasImport (limits : Limits) (moment longest : ℕ) (text : List ℕ) 
   pub floors : List ℕ
   pub imported : IsImported limits moment longest book floors text
 
--- The store holds the first free factors of a users file's import and nothing else, and works.
-pub record HasMade {S : Type 0} (limits : Limits) (moment longest : ℕ) (store : SqlHeld S)
-    (text : List ℕ) : Type 0 where
-  pub import : HasImport limits moment longest text
-  pub content : store.mirror ≡ opening_content import.floors
-  pub no_passes : store.passes ≡ 0
-  pub works : store.fault ≡ None
+module _ {S : Type 0} (g : Ghosts S) where
+  -- The store is this node's, made by one commit in the tables of some connection: it holds the first free factors of a
+  -- users file's import and nothing else.
+  pub record HasMade (limits : Limits) (moment longest node : ℕ) (store : SqlHeld S) (text : List ℕ) : Type 0 where
+    pub import : HasImport limits moment longest text
+    pub conn : sql.Held S
+    pub made : IsMade g conn node import.floors store
+
+  -- The store is what the tables of some connection hold of a node with so many tokens: of this one where it is given.
+  pub record HasOpened (given : Option ℕ) (tokens : ℕ) (store : SqlHeld S) : Type 0 where
+    pub conn : sql.Held S
+    pub node : ℕ
+    pub is_given : IfSome given (λ n. node ≡ n)
+    pub opened : IsOpened g conn node tokens store
 
 -- No store is made or opened: the users file is not imported, or it is and the store refuses.
 abbrev pub IsRefused : Limits → ℕ → ℕ → Fault → List ℕ → Type 0

@@ -1,10 +1,10 @@
 //! The commands over a users file and a database. The users file is read first, and the database opened then.
 
-ghost use Rattle.std.specs.Prelude.{◌≡◌, false, length, IfErr, IfOk, IfSome, None};
+ghost use Rattle.std.specs.Prelude.{◌≡◌, false, length, IfErr, IfOk, IfSome};
 ghost use Rattle.otp_core.specs.Range.{IsMoment};
 ghost use Rattle.floor_sql.specs.Calls.{IsOpened};
 ghost use Rattle.floor_sql.specs.Usable.{IsNode};
-ghost use Rattle.oathd_store.specs.Commands.{HasMade, IsRefused};
+ghost use Rattle.oathd_store.specs.Commands.{HasMade, HasOpened, IsRefused};
 ghost use Rattle.oathd_store.specs.Fault.{IsStoreFault};
 ghost use Rattle.oathd_store.specs.Users.{IsImported};
 
@@ -36,7 +36,7 @@ pub fn init<R: Read + Drop, S: Alter + Drop, D: Database<S>>(
 ) -> Result<SqlStore<S>, Fault>
     requires moment { IsMoment moment }
     requires node { IsNode node }
-    ensures made { IfOk result (λ store. IfSome (R.remaining reader) (HasMade settings moment 16777216 store)) }
+    ensures made { IfOk result (λ store. IfSome (R.remaining reader) (HasMade S.Store settings moment 16777216 node store)) }
     ensures fault { IfErr result (λ fault. IfSome (R.remaining reader) (IsRefused settings moment 16777216 fault)) }
 {
     let users = read_users(alloc, reader, settings, moment)?;
@@ -79,8 +79,8 @@ fn open_named<S: Alter + Drop>(
     users: &Users,
 ) -> Result<SqlStore<S>, Fault>
     requires { conn.in_transaction ≡ false }
+    ensures opened { IfOk result (HasOpened S.Store node (length users.now.book)) }
     ensures tokens { IfOk result (λ store. length store.mirror.rows ≡ length users.now.book) }
-    ensures works { IfOk result (λ store. store.fault ≡ None) }
     ensures fault { IfErr result IsStoreFault }
 {
     if let Some(node) = node {
@@ -108,7 +108,7 @@ pub fn open<R: Read + Drop, S: Alter + Drop, D: Database<S>>(
     ensures users { IfOk result (λ opened. IfSome (R.remaining reader)
         (IsImported settings 0 16777216 opened.0.book opened.0.floors.items)) }
     ensures tokens { IfOk result (λ opened. length opened.1.mirror.rows ≡ length opened.0.book) }
-    ensures works { IfOk result (λ opened. opened.1.fault ≡ None) }
+    ensures opened { IfOk result (λ opened. HasOpened S.Store node (length opened.0.book) opened.1) }
     ensures fault { IfErr result (λ fault. IfSome (R.remaining reader) (IsRefused settings 0 16777216 fault)) }
 {
     let users = read_users(alloc, reader, settings, 0)?;

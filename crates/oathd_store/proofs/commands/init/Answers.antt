@@ -1,5 +1,4 @@
-use Rattle.std.proofs.Common.{IfSome, ap, ◌∙◌}
-use Rattle.floor_store.specs.Content.{opening_content}
+use Rattle.std.proofs.Common.{IfSome}
 use Rattle.oathd_store.specs.Commands.{IsRefused}
 use Rattle.oathd_store.specs.declared.fault.Fault.{Fault}
 use Rattle.oathd_store.specs.declared.fault.Fault.TheVariants.{Store}
@@ -23,6 +22,5 @@ returns-in_err-conn-clause-fault g c =
 
 pub returns-in-Ok-clause-made : goal.returns-in-Ok-clause-made
 returns-in-Ok-clause-made g c =
-    let opening = c.in-Ok.ensures.opening in
-    made c.args.settings c.args.moment 16777216 (g.R.Read.remaining c.args.reader) c.in-Ok.store c.in_ok-users.users.book c.in_ok-users.users.floors.items
-    c.in_ok-users.ensures.imported (opening.content ∙ ap opening_content c.deref.ensures.value) opening.no_passes opening.sound.works
+    made c.args.settings c.args.moment 16777216 g.S.Store c.args.node (g.R.Read.remaining c.args.reader) _ c.in-Ok.store
+    c.in_ok-users.users.book c.in_ok-users.users.floors.items _ c.in_ok-users.ensures.imported c.deref.ensures.value c.in-Ok.ensures.opening
