@@ -1,6 +1,6 @@
 //! The system's clock.
 
-ghost use Rattle.std.specs.Prelude.{IfSome};
+ghost use Rattle.std.specs.Prelude.{◌≡◌, IfSome};
 ghost use Rattle.otp_core.specs.Range.{IsMoment};
 
 use node_turns::Clock;
@@ -16,7 +16,9 @@ pub struct SystemClock<'a, R: TimeSource> {
 
 impl<'a, R: TimeSource> SystemClock<'a, R> {
     /// The clock of this source.
-    pub fn new(source: &'a R) -> Self {
+    pub fn new(source: &'a R) -> Self
+        ensures { result.source ≡ source.entry }
+    {
         SystemClock { source }
     }
 
