@@ -18,21 +18,29 @@ use otp_core::Settings;
 use std::alloc::Global;
 use std::io::{BufRead, BufReader, Read, Write};
 use token_file::read_book;
-use users_input::{Input, NextLine, Retrying, UsersFile, text_of};
+use users_input::{HoldsLine, Input, NextLine, Retrying, UsersFile, text_of};
 use vote_wire::ClusterKey;
 
-/// Writes an answer on a line of its own, and flushes it.
-fn write_answer<W: Write>(writer: &mut W, answer: &[u8]) -> Result<(), Fault>
+/// Writes an answer on a line of its own, and flushes it unless the input holds the next line: no answer is held
+/// back while more of the input is waited for.
+fn write_answer<B: HoldsLine, W: Write>(
+    input: &Input<B>,
+    writer: &mut W,
+    answer: &[u8],
+) -> Result<(), Fault>
     ensures written { OnOk result (Appends (W.contents writer.old) (W.contents writer.new) (line_of answer.now)) }
     ensures fault { IfErr result (λ fault. fault ≡ Fault.CannotWrite) }
 {
     write_line(writer, answer)?;
+    if input.reader.holds_line() {
+        return Ok(());
+    }
     writer.flush().map_err(|_| Fault::CannotWrite)
 }
 
 /// Answers the lines that are left of an input, of which the first has this number, each before the next one is
 /// read, up to the first bad one.
-fn answer_lines<B: BufRead + Drop, W: Write>(
+fn answer_lines<B: BufRead + HoldsLine + Drop, W: Write>(
     alloc: Global,
     server: &mut LineServer<'_>,
     mut input: Input<B>,
@@ -55,7 +63,7 @@ fn answer_lines<B: BufRead + Drop, W: Write>(
             NextLine::Cut => return Err(Fault::InputLine(number)),
             NextLine::Whole => match read_client_line(text_of(&line)) {
                 Some(line) => match server.answer(&line) {
-                    Ok(answer) => write_answer(writer, &answer)?,
+                    Ok(answer) => write_answer(&input, writer, &answer)?,
                     // It isn't refused before 2^62 lines.
                     Err(_) => unreachable!(),
                 },
@@ -69,7 +77,7 @@ fn answer_lines<B: BufRead + Drop, W: Write>(
 
 /// Reads the users file of an input, and answers the lines behind it by a node that has no members to hear under
 /// the key.
-fn serve_input<B: BufRead + Drop, W: Write>(
+fn serve_input<B: BufRead + HoldsLine + Drop, W: Write>(
     alloc: Global,
     settings: Settings,
     moment: u64,
@@ -95,7 +103,8 @@ fn serve_input<B: BufRead + Drop, W: Write>(
 }
 
 /// Reads a users file, a line `%%` and lines of clients, answers each line by one node before the next one is read,
-/// and writes each answer on a line of its own and flushes it. The node keeps its last 1,024 answers, but those to bad
+/// and writes each answer on a line of its own. The writer is flushed before more of the input is waited for, and
+/// else not. The node keeps its last 1,024 answers, but those to bad
 /// lines, and gives one again to the same client and line. Each line of a client is its number, the moment and its
 /// request, with single spaces between. At most `limit` bytes are read, and one more, which tells that the input
 /// goes on: then the line that the limit cuts is bad. The users are imported at the moment given, in seconds since

@@ -6,7 +6,7 @@ ghost use Rattle.users_input.specs.Input.{HasLine, HasRoom, IsReadTo, TakesLine,
 use crate::fault::InputFault;
 use field_text::cut_at;
 use std::alloc::Global;
-use std::io::{BufRead, Error, ErrorKind};
+use std::io::{BufRead, BufReader, Error, ErrorKind, Read};
 
 /// The text of a line, without the LF that ends it.
 pub fn text_of(line: &[u8]) -> &[u8]
@@ -42,6 +42,18 @@ pub enum NextLine {
     Cut,
     /// Nothing.
     End,
+}
+
+/// A reader that tells whether it can give a whole line without reading on.
+pub trait HoldsLine {
+    /// Whether it holds an LF that it has not given yet.
+    fn holds_line(&self) -> bool;
+}
+
+impl<R: Read> HoldsLine for BufReader<R> {
+    fn holds_line(&self) -> bool {
+        self.buffer().contains(&b'\n')
+    }
 }
 
 /// A text that is read of an input up to its limit.

@@ -23,7 +23,7 @@ mod retry;
 mod users;
 
 pub use fault::{InputFault, UsersFault};
-pub use input::{Input, LimitedText, NextLine, text_of};
+pub use input::{HoldsLine, Input, LimitedText, NextLine, text_of};
 pub use laws::inputs_are_worked;
 pub use retry::Retrying;
 pub use users::UsersFile;
