@@ -19,7 +19,7 @@ use std::rt::Files;
 use token_file::MAX_FILE_LEN;
 
 /// Does what is asked for, over an output that holds back what it is given until it is flushed. That happens
-/// behind each answer to a line, so that an answer is one write, and at the end, whatever that is.
+/// before more of the input is waited for, and at the end, whatever that is.
 fn perform<R: Read, O: Write>(
     alloc: Global,
     request: &Request<'_>,

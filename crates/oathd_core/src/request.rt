@@ -27,8 +27,8 @@ pub enum Request<'a> {
 }
 
 /// Does what is asked for, over the input and the output given. `Lines` reads the input, up to 16,777,216
-/// bytes and one more, flushes the output after each answer, and ends as `serve_lines` does; `Secret` reads
-/// nothing, doesn't flush, and ends as `print_secret` does.
+/// bytes and one more, flushes the output before more of the input is waited for, and ends as `serve_lines` does;
+/// `Secret` reads nothing, doesn't flush, and ends as `print_secret` does.
 ///
 /// # Errors
 /// Those of the two functions.

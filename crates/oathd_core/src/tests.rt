@@ -287,6 +287,30 @@ fn fails_where_the_flush_does(rt: HostRuntime) {
     assert!(rt; served(rt.alloc(), &mut reader, &mut Unflushed) == Err(Fault::CannotWrite));
 }
 
+/// A writer that counts how often it was flushed.
+#[derive(Drop)]
+struct Counting(u32);
+
+impl Write for Counting {
+    fn write(&mut self, bytes: &[u8]) -> io::Result<usize> {
+        Ok(bytes.len())
+    }
+
+    fn flush(&mut self) -> io::Result<()> {
+        self.0 = self.0.saturating_add(1);
+        Ok(())
+    }
+}
+
+/// Answers to lines that came in one piece are flushed together.
+#[test]
+fn lines_of_one_piece_share_a_flush(rt: HostRuntime) {
+    let mut reader: &[u8] = b"%%\n7 1 x\n7 1 y\n7 1 z\n";
+    let mut writer = Counting(0);
+    assert!(rt; served(rt.alloc(), &mut reader, &mut writer) == Ok(()));
+    assert!(rt; writer.0 == 1);
+}
+
 /// A reader that gives a front of a text and then fails.
 #[derive(Drop)]
 struct Failing<'a> {
