@@ -15,7 +15,7 @@ use crate::ballots::MAX_PENDING;
 use crate::fault::VoteFault;
 use crate::message::Message;
 use crate::place::Place;
-use crate::step::Step;
+use crate::step::{TickStep, VoteStep};
 use arrayvec::ArrayVec;
 use floor_store::{COUNTS_END, FloorStore, StoreFault, is_span};
 use otp_core::Factor;
@@ -152,7 +152,7 @@ impl Voter {
         token: u32,
         lo: Factor,
         hi: Factor,
-    ) -> Result<Step, VoteFault>
+    ) -> Result<VoteStep, VoteFault>
         requires room { length self.old.ballots < 32 }
         requires known { token < length (S.held store.old).content.rows }
         requires span { IsSpan lo hi }
@@ -178,7 +178,7 @@ impl Voter {
         store: &mut S,
         from: u8,
         message: Message,
-    ) -> Result<Step, VoteFault>
+    ) -> Result<VoteStep, VoteFault>
         requires from { IsOther self.old.place from }
         requires fits { FitsVoter self.old.place self.old.tokens from message }
         requires store { IsStoreOf self.old (S.held store.old) }
@@ -196,7 +196,7 @@ impl Voter {
 
     /// A tick: each proposal is a tick older. The others are asked again, and told the floor of one
     /// token.
-    pub fn tick<S: FloorStore>(&mut self, store: &mut S) -> Result<Step, VoteFault>
+    pub fn tick<S: FloorStore>(&mut self, store: &mut S) -> Result<TickStep, VoteFault>
         requires { IsStoreOf self.old (S.held store.old) }
         ensures votes { UnlessSpent result (Votes S.held store.old store.new self.old self.new
             (spec_tick self.old.place)) }
