@@ -30,7 +30,7 @@ pending_same [] seq = refl
 pending_same (b ∷ bs) seq = ap (λ rest. (b.seq == seq) || rest) (pending_same bs seq)
 
 -- what a step's outputs are
-abbrev pub told_by_step : List ℕ → PlaceRecord → List Owner → Option ProposalRecord → Step → OutputsRecord
+abbrev pub told_by_step : {messages decisions : ℕ} → List ℕ → PlaceRecord → List Owner → Option ProposalRecord → Step messages decisions → OutputsRecord
 told_by_step key place owners begun step = record {
   items = items_of key place.me (sent_by step.sends.items) (map reply_with (answers_to_decisions owners step.pass step.decisions.items));
   begun = begun;
@@ -38,7 +38,7 @@ told_by_step key place owners begun step = record {
 }
 
 -- what a call of the voter made is what the machine makes of it
-pub finished : (key : List ℕ) (place : PlaceRecord) (x : NodeState) (owners : List Owner) (began : Option Beginning) (c : Content) (voter : VoterRecord) (step : Step) (v : Voted)
+pub finished : {messages decisions : ℕ} (key : List ℕ) (place : PlaceRecord) (x : NodeState) (owners : List Owner) (began : Option Beginning) (c : Content) (voter : VoterRecord) (step : Step messages decisions) (v : Voted)
     (out : OutputsRecord) (waiting : List Owner) (answers : List KeptAnswer)
     → x.running ≡ true
     → voted_of c voter step ≡ v

@@ -1,12 +1,14 @@
 -- What the parts of a running node are as a machine, and what a call does to them. Private contracts alone cite it: no
 -- public one rests on it.
-use Rattle.std.specs.Prelude.{◌≡◌, ℕ, ◌^◌, false, List, Result, IfOk, IfErr}
+use Rattle.std.specs.Prelude.{◌≡◌, ℕ, ◌^◌, false, List, map, Result, IfOk, IfErr}
 use Rattle.floor_store.specs.Held.{Held, Breaks, MayWrite}
-use Rattle.vote_core.specs.State.{IsSameVoter}
+use Rattle.vote_core.specs.State.{IsSameVoter, VoterRecord, sent_by, voter_of}
+use Rattle.vote_core.specs.declared.step.Step.{Step}
+use Rattle.answer_ring.specs.Answers.{KeptAnswer}
 use Rattle.oath_node.specs.Calls.{IsMade}
 use Rattle.oath_node.specs.Hosted.{running_state}
-use Rattle.oath_node.specs.Machine.{Made, NodeState}
-use Rattle.oath_node.specs.Outputs.{OutputsRecord}
+use Rattle.oath_node.specs.Machine.{Made, NodeState, Owner, answers_to_decisions, kept_with_all, owners_of_pending, reply_with}
+use Rattle.oath_node.specs.Outputs.{OutputsRecord, items_of}
 use Rattle.oath_node.specs.declared.fault.NodeFault.{NodeFault}
 use Rattle.oath_node.specs.declared.fault.NodeFault.TheVariants.{Store, Stopped, Spent}
 use Rattle.oath_node.specs.declared.parts.Parts.{Parts}
@@ -37,3 +39,17 @@ pub record Steps {S : Type 0} (held : S → Held) (key : List ℕ) (old new : Pa
   pub fails : IfErr result (FailsParts held old new (step (state_in held old)))
   pub boot : (held new.store).is_clean → (held new.store).content.boot ≡ (held old.store).content.boot
   pub same : IsSameVoter old.voter new.voter
+
+-- What a step of the voter leads to: these owners still wait, and these answers are kept.
+pub record Finishes {messages decisions : ℕ} (key : List ℕ) (voter : VoterRecord) (old : List Owner)
+    (before : List KeptAnswer) (step : Step messages decisions) (waiting : List Owner) (kept : List KeptAnswer)
+    (told : OutputsRecord) : Type 0 where
+  -- the messages of the step, and the replies to what it decided
+  pub outputs : told ≡ record {
+    items = items_of key voter.place.me (sent_by step.sends.items)
+        (map reply_with (answers_to_decisions old step.pass step.decisions.items));
+    begun = step.begun;
+    pass = step.pass;
+  }
+  pub owners : waiting ≡ owners_of_pending (voter_of voter).pending old
+  pub answers : kept ≡ kept_with_all before (answers_to_decisions old step.pass step.decisions.items)

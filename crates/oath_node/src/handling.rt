@@ -17,11 +17,11 @@ ghost use Rattle.vote_core.specs.Rows.{row};
 
 use crate::event::Event;
 use crate::fault::NodeFault;
-use crate::outputs::Outputs;
+use crate::outputs::{Outputs, Scratch};
 use crate::owner::{Owner, is_waiting};
 use crate::parts::Parts;
 use crate::rules::{Verdict, examine, row_of};
-use crate::settling::{finish, line_of, text_of};
+use crate::settling::{finish_tick, finish_vote, line_of, text_of};
 use answer_ring::{Answers, answer_again, keep};
 use arrayvec::ArrayVec;
 use floor_store::{FloorStore, StoreFault};
@@ -75,12 +75,23 @@ fn remember<'k>(
 
 impl<S: FloorStore> Parts<S> {
     /// A tick.
-    fn on_tick<'k>(&mut self, key: &'k ClusterKey) -> Result<Outputs<'k>, NodeFault>
+    fn on_tick<'k>(
+        &mut self,
+        key: &'k ClusterKey,
+        scratch: &'k mut Scratch,
+    ) -> Result<Outputs<'k>, NodeFault>
         requires { IsStoreOf self.old.voter (S.held self.old.store) }
         ensures { Steps S.held key.now self.old self.new (made_by_tick self.old.voter.place) result }
     {
         match self.voter.tick(&mut self.store) {
-            Ok(step) => Ok(finish(key, &self.voter, &mut self.owners, &mut self.answers, step)),
+            Ok(step) => Ok(finish_tick(
+                key,
+                &self.voter,
+                &mut self.owners,
+                &mut self.answers,
+                step,
+                scratch,
+            )),
             Err(VoteFault::Store(fault)) => Err(NodeFault::Store(fault)),
             Err(VoteFault::Spent) => unreachable!(),
         }
@@ -100,7 +111,13 @@ impl<S: FloorStore> Parts<S> {
             (made_by_message self.old.voter.place from message) result }
     {
         match self.voter.on_message(&mut self.store, from, message) {
-            Ok(step) => Ok(finish(key, &self.voter, &mut self.owners, &mut self.answers, step)),
+            Ok(step) => Ok(finish_vote(
+                key,
+                &self.voter,
+                &mut self.owners,
+                &mut self.answers,
+                step,
+            )),
             Err(VoteFault::Store(fault)) => Err(NodeFault::Store(fault)),
             Err(VoteFault::Spent) => unreachable!(),
         }
@@ -161,7 +178,7 @@ impl<S: FloorStore> Parts<S> {
                     line: line_of(line),
                     nonce,
                 });
-                Ok(finish(key, &self.voter, &mut self.owners, &mut self.answers, step))
+                Ok(finish_vote(key, &self.voter, &mut self.owners, &mut self.answers, step))
             }
             Err(VoteFault::Store(fault)) => Err(NodeFault::Store(fault)),
             Err(VoteFault::Spent) => Err(NodeFault::Spent),
@@ -270,6 +287,7 @@ impl<S: FloorStore> Parts<S> {
         settings: Settings,
         key: &'k ClusterKey,
         event: Event<'_>,
+        scratch: &'k mut Scratch,
     ) -> Result<Outputs<'k>, NodeFault>
         requires works { (S.held self.old.store).fault ≡ None }
         requires store { IsStoreOf self.old.voter (S.held self.old.store) }
@@ -287,7 +305,7 @@ impl<S: FloorStore> Parts<S> {
                 line,
             } => self.on_line(book, settings, key, client, moment, line),
             Event::Peer { from, bytes } => self.on_datagram(book, settings, key, from, bytes),
-            Event::Tick => self.on_tick(key),
+            Event::Tick => self.on_tick(key, scratch),
         }
     }
 }

@@ -2,8 +2,9 @@
 //! accepts no code twice.
 //!
 //! A [`Node`] goes from bytes to bytes, over a store of its own. It sends nothing itself: each call of
-//! [`Node::handle`] takes one event and answers [`Outputs`], which say what is to be sent. What a caller owes,
-//! in this order:
+//! [`Node::handle`] takes one event and answers [`Outputs`], which say what is to be sent. The lists of a tick
+//! are long: they stand in a [`Scratch`], which a caller keeps and lends to each call. What a caller owes, in
+//! this order:
 //!
 //! 1. Open each node on a store with a row for each token of the book ([`Node::open`]). All members of a
 //!    cluster have the same book, the same settings and the same key, each a place and a store of its own.
@@ -65,5 +66,5 @@ pub use laws::{
     refused_lines_change_gates_alone, rules_are_worked, rulings_have_grounds, runs_are_worked,
 };
 pub use node::Node;
-pub use outputs::Outputs;
+pub use outputs::{Outputs, Scratch};
 pub use server::LineServer;

@@ -7,7 +7,7 @@ ghost use Rattle.oath_node.specs.declared.fault.NodeFault.{NodeFault};
 
 use crate::event::Event;
 use crate::fault::{NodeFault, OpenFault};
-use crate::outputs::Outputs;
+use crate::outputs::{Outputs, Scratch};
 use crate::parts::Parts;
 use answer_ring::Answers;
 use arrayvec::ArrayVec;
@@ -126,13 +126,19 @@ impl<'b, S: FloorStore> Node<'b, S> {
     }
 
     /// Takes an event: one step of the node's machine, with at most one write to its store. The outputs are
-    /// there once what it writes is kept. It takes no memory.
+    /// there once what it writes is kept. Those of a tick stand in the scratch. It takes no memory.
     ///
     /// # Errors
     /// `Stopped` where the node was stopped before, and nothing changes. `Store` where the store met a failure,
     /// and `Spent` where a line is right but no number of this boot is left for a proposal: then there are no
     /// outputs, and the node is stopped until it is restarted.
-    pub fn handle(&mut self, event: Event<'_>) -> Result<Outputs<'b>, NodeFault>
+    pub fn handle<'k>(
+        &mut self,
+        event: Event<'_>,
+        scratch: &'k mut Scratch,
+    ) -> Result<Outputs<'k>, NodeFault>
+    where
+        'b: 'k,
         ensures handles { Handles S.held self.old self.new (event_of self.old.key event.entry) result }
         ensures few { IfOk result (λ outputs. (S.held self.new.store).is_clean → length outputs.items ≤ 264) }
         ensures stopped { result ≡ Err NodeFault.Stopped ↔ (self.old.running ≡ false) }
@@ -150,7 +156,7 @@ impl<'b, S: FloorStore> Node<'b, S> {
         let _members = place.n();
         match self
             .parts
-            .on_event(self.book, self.settings, self.key, event)
+            .on_event(self.book, self.settings, self.key, event, scratch)
         {
             Ok(outputs) => Ok(outputs),
             Err(fault) => {

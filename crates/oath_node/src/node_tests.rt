@@ -1,6 +1,6 @@
 //! A node by its calls, from the bytes of datagrams to the bytes of datagrams.
 
-use crate::{Event, Item, Node, NodeFault};
+use crate::{Event, Item, Node, NodeFault, Scratch};
 use arrayvec::ArrayVec;
 use floor_store::{FloorStore, FuseStore, MemStore, StoreFault};
 use otp_core::{Next, Settings};
@@ -110,11 +110,15 @@ pub(crate) fn reply_to<S: FloorStore>(
     moment: u64,
     line: &[u8],
 ) -> Result<ArrayVec<u8, MAX_SENT_LEN>, Fail> {
-    let outputs = node.handle(Event::Client {
-        client,
-        moment,
-        line,
-    })?;
+    let mut scratch = Scratch::new();
+    let outputs = node.handle(
+        Event::Client {
+            client,
+            moment,
+            line,
+        },
+        &mut scratch,
+    )?;
     let mut text = ArrayVec::new();
     for item in outputs.items() {
         match item {
@@ -136,7 +140,8 @@ fn datagram_to<S: FloorStore>(
     from: u8,
     bytes: &[u8],
 ) -> Result<ArrayVec<u8, MAX_SENT_LEN>, Fail> {
-    let outputs = node.handle(Event::Peer { from, bytes })?;
+    let mut scratch = Scratch::new();
+    let outputs = node.handle(Event::Peer { from, bytes }, &mut scratch)?;
     let mut sent = ArrayVec::new();
     for item in outputs.items() {
         match item {
@@ -262,11 +267,15 @@ fn second_vote(rt: HostRuntime) -> Result<(), Fail> {
     let key = zeros()?;
     let mut node = opened(rt.alloc(), &book, &key, &floors, 1, 3)?;
     let line = b"CHECK a silver 755224 -".as_slice();
-    let outputs = node.handle(Event::Client {
-        client: 7,
-        moment: 1000,
-        line,
-    })?;
+    let mut scratch = Scratch::new();
+    let outputs = node.handle(
+        Event::Client {
+            client: 7,
+            moment: 1000,
+            line,
+        },
+        &mut scratch,
+    )?;
     let mut sent = 0u32;
     for item in outputs.items() {
         if let Item::Datagram { to: 2, bytes } = item {
@@ -277,10 +286,13 @@ fn second_vote(rt: HostRuntime) -> Result<(), Fail> {
     assert_eq!(rt; sent, 2);
     assert_eq!(rt; outputs.begun().is_some(), true);
     assert_eq!(rt; reply_to(&mut node, 7, 1000, line)?.len(), 0);
-    let outputs = node.handle(Event::Peer {
-        from: 2,
-        bytes: &GRANT,
-    })?;
+    let outputs = node.handle(
+        Event::Peer {
+            from: 2,
+            bytes: &GRANT,
+        },
+        &mut scratch,
+    )?;
     assert_eq!(rt; outputs.pass().is_some(), true);
     let mut told = false;
     for item in outputs.items() {
@@ -318,18 +330,22 @@ fn other_grants(rt: HostRuntime) -> Result<(), Fail> {
             from: 2,
             bytes: &bytes,
         };
-        assert_eq!(rt; node.handle(event)?.items().count(), 0, "{changes:?}");
+        assert_eq!(rt;
+            node.handle(event, &mut Scratch::new())?.items().count(),
+            0,
+            "{changes:?}"
+        );
     }
     let event = Event::Peer {
         from: 2,
         bytes: &GRANT,
     };
-    assert_eq!(rt; node.handle(event)?.items().count(), 1);
+    assert_eq!(rt; node.handle(event, &mut Scratch::new())?.items().count(), 1);
     let event = Event::Peer {
         from: 3,
         bytes: &changed(&key, &GRANT, &[(4, 3)]),
     };
-    assert_eq!(rt; node.handle(event)?.items().count(), 0);
+    assert_eq!(rt; node.handle(event, &mut Scratch::new())?.items().count(), 0);
     // The opening, the proposal and the acceptance are written.
     assert_eq!(rt; node.close().passed(), 3);
     Ok(())
@@ -352,7 +368,7 @@ fn denied_for_good(rt: HostRuntime) -> Result<(), Fail> {
         from: 2,
         bytes: &bytes,
     };
-    assert_eq!(rt; node.handle(event)?.items().count(), 0);
+    assert_eq!(rt; node.handle(event, &mut Scratch::new())?.items().count(), 0);
     let text = reply_to(&mut node, 7, 1000, b"CHECK b silver 287082 -")?;
     assert_eq!(rt; text.as_slice(), b"NO b EXHAUSTED".as_slice());
     Ok(())
@@ -368,8 +384,9 @@ fn timeout_after_eight_ticks(rt: HostRuntime) -> Result<(), Fail> {
     reply_to(&mut node, 7, 1000, line)?;
     let mut sent = 0u32;
     let mut told = false;
+    let mut scratch = Scratch::new();
     for _ in 0..8 {
-        let outputs = node.handle(Event::Tick)?;
+        let outputs = node.handle(Event::Tick, &mut scratch)?;
         for item in outputs.items() {
             match item {
                 Item::Datagram { .. } => sent = sent.saturating_add(1),
@@ -487,11 +504,14 @@ fn stopped_by_its_store(rt: HostRuntime) -> Result<(), Fail> {
         line,
     };
     assert_eq!(rt;
-        node.handle(event).err(),
+        node.handle(event, &mut Scratch::new()).err(),
         Some(NodeFault::Store(StoreFault::Disk))
     );
     assert_eq!(rt; node.is_running(), false);
-    assert_eq!(rt; node.handle(Event::Tick).err(), Some(NodeFault::Stopped));
+    assert_eq!(rt;
+        node.handle(Event::Tick, &mut Scratch::new()).err(),
+        Some(NodeFault::Stopped)
+    );
     assert_eq!(rt; node.restart(), Err(NodeFault::Store(StoreFault::Disk)));
     let store = node.close().mend();
     let mut node = node_over(alloc, &book, &key, store, 1, 1)?;

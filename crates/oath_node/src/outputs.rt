@@ -2,14 +2,14 @@
 
 ghost use Rattle.std.specs.Prelude.{◌≡◌};
 ghost use Rattle.oath_node.specs.Outputs.{items_of, no_outputs, reply_outputs};
+ghost use Rattle.oath_node.specs.Parcel.{replies_in, sends_in};
 ghost use Rattle.vote_core.specs.State.{sent_by};
 
 use crate::items::Items;
 use arrayvec::ArrayVec;
 use floor_store::{Pass, Proposal};
 use std::marker::Model;
-use std::slice;
-use vote_core::{MAX_PENDING, Step};
+use vote_core::{MAX_MESSAGES, MAX_PENDING, Sending, TickStep, VoteStep};
 use vote_wire::{ClusterKey, MAX_SENT_LEN};
 
 /// What a client is told.
@@ -27,12 +27,45 @@ impl Model for Reply {
     ghost view = { λ reply. record { client = reply.client; bytes = reply.bytes.items } };
 }
 
-/// What a call comes to. A call that sends nothing, and replies at most once, fills no lists.
+/// Room for the lists of a tick, which are long. A caller keeps one, and lends it to each call.
 #[derive(Debug, Drop)]
-pub(crate) enum Parcel {
-    Nothing,
-    One(Reply),
-    Voted(Step, ArrayVec<Reply, MAX_PENDING>),
+pub struct Scratch {
+    sends: ArrayVec<Sending, MAX_MESSAGES>,
+    replies: ArrayVec<Reply, MAX_PENDING>,
+}
+
+impl Scratch {
+    pub fn new() -> Self {
+        Scratch {
+            sends: ArrayVec::new(),
+            replies: ArrayVec::new(),
+        }
+    }
+}
+
+impl Default for Scratch {
+    fn default() -> Self {
+        Scratch::new()
+    }
+}
+
+/// The lists of a call: those of a line or of a datagram, which are short, or those of a tick.
+#[derive(Debug, Drop)]
+pub(crate) enum Parcel<'k> {
+    Held(ArrayVec<Sending, 1>, ArrayVec<Reply, 1>),
+    Lent(&'k [Sending], &'k [Reply]),
+}
+
+/// The items of these lists.
+fn items_in<'a>(key: &'a ClusterKey, me: u8, parcel: &'a Parcel<'a>) -> Items<'a>
+    ensures { result ≡ items_of key.now me (sends_in parcel.now) (replies_in parcel.now) }
+{
+    match parcel {
+        Parcel::Held(sends, replies) => {
+            Items::new(key, me, sends.as_slice(), replies.as_slice())
+        }
+        Parcel::Lent(sends, replies) => Items::new(key, me, sends, replies),
+    }
 }
 
 /// What a call of a node sends and replies: at most 264 items, the datagrams first. A message that goes to
@@ -41,7 +74,9 @@ pub(crate) enum Parcel {
 pub struct Outputs<'k> {
     key: &'k ClusterKey,
     me: u8,
-    parcel: Parcel,
+    begun: Option<Proposal>,
+    pass: Option<Pass>,
+    parcel: Parcel<'k>,
 }
 
 impl<'k> Model for Outputs<'k> {
@@ -49,12 +84,12 @@ impl<'k> Model for Outputs<'k> {
 
     ghost Value = { OutputsRecord };
 
-    ghost use Rattle.oath_node.specs.Parcel.{begun_in, pass_in, replies_in, sends_in};
+    ghost use Rattle.oath_node.specs.Parcel.{replies_in, sends_in};
 
     ghost view = { λ outputs. record {
       items = items_of outputs.key.now outputs.me (sends_in outputs.parcel) (replies_in outputs.parcel);
-      begun = begun_in outputs.parcel;
-      pass = pass_in outputs.parcel;
+      begun = outputs.begun;
+      pass = outputs.pass;
     } };
 }
 
@@ -66,7 +101,9 @@ impl<'k> Outputs<'k> {
         Outputs {
             key,
             me: 0,
-            parcel: Parcel::Nothing,
+            begun: None,
+            pass: None,
+            parcel: Parcel::Held(ArrayVec::new(), ArrayVec::new()),
         }
     }
 
@@ -74,19 +111,23 @@ impl<'k> Outputs<'k> {
     pub(crate) fn reply(key: &'k ClusterKey, client: u64, bytes: ArrayVec<u8, MAX_SENT_LEN>) -> Self
         ensures { result ≡ reply_outputs client bytes.items }
     {
+        let mut replies = ArrayVec::new();
+        replies.push(Reply { client, bytes });
         Outputs {
             key,
             me: 0,
-            parcel: Parcel::One(Reply { client, bytes }),
+            begun: None,
+            pass: None,
+            parcel: Parcel::Held(ArrayVec::new(), replies),
         }
     }
 
-    /// What a voter sends, with these replies.
-    pub(crate) fn of_step(
+    /// What a voter makes of a proposal or of a message, with the reply to it.
+    pub(crate) fn of_vote(
         key: &'k ClusterKey,
         me: u8,
-        step: Step,
-        replies: ArrayVec<Reply, MAX_PENDING>,
+        step: VoteStep,
+        replies: ArrayVec<Reply, 1>,
     ) -> Self
         ensures { result ≡ record {
           items = items_of key.now me (sent_by step.sends.items) replies.items;
@@ -94,10 +135,50 @@ impl<'k> Outputs<'k> {
           pass = step.pass;
         } }
     {
+        let VoteStep {
+            sends,
+            begun,
+            decisions: _,
+            pass,
+        } = step;
         Outputs {
             key,
             me,
-            parcel: Parcel::Voted(step, replies),
+            begun,
+            pass,
+            parcel: Parcel::Held(sends, replies),
+        }
+    }
+
+    /// What a voter makes of a tick, with these replies.
+    pub(crate) fn of_tick(
+        key: &'k ClusterKey,
+        me: u8,
+        step: TickStep,
+        replies: ArrayVec<Reply, MAX_PENDING>,
+        scratch: &'k mut Scratch,
+    ) -> Self
+        ensures { result ≡ record {
+          items = items_of key.now me (sent_by step.sends.items) replies.items;
+          begun = step.begun;
+          pass = step.pass;
+        } }
+    {
+        let TickStep {
+            sends,
+            begun,
+            decisions: _,
+            pass,
+        } = step;
+        scratch.sends = sends;
+        scratch.replies = replies;
+        let lists: &'k Scratch = scratch;
+        Outputs {
+            key,
+            me,
+            begun,
+            pass,
+            parcel: Parcel::Lent(lists.sends.as_slice(), lists.replies.as_slice()),
         }
     }
 
@@ -105,32 +186,20 @@ impl<'k> Outputs<'k> {
     pub fn items(&self) -> Items<'_>
         ensures { result ≡ self.now.items }
     {
-        match &self.parcel {
-            Parcel::Nothing => Items::new(self.key, self.me, &[], &[]),
-            Parcel::One(reply) => Items::new(self.key, self.me, &[], slice::from_ref(reply)),
-            Parcel::Voted(step, replies) => {
-                Items::new(self.key, self.me, &step.sends, replies.as_slice())
-            }
-        }
+        items_in(self.key, self.me, &self.parcel)
     }
 
     /// The proposal that the call began.
     pub fn begun(&self) -> Option<Proposal>
         ensures { result ≡ self.now.begun }
     {
-        match &self.parcel {
-            Parcel::Voted(step, _) => step.begun,
-            _ => None,
-        }
+        self.begun
     }
 
     /// The accepted submission.
     pub fn pass(&self) -> Option<Pass>
         ensures { result ≡ self.now.pass }
     {
-        match &self.parcel {
-            Parcel::Voted(step, _) => step.pass,
-            _ => None,
-        }
+        self.pass
     }
 }

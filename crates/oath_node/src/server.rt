@@ -11,6 +11,7 @@ use crate::fault::{NodeFault, OpenFault};
 use crate::item::Item;
 use crate::laws::one_node_answers_as_the_server;
 use crate::node::Node;
+use crate::outputs::Scratch;
 use arrayvec::ArrayVec;
 use floor_store::MemStore;
 use otp_core::{Next, Settings};
@@ -25,6 +26,7 @@ use vote_wire::{ClusterKey, MAX_SENT_LEN};
 #[derive(Drop)]
 pub struct LineServer<'b> {
     node: Node<'b, MemStore>,
+    scratch: Scratch,
 }
 
 impl<'b> Model for LineServer<'b> {
@@ -59,7 +61,10 @@ impl<'b> LineServer<'b> {
         };
         let place = Place::new(1, 1).unwrap();
         match Node::open(alloc, book, settings, place, key, store) {
-            Ok(node) => Ok(LineServer { node }),
+            Ok(node) => Ok(LineServer {
+                node,
+                scratch: Scratch::new(),
+            }),
             Err((_, fault)) => Err(fault),
         }
     }
@@ -81,7 +86,7 @@ impl<'b> LineServer<'b> {
             moment: line.moment,
             line: line.line,
         };
-        let outputs = self.node.handle(event)?;
+        let outputs = self.node.handle(event, &mut self.scratch)?;
         match outputs.items().next() {
             Some(Item::Reply { bytes, .. }) => Ok(bytes),
             // A node that is alone gives one reply.

@@ -2,16 +2,16 @@
 
 ghost use Rattle.std.specs.Prelude.{◌≡◌, ◌≤◌, length, map};
 ghost use Rattle.oath_node.specs.Machine.{answers_to_decisions, kept_with_all, last_factor_of as spec_last_factor_of, outcome_of as spec_outcome_of, owners_of_pending, reply_with};
-ghost use Rattle.oath_node.specs.Outputs.{items_of};
-ghost use Rattle.vote_core.specs.State.{sent_by, voter_of};
+ghost use Rattle.oath_node.specs.Parts.{Finishes};
+ghost use Rattle.vote_core.specs.State.{voter_of};
 
-use crate::outputs::{Outputs, Reply};
+use crate::outputs::{Outputs, Reply, Scratch};
 use crate::owner::{Owner, owner_with};
 use answer_ring::{Answers, MAX_LINE_LEN, keep};
 use arrayvec::ArrayVec;
 use floor_store::Pass;
 use otp_core::Factor;
-use vote_core::{Decision, MAX_PENDING, Step, Voter};
+use vote_core::{Decision, MAX_PENDING, TickStep, VoteStep, Voter};
 use vote_wire::{ClusterKey, MAX_SENT_LEN, Outcome, write_reply};
 
 /// A line that waits.
@@ -56,13 +56,13 @@ fn outcome_of(decision: Decision, pass: &Option<Pass>) -> Outcome
 }
 
 /// The replies to what was decided, in order. They are kept.
-fn settle(
+fn settle<const ROOM: usize>(
     owners: &[Owner],
     pass: &Option<Pass>,
     decisions: &[(u64, Decision)],
     answers: &mut Answers,
-) -> ArrayVec<Reply, MAX_PENDING>
-    requires { length decisions.now ≤ 32 }
+) -> ArrayVec<Reply, ROOM>
+    requires { length decisions.now ≤ ROOM }
     ensures replies { result.items ≡ map reply_with (answers_to_decisions owners.now pass.now decisions.now) }
     ensures answers { answers.new
         ≡ kept_with_all answers.old (answers_to_decisions owners.now pass.now decisions.now) }
@@ -94,23 +94,15 @@ fn keep_pending(owners: &mut ArrayVec<Owner, MAX_PENDING>, voter: &Voter)
     owners.retain(|owner| voter.is_pending(owner.seq))
 }
 
-/// Takes what a voter's step leads to into the owners and the answers.
-pub(crate) fn finish<'k>(
+/// Takes what a voter makes of a proposal or of a message into the owners and the answers.
+pub(crate) fn finish_vote<'k>(
     key: &'k ClusterKey,
     voter: &Voter,
     owners: &mut ArrayVec<Owner, MAX_PENDING>,
     answers: &mut Answers,
-    step: Step,
+    step: VoteStep,
 ) -> Outputs<'k>
-    ensures outputs { result ≡ record {
-      items = items_of key.now voter.now.place.me (sent_by step.sends.items)
-          (map reply_with (answers_to_decisions owners.old.items step.pass step.decisions.items));
-      begun = step.begun;
-      pass = step.pass;
-    } }
-    ensures owners { owners.new.items ≡ owners_of_pending (voter_of voter.now).pending owners.old.items }
-    ensures answers { answers.new ≡ kept_with_all answers.old
-        (answers_to_decisions owners.old.items step.pass step.decisions.items) }
+    ensures { Finishes key.now voter.now owners.old.items answers.old step owners.new.items answers.new result }
 {
     let replies = settle(
         owners.as_slice(),
@@ -119,5 +111,26 @@ pub(crate) fn finish<'k>(
         answers,
     );
     keep_pending(owners, voter);
-    Outputs::of_step(key, voter.place().me(), step, replies)
+    Outputs::of_vote(key, voter.place().me(), step, replies)
+}
+
+/// Takes what a voter makes of a tick into the owners and the answers.
+pub(crate) fn finish_tick<'k>(
+    key: &'k ClusterKey,
+    voter: &Voter,
+    owners: &mut ArrayVec<Owner, MAX_PENDING>,
+    answers: &mut Answers,
+    step: TickStep,
+    scratch: &'k mut Scratch,
+) -> Outputs<'k>
+    ensures { Finishes key.now voter.now owners.old.items answers.old step owners.new.items answers.new result }
+{
+    let replies = settle(
+        owners.as_slice(),
+        &step.pass,
+        step.decisions.as_slice(),
+        answers,
+    );
+    keep_pending(owners, voter);
+    Outputs::of_tick(key, voter.place().me(), step, replies, scratch)
 }

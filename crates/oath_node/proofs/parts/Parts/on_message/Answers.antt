@@ -11,10 +11,10 @@ returns-in-Ok g c =
     let x = state_in held old in
     record {
       made = λ clean. finished c.args.key.now old.voter.place x x.owners None (held c.on_message.new.store).content c.on_message.new.self c.in-Ok.step
-          (on_message old.voter.place c.args.from c.args.message x.content x.voter) c.finish.result c.finish.new.owners.items c.finish.new.answers
+          (on_message old.voter.place c.args.from c.args.message x.content x.voter) c.finish_vote.result c.finish_vote.new.owners.items c.finish_vote.new.answers
           refl (c.in-Ok.ensures.votes.voted clean) (message_begun old.voter.place c.args.from c.args.message x.content x.voter) c.in-Ok.ensures.votes.same.place
-          c.finish.ensures.outputs c.finish.ensures.owners c.finish.ensures.answers;
-      writes = may_write_ok held old.store c.on_message.new.store _ c.in-Ok.step c.finish.result c.in-Ok.ensures.votes.writes;
+          c.finish_vote.ensures.outputs c.finish_vote.ensures.owners c.finish_vote.ensures.answers;
+      writes = may_write_ok held old.store c.on_message.new.store _ c.in-Ok.step c.finish_vote.result c.in-Ok.ensures.votes.writes;
       fails = tt;
       boot = c.in-Ok.ensures.votes.boot;
       same = c.in-Ok.ensures.votes.same;

@@ -11,10 +11,10 @@ returns-in-Ok g c =
     let x = state_in held old in
     record {
       made = λ clean. finished c.args.key.now old.voter.place x x.owners None (held c.tick.new.store).content c.tick.new.self c.in-Ok.step
-          (tick old.voter.place x.content x.voter) c.finish.result c.finish.new.owners.items c.finish.new.answers
+          (tick old.voter.place x.content x.voter) c.finish_tick.result c.finish_tick.new.owners.items c.finish_tick.new.answers
           refl (c.in-Ok.ensures.votes.voted clean) (tick_begun old.voter.place x.content x.voter) c.in-Ok.ensures.votes.same.place
-          c.finish.ensures.outputs c.finish.ensures.owners c.finish.ensures.answers;
-      writes = may_write_ok held old.store c.tick.new.store _ c.in-Ok.step c.finish.result c.in-Ok.ensures.votes.writes;
+          c.finish_tick.ensures.outputs c.finish_tick.ensures.owners c.finish_tick.ensures.answers;
+      writes = may_write_ok held old.store c.tick.new.store _ c.in-Ok.step c.finish_tick.result c.in-Ok.ensures.votes.writes;
       fails = tt;
       boot = c.in-Ok.ensures.votes.boot;
       same = c.in-Ok.ensures.votes.same;

@@ -25,20 +25,20 @@ returns-in-Ok g c =
     let v = propose old.voter.place c.args.token c.args.lo c.args.hi x.content x.voter in
     let step : NodeState → Made = λ y. made_by_vote (y.owners ++ next_owner client line c.args.nonce y ∷ [])
     (Some (next_beginning old.voter.place c.args.token c.args.lo c.args.hi y)) (propose old.voter.place c.args.token c.args.lo c.args.hi y.content y.voter) y in
-    let new = running_state (held c.propose.new.store).content c.propose.new.self c.finish.new.owners.items c.finish.new.answers in
+    let new = running_state (held c.propose.new.store).content c.propose.new.self c.finish_vote.new.owners.items c.finish_vote.new.answers in
     let pushed : c.push.new.self.items ≡ x.owners ++ next_owner client line c.args.nonce x ∷ [] =
     c.push.ensures.items
     ∙ ap (λ (s : ℕ). x.owners ++ owner s client c.line_of.result.items c.args.nonce ∷ []) c.next_seq-seq.ensures.value
     ∙ ap (λ (l : List ℕ). x.owners ++ owner old.voter.seq client l c.args.nonce ∷ []) c.line_of.ensures in
-    steps_same held key old _ step (made_by_proposal old.voter.place client line c.args.nonce c.args.token c.args.lo c.args.hi) (Ok c.finish.result)
+    steps_same held key old _ step (made_by_proposal old.voter.place client line c.args.nonce c.args.token c.args.lo c.args.hi) (Ok c.finish_vote.result)
     (λ _. sym (proposal_below old.voter.place client line c.args.nonce c.args.token c.args.lo c.args.hi x below))
     (record {
-      made = λ clean. subst (λ (os : List Owner). IsMade key old.voter.place (made_by_vote os began v x) c.finish.result new) pushed
+      made = λ clean. subst (λ (os : List Owner). IsMade key old.voter.place (made_by_vote os began v x) c.finish_vote.result new) pushed
           (finished key old.voter.place x c.push.new.self.items began (held c.propose.new.store).content c.propose.new.self c.in-Ok.step v
-          c.finish.result c.finish.new.owners.items c.finish.new.answers refl
+          c.finish_vote.result c.finish_vote.new.owners.items c.finish_vote.new.answers refl
           (c.in-Ok.ensures.votes.voted clean) (propose_begun old.voter.place c.args.token c.args.lo c.args.hi x.content x.voter) c.in-Ok.ensures.votes.same.place
-          c.finish.ensures.outputs c.finish.ensures.owners c.finish.ensures.answers);
-      writes = may_write_ok held old.store c.propose.new.store v.content c.in-Ok.step c.finish.result c.in-Ok.ensures.votes.writes;
+          c.finish_vote.ensures.outputs c.finish_vote.ensures.owners c.finish_vote.ensures.answers);
+      writes = may_write_ok held old.store c.propose.new.store v.content c.in-Ok.step c.finish_vote.result c.in-Ok.ensures.votes.writes;
       fails = tt;
       boot = c.in-Ok.ensures.votes.boot;
       same = c.in-Ok.ensures.votes.same;
