@@ -11,7 +11,7 @@ use crate::clock::Clock;
 use crate::fault::ServeFault;
 use crate::port::{MAX_DATAGRAM_LEN, Port, Received, Sender};
 use floor_store::FloorStore;
-use oath_node::{Event, Item, Node, Outputs};
+use oath_node::{Event, Item, Node, Outputs, Scratch};
 
 /// So many faults of a port in a row end a run.
 const MAX_FAULTS: u8 = 16;
@@ -60,13 +60,14 @@ pub fn offer<P: Port>(port: &mut P, outputs: &Outputs<'_>) -> u64
 fn hand_in<S: FloorStore, P: Port>(
     node: &mut Node<'_, S>,
     port: &mut P,
+    scratch: &mut Scratch,
     tally: &mut Tally,
     event: Event<'_>,
 ) -> Result<(), ServeFault>
     ensures { HandsIn S.held (scene P.events node.old port.old tally.old) (scene P.events node.new port.new tally.new)
         (event_of node.old.key event.entry ∷ []) result }
 {
-    let outputs = node.handle(event)?;
+    let outputs = node.handle(event, scratch)?;
     let replies = offer(port, &outputs);
     tally.replied = tally.replied.saturating_add(replies);
     Ok(())
@@ -76,15 +77,16 @@ fn hand_in<S: FloorStore, P: Port>(
 fn hand_in_datagram<S: FloorStore, P: Port>(
     node: &mut Node<'_, S>,
     port: &mut P,
+    scratch: &mut Scratch,
     tally: &mut Tally,
     event: Event<'_>,
 ) -> Result<(), ServeFault>
     ensures { HandsIn S.held (scene P.events node.old port.old tally.old) (scene P.events node.new port.new tally.new)
         (event_of node.old.key event.entry ∷ tick_at tally.old.received) result }
 {
-    hand_in(node, port, tally, event)?;
+    hand_in(node, port, scratch, tally, event)?;
     if tally.received % DATAGRAMS_OF_A_TICK == 0 {
-        return hand_in(node, port, tally, Event::Tick);
+        return hand_in(node, port, scratch, tally, Event::Tick);
     }
     Ok(())
 }
@@ -94,6 +96,7 @@ fn take_turn<S: FloorStore, P: Port, C: Clock>(
     node: &mut Node<'_, S>,
     port: &mut P,
     clock: &mut C,
+    scratch: &mut Scratch,
     tally: &mut Tally,
 ) -> Result<(), ServeFault>
     requires { (tally.old.received < 2 ^ 32) × (tally.old.faults < 16) }
@@ -119,11 +122,11 @@ fn take_turn<S: FloorStore, P: Port, C: Clock>(
                     }
                 }
             };
-            hand_in_datagram(node, port, tally, event)
+            hand_in_datagram(node, port, scratch, tally, event)
         }
         Received::Quiet => {
             tally.faults = 0;
-            hand_in(node, port, tally, Event::Tick)
+            hand_in(node, port, scratch, tally, Event::Tick)
         }
         Received::Fault => {
             tally.faults += 1;
@@ -156,9 +159,10 @@ pub fn run_turns<S: FloorStore, P: Port, C: Clock>(
     ensures clock { result ≡ Err ServeFault.Clock
         → EndsByClock S.held node.old node.new (P.events port.old) (C.moments clock.old) turns }
 {
+    let mut scratch = Scratch::new();
     let mut tally = Tally::default();
     for _ in 0..turns {
-        take_turn(node, port, clock, &mut tally)?;
+        take_turn(node, port, clock, &mut scratch, &mut tally)?;
     }
     Ok(Served {
         received: tally.received,
