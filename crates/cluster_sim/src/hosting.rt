@@ -7,15 +7,19 @@ ghost use Rattle.oath_node.specs.Machine.{Config, NodeState, restarted_node};
 ghost use Rattle.cluster_sim.specs.Journal.{IsHanded, IsHost};
 
 use floor_store::MemStore;
-use oath_node::{Event, Node, Outputs};
+use oath_node::{Event, Node, Outputs, Scratch};
 
 /// What an event makes of a node, or `None` where it makes nothing.
-pub(crate) fn hand<'b>(node: &mut Node<'b, MemStore>, event: Event<'_>) -> Option<Outputs<'b>>
+pub(crate) fn hand<'b: 'k, 'k>(
+    node: &mut Node<'b, MemStore>,
+    event: Event<'_>,
+    scratch: &'k mut Scratch,
+) -> Option<Outputs<'k>>
     ensures { (config : Config) (key : List ℕ) (place : PlaceRecord) (x : NodeState)
         → IsHost config key place x node.old
         → IsHanded config key place x (event_of key event.entry) node.new result }
 {
-    match node.handle(event) {
+    match node.handle(event, scratch) {
         Ok(outputs) => Some(outputs),
         Err(_) => None,
     }

@@ -12,7 +12,7 @@ use crate::hosting::{hand, reopen};
 use crate::journal::Journal;
 use crate::script::{Act, WorldEvent};
 use floor_store::MemStore;
-use oath_node::{Event, Node, Outputs};
+use oath_node::{Event, Node, Outputs, Scratch};
 use std::alloc::AllocError;
 use vote_wire::{ClusterKey, one_spelling, read_message};
 
@@ -31,7 +31,12 @@ fn index_of(len: usize, node: u64) -> Option<usize>
 }
 
 /// Hands an event to a node, if there is that one.
-fn ask<'b>(nodes: &mut [Node<'b, MemStore>], node: u64, event: Event<'_>) -> Option<Outputs<'b>>
+fn ask<'b: 'k, 'k>(
+    nodes: &mut [Node<'b, MemStore>],
+    node: u64,
+    event: Event<'_>,
+    scratch: &'k mut Scratch,
+) -> Option<Outputs<'k>>
     ensures asks { (config : Config) (key : List ℕ) (n : ℕ) (x : ℕ → NodeState)
         → n ≡ length nodes.old → AreHosts config key n x nodes.old
         → IsAsked config key n x node (node_event_of key event.entry) nodes.new result }
@@ -39,7 +44,7 @@ fn ask<'b>(nodes: &mut [Node<'b, MemStore>], node: u64, event: Event<'_>) -> Opt
     ensures member { IfSome result (λ _. is_member (length nodes.old) node ≡ true) }
 {
     let index = index_of(nodes.len(), node)?;
-    hand(&mut nodes[index], event)
+    hand(&mut nodes[index], event, scratch)
 }
 
 /// Takes what a node put out in an event into the journal.
@@ -77,7 +82,8 @@ fn turn(
         (simulation_of nodes.old journal.old) (simulation_of nodes.new journal.new) result }
     ensures len { length nodes.new ≡ length nodes.old }
 {
-    let outputs = ask(nodes, node, what);
+    let mut scratch = Scratch::new();
+    let outputs = ask(nodes, node, what, &mut scratch);
     take(journal, event, node, is_told, &outputs)
 }
 
@@ -103,7 +109,8 @@ fn deliver(
         from: datagram.from,
         bytes: datagram.bytes.as_slice(),
     };
-    let outputs = ask(nodes, node, what);
+    let mut scratch = Scratch::new();
+    let outputs = ask(nodes, node, what, &mut scratch);
     take(journal, event, node, is_told, &outputs)
 }
 
