@@ -1,5 +1,5 @@
 -- The line grammar, and the reader of lines as a function.
-use Rattle.std.proofs.Common.{◌≡◌, ℕ, suc, add-one, ◌+◌, ◌<◌, Bool, true, false, cond, List, ◌∷◌, ◌++◌, length, take, drop, Option, Some, None, refl, sym, ap, subst, ◌∙◌, arith, get_or, ◌⊎◌, inl, inr, nat_lt}
+use Rattle.std.proofs.Common.{◌≡◌, ℕ, suc, add-one, ◌+◌, ◌*◌, ◌<◌, ◌≤◌, Bool, true, false, cond, List, [], ◌∷◌, ◌++◌, length, take, drop, Option, Some, None, refl, sym, ap, subst, ◌∙◌, arith, get_or, ◌⊎◌, inl, inr, nat_lt}
 use Rattle.std.specs.Prelude.{Result, Ok, Err, ◌==◌, ◌&&◌, nat_le, codes, not, position}
 use Rattle.std.specs.Char.{is_ascii_digit}
 use Rattle.std.specs.List.{list_all, position_or_len}
@@ -14,9 +14,11 @@ use Rattle.std.proofs.Math.Seq.{drop-append-add, drop-cons, get_or-append_seam, 
 use Rattle.hex.specs.Hex.{decode_of}
 use Rattle.field_text.specs.Cut.{Halves, halves_at, halves_of}
 use Rattle.field_text.specs.Number.{number_of}
+use Rattle.cluster_sim.specs.Rounds.{IsAscending, RoundLine, is_live}
+use Rattle.sim_script.specs.Lines.{fields_of}
 use Rattle.sim_script.specs.Event.{Act, Says, Deliver, Ticks, Noise, Event, Happens, Cut, Restart}
-use Rattle.sim_script.specs.Grammar.{IsActLine, IsClientLine, IsDeliverLine, IsEventLine, IsHex, IsNoiseLine, IsTickLine, kept_word}
-use Rattle.sim_script.specs.Script.{◌>>=◌, act_line, act_of_word, bytes_of, client_act, cut_event, deliver_act, event_line, event_of_word, kept_of_word, noise_act, restart_event, tick_act}
+use Rattle.sim_script.specs.Grammar.{AreNumbers, AreUpTo, IsActLine, IsDeliverLine, IsEventLine, IsHex, IsLiveLine, IsNoiseLine, IsRoundLine, IsSaidLine, IsTickLine, kept_word}
+use Rattle.sim_script.specs.Script.{◌>>=◌, act_line, act_of_word, bytes_of, client_act, cut_event, deliver_act, event_line, event_of_word, kept_of_word, line_among, live_line, live_members, member_above, members_above, noise_act, restart_event, round_among, said_line, tick_act}
 
 -- ---- A text cut at its first space
 
@@ -125,7 +127,7 @@ hex_is digits bytes e = elim (either _ (result_ok (decode_of digits)) None bytes
 
 -- ---- What is in the grammar is read
 
-client_again : (line : List ℕ) (node client moment : ℕ) (said : List ℕ) → IsClientLine line node client moment said
+client_again : (line : List ℕ) (node client moment : ℕ) (said : List ℕ) → IsSaidLine (codes "client") line node client moment said
     → act_line line ≡ Some (Says node client moment said)
 client_again line node client moment said h =
     rw (
@@ -209,26 +211,33 @@ event_again line (Restart node) h = rw (h.fields, cut_again (codes "restart") _ 
 
 -- ---- What is read is in the grammar
 
-client_is : (line rest : List ℕ) (act : Act) → line ≡ codes "client" ++ 32 ∷ rest → client_act rest ≡ Some act → IsActLine line act
-client_is line rest act form e =
-    let first = both_steps (halves_of 32 rest) _ act e in
-    let second = both_steps (halves_of 32 first.0.behind) _ act first.2 in
-    let third = both_steps (halves_of 32 second.0.behind) _ act second.2 in
-    let node = both_steps (number_of first.0.before) _ act third.2 in
-    let client = both_steps (number_of second.0.before) _ act node.2 in
-    let moment = both_steps (number_of third.0.before) _ act client.2 in
-    let is : Says node.0 client.0 moment.0 third.0.behind ≡ act = cc in
-    subst (IsActLine line) is (record {
+said_is : (word line rest : List ℕ) (round : RoundLine) → line ≡ word ++ 32 ∷ rest → said_line rest ≡ Some round
+    → IsSaidLine word line round.node round.client round.moment round.line
+said_is word line rest round form e =
+    let first = both_steps (halves_of 32 rest) _ round e in
+    let second = both_steps (halves_of 32 first.0.behind) _ round first.2 in
+    let third = both_steps (halves_of 32 second.0.behind) _ round second.2 in
+    let node = both_steps (number_of first.0.before) _ round third.2 in
+    let client = both_steps (number_of second.0.before) _ round node.2 in
+    let moment = both_steps (number_of third.0.before) _ round client.2 in
+    let is : record { node = node.0; client = client.0; moment = moment.0; line = third.0.behind } ≡ round = cc in
+    subst (λ (r : RoundLine). IsSaidLine word line r.node r.client r.moment r.line) is (record {
       node_text = first.0.before;
       client_text = second.0.before;
       moment_text = third.0.before;
-      fields = form ∙ ap (λ x. codes "client" ++ 32 ∷ x) (cut_joins rest first.0 first.1
+      fields = form ∙ ap (λ x. word ++ 32 ∷ x) (cut_joins rest first.0 first.1
           ∙ ap (λ x. first.0.before ++ 32 ∷ x) (cut_joins first.0.behind second.0 second.1
           ∙ ap (λ x. second.0.before ++ 32 ∷ x) (cut_joins second.0.behind third.0 third.1)));
       is_node = node.1;
       is_client = client.1;
       is_moment = moment.1;
     })
+
+client_is : (line rest : List ℕ) (act : Act) → line ≡ codes "client" ++ 32 ∷ rest → client_act rest ≡ Some act → IsActLine line act
+client_is line rest act form e =
+    let said = both_steps (said_line rest) _ act e in
+    let is : Says said.0.node said.0.client said.0.moment said.0.line ≡ act = cc in
+    subst (IsActLine line) is (said_is (codes "client") line rest said.0 form said.1)
 
 deliver_is : (line rest : List ℕ) (act : Act) → line ≡ codes "deliver" ++ 32 ∷ rest → deliver_act rest ≡ Some act → IsActLine line act
 deliver_is line rest act form e =
@@ -350,3 +359,119 @@ event_is line event e =
         | inr h ↦ happens_is line word rest event form h.1
       ]
     ]
+
+-- ---- Lines behind the events
+
+-- a line of a word and of something behind it
+word_is : {A : Type 0} (line name : List ℕ) (next : List ℕ → Option A) (given : A)
+    → (halves_of 32 line >>= (λ halves. cond (bytes_eq halves.before name) (next halves.behind) None)) ≡ Some given
+    → (rest : List ℕ) × (line ≡ name ++ 32 ∷ rest) × (next rest ≡ Some given)
+word_is line name next given e =
+    let steps = both_steps (halves_of 32 line) (λ halves. cond (bytes_eq halves.before name) (next halves.behind) None) given e in
+    elim (either (bytes_eq steps.0.before name) (next steps.0.behind) None given steps.2) [
+      | inl h ↦ (steps.0.behind, worded line steps.0.before steps.0.behind name (cut_joins line steps.0 steps.1) h.0, h.1)
+      | inr h ↦ (let none = h.1 in absurd cc)
+    ]
+
+-- the nodes of fields
+member_again : (nodes last : ℕ) (text : List ℕ) (node : ℕ) → number_of text ≡ Some node → last < node → node ≤ nodes
+    → member_above nodes last text ≡ Some node
+member_again nodes last text node e above within =
+    ap (λ o. o >>= (λ number. cond (nat_lt last number && nat_le number nodes) (Some number) None)) e
+    ∙ ap (λ b. cond (b && nat_le node nodes) (Some node) None) (lt-ltb last node above)
+    ∙ ap (λ b. cond b (Some node) None) (le-leb node nodes within)
+
+members_again : (nodes last : ℕ) (fields : List (List ℕ)) (live : List ℕ) → AreNumbers fields live → IsAscending (last ∷ live) → AreUpTo nodes live
+    → members_above nodes last fields ≡ Some live
+members_again nodes last [] [] are ascending within = refl
+members_again nodes last [] (node ∷ live) are ascending within = absurd are
+members_again nodes last (field ∷ fields) [] are ascending within = absurd are
+members_again nodes last (field ∷ fields) (node ∷ live) are ascending within =
+    ap (λ o. o >>= (λ first. members_above nodes first fields >>= (λ more. Some (first ∷ more)))) (member_again nodes last field node are.0 ascending.0 within.0)
+    ∙ ap (λ o. o >>= (λ more. Some (node ∷ more))) (members_again nodes node fields live are.1 ascending.1 within.1)
+
+member_is : (nodes last : ℕ) (text : List ℕ) (node : ℕ) → member_above nodes last text ≡ Some node
+    → (number_of text ≡ Some node) × (last < node) × (node ≤ nodes)
+member_is nodes last text node e =
+    let number = both_steps (number_of text) _ node e in
+    let test = some_if (nat_lt last number.0 && nat_le number.0 nodes) number.0 node number.2 in
+    let parts = and_parts _ _ test.0 in
+    let least = ltb-true last number.0 parts.0 in
+    let most = leb-true number.0 nodes parts.1 in
+    (number.1 ∙ ap Some test.1, omega (arith, least, test.1), omega (arith, most, test.1))
+
+members_is : (nodes last : ℕ) (fields : List (List ℕ)) (live : List ℕ) → members_above nodes last fields ≡ Some live
+    → AreNumbers fields live × IsAscending (last ∷ live) × AreUpTo nodes live
+members_is nodes last [] live e =
+    let is : [] ≡ live = cc in subst (λ l. AreNumbers [] l × IsAscending (last ∷ l) × AreUpTo nodes l) is (tt, tt, tt)
+members_is nodes last (field ∷ fields) live e =
+    let node = both_steps (member_above nodes last field) _ live e in
+    let more = both_steps (members_above nodes node.0 fields) _ live node.2 in
+    let is : node.0 ∷ more.0 ≡ live = cc in
+    let first = member_is nodes last field node.0 node.1 in
+    let rest = members_is nodes node.0 fields more.0 more.1 in
+    subst (λ l. AreNumbers (field ∷ fields) l × IsAscending (last ∷ l) × AreUpTo nodes l) is
+    ((first.0, rest.0), (first.1, rest.1), (first.2, rest.2))
+
+pub live_again : (nodes : ℕ) (line live : List ℕ) → IsLiveLine nodes line live → live_line nodes line ≡ Some live
+live_again nodes line live h =
+    rw (
+      h.fields,
+      cut_again (codes "live") _ (word_lacks (codes "live") refl),
+      members_again nodes 0 (fields_of h.text) live h.are_numbers h.ascending h.within,
+      lt-ltb nodes (2 * length live) h.majority,
+    )
+
+pub live_is : (nodes : ℕ) (line live : List ℕ) → live_line nodes line ≡ Some live → IsLiveLine nodes line live
+live_is nodes line live e =
+    let named = word_is line (codes "live") (live_members nodes) live e in
+    let members = both_steps (members_above nodes 0 (fields_of named.0)) _ live named.2 in
+    let test = some_if (nat_lt nodes (2 * length members.0)) members.0 live members.2 in
+    let said = members_is nodes 0 (fields_of named.0) members.0 members.1 in
+    subst (IsLiveLine nodes line) test.1 (record {
+      text = named.0;
+      fields = named.1;
+      are_numbers = said.0;
+      ascending = said.1;
+      within = said.2;
+      majority = ltb-true nodes (2 * length members.0) test.0;
+    })
+
+-- an event's line says no live members
+pub no_live : (nodes : ℕ) (line : List ℕ) (event : Event) → event_line line ≡ Some event → live_line nodes line ≡ None
+no_live nodes line event e =
+    let steps = both_steps (halves_of 32 line) (λ halves. event_of_word halves.before halves.behind) event e in
+    ap (λ o. o >>= (λ halves. cond (bytes_eq halves.before (codes "live")) (live_members nodes halves.behind) None)) steps.1
+    ∙ other steps.0.before steps.0.behind (bytes_eq steps.0.before (codes "live")) refl steps.2
+  where
+    other : (word rest : List ℕ) (test : Bool) → bytes_eq word (codes "live") ≡ test → event_of_word word rest ≡ Some event
+        → cond test (live_members nodes rest) None ≡ None
+    other word rest true same said =
+        let none : event_of_word (codes "live") rest ≡ Some event =
+        subst (λ w. event_of_word w rest ≡ Some event) ((bytes_eq-Decides word (codes "live")).0 same) said in
+        absurd cc
+    other word rest false same said = refl
+
+pub round_again : (live line : List ℕ) (round : RoundLine) → IsRoundLine live line round → round_among live line ≡ Some round
+round_again live line round h =
+    rw (
+      h.said.fields,
+      cut_again (codes "round") _ (word_lacks (codes "round") refl),
+      cut_again h.said.node_text _ (number_lacks h.said.node_text round.node h.said.is_node),
+      cut_again h.said.client_text _ (number_lacks h.said.client_text round.client h.said.is_client),
+      cut_again h.said.moment_text _ (number_lacks h.said.moment_text round.moment h.said.is_moment),
+      h.said.is_node,
+      h.said.is_client,
+      h.said.is_moment,
+      h.at_live,
+    )
+
+pub round_is : (live line : List ℕ) (round : RoundLine) → round_among live line ≡ Some round → IsRoundLine live line round
+round_is live line round e =
+    let named = word_is line (codes "round") (line_among live) round e in
+    let said = both_steps (said_line named.0) _ round named.2 in
+    let test = some_if (is_live live said.0.node) said.0 round said.2 in
+    subst (IsRoundLine live line) test.1 (record {
+      said = said_is (codes "round") line named.0 said.0 named.1 said.1;
+      at_live = test.0;
+    })

@@ -1,4 +1,5 @@
 mod GrammarLemmas
 mod LineLemmas
 mod ReportLemmas
-mod ScriptLemmas
+mod RoundLemmas
+mod TurnLemmas

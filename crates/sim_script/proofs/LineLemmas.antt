@@ -1,159 +1,236 @@
 -- The grammar of scripts, and the reader of scripts as a function.
 use Rattle.std.proofs.Common.{◌≡◌, ℕ, ◌+◌, Bool, true, false, cond, List, [], ◌∷◌, ◌++◌, length, Option, Some, None, refl, sym, ap, subst, ◌∙◌, arith}
-use Rattle.std.specs.Prelude.{Result, Ok, Err, not}
-use Rattle.sim_script.specs.Event.{Event}
-use Rattle.sim_script.specs.Grammar.{AreGood, HasFirstBad, IsBadLine, SayEvents}
+use Rattle.std.specs.Prelude.{Result, Ok, Err, not, ◌==◌}
+use Rattle.std.specs.Option.{option_map, option_or}
+use Rattle.std.proofs.lemmas.Bool.{ne_eqb}
+use Rattle.std.proofs.lemmas.List.{append-nil, append_assoc}
+use Rattle.cluster_sim.specs.Rounds.{RoundLine}
+use Rattle.sim_script.specs.Event.{Event, ScriptRecord, empty_script, eventful}
+use Rattle.sim_script.specs.Grammar.{HasFirstBad, IsLiveLine, IsScript, SayEvents, SayLast, SayRounds, SayScript}
 use Rattle.sim_script.specs.Lines.{is_remark, lines_of, telling_lines}
-use Rattle.sim_script.specs.Script.{event_line, script_from, script_of, with_first, with_line}
-use Rattle.sim_script.proofs.GrammarLemmas.{event_again, event_is}
+use Rattle.sim_script.specs.Script.{event_line, live_line, round_among, script_of, with_event, with_line, with_live, with_round, with_telling_line}
+use Rattle.sim_script.specs.Turns.{state_after, value_then}
+use Rattle.sim_script.proofs.GrammarLemmas.{event_again, event_is, live_again, live_is, no_live, round_again, round_is}
+use Rattle.sim_script.proofs.TurnLemmas.{first_refused, refused_behind, taken_behind}
 
 abbrev Said : Type 0
-Said = Result (List Event) ℕ
+Said = Result ScriptRecord ℕ
 
--- ---- The events
+-- a script of these parts
+abbrev of_parts : List Event → List ℕ → List RoundLine → ScriptRecord
+of_parts events live rounds = record { events = events; live = live; rounds = rounds }
 
-events_at : (remark : Bool) (number : ℕ) (line : List ℕ) (more : List (List ℕ)) (events : List Event)
-    → ((later : List Event) → SayEvents (telling_lines more) later → script_from (number + 1) more ≡ Ok later)
-    → SayEvents (cond (not remark) (line ∷ telling_lines more) (telling_lines more)) events
-    → cond remark (script_from (number + 1) more) (with_line number (event_line line) (script_from (number + 1) more)) ≡ Ok events
-events_at true number line more events later h = later events h
-events_at false number line more [] later h = absurd h
-events_at false number line more (event ∷ events) later h =
-    ap (λ o. with_line number o (script_from (number + 1) more)) (event_again line event h.0) ∙ ap (with_first event) (later events h.1)
+-- what lines that tell something make of a script
+abbrev told_after : ℕ → ℕ → ScriptRecord → List (List ℕ) → Said
+told_after nodes number script lines = state_after (with_telling_line nodes) number script lines
 
-pub events_again : (number : ℕ) (lines : List (List ℕ)) (events : List Event) → SayEvents (telling_lines lines) events → script_from number lines ≡ Ok events
-events_again number [] [] h = refl
-events_again number [] (event ∷ events) h = absurd h
-events_again number (line ∷ more) events h =
-    events_at (is_remark line) number line more events (λ later k. events_again (number + 1) more later k) h
+-- what all lines make of it
+abbrev read_after : ℕ → ℕ → ScriptRecord → List (List ℕ) → Said
+read_after nodes number script lines = state_after (with_line nodes) number script lines
 
-first_said : (event : Event) (rest : Said) (events : List Event) → with_first event rest ≡ Ok events
-    → (later : List Event) × (rest ≡ Ok later) × (events ≡ event ∷ later)
-first_said event (Ok later) events e = (later, refl, cc)
-first_said event (Err number) events e = absurd cc
+-- ---- Remarks
 
-line_said : (line : List ℕ) (said : Option Event) (number : ℕ) (rest : Said) (events : List Event) → event_line line ≡ said
-    → with_line number said rest ≡ Ok events
-    → (event : Event) × (later : List Event) × (event_line line ≡ Some event) × (rest ≡ Ok later) × (events ≡ event ∷ later)
-line_said line None number rest events is e = absurd cc
-line_said line (Some event) number rest events is e = let first = first_said event rest events e in (event, first.0, is, first.1, first.2)
+module _ (nodes : ℕ) where
+  telling_at : (remark : Bool) (number other : ℕ) (script : ScriptRecord) (line : List ℕ) (more : List (List ℕ)) (end : ScriptRecord)
+      → ((n m : ℕ) (new : ScriptRecord) → read_after nodes n new more ≡ Ok end → told_after nodes m new (telling_lines more) ≡ Ok end)
+      → value_then number (cond remark (Some script) (with_telling_line nodes script line)) (λ new. read_after nodes (number + 1) new more) ≡ Ok end
+      → told_after nodes other script (cond (not remark) (line ∷ telling_lines more) (telling_lines more)) ≡ Ok end
+  telling_at true number other script line more end later e = later (number + 1) other script e
+  telling_at false number other script line more end later e = at (with_telling_line nodes script line) e
+    where
+      at : (value : Option ScriptRecord) → value_then number value (λ new. read_after nodes (number + 1) new more) ≡ Ok end
+          → value_then other value (λ new. told_after nodes (other + 1) new (telling_lines more)) ≡ Ok end
+      at None h = absurd cc
+      at (Some new) h = later (number + 1) (other + 1) new h
 
-said_at : (remark : Bool) (number : ℕ) (line : List ℕ) (more : List (List ℕ)) (events : List Event)
-    → ((later : List Event) → script_from (number + 1) more ≡ Ok later → SayEvents (telling_lines more) later)
-    → cond remark (script_from (number + 1) more) (with_line number (event_line line) (script_from (number + 1) more)) ≡ Ok events
-    → SayEvents (cond (not remark) (line ∷ telling_lines more) (telling_lines more)) events
-said_at true number line more events later e = later events e
-said_at false number line more events later e =
-    let said = line_said line (event_line line) number (script_from (number + 1) more) events refl e in
-    subst (SayEvents (line ∷ telling_lines more)) (sym said.4) (event_is line said.0 said.2, later said.1 said.3)
+  told : (number other : ℕ) (script : ScriptRecord) (lines : List (List ℕ)) (end : ScriptRecord) → read_after nodes number script lines ≡ Ok end
+      → told_after nodes other script (telling_lines lines) ≡ Ok end
+  told number other script [] end e = e
+  told number other script (line ∷ more) end e =
+      telling_at (is_remark line) number other script line more end (λ n m new h. told n m new more end h) e
 
-pub events_said : (number : ℕ) (lines : List (List ℕ)) (events : List Event) → script_from number lines ≡ Ok events → SayEvents (telling_lines lines) events
-events_said number [] [] e = tt
-events_said number [] (event ∷ events) e = absurd cc
-events_said number (line ∷ more) events e =
-    said_at (is_remark line) number line more events (λ later k. events_said (number + 1) more later k) e
+  reading_at : (remark : Bool) (number other : ℕ) (script : ScriptRecord) (line : List ℕ) (more : List (List ℕ)) (end : ScriptRecord)
+      → ((n m : ℕ) (new : ScriptRecord) → told_after nodes m new (telling_lines more) ≡ Ok end → read_after nodes n new more ≡ Ok end)
+      → told_after nodes other script (cond (not remark) (line ∷ telling_lines more) (telling_lines more)) ≡ Ok end
+      → value_then number (cond remark (Some script) (with_telling_line nodes script line)) (λ new. read_after nodes (number + 1) new more) ≡ Ok end
+  reading_at true number other script line more end later e = later (number + 1) other script e
+  reading_at false number other script line more end later e = at (with_telling_line nodes script line) e
+    where
+      at : (value : Option ScriptRecord) → value_then other value (λ new. told_after nodes (other + 1) new (telling_lines more)) ≡ Ok end
+          → value_then number value (λ new. read_after nodes (number + 1) new more) ≡ Ok end
+      at None h = absurd cc
+      at (Some new) h = later (number + 1) (other + 1) new h
 
--- ---- The first bad line
+  read : (number other : ℕ) (script : ScriptRecord) (lines : List (List ℕ)) (end : ScriptRecord) → told_after nodes other script (telling_lines lines) ≡ Ok end
+      → read_after nodes number script lines ≡ Ok end
+  read number other script [] end e = e
+  read number other script (line ∷ more) end e =
+      reading_at (is_remark line) number other script line more end (λ n m new h. read n m new more end h) e
 
--- the first bad line, where the first line of all has the number start
-record IsFirstFrom (start : ℕ) (lines : List (List ℕ)) (number : ℕ) : Type 0 where
-  front : List (List ℕ)
-  line : List ℕ
-  rest : List (List ℕ)
-  parts : lines ≡ front ++ line ∷ rest
-  place : number ≡ length front + start
-  is_bad : IsBadLine line
-  are_good : AreGood front
+  -- ---- Rounds
 
--- a line that says nothing that is in the grammar
-bad_line : (line : List ℕ) → is_remark line ≡ false → event_line line ≡ None → IsBadLine line
-bad_line line tells none = record {
-  tells = tells;
-  no_event = λ event h. (let again = event_again line event h in absurd cc);
-}
+  some_live : (line live : List ℕ) → IsLiveLine nodes line live → (length live == 0) ≡ false
+  some_live line live h = ne_eqb (length live) 0 (λ e. omega (arith, e, h.majority))
 
-first_later : (start : ℕ) (line : List ℕ) (more : List (List ℕ)) (number : ℕ) → (IsBadLine line → ⊥) → IsFirstFrom (start + 1) more number
-    → IsFirstFrom start (line ∷ more) number
-first_later start line more number good later = record {
-  front = line ∷ later.front;
-  line = later.line;
-  rest = later.rest;
-  parts = ap (λ l. line ∷ l) later.parts;
-  place = omega (arith, later.place);
-  is_bad = later.is_bad;
-  are_good = (good, later.are_good);
-}
+  -- a line among live members
+  round_step : (events : List Event) (live : List ℕ) (rounds : List RoundLine) (line : List ℕ) → (length live == 0) ≡ false
+      → with_telling_line nodes (of_parts events live rounds) line ≡ option_map (with_round (of_parts events live rounds)) (round_among live line)
+  round_step events live rounds line some =
+      ap (λ b. cond b (option_or (option_map (with_live (of_parts events live rounds)) (live_line nodes line)) (option_map (with_event (of_parts events live rounds)) (event_line line)))
+      (option_map (with_round (of_parts events live rounds)) (round_among live line))) some
 
-err_first : (event : Event) (rest : Said) (number : ℕ) → with_first event rest ≡ Err number → rest ≡ Err number
-err_first event (Ok later) number e = absurd cc
-err_first event (Err other) number e = cc
+  rounds_again : (number : ℕ) (events : List Event) (live : List ℕ) (before : List RoundLine) (lines : List (List ℕ)) (rounds : List RoundLine)
+      → (length live == 0) ≡ false → SayRounds live lines rounds
+      → told_after nodes number (of_parts events live before) lines ≡ Ok (of_parts events live (before ++ rounds))
+  rounds_again number events live before [] [] some h = ap (λ l. Ok (of_parts events live l)) (sym (append-nil before))
+  rounds_again number events live before [] (round ∷ rounds) some h = absurd h
+  rounds_again number events live before (line ∷ lines) [] some h = absurd h
+  rounds_again number events live before (line ∷ lines) (round ∷ rounds) some h =
+      ap (λ o. value_then number o (λ new. told_after nodes (number + 1) new lines))
+      (round_step events live before line some ∙ ap (option_map (with_round (of_parts events live before))) (round_again live line round h.0))
+      ∙ rounds_again (number + 1) events live (before ++ round ∷ []) lines rounds some h.1
+      ∙ ap (λ l. Ok (of_parts events live l)) (append_assoc before (round ∷ []) rounds)
 
-bad_said : (line : List ℕ) (said : Option Event) (start : ℕ) (more : List (List ℕ)) (number : ℕ) → is_remark line ≡ false → event_line line ≡ said
-    → (script_from (start + 1) more ≡ Err number → IsFirstFrom (start + 1) more number)
-    → with_line start said (script_from (start + 1) more) ≡ Err number → IsFirstFrom start (line ∷ more) number
-bad_said line None start more number tells is later e = record {
-  front = [];
-  line = line;
-  rest = more;
-  parts = refl;
-  place = (let same : start ≡ number = cc in omega arith);
-  is_bad = bad_line line tells is;
-  are_good = tt;
-}
-bad_said line (Some event) start more number tells is later e =
-    first_later start line more number (λ bad. bad.no_event event (event_is line event is))
-    (later (err_first event (script_from (start + 1) more) number e))
+  -- what is said in rounds
+  abbrev RoundsSaid : List Event → List ℕ → List RoundLine → List (List ℕ) → ScriptRecord → Type 0
+  RoundsSaid events live before lines end = (rounds : List RoundLine) × SayRounds live lines rounds × (end ≡ of_parts events live (before ++ rounds))
 
-bad_at : (remark : Bool) (start : ℕ) (line : List ℕ) (more : List (List ℕ)) (number : ℕ) → is_remark line ≡ remark
-    → (script_from (start + 1) more ≡ Err number → IsFirstFrom (start + 1) more number)
-    → cond remark (script_from (start + 1) more) (with_line start (event_line line) (script_from (start + 1) more)) ≡ Err number
-    → IsFirstFrom start (line ∷ more) number
-bad_at true start line more number is later e = first_later start line more number (λ bad. (let tells = bad.tells in absurd cc)) (later e)
-bad_at false start line more number is later e = bad_said line (event_line line) start more number is refl later e
+  rounds_said : (number : ℕ) (events : List Event) (live : List ℕ) (before : List RoundLine) (lines : List (List ℕ)) (end : ScriptRecord)
+      → (length live == 0) ≡ false → told_after nodes number (of_parts events live before) lines ≡ Ok end
+      → RoundsSaid events live before lines end
+  rounds_said number events live before [] end some e =
+      let is : of_parts events live before ≡ end = cc in ([], tt, sym is ∙ ap (of_parts events live) (sym (append-nil before)))
+  rounds_said number events live before (line ∷ lines) end some e =
+      at (λ round h. rounds_said (number + 1) events live (before ++ round ∷ []) lines end some h) (round_among live line) refl
+      (subst (λ o. value_then number o (λ new. told_after nodes (number + 1) new lines) ≡ Ok end) (round_step events live before line some) e)
+    where
+      at : ((round : RoundLine) → told_after nodes (number + 1) (of_parts events live (before ++ round ∷ [])) lines ≡ Ok end
+          → RoundsSaid events live (before ++ round ∷ []) lines end) → (value : Option RoundLine) → round_among live line ≡ value
+          → value_then number (option_map (with_round (of_parts events live before)) value) (λ new. told_after nodes (number + 1) new lines) ≡ Ok end
+          → RoundsSaid events live before (line ∷ lines) end
+      at later None is h = absurd cc
+      at later (Some round) is h =
+          let more = later round h in
+          (round ∷ more.0, (round_is live line round is, more.1), more.2 ∙ ap (of_parts events live) (append_assoc before (round ∷ []) more.0))
 
-first_said_from : (start : ℕ) (lines : List (List ℕ)) (number : ℕ) → script_from start lines ≡ Err number → IsFirstFrom start lines number
-first_said_from start [] number e = absurd cc
-first_said_from start (line ∷ more) number e =
-    bad_at (is_remark line) start line more number refl (λ h. first_said_from (start + 1) more number h) e
+  -- ---- Events, and what is behind them
 
-pub bad_said_first : (text : List ℕ) (number : ℕ) → script_of text ≡ Err number → HasFirstBad text number
-bad_said_first text number e =
-    let first = first_said_from 1 (lines_of text) number e in
-    record {
-      front = first.front;
-      line = first.line;
-      rest = first.rest;
-      parts = first.parts;
-      place = first.place;
-      is_bad = first.is_bad;
-      are_good = first.are_good;
-    }
+  last_again : (number : ℕ) (before : List Event) (lines : List (List ℕ)) (live : List ℕ) (rounds : List RoundLine) → SayLast nodes lines live rounds
+      → told_after nodes number (eventful before) lines ≡ Ok (of_parts before live rounds)
+  last_again number before [] live rounds h =
+      ap (λ l. Ok (of_parts before l [])) (sym h.0) ∙ ap (λ l. Ok (of_parts before live l)) (sym h.1)
+  last_again number before (line ∷ lines) live rounds h =
+      ap (λ o. value_then number (option_or (option_map (with_live (eventful before)) o) (option_map (with_event (eventful before)) (event_line line)))
+      (λ new. told_after nodes (number + 1) new lines)) (live_again nodes line live h.0)
+      ∙ rounds_again (number + 1) before live [] lines rounds (some_live line live h.0) h.1
 
--- what is said from a bad line on
-bad_again : (start : ℕ) (line : List ℕ) (rest : List (List ℕ)) → IsBadLine line → script_from start (line ∷ rest) ≡ Err start
-bad_again start line rest bad =
-    ap (λ b. cond b (script_from (start + 1) rest) (with_line start (event_line line) (script_from (start + 1) rest))) bad.tells
-    ∙ ap (λ o. with_line start o (script_from (start + 1) rest)) (none (event_line line) refl)
-  where
-    none : (said : Option Event) → event_line line ≡ said → said ≡ None
-    none None e = refl
-    none (Some event) e = absurd (bad.no_event event (event_is line event e))
+  first_again : (number : ℕ) (before : List Event) (first last : List (List ℕ)) (events : List Event) (live : List ℕ) (rounds : List RoundLine)
+      → SayEvents first events → SayLast nodes last live rounds
+      → told_after nodes number (eventful before) (first ++ last) ≡ Ok (of_parts (before ++ events) live rounds)
+  first_again number before [] last [] live rounds said h =
+      last_again number before last live rounds h ∙ ap (λ l. Ok (of_parts l live rounds)) (sym (append-nil before))
+  first_again number before [] last (event ∷ events) live rounds said h = absurd said
+  first_again number before (line ∷ first) last [] live rounds said h = absurd said
+  first_again number before (line ∷ first) last (event ∷ events) live rounds said h =
+      let is = event_again line event said.0 in
+      ap (λ o. value_then number (option_or (option_map (with_live (eventful before)) o) (option_map (with_event (eventful before)) (event_line line)))
+      (λ new. told_after nodes (number + 1) new (first ++ last))) (no_live nodes line event is)
+      ∙ ap (λ o. value_then number (option_map (with_event (eventful before)) o) (λ new. told_after nodes (number + 1) new (first ++ last))) is
+      ∙ first_again (number + 1) (before ++ event ∷ []) first last events live rounds said.1 h
+      ∙ ap (λ l. Ok (of_parts l live rounds)) (append_assoc before (event ∷ []) events)
 
--- a good line leaves a bad line behind it
-good_before : (remark : Bool) (said : Option Event) (start : ℕ) (line : List ℕ) (rest : Said) (number : ℕ)
-    → is_remark line ≡ remark → event_line line ≡ said → (IsBadLine line → ⊥) → rest ≡ Err number → cond remark rest (with_line start said rest) ≡ Err number
-good_before true said start line rest number is e good h = h
-good_before false None start line rest number is e good h = absurd (good (bad_line line is e))
-good_before false (Some event) start line rest number is e good h = ap (with_first event) h
+  -- what is said from events on
+  abbrev AllSaid : List Event → List (List ℕ) → ScriptRecord → Type 0
+  AllSaid before lines end =
+      (script : ScriptRecord) × SayScript nodes lines script × (end ≡ of_parts (before ++ script.events) script.live script.rounds)
 
-bad_behind : (start : ℕ) (front : List (List ℕ)) (line : List ℕ) (rest : List (List ℕ)) → AreGood front → IsBadLine line
-    → script_from start (front ++ line ∷ rest) ≡ Err (length front + start)
-bad_behind start [] line rest good bad = let same : start ≡ 0 + start = omega arith in bad_again start line rest bad ∙ ap Err same
-bad_behind start (other ∷ front) line rest good bad =
-    let same : length front + (start + 1) ≡ length (other ∷ front) + start = omega arith in
-    good_before (is_remark other) (event_line other) start other (script_from (start + 1) (front ++ line ∷ rest)) (length (other ∷ front) + start) refl refl good.0
-    (bad_behind (start + 1) front line rest good.1 bad ∙ ap Err same)
+  first_said : (number : ℕ) (before : List Event) (lines : List (List ℕ)) (end : ScriptRecord) → told_after nodes number (eventful before) lines ≡ Ok end
+      → AllSaid before lines end
+  first_said number before [] end e =
+      let is : eventful before ≡ end = cc in (
+        empty_script,
+        record { first = []; last = []; parts = refl; events = tt; rounds = (refl, refl) },
+        sym is ∙ ap (λ l. of_parts l [] []) (sym (append-nil before)),
+      )
+  first_said number before (line ∷ lines) end e =
+      at (λ event h. first_said (number + 1) (before ++ event ∷ []) lines end h) (live_line nodes line) (event_line line) refl refl e
+    where
+      at : ((event : Event) → told_after nodes (number + 1) (eventful (before ++ event ∷ [])) lines ≡ Ok end → AllSaid (before ++ event ∷ []) lines end)
+          → (members : Option (List ℕ)) (said : Option Event) → live_line nodes line ≡ members → event_line line ≡ said
+          → value_then number (option_or (option_map (with_live (eventful before)) members) (option_map (with_event (eventful before)) said))
+          (λ new. told_after nodes (number + 1) new lines) ≡ Ok end → AllSaid before (line ∷ lines) end
+      at later (Some live) said is other h =
+          let named = live_is nodes line live is in
+          let more = rounds_said (number + 1) before live [] lines end (some_live line live named) h in (
+            of_parts [] live more.0,
+            record { first = []; last = line ∷ lines; parts = refl; events = tt; rounds = (named, more.1) },
+            more.2 ∙ ap (λ l. of_parts l live more.0) (sym (append-nil before)),
+          )
+      at later None (Some event) is other h =
+          let more = later event h in
+          let script = more.0 in
+          let says = more.1 in (
+            of_parts (event ∷ script.events) script.live script.rounds,
+            record {
+              first = line ∷ says.first;
+              last = says.last;
+              parts = ap (λ l. line ∷ l) says.parts;
+              events = (event_is line event other, says.events);
+              rounds = says.rounds;
+            },
+            more.2 ∙ ap (λ l. of_parts l script.live script.rounds) (append_assoc before (event ∷ []) script.events),
+          )
+      at later None None is other h = absurd cc
 
-pub bad_said_again : (text : List ℕ) (number : ℕ) → HasFirstBad text number → script_of text ≡ Err number
-bad_said_again text number h =
-    ap (script_from 1) h.parts ∙ bad_behind 1 h.front h.line h.rest h.are_good h.is_bad ∙ ap Err (sym h.place)
+  -- ---- Scripts
+
+  lines_again : (lines : List (List ℕ)) (script : ScriptRecord) → SayScript nodes (telling_lines lines) script
+      → read_after nodes 1 empty_script lines ≡ Ok script
+  lines_again lines script h =
+      read 1 1 empty_script lines script
+      (ap (told_after nodes 1 empty_script) h.parts ∙ first_again 1 [] h.first h.last script.events script.live script.rounds h.events h.rounds)
+
+  lines_said : (lines : List (List ℕ)) (script : ScriptRecord) → read_after nodes 1 empty_script lines ≡ Ok script
+      → SayScript nodes (telling_lines lines) script
+  lines_said lines script e =
+      let all = first_said 1 [] (telling_lines lines) script (told 1 1 empty_script lines script e) in
+      subst (SayScript nodes (telling_lines lines)) (sym all.2) all.1
+
+  pub script_again : (text : List ℕ) (script : ScriptRecord) → IsScript nodes text script → script_of nodes text ≡ Ok script
+  script_again text script h = lines_again (lines_of text) script h
+
+  pub script_said : (text : List ℕ) (script : ScriptRecord) → script_of nodes text ≡ Ok script → IsScript nodes text script
+  script_said text script e = lines_said (lines_of text) script e
+
+  -- ---- The first bad line
+
+  pub bad_said_first : (text : List ℕ) (number : ℕ) → script_of nodes text ≡ Err number → HasFirstBad nodes text number
+  bad_said_first text number e =
+      let first = first_refused (with_line nodes) 1 empty_script (lines_of text) number e in
+      record {
+        front = first.front;
+        line = first.item;
+        rest = first.rest;
+        parts = first.parts;
+        place = first.place;
+        before = first.before;
+        is_good = lines_said first.front first.before first.is_good;
+        is_bad = λ script says. (
+            let good = lines_again (first.front ++ first.item ∷ []) script says in
+            let bad = refused_behind (with_line nodes) 1 empty_script first.front first.item [] first.before first.is_good first.is_bad in
+            absurd cc
+            );
+      }
+
+  pub bad_said_again : (text : List ℕ) (number : ℕ) → HasFirstBad nodes text number → script_of nodes text ≡ Err number
+  bad_said_again text number h =
+      let good = lines_again h.front h.before h.is_good in
+      ap (read_after nodes 1 empty_script) h.parts
+      ∙ refused_behind (with_line nodes) 1 empty_script h.front h.line h.rest h.before good (none (with_line nodes h.before h.line) refl)
+      ∙ ap Err (sym h.place)
+    where
+      none : (value : Option ScriptRecord) → with_line nodes h.before h.line ≡ value → value ≡ None
+      none None is = refl
+      none (Some new) is =
+          absurd (h.is_bad new (lines_said (h.front ++ h.line ∷ []) new
+          (taken_behind (with_line nodes) 1 empty_script h.front h.line h.before new (lines_again h.front h.before h.is_good) is)))

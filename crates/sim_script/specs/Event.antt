@@ -1,9 +1,12 @@
--- The events of a script as values.
-use Rattle.std.specs.Prelude.{ℕ, Bool, List}
+-- What a script says, as values.
+use Rattle.std.specs.Prelude.{ℕ, Bool, List, [], map}
+use Rattle.cluster_sim.specs.RoundRun.{round_lines}
+use Rattle.cluster_sim.specs.Rounds.{RoundLine}
 use Rattle.cluster_sim.specs.declared.script.Act.{Act as SimAct}
 use Rattle.cluster_sim.specs.declared.script.Act.TheVariants as act
 use Rattle.cluster_sim.specs.declared.script.WorldEvent.{WorldEvent}
 use Rattle.cluster_sim.specs.declared.script.WorldEvent.TheVariants as event
+use Rattle.sim_script.specs.declared.script.Script.{Script}
 
 -- What is done at a node: a client's line comes at a moment; the datagram that was sent as number k comes; some time
 -- passes; bytes come from an address.
@@ -32,3 +35,26 @@ abbrev pub event_of : WorldEvent → Event
 event_of (event.Happens act) = Happens (act_of act)
 event_of (event.Cut kept act) = Cut kept (act_of act)
 event_of (event.Restart node) = Restart node
+
+-- What a script says: what happens first, then the members that are live, and the lines that come among them, each
+-- in a round of its own. A script without rounds may name no live members.
+pub record ScriptRecord : Type 0 where
+  pub events : List Event
+  pub live : List ℕ
+  pub rounds : List RoundLine
+
+-- a script of these events alone
+abbrev pub eventful : List Event → ScriptRecord
+eventful events = record { events = events; live = []; rounds = [] }
+
+-- a script that says nothing
+abbrev pub empty_script : ScriptRecord
+empty_script = eventful []
+
+-- what a script of the code says
+abbrev pub script_value : Script → ScriptRecord
+script_value script = record {
+  events = map event_of script.events.items;
+  live = script.live.items;
+  rounds = round_lines script.rounds.items;
+}

@@ -1,10 +1,11 @@
 -- The grammar of scripts. A line is fields with single spaces between.
-use Rattle.std.specs.Prelude.{◌≡◌, ℕ, ◌+◌, ◌≤◌, Bool, true, false, List, [], ◌∷◌, ◌++◌, length, Some, Ok, codes}
+use Rattle.std.specs.Prelude.{◌≡◌, ℕ, ◌+◌, ◌*◌, ◌<◌, ◌≤◌, Bool, true, false, List, [], ◌∷◌, ◌++◌, length, Some, Ok, codes}
 use Rattle.std.specs.List.{join_with_byte}
 use Rattle.hex.specs.Hex.{decode_of}
 use Rattle.field_text.specs.Number.{number_of}
-use Rattle.sim_script.specs.Lines.{is_remark, lines_of, telling_lines}
-use Rattle.sim_script.specs.Event.{Act, Says, Deliver, Ticks, Noise, Event, Happens, Cut, Restart}
+use Rattle.cluster_sim.specs.Rounds.{IsAscending, RoundLine, is_live}
+use Rattle.sim_script.specs.Lines.{fields_of, lines_of, telling_lines}
+use Rattle.sim_script.specs.Event.{Act, Says, Deliver, Ticks, Noise, Event, Happens, Cut, Restart, ScriptRecord}
 
 -- a line of these fields, with a space between each and the next
 abbrev pub HasFields : List ℕ → List (List ℕ) → Type 0
@@ -20,12 +21,12 @@ pub record IsHex (text bytes : List ℕ) : Type 0 where
   pub most : length text ≤ 1024
   pub value : decode_of text ≡ Ok bytes
 
--- `client NODE CLIENT MOMENT LINE`, where the client's line is any bytes
-pub record IsClientLine (line : List ℕ) (node client moment : ℕ) (said : List ℕ) : Type 0 where
+-- `WORD NODE CLIENT MOMENT LINE`, where the client's line is any bytes
+pub record IsSaidLine (word line : List ℕ) (node client moment : ℕ) (said : List ℕ) : Type 0 where
   pub node_text : List ℕ
   pub client_text : List ℕ
   pub moment_text : List ℕ
-  pub fields : HasFields line (codes "client" ∷ node_text ∷ client_text ∷ moment_text ∷ said ∷ [])
+  pub fields : HasFields line (word ∷ node_text ∷ client_text ∷ moment_text ∷ said ∷ [])
   pub is_node : IsNumber node_text node
   pub is_client : IsNumber client_text client
   pub is_moment : IsNumber moment_text moment
@@ -56,7 +57,7 @@ pub record IsNoiseLine (line : List ℕ) (node from : ℕ) (bytes : List ℕ) : 
 
 -- a line that says what is done at a node
 abbrev pub IsActLine : List ℕ → Act → Type 0
-IsActLine line (Says node client moment said) = IsClientLine line node client moment said
+IsActLine line (Says node client moment said) = IsSaidLine (codes "client") line node client moment said
 IsActLine line (Deliver node k) = IsDeliverLine line node k
 IsActLine line (Ticks node) = IsTickLine line node
 IsActLine line (Noise node from bytes) = IsNoiseLine line node from bytes
@@ -90,26 +91,61 @@ SayEvents [] [] = Unit {0}
 SayEvents (line ∷ lines) (event ∷ events) = IsEventLine line event × SayEvents lines events
 SayEvents _ _ = ⊥
 
--- a script that says these events
-abbrev pub IsScript : List ℕ → List Event → Type 0
-IsScript text events = SayEvents (telling_lines (lines_of text)) events
+-- texts of these numbers, one each
+abbrev pub AreNumbers : List (List ℕ) → List ℕ → Type 0
+AreNumbers [] [] = Unit {0}
+AreNumbers (text ∷ texts) (number ∷ numbers) = IsNumber text number × AreNumbers texts numbers
+AreNumbers _ _ = ⊥
 
--- a line in another form
-pub record IsBadLine (line : List ℕ) : Type 0 where
-  pub tells : is_remark line ≡ false
-  pub no_event : (event : Event) → IsEventLine line event → ⊥
+-- each is the number of one of so many nodes, or 0
+abbrev pub AreUpTo : ℕ → List ℕ → Type 0
+AreUpTo nodes [] = Unit {0}
+AreUpTo nodes (node ∷ more) = (node ≤ nodes) × AreUpTo nodes more
 
--- lines of which none is in another form
-abbrev pub AreGood : List (List ℕ) → Type 0
-AreGood [] = Unit {0}
-AreGood (line ∷ lines) = (IsBadLine line → ⊥) × AreGood lines
+-- `live A B ..`: a strict majority of so many nodes, each above the one before it, and the first above 0
+pub record IsLiveLine (nodes : ℕ) (line live : List ℕ) : Type 0 where
+  pub text : List ℕ
+  pub fields : HasFields line (codes "live" ∷ text ∷ [])
+  pub are_numbers : AreNumbers (fields_of text) live
+  pub ascending : IsAscending (0 ∷ live)
+  pub within : AreUpTo nodes live
+  pub majority : nodes < 2 * length live
 
--- a script whose first line in another form has this number, from 1
-pub record HasFirstBad (text : List ℕ) (number : ℕ) : Type 0 where
+-- `round NODE CLIENT MOMENT LINE`, at one of these members
+pub record IsRoundLine (live line : List ℕ) (round : RoundLine) : Type 0 where
+  pub said : IsSaidLine (codes "round") line round.node round.client round.moment round.line
+  pub at_live : is_live live round.node ≡ true
+
+-- lines that say these rounds among the live members, in order
+abbrev pub SayRounds : List ℕ → List (List ℕ) → List RoundLine → Type 0
+SayRounds live [] [] = Unit {0}
+SayRounds live (line ∷ lines) (round ∷ rounds) = IsRoundLine live line round × SayRounds live lines rounds
+SayRounds live _ _ = ⊥
+
+-- lines that say the live members of so many nodes, and then the rounds among them; no lines say none
+abbrev pub SayLast : ℕ → List (List ℕ) → List ℕ → List RoundLine → Type 0
+SayLast nodes [] live rounds = (live ≡ []) × (rounds ≡ [])
+SayLast nodes (line ∷ lines) live rounds = IsLiveLine nodes line live × SayRounds live lines rounds
+
+-- lines that say a script of so many nodes: its events, then its live members, then its rounds
+pub record SayScript (nodes : ℕ) (lines : List (List ℕ)) (script : ScriptRecord) : Type 0 where
+  pub first : List (List ℕ)
+  pub last : List (List ℕ)
+  pub parts : lines ≡ first ++ last
+  pub events : SayEvents first script.events
+  pub rounds : SayLast nodes last script.live script.rounds
+
+-- a text whose lines say this, but for empty lines and remarks
+abbrev pub IsScript : ℕ → List ℕ → ScriptRecord → Type 0
+IsScript nodes text script = SayScript nodes (telling_lines (lines_of text)) script
+
+-- a text whose first bad line has this number, from 1: the lines before it say a script, and with it they say none
+pub record HasFirstBad (nodes : ℕ) (text : List ℕ) (number : ℕ) : Type 0 where
   pub front : List (List ℕ)
   pub line : List ℕ
   pub rest : List (List ℕ)
   pub parts : lines_of text ≡ front ++ line ∷ rest
   pub place : number ≡ length front + 1
-  pub is_bad : IsBadLine line
-  pub are_good : AreGood front
+  pub before : ScriptRecord
+  pub is_good : SayScript nodes (telling_lines front) before
+  pub is_bad : (script : ScriptRecord) → SayScript nodes (telling_lines (front ++ line ∷ [])) script → ⊥

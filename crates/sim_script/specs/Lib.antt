@@ -3,4 +3,5 @@ pub mod Grammar
 pub mod Lines
 pub mod Reading
 pub mod Script
+pub mod Turns
 pub mod ReportText

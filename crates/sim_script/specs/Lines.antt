@@ -6,6 +6,10 @@ use Rattle.std.specs.List.{filter, slice_split}
 abbrev pub lines_of : List ℕ → List (List ℕ)
 lines_of text = slice_split (λ byte. byte == 10) text
 
+-- the fields of a text, which stand between its spaces
+abbrev pub fields_of : List ℕ → List (List ℕ)
+fields_of text = slice_split (λ byte. byte == 32) text
+
 -- whether a line says nothing: it is empty, or it begins with `#`
 abbrev pub is_remark : List ℕ → Bool
 is_remark [] = true

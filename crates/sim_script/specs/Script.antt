@@ -1,12 +1,15 @@
 -- What a script and its lines say, as functions. Grammar.antt has the same by what is said.
-use Rattle.std.specs.Prelude.{ℕ, ◌+◌, ◌&&◌, nat_le, Bool, true, false, if◌then◌else◌, List, [], ◌∷◌, length, Option, Some, None, Result, Ok, Err, codes}
+use Rattle.std.specs.Prelude.{ℕ, ◌*◌, ◌==◌, ◌&&◌, nat_le, nat_lt, Bool, true, false, if◌then◌else◌, List, [], ◌∷◌, ◌++◌, length, Option, Some, None, option_map, Result, codes}
+use Rattle.std.specs.Option.{option_or}
 use Rattle.std.specs.Result.{result_ok}
 use Rattle.std.specs.Str.{bytes_eq}
 use Rattle.hex.specs.Hex.{decode_of}
 use Rattle.field_text.specs.Cut.{halves_of}
 use Rattle.field_text.specs.Number.{number_of}
-use Rattle.sim_script.specs.Lines.{is_remark, lines_of}
-use Rattle.sim_script.specs.Event.{Act, Says, Deliver, Ticks, Noise, Event, Happens, Cut, Restart}
+use Rattle.cluster_sim.specs.Rounds.{RoundLine, is_live}
+use Rattle.sim_script.specs.Lines.{fields_of, is_remark, lines_of}
+use Rattle.sim_script.specs.Event.{Act, Says, Deliver, Ticks, Noise, Event, Happens, Cut, Restart, ScriptRecord, empty_script}
+use Rattle.sim_script.specs.Turns.{state_after}
 
 -- the next step, where there is something to take it with
 infixl 10 ◌>>=◌
@@ -19,15 +22,21 @@ abbrev pub bytes_of : List ℕ → Option (List ℕ)
 bytes_of digits = if nat_le 2 (length digits) && nat_le (length digits) 1024 then result_ok (decode_of digits) else None
 
 -- `NODE CLIENT MOMENT LINE`, where the line is all that stands behind the third space
-abbrev pub client_act : List ℕ → Option Act
-client_act text = do
+abbrev pub said_line : List ℕ → Option RoundLine
+said_line text = do
   first ← halves_of 32 text
   second ← halves_of 32 first.behind
   third ← halves_of 32 second.behind
   node ← number_of first.before
   client ← number_of second.before
   moment ← number_of third.before
-  Some (Says node client moment third.behind)
+  Some (record { node = node; client = client; moment = moment; line = third.behind })
+
+-- a line that is said
+abbrev pub client_act : List ℕ → Option Act
+client_act text = do
+  said ← said_line text
+  Some (Says said.node said.client said.moment said.line)
 
 -- `NODE K`
 abbrev pub deliver_act : List ℕ → Option Act
@@ -104,23 +113,71 @@ event_line line = do
   halves ← halves_of 32 line
   event_of_word halves.before halves.behind
 
--- one event more, before others
-abbrev pub with_first : Event → Result (List Event) ℕ → Result (List Event) ℕ
-with_first event (Ok events) = Ok (event ∷ events)
-with_first event (Err number) = Err number
+-- the number of a node above another, of so many nodes
+abbrev pub member_above : ℕ → ℕ → List ℕ → Option ℕ
+member_above nodes last text = do
+  node ← number_of text
+  if nat_lt last node && nat_le node nodes then Some node else None
 
--- what the line with this number says, before what the lines behind it say
-abbrev pub with_line : ℕ → Option Event → Result (List Event) ℕ → Result (List Event) ℕ
-with_line number None rest = Err number
-with_line number (Some event) rest = with_first event rest
+-- the nodes of fields, each above the one before it, and the first above another, of so many nodes
+abbrev pub members_above : ℕ → ℕ → List (List ℕ) → Option (List ℕ)
+members_above nodes last [] = Some []
+members_above nodes last (field ∷ fields) = do
+  node ← member_above nodes last field
+  more ← members_above nodes node fields
+  Some (node ∷ more)
 
--- the events of lines that are numbered from a number on, or the number of the first line that says none
-abbrev pub script_from : ℕ → List (List ℕ) → Result (List Event) ℕ
-script_from number [] = Ok []
-script_from number (line ∷ more) =
-    if is_remark line then script_from (number + 1) more
-    else with_line number (event_line line) (script_from (number + 1) more)
+-- `A B ..`: a strict majority of so many nodes, in ascending order
+abbrev pub live_members : ℕ → List ℕ → Option (List ℕ)
+live_members nodes text = do
+  live ← members_above nodes 0 (fields_of text)
+  if nat_lt nodes (2 * length live) then Some live else None
 
--- the events of a script, or the number, from 1, of its first line that is in another form
-abbrev pub script_of : List ℕ → Result (List Event) ℕ
-script_of text = script_from 1 (lines_of text)
+-- the live members that a line says, of so many nodes
+abbrev pub live_line : ℕ → List ℕ → Option (List ℕ)
+live_line nodes line = do
+  halves ← halves_of 32 line
+  if bytes_eq halves.before (codes "live") then live_members nodes halves.behind else None
+
+-- `NODE CLIENT MOMENT LINE`, at one of these members
+abbrev pub line_among : List ℕ → List ℕ → Option RoundLine
+line_among live text = do
+  said ← said_line text
+  if is_live live said.node then Some said else None
+
+-- the round that a line says, among these members
+abbrev pub round_among : List ℕ → List ℕ → Option RoundLine
+round_among live line = do
+  halves ← halves_of 32 line
+  if bytes_eq halves.before (codes "round") then line_among live halves.behind else None
+
+-- a script with an event more
+abbrev pub with_event : ScriptRecord → Event → ScriptRecord
+with_event script event = record script { events = script.events ++ event ∷ [] }
+
+-- a script whose events are over, with these live members
+abbrev pub with_live : ScriptRecord → List ℕ → ScriptRecord
+with_live script live = record script { live = live }
+
+-- a script with a round more
+abbrev pub with_round : ScriptRecord → RoundLine → ScriptRecord
+with_round script round = record script { rounds = script.rounds ++ round ∷ [] }
+
+-- the script with a line more, which says live members or an event
+abbrev pub with_first_part : ℕ → ScriptRecord → List ℕ → Option ScriptRecord
+with_first_part nodes script line =
+    option_or (option_map (with_live script) (live_line nodes line)) (option_map (with_event script) (event_line line))
+
+-- The script with a line more, of so many nodes. Once there are live members, all lines are rounds.
+abbrev pub with_telling_line : ℕ → ScriptRecord → List ℕ → Option ScriptRecord
+with_telling_line nodes script line =
+    if length script.live == 0 then with_first_part nodes script line
+    else option_map (with_round script) (round_among script.live line)
+
+-- the same, where the line may say nothing
+abbrev pub with_line : ℕ → ScriptRecord → List ℕ → Option ScriptRecord
+with_line nodes script line = if is_remark line then Some script else with_telling_line nodes script line
+
+-- what a script says of so many nodes, or the number, from 1, of its first bad line
+abbrev pub script_of : ℕ → List ℕ → Result ScriptRecord ℕ
+script_of nodes text = state_after (with_line nodes) 1 empty_script (lines_of text)

@@ -6,7 +6,7 @@ use thiserror::Error;
 /// Why a script isn't read.
 #[derive(Clone, Copy, Debug, PartialEq, Eq, Error)]
 pub enum ScriptFault {
-    /// The line with this number, from 1, is no event, no comment and not empty.
+    /// The line with this number, from 1, is the first bad one.
     #[error("script line {0}")]
     Line(u64),
     /// An allocation was refused.
@@ -24,11 +24,21 @@ impl<T: Drop> From<AllocFailed<T>> for ScriptFault {
     }
 }
 
-/// Why a line gives no event.
+/// Why a line isn't taken.
 #[derive(Clone, Copy, Debug, PartialEq, Eq)]
 pub(crate) enum LineFault {
-    /// It is in another form.
+    /// It is bad: in another form, or out of its place.
     Form,
     /// An allocation was refused.
     Memory,
+}
+
+impl<T: Drop> From<AllocFailed<T>> for LineFault {
+    ghost use Rattle.sim_script.specs.declared.fault.LineFault.TheVariants.{Memory};
+
+    ghost from_gives = { λ _ fault. fault ≡ Memory };
+
+    fn from(_: AllocFailed<T>) -> Self {
+        LineFault::Memory
+    }
 }

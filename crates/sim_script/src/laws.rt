@@ -1,22 +1,28 @@
 ghost use Rattle.std.specs.Prelude.{◌≡◌, ◌↔◌, ℕ, List, [], ◌∷◌, ◌++◌, None, Some, Ok, Err};
 ghost use Rattle.std.specs.Prelude.{codes, false, replicate, true};
+ghost use Rattle.cluster_sim.specs.Rounds.{RoundLine};
 ghost use Rattle.sim_script.specs.Event.{Cut, Deliver, Happens, Noise, Restart, Says, Ticks, Event};
-ghost use Rattle.sim_script.specs.Grammar.{HasFirstBad, IsEventLine, IsScript};
+ghost use Rattle.sim_script.specs.Event.{ScriptRecord, empty_script, eventful};
+ghost use Rattle.sim_script.specs.Grammar.{HasFirstBad, IsEventLine, IsLiveLine, IsRoundLine, IsScript};
 ghost use Rattle.sim_script.specs.Reading.{IsRefused};
 ghost use Rattle.sim_script.specs.ReportText.{report_text};
-ghost use Rattle.sim_script.specs.Script.{bytes_of, event_line, script_of};
+ghost use Rattle.sim_script.specs.Script.{bytes_of, event_line, live_line, round_among, script_of};
 ghost use Rattle.sim_script.specs.declared.fault.ScriptFault.TheVariants.{Line, Memory};
 
 /// A line is in the grammar exactly where it is read so.
 pub fn grammar_is_read()
-    ensures { (line : List ℕ) (event : Event) → IsEventLine line event ↔ (event_line line ≡ Some event) }
+    ensures event { (line : List ℕ) (event : Event) → IsEventLine line event ↔ (event_line line ≡ Some event) }
+    ensures live { (nodes : ℕ) (line live : List ℕ) → IsLiveLine nodes line live ↔ (live_line nodes line ≡ Some live) }
+    ensures round { (live line : List ℕ) (round : RoundLine)
+        → IsRoundLine live line round ↔ (round_among live line ≡ Some round) }
 {}
 
-/// A script says events exactly where they are read, and its first line in another form is the one that is told.
+/// A text is a script exactly where it is read so, and its first bad line is the one that is told.
 pub fn scripts_are_in_the_grammar()
-    ensures events { (text : List ℕ) (events : List Event)
-        → IsScript text events ↔ (script_of text ≡ Ok events) }
-    ensures fault { (text : List ℕ) (number : ℕ) → HasFirstBad text number ↔ (script_of text ≡ Err number) }
+    ensures script { (nodes : ℕ) (text : List ℕ) (script : ScriptRecord)
+        → IsScript nodes text script ↔ (script_of nodes text ≡ Ok script) }
+    ensures fault { (nodes : ℕ) (text : List ℕ) (number : ℕ)
+        → HasFirstBad nodes text number ↔ (script_of nodes text ≡ Err number) }
 {}
 
 /// Some lines of scripts.
@@ -66,19 +72,81 @@ pub fn lines_are_worked()
     ensures empty { event_line [] ≡ None }
 {}
 
+/// Lines that say which members are live, and rounds among them.
+pub fn rounds_are_worked()
+    // live members
+    ensures live { live_line 3 (codes "live 1 2") ≡ Some (1 ∷ 2 ∷ []) }
+    ensures all { live_line 3 (codes "live 1 2 3") ≡ Some (1 ∷ 2 ∷ 3 ∷ []) }
+    ensures last { live_line 3 (codes "live 02 3") ≡ Some (2 ∷ 3 ∷ []) }
+    ensures alone { live_line 1 (codes "live 1") ≡ Some (1 ∷ []) }
+    ensures nine { live_line 9 (codes "live 1 2 3 4 9") ≡ Some (1 ∷ 2 ∷ 3 ∷ 4 ∷ 9 ∷ []) }
+
+    // no strict majority
+    ensures half { live_line 4 (codes "live 1 2") ≡ None }
+    ensures few { live_line 3 (codes "live 1") ≡ None }
+
+    // out of order, and no nodes of the cluster
+    ensures twice { live_line 3 (codes "live 1 1") ≡ None }
+    ensures descending { live_line 3 (codes "live 2 1") ≡ None }
+    ensures zero { live_line 3 (codes "live 0 1") ≡ None }
+    ensures beyond { live_line 3 (codes "live 2 4") ≡ None }
+    ensures far_beyond { live_line 3 (codes "live 1 258") ≡ None }
+
+    // other forms
+    ensures nobody { live_line 3 (codes "live ") ≡ None }
+    ensures live_alone { live_line 3 (codes "live") ≡ None }
+    ensures two_spaces { live_line 3 (codes "live 1  2") ≡ None }
+    ensures space_behind { live_line 3 (codes "live 1 2 ") ≡ None }
+    ensures comma { live_line 3 (codes "live 1,2") ≡ None }
+    ensures no_event { event_line (codes "live 1 2") ≡ None }
+
+    // rounds
+    ensures round { round_among (1 ∷ 2 ∷ []) (codes "round 2 7 100 CHECK 1")
+        ≡ Some (record { node = 2; client = 7; moment = 100; line = codes "CHECK 1" }) }
+    ensures nothing_said { round_among (1 ∷ []) (codes "round 1 7 100 ")
+        ≡ Some (record { node = 1; client = 7; moment = 100; line = [] }) }
+    ensures elsewhere { round_among (1 ∷ 2 ∷ []) (codes "round 3 7 100 CHECK 1") ≡ None }
+    ensures beyond_a_byte { round_among (1 ∷ 2 ∷ []) (codes "round 257 7 100 CHECK 1") ≡ None }
+    ensures no_line { round_among (1 ∷ 2 ∷ []) (codes "round 1 7 100") ≡ None }
+    ensures client { round_among (1 ∷ 2 ∷ []) (codes "client 1 7 100 CHECK 1") ≡ None }
+    ensures round_is_no_event { event_line (codes "round 1 7 100 CHECK 1") ≡ None }
+{}
+
 /// Some scripts.
 pub fn scripts_are_read()
-    ensures events { script_of (codes "tick 1\ndeliver 2 0\n")
-        ≡ Ok (Happens (Ticks 1) ∷ Happens (Deliver 2 0) ∷ []) }
-    ensures last_line { script_of (codes "tick 1\ntick 2") ≡ Ok (Happens (Ticks 1) ∷ Happens (Ticks 2) ∷ []) }
-    ensures nothing { script_of [] ≡ Ok [] }
-    ensures remarks { script_of (codes "# one\n\ntick 1\n#\n\n") ≡ Ok (Happens (Ticks 1) ∷ []) }
-    ensures first { script_of (codes "tick\ntick 1\n") ≡ Err 1 }
-    ensures counted { script_of (codes "# one\n\ntick 1\ntick\n") ≡ Err 4 }
-    ensures first_of_two { script_of (codes "tick 1\ntick\ntick\n") ≡ Err 2 }
-    ensures last_bad { script_of (codes "tick 1\ntick") ≡ Err 2 }
-    ensures blank { script_of (codes "tick 1\n \n") ≡ Err 2 }
-    ensures remark_behind { script_of (codes "tick 1\n #\n") ≡ Err 2 }
+    ensures events { script_of 3 (codes "tick 1\ndeliver 2 0\n")
+        ≡ Ok (eventful (Happens (Ticks 1) ∷ Happens (Deliver 2 0) ∷ [])) }
+    ensures last_line { script_of 3 (codes "tick 1\ntick 2")
+        ≡ Ok (eventful (Happens (Ticks 1) ∷ Happens (Ticks 2) ∷ [])) }
+    ensures nothing { script_of 3 [] ≡ Ok empty_script }
+    ensures remarks { script_of 3 (codes "# one\n\ntick 1\n#\n\n") ≡ Ok (eventful (Happens (Ticks 1) ∷ [])) }
+    ensures no_node { script_of 3 (codes "tick 4") ≡ Ok (eventful (Happens (Ticks 4) ∷ [])) }
+    ensures first { script_of 3 (codes "tick\ntick 1\n") ≡ Err 1 }
+    ensures counted { script_of 3 (codes "# one\n\ntick 1\ntick\n") ≡ Err 4 }
+    ensures first_of_two { script_of 3 (codes "tick 1\ntick\ntick\n") ≡ Err 2 }
+    ensures last_bad { script_of 3 (codes "tick 1\ntick") ≡ Err 2 }
+    ensures blank { script_of 3 (codes "tick 1\n \n") ≡ Err 2 }
+    ensures remark_behind { script_of 3 (codes "tick 1\n #\n") ≡ Err 2 }
+
+    // rounds behind the events
+    ensures rounds { script_of 3 (codes "tick 1\nlive 1 2\nround 2 7 9 a\nround 1 8 9 b\n") ≡ Ok (record {
+      events = Happens (Ticks 1) ∷ [];
+      live = 1 ∷ 2 ∷ [];
+      rounds = record { node = 2; client = 7; moment = 9; line = codes "a" }
+          ∷ record { node = 1; client = 8; moment = 9; line = codes "b" } ∷ [];
+    }) }
+    ensures remarks_among { script_of 3 (codes "# one\nlive 1 2\n\n# two\nround 2 7 9 a") ≡ Ok (record {
+      events = [];
+      live = 1 ∷ 2 ∷ [];
+      rounds = record { node = 2; client = 7; moment = 9; line = codes "a" } ∷ [];
+    }) }
+    ensures live_alone { script_of 3 (codes "tick 1\nlive 2 3\n")
+        ≡ Ok (record { events = Happens (Ticks 1) ∷ []; live = 2 ∷ 3 ∷ []; rounds = [] }) }
+    ensures round_before { script_of 3 (codes "tick 1\nround 2 7 9 a\nlive 1 2\n") ≡ Err 2 }
+    ensures round_elsewhere { script_of 3 (codes "live 1 2\nround 1 7 9 a\nround 3 7 9 b\n") ≡ Err 3 }
+    ensures event_behind { script_of 3 (codes "live 1 2\n# one\ntick 1\nround 1 7 9 a\n") ≡ Err 3 }
+    ensures live_again { script_of 3 (codes "live 1 2\nlive 1 2\n") ≡ Err 2 }
+    ensures no_majority { script_of 4 (codes "tick 1\nlive 1 2\nround 1 7 9 a\n") ≡ Err 2 }
 {}
 
 /// A report as text.
@@ -96,9 +164,9 @@ pub fn reports_are_worked()
 
 /// What is promised of a refusal is broken by another line than the first bad one.
 pub fn promises_can_be_broken()
-    ensures kept { IsRefused (script_of (codes "tick 1\ntick\ntick\n")) (Line 2) }
-    ensures line_before { IsRefused (script_of (codes "tick 1\ntick\ntick\n")) (Line 1) → ⊥ }
-    ensures second_bad { IsRefused (script_of (codes "tick 1\ntick\ntick\n")) (Line 3) → ⊥ }
-    ensures good { IsRefused (script_of (codes "tick 1\n")) (Line 1) → ⊥ }
-    ensures memory { IsRefused (script_of (codes "tick 1\n")) Memory }
+    ensures kept { IsRefused (script_of 3 (codes "tick 1\ntick\ntick\n")) (Line 2) }
+    ensures line_before { IsRefused (script_of 3 (codes "tick 1\ntick\ntick\n")) (Line 1) → ⊥ }
+    ensures second_bad { IsRefused (script_of 3 (codes "tick 1\ntick\ntick\n")) (Line 3) → ⊥ }
+    ensures good { IsRefused (script_of 3 (codes "tick 1\n")) (Line 1) → ⊥ }
+    ensures memory { IsRefused (script_of 3 (codes "tick 1\n")) Memory }
 {}

@@ -1,15 +1,16 @@
 ghost use Rattle.std.specs.Prelude.{◌≡◌};
 ghost use Rattle.std.specs.Option.{option_map};
+ghost use Rattle.cluster_sim.specs.RoundRun.{round_line};
 ghost use Rattle.sim_script.specs.Event.{act_of, event_of};
 ghost use Rattle.sim_script.specs.Reading.{Reads};
 ghost use Rattle.sim_script.specs.Script.{act_of_word, bytes_of, client_act, cut_event, deliver_act, event_line};
 ghost use Rattle.sim_script.specs.Lines.{is_remark};
-ghost use Rattle.sim_script.specs.Script.{kept_of_word, noise_act, restart_event, tick_act};
+ghost use Rattle.sim_script.specs.Script.{kept_of_word, noise_act, restart_event, said_line, tick_act};
 
 use crate::fault::LineFault;
 use bumpalo::Bump;
 use bumpalo::collections::into_bump_slice;
-use cluster_sim::{Act, WorldEvent};
+use cluster_sim::{Act, RoundLine, WorldEvent};
 use field_text::{cut_at, read_number};
 use hex::FromHexError;
 
@@ -26,17 +27,35 @@ pub(crate) fn is_remark(line: &[u8]) -> bool
     }
 }
 
-/// A client's line: `NODE CLIENT MOMENT LINE`.
-fn read_client(text: &[u8]) -> Option<Act<'_>>
-    ensures { option_map act_of result ≡ client_act text.now }
+/// A client's line, with where and when it comes: `NODE CLIENT MOMENT LINE`.
+pub(crate) fn read_said(text: &[u8]) -> Option<RoundLine<'_>>
+    ensures { option_map round_line result ≡ said_line text.now }
 {
     let (node, rest) = cut_at(text, b' ')?;
     let (client, rest) = cut_at(rest, b' ')?;
     let (moment, line) = cut_at(rest, b' ')?;
-    Some(Act::Client {
+    Some(RoundLine {
         node: read_number(node)?,
         client: read_number(client)?,
         moment: read_number(moment)?,
+        line,
+    })
+}
+
+/// A client's line as an act.
+fn read_client(text: &[u8]) -> Option<Act<'_>>
+    ensures { option_map act_of result ≡ client_act text.now }
+{
+    let RoundLine {
+        node,
+        client,
+        moment,
+        line,
+    } = read_said(text)?;
+    Some(Act::Client {
+        node,
+        client,
+        moment,
         line,
     })
 }

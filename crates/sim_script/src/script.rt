@@ -1,13 +1,60 @@
-ghost use Rattle.std.specs.Prelude.{◌≡◌, ◌==◌, IfErr, IfOk, Ok, map};
-ghost use Rattle.sim_script.specs.Event.{event_of};
-ghost use Rattle.sim_script.specs.Reading.{IsRefused};
-ghost use Rattle.sim_script.specs.Script.{script_of};
+ghost use Rattle.std.specs.Prelude.{◌≡◌, ◌≤◌, ◌==◌, IfErr, IfOk, Ok};
+ghost use Rattle.sim_script.specs.Event.{empty_script, script_value};
+ghost use Rattle.sim_script.specs.Reading.{IsRefused, Takes};
+ghost use Rattle.sim_script.specs.Script.{script_of, with_line};
 
 use crate::fault::{LineFault, ScriptFault};
 use crate::line::{is_remark, read_event};
+use crate::rounds::{MAX_NODES, read_live, read_round};
+use arrayvec::ArrayVec;
 use bumpalo::Bump;
-use cluster_sim::WorldEvent;
+use cluster_sim::{RoundLine, WorldEvent};
 use std::alloc::Global;
+
+/// What a script says.
+#[derive(Drop)]
+pub struct Script<'a> {
+    /// What happens first, in order.
+    pub events: Vec<WorldEvent<'a>>,
+    /// The members that are live behind the events: a strict majority, in ascending order. None where no line names
+    /// them.
+    pub live: ArrayVec<u8, MAX_NODES>,
+    /// The lines that come among the live members, each in a round of its own.
+    pub rounds: Vec<RoundLine<'a>>,
+}
+
+impl<'a> Script<'a> {
+    /// A script that says nothing.
+    fn new(alloc: Global) -> Self
+        ensures { script_value result ≡ empty_script }
+    {
+        Script {
+            events: Vec::new(alloc),
+            live: ArrayVec::new(),
+            rounds: Vec::new(alloc),
+        }
+    }
+
+    /// Takes a line more, in a script of so many nodes. Where that is refused, what is left is not said.
+    fn take_line(&mut self, arena: &'a Bump, nodes: u8, line: &'a [u8]) -> Result<(), LineFault>
+        requires { nodes ≤ 9 }
+        ensures { Takes (with_line nodes (script_value self.old) line.now) (script_value self.new) result }
+    {
+        if is_remark(line) {
+            return Ok(());
+        }
+        if !self.live.is_empty() {
+            let round = read_round(&self.live, line).ok_or(LineFault::Form)?;
+            self.rounds.push(round)?;
+        } else if let Some(live) = read_live(nodes, line) {
+            self.live = live;
+        } else {
+            let event = read_event(arena, line)?;
+            self.events.push(event)?;
+        }
+        Ok(())
+    }
+}
 
 /// Whether a byte ends a line.
 fn is_line_end(byte: &u8) -> bool
@@ -16,32 +63,32 @@ fn is_line_end(byte: &u8) -> bool
     *byte == b'\n'
 }
 
-/// The events of a script, in order. Each stands on a line of its own; an empty line and one that begins with `#`
-/// say nothing. The events borrow the text, and the bytes of noises are placed in the arena. Time and memory are
-/// in proportion to the text.
+/// What a script says of a cluster of so many nodes, at most 9: its events, and then, if it has them, its live members
+/// and its rounds. Each stands on a line of its own; an empty line and one that begins with `#` say nothing. What is
+/// said borrows the text, and the bytes of noises are placed in the arena. Time and memory are in proportion to the
+/// text.
 ///
 /// # Errors
-/// `Line` with the number, from 1, of the first line in another form; `Memory`.
+/// `Line` with the number, from 1, of the first line that is in another form or out of its place; `Memory`.
 pub fn read_script<'a>(
     alloc: Global,
     arena: &'a Bump,
+    nodes: u8,
     text: &'a [u8],
-) -> Result<Vec<WorldEvent<'a>>, ScriptFault>
-    ensures events { IfOk result (λ events. script_of text.now ≡ Ok (map event_of events.items)) }
-    ensures fault { IfErr result (IsRefused (script_of text.now)) }
+) -> Result<Script<'a>, ScriptFault>
+    requires { nodes ≤ 9 }
+    ensures script { IfOk result (λ script. script_of nodes text.now ≡ Ok (script_value script)) }
+    ensures fault { IfErr result (IsRefused (script_of nodes text.now)) }
 {
-    let mut events = Vec::new(alloc);
+    let mut script = Script::new(alloc);
     let mut number: u64 = 0;
     for line in text.split(is_line_end) {
         number += 1;
-        if is_remark(line) {
-            continue;
-        }
-        match read_event(arena, line) {
-            Ok(event) => events.push(event)?,
+        match script.take_line(arena, nodes, line) {
+            Ok(()) => {}
             Err(LineFault::Form) => return Err(ScriptFault::Line(number)),
             Err(LineFault::Memory) => return Err(ScriptFault::Memory),
         }
     }
-    Ok(events)
+    Ok(script)
 }

@@ -2,17 +2,22 @@ use super::*;
 use crate::report::{write_answers, write_passes, write_sent};
 use arrayvec::ArrayVec;
 use bumpalo::Bump;
-use cluster_sim::{Act, WorldAnswer, WorldEvent, WorldPass};
+use cluster_sim::{Act, RoundLine, WorldAnswer, WorldEvent, WorldPass};
 use command_line::OutsideFault;
 use otp_core::Factor;
 use std::alloc::Global;
 use std::io::{self, ErrorKind, Write};
 use std::test::Fail;
 
-/// The fault of a script.
-fn fault(alloc: Global, text: &[u8]) -> Option<ScriptFault> {
+/// The fault of a script of so many nodes.
+fn fault_among(alloc: Global, nodes: u8, text: &[u8]) -> Option<ScriptFault> {
     let arena = Bump::new(alloc);
-    read_script(alloc, &arena, text).err()
+    read_script(alloc, &arena, nodes.min(9), text).err()
+}
+
+/// The fault of a script of three nodes.
+fn fault(alloc: Global, text: &[u8]) -> Option<ScriptFault> {
+    fault_among(alloc, 3, text)
 }
 
 #[test]
@@ -24,7 +29,9 @@ fn scripts_are_events(rt: HostRuntime) -> Result<(), Fail> {
         b"# a story\nclient 1 7 100 CHECK 1 a\n\ndeliver 2 0\ntick 3\n",
     )?;
     text.extend_from_slice(b"noise 1 2 00fF\nrestart 2\ncut lost tick 1\ncut kept noise 3 256 ab")?;
-    let events = read_script(alloc, &arena, &text)?;
+    let script = read_script(alloc, &arena, 3, &text)?;
+    assert!(rt; script.live.is_empty() && script.rounds.is_empty());
+    let events = script.events;
     assert!(rt; events.len() == 7);
     assert!(rt;
         matches!(
@@ -105,6 +112,100 @@ fn other_forms_are_told_by_their_line(rt: HostRuntime) -> Result<(), Fail> {
         (b"cut lost cut lost tick 1\n", 1),
         (b"cut off tick 1\n", 1),
         (b"cut tick 1\n", 1),
+    ] {
+        assert!(rt; fault(alloc, text) == Some(ScriptFault::Line(number)));
+    }
+    Ok(())
+}
+
+#[test]
+fn rounds_stand_behind_the_events(rt: HostRuntime) -> Result<(), Fail> {
+    let alloc = rt.alloc();
+    let arena = Bump::new(alloc);
+    let text = b"tick 1\n# node 1 is lost\nlive 2 3\n\nround 3 8 1000 CHECK b\nround 2 7 1005 ";
+    let script = read_script(alloc, &arena, 3, text)?;
+    assert!(rt; script.events.len() == 1);
+    assert!(rt; script.live.as_slice() == b"\x02\x03".as_slice());
+    assert!(rt; script.rounds.len() == 2);
+    assert!(rt;
+        matches!(
+            script.rounds[0],
+            RoundLine {
+                node: 3,
+                client: 8,
+                moment: 1000,
+                line: b"CHECK b"
+            }
+        )
+    );
+    assert!(rt;
+        matches!(
+            script.rounds[1],
+            RoundLine {
+                node: 2,
+                client: 7,
+                moment: 1005,
+                line: b""
+            }
+        )
+    );
+    Ok(())
+}
+
+/// Live members are a strict majority in ascending order, and a script may end with them.
+#[test]
+fn live_members_are_a_majority(rt: HostRuntime) -> Result<(), Fail> {
+    let alloc = rt.alloc();
+    for (nodes, text, is_taken) in [
+        (1, b"live 1".as_slice(), true),
+        (2, b"live 1 2", true),
+        (2, b"live 1", false),
+        (3, b"live 1 3", true),
+        (3, b"live 2", false),
+        (4, b"live 1 2 4", true),
+        (4, b"live 1 2", false),
+        (9, b"live 1 2 3 4 5 6 7 8 9", true),
+        (9, b"live 5 6 7 8 9", true),
+        (9, b"live 6 7 8 9", false),
+        (9, b"live 1 2 3 4 5 6 7 8 9 10", false),
+        (3, b"live 1 2 4", false),
+        (3, b"live 0 1 2", false),
+        (3, b"live 2 1", false),
+        (3, b"live 1 1", false),
+        (3, b"live 1 2 258", false),
+        (3, b"live", false),
+        (3, b"live ", false),
+        (3, b"live 1  2", false),
+        (3, b"live 1 2 ", false),
+        (3, b"live 1 x", false),
+    ] {
+        let wanted = if is_taken {
+            None
+        } else {
+            Some(ScriptFault::Line(1))
+        };
+        assert!(rt; fault_among(alloc, nodes, text) == wanted);
+    }
+    Ok(())
+}
+
+#[test]
+fn lines_out_of_place_are_told(rt: HostRuntime) -> Result<(), Fail> {
+    let alloc = rt.alloc();
+    for (text, number) in [
+        (b"round 1 7 9 a\nlive 1 2\n".as_slice(), 1),
+        (b"tick 1\n\nround 1 7 9 a\n", 3),
+        (b"live 1 2\nround 3 7 9 a\n", 2),
+        (b"live 1 2\nround 1 7 9 a\nround 0 7 9 a\n", 3),
+        (b"live 1 2\nround 257 7 9 a\n", 2),
+        (b"live 1 2\ntick 1\n", 2),
+        (b"live 1 2\n# one\nround 1 7 9 a\ndeliver 2 0\n", 4),
+        (b"live 1 2\nclient 1 7 9 a\n", 2),
+        (b"live 1 2\nlive 1 2\n", 2),
+        (b"live 1 2\nround 1 7 9 a\nlive 1 2\n", 3),
+        (b"live 1 2\nround 1 7 9\n", 2),
+        (b"live 1 2\nround 1  7 9 a\n", 2),
+        (b"cut kept round 1 7 9 a\n", 1),
     ] {
         assert!(rt; fault(alloc, text) == Some(ScriptFault::Line(number)));
     }

@@ -1,0 +1,12 @@
+use Rattle.std.proofs.Common.{◌≤◌, length}
+use Rattle.sim_script.specs.Lines.{fields_of}
+use Rattle.sim_script.proofs.RoundLemmas.{HasMembers}
+use Rattle.sim_script.proofs.rounds.read_members.Given as goal
+
+-- as many fields are read as were yielded, and the members are fewer than the last of them says
+abbrev pub invariant-loop-field : goal.invariant-loop-field
+invariant-loop-field l = record {
+  members : HasMembers l.fn.nodes (fields_of l.fn.text) l.live.items l.last (length l.yielded);
+  few : length l.live.items ≤ l.last;
+  within : l.last ≤ l.fn.nodes;
+}
