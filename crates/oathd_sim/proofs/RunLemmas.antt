@@ -1,27 +1,33 @@
 -- What a run of a script tells, and how a simulation ends.
-use Rattle.std.proofs.Common.{◌≡◌, ◌<◌, arith, ℕ, Bool, List, [], ◌∷◌, map, replicate, Option, Some, None, IfSome, refl, sym, ap, subst, ◌∙◌}
-use Rattle.std.specs.Prelude.{Result, Ok, Err, IfErr, OnOk, slice_get}
+use Rattle.std.proofs.Common.{◌≡◌, ◌<◌, arith, ℕ, Bool, true, List, [], ◌∷◌, length, map, replicate, Option, Some, None, IfSome, refl, sym, ap, subst, ◌∙◌}
+use Rattle.std.proofs.lemmas.Bool.{eqb-true}
+use Rattle.std.specs.Prelude.{◌==◌, Result, Ok, Err, IfErr, IfOk, OnOk, slice_get}
 use Rattle.std.specs.Option.{option_map}
 use Rattle.std.proofs.lemmas.List.{get_or-replicate, length-replicate}
 use Rattle.std.proofs.lemmas.Option.{get_or_from_slice_get, slice_get-map, slice_get_within}
 use Rattle.std.specs.Io.KnownBytes.{Appends}
 use Rattle.std.proofs.KnownBytes.{Appends-nil}
+use Rattle.std.proofs.lemmas.List.{append-nil}
+use Rattle.oath_node.specs.Machine.{Config}
 use Rattle.otp_core.specs.Limits.{Limits}
 use Rattle.token_file.specs.Credential.{Credential}
 use Rattle.token_file.specs.UsersFile.{Import, import_of}
 use Rattle.token_file.specs.declared.fault.LineFault.{LineFault}
 use Rattle.cluster_sim.specs.Journal as code
+use Rattle.cluster_sim.specs.RoundRun.{round_lines}
+use Rattle.cluster_sim.specs.Rounds.{events_with_rounds}
 use Rattle.cluster_sim.specs.World as world
 use Rattle.cluster_sim.specs.World.{ReportValue, report_of}
 use Rattle.cluster_sim.specs.declared.script.Act as acts
 use Rattle.cluster_sim.specs.declared.script.Act.TheVariants.{Client, Deliver, Tick, Noise}
 use Rattle.cluster_sim.specs.declared.script.WorldEvent as events
 use Rattle.cluster_sim.specs.declared.script.WorldEvent.TheVariants.{Happens, Cut, Restart}
-use Rattle.sim_script.specs.Event.{Event, act_of, event_of}
+use Rattle.sim_script.specs.Event.{ScriptRecord, act_of, event_of, script_value}
+use Rattle.sim_script.specs.declared.script.Script.{Script}
 use Rattle.sim_script.specs.ReportText.{report_text}
 use Rattle.users_input.specs.Input.{TextLine, lines_between, pieces_of}
 use Rattle.oathd_sim.specs.Parts.{HasParts, IsGivenUp, IsUnread}
-use Rattle.oathd_sim.specs.Sim.{EndsSo, IsCutSo, IsTaken, Setup, Sim, Reports, act_under, end_of, event_under, script_lines, script_read, sim_of_script, sim_of_users, sim_read}
+use Rattle.oathd_sim.specs.Sim.{EndsSo, IsCutSo, IsTaken, Setup, Sim, Reports, act_under, end_of, event_under, script_events, script_lines, script_read, sim_of_script, sim_of_users, sim_read}
 use Rattle.oathd_sim.specs.declared.fault.Fault.{Fault}
 use Rattle.oathd_sim.specs.declared.fault.Fault.TheVariants as fault
 
@@ -44,16 +50,46 @@ events_same key (event ∷ more) =
     ap (λ (e : world.WorldEvent). e ∷ map (event_under key) (map event_of more)) (event_same key event)
     ∙ ap (λ (es : List world.WorldEvent). code.event_of key event ∷ es) (events_same key more)
 
+-- what is run of a script, as the code has it
+pub script_same : (config : Config) (floors : List (List ℕ)) (key : List ℕ) (script : Script)
+    → script_events config floors key (script_value script)
+    ≡ events_with_rounds config floors (map (code.event_of key) script.events.items) script.live.items (round_lines script.rounds.items)
+script_same config floors key script =
+    ap (λ (es : List world.WorldEvent). events_with_rounds config floors es script.live.items (round_lines script.rounds.items)) (events_same key script.events.items)
+
+-- a list that is tested to be empty
+pub empty_is : {X : Type 0} (xs : List X) → (length xs == 0) ≡ true → xs ≡ []
+empty_is [] e = refl
+empty_is (x ∷ xs) e = let zero = eqb-true (length (x ∷ xs)) 0 e in absurd (omega (arith, zero))
+
+-- what is run of a script without rounds
+pub eventful_same : (config : Config) (floors : List (List ℕ)) (key : List ℕ) (script : Script) → script.rounds.items ≡ []
+    → script_events config floors key (script_value script) ≡ map (code.event_of key) script.events.items
+eventful_same config floors key script none =
+    script_same config floors key script
+    ∙ ap (λ rounds. events_with_rounds config floors (map (code.event_of key) script.events.items) script.live.items (round_lines rounds)) none
+    ∙ append-nil (map (code.event_of key) script.events.items)
+
 -- a run of the script tells this
-pub told : (setup : Setup) (book : List Credential) (floors : List ℕ) (script : Result (List Event) ℕ) (all : List events.WorldEvent)
-    (lists : List (List ℕ)) (report : ReportValue) → script ≡ Ok (map event_of all) → lists ≡ replicate setup.nodes floors
-    → report ≡ report_of (record { book = book; limits = setup.limits }) lists (map (code.event_of setup.key) all)
-    → sim_of_script setup (import_of book floors) script ≡ Reports report
-told setup book floors script all lists report said copied is =
-    ap (sim_of_script setup (import_of book floors)) said
-    ∙ ap (λ (es : List world.WorldEvent). Reports (report_of (record { book = book; limits = setup.limits }) (replicate setup.nodes floors) es)) (events_same setup.key all)
-    ∙ ap (λ (ls : List (List ℕ)). Reports (report_of (record { book = book; limits = setup.limits }) ls (map (code.event_of setup.key) all))) (sym copied)
-    ∙ ap Reports (sym is)
+told : (setup : Setup) (book : List Credential) (floors : List ℕ) (said : Result ScriptRecord ℕ) (script : ScriptRecord)
+    (lists : List (List ℕ)) (report : ReportValue) → said ≡ Ok script → lists ≡ replicate setup.nodes floors
+    → report ≡ report_of (record { book = book; limits = setup.limits }) lists
+    (script_events (record { book = book; limits = setup.limits }) lists setup.key script)
+    → sim_of_script setup (import_of book floors) said ≡ Reports report
+told setup book floors said script lists report is copied same =
+    ap (sim_of_script setup (import_of book floors)) is
+    ∙ ap (λ (ls : List (List ℕ)). Reports (report_of (record { book = book; limits = setup.limits }) ls
+    (script_events (record { book = book; limits = setup.limits }) ls setup.key script))) (sym copied)
+    ∙ ap Reports (sym same)
+
+-- where there is a report, it is what the script tells
+pub told_by : (setup : Setup) (book : List Credential) (floors : List ℕ) (said : Result ScriptRecord ℕ) (script : ScriptRecord)
+    (lists : List (List ℕ)) (result : Result ReportValue Fault) → said ≡ Ok script → lists ≡ replicate setup.nodes floors
+    → IfOk result (λ report. report ≡ report_of (record { book = book; limits = setup.limits }) lists
+    (script_events (record { book = book; limits = setup.limits }) lists setup.key script))
+    → IfOk result (λ report. sim_of_script setup (import_of book floors) said ≡ Reports report)
+told_by setup book floors said script lists (Ok report) is copied same = told setup book floors said script lists report is copied same
+told_by setup book floors said script lists (Err x) is copied same = tt
 
 -- each of the same lists is the list
 pub copy_at : {X : Type 0} (f : X → List ℕ) (lists : List X) (count : ℕ) (floors : List ℕ) → map f lists ≡ replicate count floors
@@ -66,7 +102,7 @@ copy_at f lists count floors e k list at =
 
 -- ---- the ends
 
-is_taken : (setup : Setup) (import : Import) (script : Result (List Event) ℕ) → IsTaken (sim_of_script setup import script)
+is_taken : (setup : Setup) (import : Import) (script : Result ScriptRecord ℕ) → IsTaken (sim_of_script setup import script)
 is_taken setup import (Ok all) = tt
 is_taken setup import (Err number) = tt
 
@@ -74,10 +110,10 @@ unread_text : (setup : Setup) (longest room : ℕ) (text : List ℕ) (x : Fault)
     → IsUnread setup.limits setup.moment longest room text x → EndsSo (sim_read setup longest room text) (Err x) out out
 unread_text setup longest room text fault.Memory out h = Appends-nil out
 unread_text setup longest room text fault.CannotRead out h =
-    (subst (λ (r : Result Import (ℕ × LineFault)). IsTaken (sim_of_users setup r (script_read room text))) (sym h.1) (is_taken setup h.0 (script_read room text)), Appends-nil out)
+    (subst (λ (r : Result Import (ℕ × LineFault)). IsTaken (sim_of_users setup r (script_read setup.nodes room text))) (sym h.1) (is_taken setup h.0 (script_read setup.nodes room text)), Appends-nil out)
 unread_text setup longest room text fault.CannotWrite out h = absurd h
 unread_text setup longest room text (fault.Users f) out h =
-    (λ t. ap (λ (r : Result Import (ℕ × LineFault)). end_of (sim_of_users setup r (script_read room text))) (sym (h.0 t)), Appends-nil out)
+    (λ t. ap (λ (r : Result Import (ℕ × LineFault)). end_of (sim_of_users setup r (script_read setup.nodes room text))) (sym (h.0 t)), Appends-nil out)
 unread_text setup longest room text (fault.ScriptLine number) out h = absurd h
 
 pub unread_ends : (setup : Setup) (longest room : ℕ) (a : Option (List ℕ)) (x : Fault) (out : Option (List ℕ))
@@ -100,12 +136,12 @@ unread_is_cut limits moment longest room (Some text) x h = unread_cut_text limit
 -- the simulation over two parts that are read
 module _ (setup : Setup) (longest room : ℕ) (book : List Credential) (floors : List ℕ) (script : List ℕ) (is_cut : Bool) where
   abbrev sim : Sim
-  sim = sim_of_script setup (import_of book floors) (script_lines 1 (lines_between is_cut (pieces_of script)))
+  sim = sim_of_script setup (import_of book floors) (script_lines setup.nodes (lines_between is_cut (pieces_of script)))
 
   parts_make : (text : List ℕ) → HasParts setup.limits setup.moment longest room text book floors script is_cut → sim_read setup longest room text ≡ sim
   parts_make text h =
-      ap (λ (r : Result Import (ℕ × LineFault)). sim_of_users setup r (script_read room text)) h.import
-      ∙ ap (λ (ls : List TextLine). sim_of_script setup (import_of book floors) (script_lines 1 ls)) h.rest
+      ap (λ (r : Result Import (ℕ × LineFault)). sim_of_users setup r (script_read setup.nodes room text)) h.import
+      ∙ ap (λ (ls : List TextLine). sim_of_script setup (import_of book floors) (script_lines setup.nodes ls)) h.rest
 
   given_up : (x : Fault) (out : Option (List ℕ)) → IsGivenUp sim x → EndsSo sim (Err x) out out
   given_up fault.Memory out h = Appends-nil out

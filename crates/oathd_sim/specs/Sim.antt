@@ -1,5 +1,5 @@
 -- What a simulation over one input tells, and how it ends.
-use Rattle.std.specs.Prelude.{◌≡◌, ℕ, ◌+◌, if◌then◌else◌, List, [], ◌∷◌, map, replicate, take, Option, Some, None, Result, Ok, Err, IsTrue}
+use Rattle.std.specs.Prelude.{◌≡◌, ℕ, ◌+◌, List, [], map, replicate, take, Option, Some, None, Result, Ok, Err, IsTrue}
 use Rattle.std.specs.Io.KnownBytes.{Appends}
 use Rattle.otp_core.specs.Limits.{Limits}
 use Rattle.token_file.specs.UsersFile.{Import, IsCutOff, book_of, instant_of, is_of_text}
@@ -7,26 +7,28 @@ use Rattle.token_file.specs.declared.fault.FileFault.{FileFault}
 use Rattle.token_file.specs.declared.fault.LineFault.{LineFault}
 use Rattle.token_file.specs.declared.fault.LineFault.TheVariants.{Read}
 use Rattle.oath_node.specs.Hosted.{envelope_at}
+use Rattle.oath_node.specs.Machine.{Config}
 use Rattle.cluster_sim.specs.World as world
 use Rattle.cluster_sim.specs.World.{ReportValue, report_of}
-use Rattle.sim_script.specs.Event.{Act, Says, Deliver, Ticks, Noise, Event, Happens, Cut, Restart}
+use Rattle.cluster_sim.specs.Rounds.{events_with_rounds}
+use Rattle.sim_script.specs.Event.{Act, Says, Deliver, Ticks, Noise, Event, Happens, Cut, Restart, ScriptRecord, empty_script}
 use Rattle.sim_script.specs.ReportText.{report_text}
-use Rattle.sim_script.specs.Lines.{is_remark}
-use Rattle.sim_script.specs.Script.{event_line, with_line}
+use Rattle.sim_script.specs.Script.{with_line}
+use Rattle.sim_script.specs.Turns.{state_after}
 use Rattle.users_input.specs.Input.{TextLine, lines_of, rest_part, users_file}
 use Rattle.oathd_sim.specs.declared.fault.Fault.{Fault}
 use Rattle.oathd_sim.specs.declared.fault.Fault.TheVariants.{Memory, CannotRead, CannotWrite, Users, ScriptLine}
 
 -- ---- The script
 
--- the events of lines that are numbered from a number on, or the number of the first line that says none; one that goes
--- on past the limit says none, whatever it begins with
-abbrev pub script_lines : ℕ → List TextLine → Result (List Event) ℕ
-script_lines number [] = Ok []
-script_lines number (None ∷ more) = Err number
-script_lines number (Some line ∷ more) =
-    if is_remark line then script_lines (number + 1) more
-    else with_line number (event_line line) (script_lines (number + 1) more)
+-- a script with a line more, of so many nodes; one that goes on past the limit is bad, whatever it begins with
+abbrev pub with_text_line : ℕ → ScriptRecord → TextLine → Option ScriptRecord
+with_text_line nodes script None = None
+with_text_line nodes script (Some line) = with_line nodes script line
+
+-- what lines say of so many nodes, or the number, from 1, of the first bad one
+abbrev pub script_lines : ℕ → List TextLine → Result ScriptRecord ℕ
+script_lines nodes lines = state_after (with_text_line nodes) 1 empty_script lines
 
 -- an act of a script, in the world of a cluster with this key
 abbrev pub act_under : List ℕ → Act → world.Act
@@ -41,6 +43,12 @@ event_under key (Happens act) = world.Happens (act_under key act)
 event_under key (Cut kept act) = world.Cut kept (act_under key act)
 event_under key (Restart node) = world.Restart node
 
+-- all that a script says of nodes with this configuration and these first free factors: its events, and then a round
+-- for each further line among its live members
+abbrev pub script_events : Config → List (List ℕ) → List ℕ → ScriptRecord → List world.WorldEvent
+script_events config floors key script =
+    events_with_rounds config floors (map (event_under key) script.events) script.live script.rounds
+
 -- ---- The simulation
 
 -- what a cluster is run with: how many nodes, their limits, the moment at which the users are imported, and the key
@@ -54,21 +62,21 @@ pub record Setup : Type 0 where
 pub data Sim : Type 0 where
   -- the users file has a fault
   Refused : FileFault → Sim
-  -- the line of the script with this number says no event
+  -- the line of the script with this number is its first bad one
   BadScript : ℕ → Sim
   -- what the run tells
   Reports : ReportValue → Sim
 
 -- the simulation of a script: each node opens with the first free factors of the import
-abbrev pub sim_of_script : Setup → Import → Result (List Event) ℕ → Sim
+abbrev pub sim_of_script : Setup → Import → Result ScriptRecord ℕ → Sim
 sim_of_script setup import (Err number) = BadScript number
-sim_of_script setup import (Ok events) = Reports (report_of
-    (record { book = import.book; limits = setup.limits })
-    (replicate setup.nodes import.floors)
-    (map (event_under setup.key) events))
+sim_of_script setup import (Ok script) =
+    let config : Config = record { book = import.book; limits = setup.limits } in
+    let floors : List (List ℕ) = replicate setup.nodes import.floors in
+    Reports (report_of config floors (script_events config floors setup.key script))
 
 -- the simulation over what a users file gives: an import, or its first fault
-abbrev pub sim_of_users : Setup → Result Import (ℕ × LineFault) → Result (List Event) ℕ → Sim
+abbrev pub sim_of_users : Setup → Result Import (ℕ × LineFault) → Result ScriptRecord ℕ → Sim
 sim_of_users setup (Err fault) script = Refused (record { line = fault.0; kind = fault.1 })
 sim_of_users setup (Ok import) script = sim_of_script setup import script
 
@@ -77,14 +85,15 @@ abbrev pub import_read : Limits → ℕ → ℕ → ℕ → List ℕ → Result 
 import_read limits moment longest limit read =
     book_of longest (instant_of limits moment) (users_file (lines_of limit read) read)
 
--- the script of what is read of an input, whose lines are numbered from 1 behind the users file and `%%`
-abbrev pub script_read : ℕ → List ℕ → Result (List Event) ℕ
-script_read limit read = script_lines 1 (rest_part (lines_of limit read))
+-- the script, of so many nodes, of what is read of an input, whose lines are numbered from 1 behind the users file and
+-- `%%`
+abbrev pub script_read : ℕ → ℕ → List ℕ → Result ScriptRecord ℕ
+script_read nodes limit read = script_lines nodes (rest_part (lines_of limit read))
 
 -- what a simulation makes of what is read of an input
 abbrev pub sim_read : Setup → ℕ → ℕ → List ℕ → Sim
 sim_read setup longest limit read =
-    sim_of_users setup (import_read setup.limits setup.moment longest limit read) (script_read limit read)
+    sim_of_users setup (import_read setup.limits setup.moment longest limit read) (script_read setup.nodes limit read)
 
 -- what a simulation makes of a text, where a users file has at most so many bytes, and the limit of bytes for the whole
 -- input is given. One byte more is read, to see whether the input goes on.

@@ -22,7 +22,7 @@ pub enum Fault {
     /// The users file has a fault.
     #[error("users {0}")]
     Users(FileFault),
-    /// The line of the script with this number, from 1, is no event, no comment and not empty.
+    /// The line of the script with this number, from 1, is its first bad one.
     #[error("script line {0}")]
     ScriptLine(u64),
 }

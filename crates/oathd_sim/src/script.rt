@@ -1,12 +1,11 @@
-ghost use Rattle.std.specs.Prelude.{◌≡◌, ◌==◌, ◌+◌, IfErr, IfOk, Ok, count_by, map};
-ghost use Rattle.sim_script.specs.Event.{event_of};
+ghost use Rattle.std.specs.Prelude.{◌≡◌, ◌==◌, ◌≤◌, ◌+◌, IfErr, IfOk, Ok, count_by};
+ghost use Rattle.sim_script.specs.Event.{script_value};
 ghost use Rattle.sim_script.specs.Reading.{IsRefused};
 ghost use Rattle.oathd_sim.specs.Sim.{script_lines};
 ghost use Rattle.users_input.specs.Input.{lines_between, pieces_of};
 
 use bumpalo::Bump;
-use cluster_sim::WorldEvent;
-use sim_script::{ScriptFault, read_script};
+use sim_script::{Script, ScriptFault, read_script};
 use std::alloc::Global;
 
 /// How many lines a text has, of which the last may be empty.
@@ -16,20 +15,22 @@ fn line_count(text: &[u8]) -> u64
     text.iter().filter(|byte| **byte == b'\n').count() as u64 + 1
 }
 
-/// The events of a script, of which the last line may be cut. A line that is cut is bad.
-pub(crate) fn read_events<'a>(
+/// What a script says of so many nodes, where its last line may be cut. A line that is cut is bad.
+pub(crate) fn read_lines<'a>(
     alloc: Global,
     arena: &'a Bump,
+    nodes: u8,
     text: &'a [u8],
     is_cut: bool,
-) -> Result<Vec<WorldEvent<'a>>, ScriptFault>
-    ensures events { IfOk result (λ events.
-        script_lines 1 (lines_between is_cut (pieces_of text.now)) ≡ Ok (map event_of events.items)) }
-    ensures fault { IfErr result (IsRefused (script_lines 1 (lines_between is_cut (pieces_of text.now)))) }
+) -> Result<Script<'a>, ScriptFault>
+    requires { nodes ≤ 9 }
+    ensures script { IfOk result (λ script.
+        script_lines nodes (lines_between is_cut (pieces_of text.now)) ≡ Ok (script_value script)) }
+    ensures fault { IfErr result (IsRefused (script_lines nodes (lines_between is_cut (pieces_of text.now)))) }
 {
-    let events = read_script(alloc, arena, text)?;
+    let script = read_script(alloc, arena, nodes, text)?;
     if is_cut {
         return Err(ScriptFault::Line(line_count(text)));
     }
-    Ok(events)
+    Ok(script)
 }

@@ -1,21 +1,29 @@
-ghost use Rattle.std.specs.Prelude.{◌≡◌, ◌+◌, ◌≤◌, ℕ, IfErr, IfOk, IfSome, OnOk, map, replicate, take};
+ghost use Rattle.std.specs.Prelude.{◌≡◌, ◌+◌, ◌≤◌, ℕ, IfErr, IfOk, IfSome, OnOk, Some, length, map};
+ghost use Rattle.std.specs.Prelude.{replicate, slice_get, take};
+ghost use Rattle.std.specs.Global.{Vec};
 ghost use Rattle.std.specs.Io.KnownBytes.{Appends};
+ghost use Rattle.cluster_sim.specs.Run.{floor_lists};
+ghost use Rattle.cluster_sim.specs.World.{report_of};
+ghost use Rattle.oath_node.specs.Machine.{Config};
 ghost use Rattle.otp_core.specs.Range.{IsMoment};
+ghost use Rattle.sim_script.specs.Event.{script_value};
 ghost use Rattle.sim_script.specs.ReportText.{report_text};
 ghost use Rattle.token_file.specs.UsersFile.{import_of};
 ghost use Rattle.users_input.specs.Input.{lines_between, pieces_of};
 ghost use Rattle.oathd_sim.specs.Parts.{IsGivenUp};
-ghost use Rattle.oathd_sim.specs.Sim.{EndsSo, IsCutSo, Reports, script_lines, sim_of, sim_of_script, sim_read};
+ghost use Rattle.oathd_sim.specs.Sim.{EndsSo, IsCutSo, Reports, script_events, script_lines, sim_of};
+ghost use Rattle.oathd_sim.specs.Sim.{sim_of_script, sim_read};
 
 use crate::fault::Fault;
 use crate::parts::{Parts, read_parts};
-use crate::script::read_events;
+use crate::script::read_lines;
 use bumpalo::Bump;
-use cluster_sim::{Report, run_world};
+use cluster_sim::{Report, run_rounds, run_world};
 use otp_core::{Next, Settings};
-use sim_script::write_report;
+use sim_script::{Script, write_report};
 use std::alloc::Global;
 use std::io::{BufRead, BufReader, Read, Write};
+use token_file::Book;
 use users_input::{Input, Retrying};
 use vote_wire::ClusterKey;
 
@@ -31,6 +39,42 @@ fn copies(alloc: Global, floors: &[Next], count: u8) -> Result<Vec<Vec<Next>>, F
     Ok(lists)
 }
 
+/// What a run of a script tells, over nodes with these first free factors.
+fn run_script(
+    alloc: Global,
+    book: &Book,
+    settings: Settings,
+    key: &ClusterKey,
+    floors: &[Vec<Next>],
+    script: &Script<'_>,
+) -> Result<Report, Fault>
+    requires first { 1 ≤ length floors.now }
+    requires last { length floors.now ≤ 9 }
+    requires each { (k : ℕ) (list : Vec ℕ) → slice_get floors.now k ≡ Some list
+        → length list.items ≡ length book.now }
+    ensures report { let config : Config = record { book = book.now; limits = settings } in
+        let lists = floor_lists floors.now in
+        let events = script_events config lists key.now (script_value script.now) in
+        IfOk result (λ report. report ≡ report_of config lists events) }
+    ensures fault { IfErr result (λ fault. fault ≡ Fault.Memory) }
+{
+    let events = script.events.as_slice();
+    let rounds = script.rounds.as_slice();
+    if rounds.is_empty() {
+        return Ok(run_world(alloc, book, settings, key, floors, events)?);
+    }
+    Ok(run_rounds(
+        alloc,
+        book,
+        settings,
+        key,
+        floors,
+        events,
+        &script.live,
+        rounds,
+    )?)
+}
+
 /// What a run of the script tells, over so many nodes that open with the first free factors of the users file.
 fn report_on(
     alloc: Global,
@@ -44,17 +88,23 @@ fn report_on(
     ensures report { (moment : ℕ) → IfOk result (λ report. sim_of_script
         (record { nodes = nodes; limits = settings; moment = moment; key = key.now })
         (import_of parts.now.book parts.now.floors.items)
-        (script_lines 1 (lines_between parts.now.script.is_cut (pieces_of parts.now.script.bytes.items)))
+        (script_lines nodes (lines_between parts.now.script.is_cut (pieces_of parts.now.script.bytes.items)))
         ≡ Reports report) }
     ensures fault { (moment : ℕ) → IfErr result (IsGivenUp (sim_of_script
         (record { nodes = nodes; limits = settings; moment = moment; key = key.now })
         (import_of parts.now.book parts.now.floors.items)
-        (script_lines 1 (lines_between parts.now.script.is_cut (pieces_of parts.now.script.bytes.items))))) }
+        (script_lines nodes (lines_between parts.now.script.is_cut (pieces_of parts.now.script.bytes.items))))) }
 {
     let arena = Bump::new(alloc);
-    let events = read_events(alloc, &arena, &parts.script.bytes, parts.script.is_cut)?;
+    let script = read_lines(
+        alloc,
+        &arena,
+        nodes,
+        &parts.script.bytes,
+        parts.script.is_cut,
+    )?;
     let floors = copies(alloc, &parts.floors, nodes)?;
-    Ok(run_world(alloc, &parts.book, settings, key, &floors, &events)?)
+    run_script(alloc, &parts.book, settings, key, &floors, &script)
 }
 
 /// Writes what a run tells, and flushes it.
@@ -92,9 +142,10 @@ fn simulate<B: BufRead + Drop, W: Write>(
 
 /// Reads a users file, a line `%%` and a script of what happens to the nodes of a cluster, runs it over so many nodes,
 /// 1 to 9, each of which opens with the first free factors of the users file, and writes what the run tells, and
-/// flushes it. Nothing is written unless the whole script is good. At most `limit` bytes are read, and one more, which
-/// tells that the input goes on: then the line that the limit cuts is bad. The users are imported at the moment given,
-/// in seconds since 1970-01-01 00:00:00 UTC, 0 to 1099511627775. The script is held, and what the run tells.
+/// flushes it. Run are the events of the script, and then a round for each further line, among its live members. Nothing
+/// is written unless the whole script is good. At most `limit` bytes are read, and one more, which tells that the input
+/// goes on: then the line that the limit cuts is bad. The users are imported at the moment given, in seconds since
+/// 1970-01-01 00:00:00 UTC, 0 to 1099511627775. The script is held, and what the run tells.
 ///
 /// # Errors
 /// `Users` where the users file has a fault, or the input fails in its midst; `CannotRead` where the input fails later;

@@ -179,6 +179,60 @@ fn prints_reports(rt: HostRuntime) -> Result<(), Fail> {
     Ok(())
 }
 
+/// Rounds among live nodes, in a cluster of three.
+#[test]
+fn prints_rounds(rt: HostRuntime) -> Result<(), Fail> {
+    let alloc = rt.alloc();
+    let two_rounds =
+        "live 1 2\nround 1 7 1000 CHECK a silver 755224 -\nround 2 8 1000 CHECK b silver 287082 -\n";
+    let both = "pass 0 2 1 0 0 0\npass 3 5 2 0 1 1\nanswer 2 1 7 OK a 0\nanswer 5 2 8 OK b 1\n";
+    let third = "round 1 9 1000 CHECK c silver 755224 -\n";
+    let two = format!(in alloc; "{SILVER}{two_rounds}")?;
+    let two_printed = format!(in alloc; "{both}sent 6\n")?;
+    assert!(rt; ends_so(alloc, 3, 2000, two.as_str(), two_printed.as_str(), "")?);
+    let three = format!(in alloc; "{SILVER}{two_rounds}# and again\n\n{third}")?;
+    let three_printed = format!(in alloc; "{both}answer 6 1 9 NO c INVALID\nsent 6\n")?;
+    assert!(rt; ends_so(alloc, 3, 2000, three.as_str(), three_printed.as_str(), "")?);
+
+    // node 1 is lost, and a tick levels the floors of the others
+    let lost =
+        "client 1 7 1000 CHECK a silver 755224 -\ndeliver 2 0\ntick 2\ndeliver 3 4\nlive 2 3\n";
+    let rest = "round 3 8 1000 CHECK b silver 755224 -\nround 3 8 1005 CHECK c silver 287082 -\n";
+    let input = format!(in alloc; "{SILVER}{lost}{rest}")?;
+    let printed = "pass 5 7 3 0 1 1\nanswer 4 3 8 NO b INVALID\nanswer 7 3 8 OK c 1\nsent 8\n";
+    assert!(rt; ends_so(alloc, 3, 2000, input.as_str(), printed, "")?);
+
+    // without rounds it is what the events print
+    let alone = format!(in alloc; "{SILVER}{lost}")?;
+    assert!(rt; ends_so(alloc, 3, 2000, alone.as_str(), "sent 5\n", "")?);
+    Ok(())
+}
+
+/// Node 1 is lost with a code that waits at it, and another waits at node 3. Nodes 2 and 3 tick eight times each, and tell
+/// each other what is used up; then they serve on.
+#[test]
+fn prints_a_round_after_a_sweep(rt: HostRuntime) -> Result<(), Fail> {
+    let alloc = rt.alloc();
+    let mut script = String::new(alloc);
+    write!(
+        script,
+        "client 1 7 1000 CHECK a silver 755224 -\ndeliver 2 0\n"
+    )?;
+    write!(script, "client 3 8 1000 CHECK b silver 755224 -\n")?;
+    for told in [6, 8, 10, 12, 14, 16, 18, 20] {
+        write!(script, "tick 2\ndeliver 3 {told}\n")?;
+    }
+    // asks again for the line that waits stand before each of the first seven
+    for told in [24, 28, 32, 36, 40, 44, 48, 50] {
+        write!(script, "tick 3\ndeliver 2 {told}\n")?;
+    }
+    let round = "live 2 3\nround 3 8 1005 CHECK c silver 287082 -\n";
+    let input = format!(in alloc; "{SILVER}{script}{round}")?;
+    let printed = "pass 35 37 3 0 1 1\nanswer 33 3 8 NO b TIMEOUT\nanswer 37 3 8 OK c 1\nsent 54\n";
+    assert!(rt; ends_so(alloc, 3, 2000, input.as_str(), printed, "")?);
+    Ok(())
+}
+
 /// Of 33 lines at once, each of another user, the first 32 wait for votes, and the last one finds the node busy.
 #[test]
 fn prints_that_a_node_is_busy(rt: HostRuntime) -> Result<(), Fail> {
@@ -244,6 +298,22 @@ fn names_the_bad_line(rt: HostRuntime) -> Result<(), Fail> {
         ("%%\n", 1),
         ("tick 1\r\n", 1),
         ("tick 1\n tick 1", 2),
+        // live members
+        ("live 2 1\n", 1),
+        ("tick 1\nlive 1 1\n", 2),
+        ("live 2 4\n", 1),
+        ("live 0 1\n", 1),
+        ("live 3\n", 1),
+        ("live\n", 1),
+        ("live 1 2\n\nlive 1 2\n", 3),
+        ("live 1 2\ntick 1\n", 2),
+        // rounds
+        (
+            "tick 1\nround 1 7 1000 CHECK a silver 755224 -\nlive 1 2\n",
+            2,
+        ),
+        ("live 1 2\nround 3 7 1000 CHECK a silver 755224 -\n", 2),
+        ("live 1 2\n# one\nround 1 7 1000\n", 3),
     ] {
         let input = format!(in alloc; "{SILVER}{script}")?;
         let text = format!(in alloc; "script line {number}")?;

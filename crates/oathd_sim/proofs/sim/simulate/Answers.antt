@@ -29,7 +29,7 @@ returns-in_err-report-clause-cut g c =
     err_is c.from_residual-in_err-report.result x (λ (y : Fault). IfSome a (λ (text : List ℕ). IsCutSo c.args.settings c.args.moment 16777216 c.args.input.room text y))
     c.from_residual-in_err-report.ensures.1
     (given_up_is_no_cut c.args.settings c.args.moment 16777216 c.args.input.room a
-    (sim_of_script setup (import_of parts.book parts.floors.items) (script_lines 1 (lines_between parts.script.is_cut (pieces_of parts.script.bytes.items))))
+    (sim_of_script setup (import_of parts.book parts.floors.items) (script_lines c.args.nodes (lines_between parts.script.is_cut (pieces_of parts.script.bytes.items))))
     x (c.in_err-report.ensures.fault c.args.moment))
 
 pub returns-clause-ends : goal.returns-clause-ends
