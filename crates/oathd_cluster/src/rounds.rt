@@ -7,16 +7,17 @@ use crate::fault::Fault;
 use crate::line::NodeLine;
 use floor_store::MemStore;
 use node_turns::{MAX_DATAGRAM_LEN, Port, Received, Sender, offer};
-use oath_node::{Event, Node};
+use oath_node::{Event, Node, Scratch};
 
 /// A line whose reply hasn't come after so many rounds has none.
 const MAX_ROUNDS: u8 = 64;
 
-/// A node with its port.
+/// A node with its port, and room for what a tick sends.
 #[derive(Drop)]
 pub(crate) struct Member<'b, P: Port + Drop> {
     pub(crate) node: Node<'b, MemStore>,
     pub(crate) port: P,
+    pub(crate) scratch: Scratch,
 }
 
 /// The nodes of a cluster, of whom the first is 1, and the port of the client who sends them lines, at which the
@@ -31,7 +32,7 @@ pub(crate) struct Cluster<'b, P: Port + Drop> {
 fn hand_in<P: Port + Drop>(member: &mut Member<'_, P>, event: Event<'_>) -> Result<(), Fault>
     ensures { IfErr result IsOfRounds }
 {
-    let outputs = member.node.handle(event)?;
+    let outputs = member.node.handle(event, &mut member.scratch)?;
     let _replies = offer(&mut member.port, &outputs);
     Ok(())
 }

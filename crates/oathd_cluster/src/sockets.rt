@@ -6,7 +6,7 @@ ghost use Rattle.oathd_cluster.specs.Rounds.{IsOfOpening};
 use crate::fault::Fault;
 use crate::rounds::{Cluster, Member};
 use floor_store::MemStore;
-use oath_node::Node;
+use oath_node::{Node, Scratch};
 use otp_core::{Next, Settings};
 use std::alloc::Global;
 use std::net::{Ipv4Addr, Net, SocketAddr, SocketAddrV4, UdpSocket};
@@ -95,7 +95,11 @@ pub(crate) fn open_cluster<'b, N: Net>(
         };
         let node = open_node(alloc, book, settings, key, place, floors)?;
         let port = UdpPort::new(socket, addresses.to_vec(alloc)?);
-        members.push(Member { node, port })?;
+        members.push(Member {
+            node,
+            port,
+            scratch: Scratch::new(),
+        })?;
     }
     let (socket, _) = bind(net)?;
     Ok(Cluster {
