@@ -1,4 +1,3 @@
-use Rattle.std.proofs.Common.{refl}
 use Rattle.node_turns.proofs.FailureLemmas.{faults_out, same_run}
 use Rattle.node_turns.proofs.laws.faults_change_no_offer.Goals as goal
 
