@@ -35,6 +35,7 @@ pub struct Scratch {
 }
 
 impl Scratch {
+    /// Empty lists, with their room.
     pub fn new() -> Self {
         Scratch {
             sends: ArrayVec::new(),
