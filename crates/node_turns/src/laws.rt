@@ -35,7 +35,8 @@ pub fn faults_change_no_offer()
 pub fn differences_are_seen()
     ensures failures { without_failures (Failure ∷ noise ∷ Nothing ∷ Failure ∷ no_line ∷ [])
         ≡ noise ∷ Nothing ∷ no_line ∷ [] }
-    ensures offers { offers_in (Received (Peer 2) [] ∷ Quiet ∷ Offered (Peer 2) [] ∷ Faulted ∷ Offered (Client 7) [] ∷ [])
+    ensures offers { offers_in
+        (Received (Peer 2) [] ∷ Quiet ∷ Offered (Peer 2) [] ∷ Faulted ∷ Offered (Client 7) [] ∷ [])
         ≡ Offered (Peer 2) [] ∷ Offered (Client 7) [] ∷ [] }
     ensures other_offer { (run : Run) → DoesTheSame (record run { entries = Offered (Peer 2) [] ∷ [] })
         (record run { entries = Offered (Client 2) [] ∷ [] }) → ⊥ }

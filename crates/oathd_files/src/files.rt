@@ -86,7 +86,8 @@ pub fn serve_file<R: Read + Drop>(
     serving: Serving<'_>,
 ) -> Result<Served, Fault>
     ensures import { IfOk result (λ _. IfSome (R.remaining users) (HasImport serving.entry.settings 0 16777216)) }
-    ensures fault { IfErr result (λ fault. IfSome (R.remaining users) (EndsServing serving.entry.settings 0 16777216 fault)) }
+    ensures fault { IfErr result (λ fault. IfSome (R.remaining users)
+        (EndsServing serving.entry.settings 0 16777216 fault)) }
 {
     serve_store(alloc, rt, users, serving, DatabaseFile::found(rt, path))
 }

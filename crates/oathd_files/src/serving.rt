@@ -43,7 +43,8 @@ pub fn serve_store<R: Read + Drop, S: Alter + Drop, D: Database<S>, N: Net + Tim
     database: D,
 ) -> Result<Served, Fault>
     ensures served { IfOk result (λ served. IfSome (R.remaining users) (HasServed S.Store serving.entry served)) }
-    ensures fault { IfErr result (λ fault. IfSome (R.remaining users) (EndsServing serving.entry.settings 0 16777216 fault)) }
+    ensures fault { IfErr result (λ fault. IfSome (R.remaining users)
+        (EndsServing serving.entry.settings 0 16777216 fault)) }
 {
     let Serving {
         settings,

@@ -142,10 +142,10 @@ fn simulate<B: BufRead + Drop, W: Write>(
 
 /// Reads a users file, a line `%%` and a script of what happens to the nodes of a cluster, runs it over so many nodes,
 /// 1 to 9, each of which opens with the first free factors of the users file, and writes what the run tells, and
-/// flushes it. Run are the events of the script, and then a round for each further line, among its live members. Nothing
-/// is written unless the whole script is good. At most `limit` bytes are read, and one more, which tells that the input
-/// goes on: then the line that the limit cuts is bad. The users are imported at the moment given, in seconds since
-/// 1970-01-01 00:00:00 UTC, 0 to 1099511627775. The script is held, and what the run tells.
+/// flushes it. Run are the events of the script, and then a round for each further line, among its live members.
+/// Nothing is written unless the whole script is good. At most `limit` bytes are read, and one more, which tells that
+/// the input goes on: then the line that the limit cuts is bad. The users are imported at the moment given, in seconds
+/// since 1970-01-01 00:00:00 UTC, 0 to 1099511627775. The script is held, and what the run tells.
 ///
 /// # Errors
 /// `Users` where the users file has a fault, or the input fails in its midst; `CannotRead` where the input fails later;

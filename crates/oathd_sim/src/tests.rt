@@ -208,8 +208,8 @@ fn prints_rounds(rt: HostRuntime) -> Result<(), Fail> {
     Ok(())
 }
 
-/// Node 1 is lost with a code that waits at it, and another waits at node 3. Nodes 2 and 3 tick eight times each, and tell
-/// each other what is used up; then they serve on.
+/// Node 1 is lost with a code that waits at it, and another waits at node 3. Nodes 2 and 3 tick eight times each, and
+/// tell each other what is used up; then they serve on.
 #[test]
 fn prints_a_round_after_a_sweep(rt: HostRuntime) -> Result<(), Fail> {
     let alloc = rt.alloc();

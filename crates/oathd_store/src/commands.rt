@@ -36,7 +36,8 @@ pub fn init<R: Read + Drop, S: Alter + Drop, D: Database<S>>(
 ) -> Result<SqlStore<S>, Fault>
     requires moment { IsMoment moment }
     requires node { IsNode node }
-    ensures made { IfOk result (λ store. IfSome (R.remaining reader) (HasMade S.Store settings moment 16777216 node store)) }
+    ensures made { IfOk result (λ store. IfSome (R.remaining reader)
+        (HasMade S.Store settings moment 16777216 node store)) }
     ensures fault { IfErr result (λ fault. IfSome (R.remaining reader) (IsRefused settings moment 16777216 fault)) }
 {
     let users = read_users(alloc, reader, settings, moment)?;
