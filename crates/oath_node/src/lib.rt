@@ -39,6 +39,8 @@
 mod client_line;
 mod event;
 mod fault;
+#[cfg(test)]
+mod fuse_tests;
 mod handling;
 mod item;
 mod items;

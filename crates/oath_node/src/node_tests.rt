@@ -1,6 +1,6 @@
 //! A node by its calls, from the bytes of datagrams to the bytes of datagrams.
 
-use crate::{Event, Item, Node, NodeFault, Scratch};
+use crate::{Event, Item, Node, NodeFault, Outputs, Scratch};
 use arrayvec::ArrayVec;
 use floor_store::{FloorStore, FuseStore, MemStore, StoreFault};
 use otp_core::{Next, Settings};
@@ -12,7 +12,7 @@ use vote_core::Place;
 use vote_wire::{ClusterKey, MAX_SENT_LEN, tag};
 
 /// The token of RFC 4226, Appendix D.
-const SILVER: &[u8] = b"HOTP silver - 3132333435363738393031323334353637383930";
+pub(crate) const SILVER: &[u8] = b"HOTP silver - 3132333435363738393031323334353637383930";
 
 /// An Ask from 1 to 2 for token 0, factors 0 to 0, by proposal 0 of boot 1 of node 1, under 32 zeros.
 const ASK: [u8; 59] = [
@@ -28,7 +28,7 @@ const GRANT: [u8; 59] = [
     0xa5, 0xe9, 0x75, 0xd1, 0xe9, 0x14, 0x72,
 ];
 
-fn settings() -> Result<Settings, Fail> {
+pub(crate) fn settings() -> Result<Settings, Fail> {
     Ok(Settings::new(5, 1, 9).ok_or("settings")?)
 }
 
@@ -37,7 +37,7 @@ pub(crate) fn zeros() -> Result<ClusterKey, Fail> {
     Ok(ClusterKey::new(&[0; 32]).ok_or("a key")?)
 }
 
-fn book_of(alloc: Global, users: &[u8]) -> Result<(Book, Vec<Next>), Fail> {
+pub(crate) fn book_of(alloc: Global, users: &[u8]) -> Result<(Book, Vec<Next>), Fail> {
     Ok(read_book(alloc, &mut FromRead::new(users), settings()?, 0)?)
 }
 
@@ -61,7 +61,7 @@ fn node_under<'b, S: FloorStore + Drop>(
 }
 
 /// A node over a store, with a look-ahead of 5 and a range of 9.
-fn node_over<'b, S: FloorStore + Drop>(
+pub(crate) fn node_over<'b, S: FloorStore + Drop>(
     alloc: Global,
     book: &'b Book,
     key: &'b ClusterKey,
@@ -73,7 +73,7 @@ fn node_over<'b, S: FloorStore + Drop>(
 }
 
 /// A store in memory with these first free factors.
-fn memory(alloc: Global, floors: &[Next]) -> Result<MemStore, Fail> {
+pub(crate) fn memory(alloc: Global, floors: &[Next]) -> Result<MemStore, Fail> {
     if floors.len() > 10_000 {
         return Err("too many tokens".into());
     }
@@ -81,7 +81,7 @@ fn memory(alloc: Global, floors: &[Next]) -> Result<MemStore, Fail> {
 }
 
 /// A node over a fresh store in memory.
-fn opened<'b>(
+pub(crate) fn opened<'b>(
     alloc: Global,
     book: &'b Book,
     key: &'b ClusterKey,
@@ -134,19 +134,16 @@ pub(crate) fn reply_to<S: FloorStore>(
     Ok(text)
 }
 
-/// Hands the bytes in as those of a member, and gives the bytes of the one datagram to it.
-fn datagram_to<S: FloorStore>(
-    node: &mut Node<'_, S>,
-    from: u8,
-    bytes: &[u8],
+/// The bytes of the one datagram that is sent, which is to this member; nothing where there is none.
+pub(crate) fn sent_to(
+    outputs: &Outputs<'_>,
+    member: u8,
 ) -> Result<ArrayVec<u8, MAX_SENT_LEN>, Fail> {
-    let mut scratch = Scratch::new();
-    let outputs = node.handle(Event::Peer { from, bytes }, &mut scratch)?;
     let mut sent = ArrayVec::new();
     for item in outputs.items() {
         match item {
             Item::Datagram { to, bytes } => {
-                if to != from {
+                if to != member {
                     return Err("a datagram to another member".into());
                 }
                 sent = bytes;
@@ -155,6 +152,19 @@ fn datagram_to<S: FloorStore>(
         }
     }
     Ok(sent)
+}
+
+/// Hands the bytes in as those of a member, and gives the bytes of the one datagram to it.
+pub(crate) fn datagram_to<S: FloorStore>(
+    node: &mut Node<'_, S>,
+    from: u8,
+    bytes: &[u8],
+) -> Result<ArrayVec<u8, MAX_SENT_LEN>, Fail> {
+    let mut scratch = Scratch::new();
+    sent_to(
+        &node.handle(Event::Peer { from, bytes }, &mut scratch)?,
+        from,
+    )
 }
 
 /// A fresh token: one acceptance, kept answers given again to the same client alone, the throttle, and

@@ -1,6 +1,6 @@
 //! What a call of a node sends and replies.
 
-ghost use Rattle.std.specs.Prelude.{◌≡◌};
+ghost use Rattle.std.specs.Prelude.{◌≡◌, []};
 ghost use Rattle.oath_node.specs.Outputs.{items_of, no_outputs, reply_outputs};
 ghost use Rattle.oath_node.specs.Parcel.{replies_in, sends_in};
 ghost use Rattle.vote_core.specs.State.{sent_by};
@@ -36,7 +36,10 @@ pub struct Scratch {
 
 impl Scratch {
     /// Empty lists, with their room.
-    pub fn new() -> Self {
+    pub fn new() -> Self
+        ensures sends { result.sends.items ≡ [] }
+        ensures replies { result.replies.items ≡ [] }
+    {
         Scratch {
             sends: ArrayVec::new(),
             replies: ArrayVec::new(),
