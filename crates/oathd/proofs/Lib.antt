@@ -1,2 +1,4 @@
 pub mod FlushLemmas
+mod MembersLemmas
+mod ServeLemmas
 mod WordsLemmas

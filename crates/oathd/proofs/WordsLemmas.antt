@@ -1,51 +1,88 @@
 -- What the words of a command don't ask for.
-use Rattle.std.proofs.Common.{◌≡◌, ℕ, List, Option, Some, None, length, sym, ap, ◌∙◌, arith}
+use Rattle.std.proofs.Common.{◌≡◌, ℕ, ◌+◌, ◌*◌, ◌<◌, List, Option, Some, None, length, slice_index, sym, ap, subst, ◌∙◌, lit<, arith}
 use Rattle.std.specs.Prelude.{IfNone, codes}
 use Rattle.clap.specs.Matches.{first_value}
 use Rattle.clap.specs.declared.parser.matches.Found.{Found}
 use Rattle.otp_core.specs.Limits.{Limits}
 use Rattle.oathd_core.specs.declared.request.Request.TheVariants.{Lines, Secret}
-use Rattle.oathd.specs.Words.{AsksFor, AsksForNothing, AsksForNodes}
+use Rattle.oathd.specs.StoreWords.{AsksForAction, AsksForStore}
+use Rattle.oathd.specs.Words.{AsksFor, AsksForNothing, AsksForNodes, GivesNumbers}
+use Rattle.oathd.specs.declared.store_words.Action.{Action}
+use Rattle.oathd.specs.declared.store_words.Action.TheVariants.{Init, Serve, Export, Audit}
 use Rattle.oathd.specs.declared.words.Task.{Task}
-use Rattle.oathd.specs.declared.words.Task.TheVariants.{Run, Sim, Cluster}
+use Rattle.oathd.specs.declared.words.Task.TheVariants.{Run, Sim, Cluster, Store}
 
-not_for_sim : (name : List ℕ) (found : Found) → name ≡ codes "sim"
-    → ((nodes : ℕ) (limits : Limits) (moment : ℕ) (key : Option (List ℕ)) → AsksForNodes found nodes limits moment key → ⊥)
-    → AsksForNothing name found
-not_for_sim name found is none (Run (Lines settings moment)) asks =
-    let lengths : 3 ≡ 5 = ap (length {A = ℕ}) (sym is ∙ asks.0) in omega (arith, lengths)
-not_for_sim name found is none (Run (Secret hex)) asks =
-    let lengths : 3 ≡ 6 = ap (length {A = ℕ}) (sym is ∙ asks.0) in omega (arith, lengths)
-not_for_sim name found is none (Sim nodes settings moment key) asks = none _ _ _ _ asks.1
-not_for_sim name found is none (Cluster users nodes settings moment key) asks =
-    let lengths : 3 ≡ 7 = ap (length {A = ℕ}) (sym is ∙ asks.0) in omega (arith, lengths)
+-- a number that tells the names of the commands apart
+abbrev mark : List ℕ → ℕ
+mark name = slice_index name 0 * 256 + length name
 
--- words of the command `sim` that no numbers fit ask for nothing
-pub no_sim : (result : Option Task) (name : List ℕ) (found : Found) → name ≡ codes "sim"
-    → IfNone result ((nodes : ℕ) (limits : Limits) (moment : ℕ) (key : Option (List ℕ)) → AsksForNodes found nodes limits moment key → ⊥)
-    → IfNone result (AsksForNothing name found)
-no_sim None name found is none = not_for_sim name found is none
-no_sim (Some task) name found is none = tt
+-- a name is not two names
+pub apart : (name a b : List ℕ) → name ≡ a → name ≡ b → mark a < mark b → ⊥
+apart name a b p q below =
+    let same : mark a ≡ mark b = ap mark (sym p ∙ q) in omega (arith, same, below)
 
-not_for_cluster : (name : List ℕ) (found : Found) → name ≡ codes "cluster"
-    → ((users : List ℕ) (nodes : ℕ) (limits : Limits) (moment : ℕ) (key : Option (List ℕ)) → first_value found (codes "USERS") ≡ Some users
-    → AsksForNodes found nodes limits moment key → ⊥)
-    → AsksForNothing name found
-not_for_cluster name found is none (Run (Lines settings moment)) asks =
-    let lengths : 7 ≡ 5 = ap (length {A = ℕ}) (sym is ∙ asks.0) in omega (arith, lengths)
-not_for_cluster name found is none (Run (Secret hex)) asks =
-    let lengths : 7 ≡ 6 = ap (length {A = ℕ}) (sym is ∙ asks.0) in omega (arith, lengths)
-not_for_cluster name found is none (Sim nodes settings moment key) asks =
-    let lengths : 7 ≡ 3 = ap (length {A = ℕ}) (sym is ∙ asks.0) in omega (arith, lengths)
-not_for_cluster name found is none (Cluster users nodes settings moment key) asks = none _ _ _ _ _ asks.1 asks.2
+-- ---- The names in order of their marks: audit, cluster, export, init, lines, sim, serve, secret
 
--- words of the command `cluster` that no numbers fit ask for nothing
-pub no_cluster : (result : Option Task) (name : List ℕ) (found : Found) → name ≡ codes "cluster"
-    → IfNone result ((users : List ℕ) (nodes : ℕ) (limits : Limits) (moment : ℕ) (key : Option (List ℕ)) → first_value found (codes "USERS") ≡ Some users
-    → AsksForNodes found nodes limits moment key → ⊥)
-    → IfNone result (AsksForNothing name found)
-no_cluster None name found is none = not_for_cluster name found is none
-no_cluster (Some task) name found is none = tt
+module _ (name : List ℕ) (found : Found) where
+  pub not_for_lines : name ≡ codes "lines" → ((limits : Limits) (moment : ℕ) → GivesNumbers found limits moment → ⊥) → AsksForNothing name found
+  not_for_lines is none (Run (Lines settings moment)) asks = none _ _ asks.1
+  not_for_lines is none (Run (Secret hex)) asks = apart name _ _ is asks.0 (lit< tt)
+  not_for_lines is none (Sim nodes settings moment key) asks = apart name _ _ is asks.0 (lit< tt)
+  not_for_lines is none (Cluster users nodes settings moment key) asks = apart name _ _ asks.0 is (lit< tt)
+  not_for_lines is none (Store database users (Init node settings moment)) asks = apart name _ _ asks.2.0 is (lit< tt)
+  not_for_lines is none (Store database users (Serve settings place members key turns)) asks = apart name _ _ is asks.2.0 (lit< tt)
+  not_for_lines is none (Store database users Export) asks = apart name _ _ asks.2 is (lit< tt)
+  not_for_lines is none (Store database users (Audit node)) asks = apart name _ _ asks.2.0 is (lit< tt)
+
+  pub not_for_sim : name ≡ codes "sim"
+      → ((nodes : ℕ) (limits : Limits) (moment : ℕ) (key : Option (List ℕ)) → AsksForNodes found nodes limits moment key → ⊥)
+      → AsksForNothing name found
+  not_for_sim is none (Run (Lines settings moment)) asks = apart name _ _ asks.0 is (lit< tt)
+  not_for_sim is none (Run (Secret hex)) asks = apart name _ _ is asks.0 (lit< tt)
+  not_for_sim is none (Sim nodes settings moment key) asks = none _ _ _ _ asks.1
+  not_for_sim is none (Cluster users nodes settings moment key) asks = apart name _ _ asks.0 is (lit< tt)
+  not_for_sim is none (Store database users (Init node settings moment)) asks = apart name _ _ asks.2.0 is (lit< tt)
+  not_for_sim is none (Store database users (Serve settings place members key turns)) asks = apart name _ _ is asks.2.0 (lit< tt)
+  not_for_sim is none (Store database users Export) asks = apart name _ _ asks.2 is (lit< tt)
+  not_for_sim is none (Store database users (Audit node)) asks = apart name _ _ asks.2.0 is (lit< tt)
+
+  pub not_for_cluster : name ≡ codes "cluster"
+      → ((users : List ℕ) (nodes : ℕ) (limits : Limits) (moment : ℕ) (key : Option (List ℕ)) → first_value found (codes "USERS") ≡ Some users
+      → AsksForNodes found nodes limits moment key → ⊥)
+      → AsksForNothing name found
+  not_for_cluster is none (Run (Lines settings moment)) asks = apart name _ _ is asks.0 (lit< tt)
+  not_for_cluster is none (Run (Secret hex)) asks = apart name _ _ is asks.0 (lit< tt)
+  not_for_cluster is none (Sim nodes settings moment key) asks = apart name _ _ is asks.0 (lit< tt)
+  not_for_cluster is none (Cluster users nodes settings moment key) asks = none _ _ _ _ _ asks.1 asks.2
+  not_for_cluster is none (Store database users (Init node settings moment)) asks = apart name _ _ is asks.2.0 (lit< tt)
+  not_for_cluster is none (Store database users (Serve settings place members key turns)) asks = apart name _ _ is asks.2.0 (lit< tt)
+  not_for_cluster is none (Store database users Export) asks = apart name _ _ is asks.2 (lit< tt)
+  not_for_cluster is none (Store database users (Audit node)) asks = apart name _ _ asks.2.0 is (lit< tt)
+
+  pub not_for_secret : name ≡ codes "secret" → first_value found (codes "HEX") ≡ None → AsksForNothing name found
+  not_for_secret is none (Run (Lines settings moment)) asks = apart name _ _ asks.0 is (lit< tt)
+  not_for_secret is none (Run (Secret hex)) asks = let clash = sym none ∙ asks.1 in cc
+  not_for_secret is none (Sim nodes settings moment key) asks = apart name _ _ asks.0 is (lit< tt)
+  not_for_secret is none (Cluster users nodes settings moment key) asks = apart name _ _ asks.0 is (lit< tt)
+  not_for_secret is none (Store database users (Init node settings moment)) asks = apart name _ _ asks.2.0 is (lit< tt)
+  not_for_secret is none (Store database users (Serve settings place members key turns)) asks = apart name _ _ asks.2.0 is (lit< tt)
+  not_for_secret is none (Store database users Export) asks = apart name _ _ asks.2 is (lit< tt)
+  not_for_secret is none (Store database users (Audit node)) asks = apart name _ _ asks.2.0 is (lit< tt)
+
+  -- a name of no other command
+  pub not_for_store : (name ≡ codes "lines" → ⊥) → (name ≡ codes "sim" → ⊥) → (name ≡ codes "cluster" → ⊥) → (name ≡ codes "secret" → ⊥)
+      → ((database users : List ℕ) (action : Action) → AsksForStore name found database users action → ⊥)
+      → AsksForNothing name found
+  not_for_store lines sim cluster secret none (Run (Lines settings moment)) asks = lines asks.0
+  not_for_store lines sim cluster secret none (Run (Secret hex)) asks = secret asks.0
+  not_for_store lines sim cluster secret none (Sim nodes settings moment key) asks = sim asks.0
+  not_for_store lines sim cluster secret none (Cluster users nodes settings moment key) asks = cluster asks.0
+  not_for_store lines sim cluster secret none (Store database users action) asks = none _ _ _ asks
+
+-- where there is no result, something is so that follows from what is so there
+pub none_then : {A : Type 0} (result : Option A) (P Q : Type 0) → IfNone result P → (P → Q) → IfNone result Q
+none_then None P Q p then = then p
+none_then (Some x) P Q p then = tt
 
 -- what holds anyway holds where there is no result
 pub where_none : {A : Type 0} (result : Option A) (P : Type 0) → P → IfNone result P

@@ -1,2 +1,5 @@
 pub mod Fault
+pub mod Given
+pub mod Members
+pub mod StoreWords
 pub mod Words

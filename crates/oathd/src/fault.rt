@@ -13,6 +13,9 @@ pub(crate) enum Fault<'a> {
     /// A cluster ends so.
     #[error("{0}")]
     Cluster(oathd_cluster::Fault),
+    /// A command over a database ends so.
+    #[error("{0}")]
+    Store(oathd_store::Fault),
     /// The file with this path can't be read.
     #[error("cannot read {0}")]
     CannotReadFile(&'a str),
@@ -27,6 +30,7 @@ impl ProgramFault for Fault<'_> {
         match self {
             Fault::Run(fault) => fault.status(),
             Fault::Cluster(fault) => fault.status(),
+            Fault::Store(fault) => fault.status(),
             Fault::Sim(_) | Fault::CannotReadFile(_) => 1,
         }
     }
@@ -53,5 +57,11 @@ impl From<oathd_sim::Fault> for Fault<'_> {
 impl From<oathd_cluster::Fault> for Fault<'_> {
     fn from(fault: oathd_cluster::Fault) -> Self {
         Fault::Cluster(fault)
+    }
+}
+
+impl From<oathd_store::Fault> for Fault<'_> {
+    fn from(fault: oathd_store::Fault) -> Self {
+        Fault::Store(fault)
     }
 }

@@ -5,6 +5,7 @@ ghost use Rattle.oathd_core.specs.Request.{EndsAsAsked, HasMoment};
 
 use crate::fault::Fault;
 use crate::key::read_key;
+use crate::store::perform_action;
 use crate::words::{Task, read_words};
 use command_line::{OutsideFault, exit_status, explain, flushed};
 use oathd_cluster::run_cluster;
@@ -101,9 +102,9 @@ fn run_nodes<'a, F: Files + Net, R: Read, O: Write>(
 }
 
 /// Does what the words ask for, or writes what clap has to say of them. Gives the exit status.
-fn follow<'a, F: Files + Net, R: Read, O: Write, E: Write>(
+fn follow<'a, R: Read, O: Write, E: Write>(
     alloc: Global,
-    files: &F,
+    rt: &HostRuntime,
     words: &'a [String],
     reader: &mut R,
     output: &mut O,
@@ -123,9 +124,7 @@ fn follow<'a, F: Files + Net, R: Read, O: Write, E: Write>(
             settings,
             moment,
             key,
-        } => simulate(
-            alloc, files, nodes, settings, moment, key, reader, &mut held,
-        )?,
+        } => simulate(alloc, rt, nodes, settings, moment, key, reader, &mut held)?,
         Task::Cluster {
             users,
             nodes,
@@ -133,17 +132,22 @@ fn follow<'a, F: Files + Net, R: Read, O: Write, E: Write>(
             moment,
             key,
         } => run_nodes(
-            alloc, files, users, nodes, settings, moment, key, reader, &mut held,
+            alloc, rt, users, nodes, settings, moment, key, reader, &mut held,
         )?,
+        Task::Store {
+            database,
+            users,
+            action,
+        } => perform_action(alloc, rt, database, users, action, &mut held)?,
     }
     Ok(0)
 }
 
 /// Does what the words of the process ask for, where they could be had. The text of a fault goes to the errors,
 /// behind the program's name. Gives the exit status.
-pub(crate) fn serve<F: Files + Net, R: Read, O: Write, E: Write>(
+pub(crate) fn serve<R: Read, O: Write, E: Write>(
     alloc: Global,
-    files: &F,
+    rt: &HostRuntime,
     words: Result<Vec<String>, OutsideFault>,
     reader: &mut R,
     output: &mut O,
@@ -151,7 +155,7 @@ pub(crate) fn serve<F: Files + Net, R: Read, O: Write, E: Write>(
 ) -> u8 {
     match words {
         Ok(words) => {
-            let end = follow(alloc, files, &words, reader, output, errors);
+            let end = follow(alloc, rt, &words, reader, output, errors);
             exit_status(errors, "oathd", end)
         }
         Err(fault) => exit_status(errors, "oathd", Err(Fault::from(fault))),

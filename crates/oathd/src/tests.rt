@@ -1,5 +1,7 @@
 use crate::key::key_of;
+use crate::members::read_members;
 use crate::serve::serve;
+use crate::store_words::Action;
 use crate::words::{Task, command, read_words};
 use command_line::OutsideFault;
 use oathd_core::Request;
@@ -7,7 +9,9 @@ use otp_core::Settings;
 use secret_text::SecretFault;
 use std::alloc::{AllocError, Global};
 use std::io::{self, ErrorKind, Write};
+use std::net::{Ipv4Addr, SocketAddrV4};
 use std::test::Fail;
+use vote_core::Place;
 
 /// The words of a command line, at single spaces.
 fn words_of(alloc: Global, text: &str) -> Result<Vec<String>, AllocError> {
@@ -78,6 +82,113 @@ fn reads_numbers(rt: HostRuntime) -> Result<(), Fail> {
     Ok(())
 }
 
+/// Whether words ask for this with the store of the database `db`, with the users file `users`.
+fn asks_for_action(alloc: Global, text: &str, wanted: Action<'_>) -> Result<bool, Fail> {
+    let words = words_of(alloc, format!(in alloc; "oathd {text}")?.as_str())?;
+    match read_words(alloc, &words)? {
+        Task::Store {
+            database,
+            users,
+            action,
+        } => Ok(database == "db" && users == "users" && action == wanted),
+        _ => Ok(false),
+    }
+}
+
+#[test]
+fn reads_actions(rt: HostRuntime) -> Result<(), Fail> {
+    let alloc = rt.alloc();
+    let usual = Settings::default();
+    let skewed = Settings::new(10, 0, 100).ok_or("settings")?;
+    for (text, node, settings, moment) in [
+        ("init db users --node 1", 1, usual, None),
+        ("init --node=9 db users --skew 0", 9, skewed, None),
+        ("init db --moment 59 users --node 2", 2, usual, Some(59)),
+    ] {
+        let wanted = Action::Init {
+            node,
+            settings,
+            moment,
+        };
+        assert!(rt; asks_for_action(alloc, text, wanted)?, "{text}");
+    }
+    assert!(rt; asks_for_action(alloc, "export db users", Action::Export)?);
+    let wanted = Action::Audit { node: 3 };
+    assert!(rt; asks_for_action(alloc, "audit db users --node 3", wanted)?);
+    Ok(())
+}
+
+/// The addresses 127.0.0.1 with these ports.
+fn at_ports(alloc: Global, ports: &[u16]) -> Result<Vec<SocketAddrV4>, AllocError> {
+    let mut addresses = Vec::new(alloc);
+    for port in ports {
+        addresses.push(SocketAddrV4::new(Ipv4Addr::LOCALHOST, *port))?;
+    }
+    Ok(addresses)
+}
+
+#[test]
+fn reads_what_is_served(rt: HostRuntime) -> Result<(), Fail> {
+    let alloc = rt.alloc();
+    let wanted = Action::Serve {
+        settings: Settings::default(),
+        place: Place::new(1, 1).ok_or("a place")?,
+        members: at_ports(alloc, &[7001])?,
+        key: "key",
+        turns: 1_000_000,
+    };
+    let text = "serve db users --node 1 --members 127.0.0.1:7001 --key key";
+    assert!(rt; asks_for_action(alloc, text, wanted)?);
+    let wanted = Action::Serve {
+        settings: Settings::new(5, 2, 9).ok_or("settings")?,
+        place: Place::new(2, 3).ok_or("a place")?,
+        members: at_ports(alloc, &[7001, 1, 65_535])?,
+        key: "key",
+        turns: 4_294_967_295,
+    };
+    let text =
+        "serve db users --look-ahead 5 --skew 2 --range 9 --turns 4294967295 --key key --node 2 \
+        --members 127.0.0.1:7001,127.0.0.1:1,127.0.0.1:65535";
+    assert!(rt; asks_for_action(alloc, text, wanted)?);
+    Ok(())
+}
+
+/// Texts of members, each with the ports that it has at 127.0.0.1.
+#[test]
+fn reads_members_in_order(rt: HostRuntime) -> Result<(), Fail> {
+    let alloc = rt.alloc();
+    for (text, ports) in [
+        ("127.0.0.1:1", [1].as_slice()),
+        ("127.0.0.1:2,127.0.0.1:1", &[2, 1]),
+        (
+            "127.0.0.1:1,127.0.0.1:2,127.0.0.1:3,127.0.0.1:4,127.0.0.1:5,127.0.0.1:6,127.0.0.1:7,127.0.0.1:8,\
+            127.0.0.1:9",
+            &[1, 2, 3, 4, 5, 6, 7, 8, 9],
+        ),
+    ] {
+        let members = read_members(alloc, text.as_bytes())?;
+        assert!(rt; members == Some(at_ports(alloc, ports)?), "{text}");
+    }
+    for text in [
+        "",
+        ",",
+        "127.0.0.1",
+        "127.0.0.1:1,",
+        ",127.0.0.1:1",
+        "127.0.0.1:1, 127.0.0.1:2",
+        "127.0.0.1:65536",
+        "localhost:1",
+        "[::1]:1",
+        "127.0.0.1:1,127.0.0.1:1",
+        "127.0.0.1:1,127.0.0.1:2,127.0.0.1:01",
+        "127.0.0.1:1,127.0.0.1:2,127.0.0.1:3,127.0.0.1:4,127.0.0.1:5,127.0.0.1:6,127.0.0.1:7,127.0.0.1:8,127.0.0.1:9,\
+        127.0.0.1:10",
+    ] {
+        assert!(rt; read_members(alloc, text.as_bytes())?.is_none(), "{text}");
+    }
+    Ok(())
+}
+
 /// Whether words are refused with this status, and told on the errors unless that is 0.
 fn is_refused(alloc: Global, words: &[String], status: u8) -> bool {
     match read_words(alloc, words) {
@@ -121,6 +232,42 @@ fn refuses_words(rt: HostRuntime) -> Result<(), Fail> {
         ("oathd cluster users 3 3", 2),
         ("oathd cluster users 3 --range 1001", 2),
         ("oathd lines --key k", 2),
+        ("oathd init", 2),
+        ("oathd init db users", 2),
+        ("oathd init db --node 1", 2),
+        ("oathd init db users --node 0", 2),
+        ("oathd init db users --node 10", 2),
+        ("oathd init db users --node 1 --skew 11", 2),
+        ("oathd init db users --node 1 --moment 1099511627776", 2),
+        ("oathd init db users --node 1 --moment +1", 2),
+        ("oathd init db users --node 1 --range 1", 2),
+        ("oathd serve db users --node 1 --members 127.0.0.1:1", 2),
+        ("oathd serve db users --node 1 --key k", 2),
+        ("oathd serve db users --members 127.0.0.1:1 --key k", 2),
+        (
+            "oathd serve db users --node 2 --members 127.0.0.1:1 --key k",
+            2,
+        ),
+        (
+            "oathd serve db users --node 1 --members 127.0.0.1 --key k",
+            2,
+        ),
+        (
+            "oathd serve db users --node 1 --members 127.0.0.1:1 --key k --turns 4294967296",
+            2,
+        ),
+        (
+            "oathd serve db users --node 1 --members 127.0.0.1:1 --key k --moment 0",
+            2,
+        ),
+        (
+            "oathd serve db users --node 1 --members 127.0.0.1:1 --key k --look-ahead 101",
+            2,
+        ),
+        ("oathd export db", 2),
+        ("oathd export db users --node 1", 2),
+        ("oathd audit db users", 2),
+        ("oathd audit db users --node 10", 2),
         ("oathd secret", 2),
         ("oathd secret 00 00", 2),
         ("oathd secret -1", 2),
@@ -131,6 +278,10 @@ fn refuses_words(rt: HostRuntime) -> Result<(), Fail> {
         ("oathd lines --help", 0),
         ("oathd sim --help", 0),
         ("oathd cluster --help", 0),
+        ("oathd init --help", 0),
+        ("oathd serve --help", 0),
+        ("oathd export --help", 0),
+        ("oathd audit --help", 0),
         ("oathd secret --help", 0),
     ] {
         let words = words_of(alloc, text)?;
@@ -201,6 +352,10 @@ fn help_is_narrow(rt: HostRuntime) -> Result<(), Fail> {
         "oathd lines --help",
         "oathd sim --help",
         "oathd cluster --help",
+        "oathd init --help",
+        "oathd serve --help",
+        "oathd export --help",
+        "oathd audit --help",
         "oathd secret --help",
     ] {
         let help = told(alloc, text)?;
@@ -303,6 +458,32 @@ fn statuses_and_texts(rt: HostRuntime) -> Result<(), Fail> {
             "oathd sim 1 --key /dev/zero",
             "HOTP a -\n",
             (1, "", "oathd: bad key: TooLong\n"),
+        ),
+        // users file and key file come before the database
+        (
+            "oathd init no/such/db no-such-file --node 1",
+            "",
+            (1, "", "oathd: cannot read no-such-file\n"),
+        ),
+        (
+            "oathd serve no/such/db no-such-file --node 1 --members 127.0.0.1:7001 --key no-such-key",
+            "",
+            (1, "", "oathd: cannot read no-such-key\n"),
+        ),
+        (
+            "oathd init no/such/db /dev/null --node 1",
+            "",
+            (3, "", "oathd: store: Disk\n"),
+        ),
+        (
+            "oathd export no-such-db /dev/null",
+            "",
+            (3, "", "oathd: store: Disk\n"),
+        ),
+        (
+            "oathd audit no-such-db /dev/null --node 1",
+            "",
+            (3, "", "oathd: store: Disk\n"),
         ),
         ("oathd --version", "", (0, "oathd 0.1.0\n", "")),
         (

@@ -2,8 +2,15 @@ ghost use Rattle.std.specs.Prelude.{◌≡◌, ◌≤◌, ℕ, List, Option, Som
 ghost use Rattle.clap.specs.Matches.{first_value, found_of};
 ghost use Rattle.command_line.specs.Number.{number_at};
 ghost use Rattle.otp_core.specs.Limits.{Limits};
+ghost use Rattle.oathd.specs.StoreWords.{AsksForStore};
+ghost use Rattle.oathd.specs.Given.{GivesLimits, GivesMember};
 ghost use Rattle.oathd.specs.Words.{AsksFor, AsksForNothing, AsksForNodes, GivesNumbers, IsInRange};
+ghost use Rattle.oathd.specs.declared.store_words.Action.{Action as AnyAction};
 
+use crate::store_words::{
+    Action, audit_command, export_command, init_command, init_error, read_action, serve_command,
+    serve_error,
+};
 use clap::error::ErrorKind;
 use clap::{Arg, ArgAction, ArgMatches, Command, Error};
 use command_line::{NumberOption, VERSION, number_error, number_of};
@@ -12,7 +19,7 @@ use otp_core::{MOMENTS_END, Settings};
 use std::alloc::{AllocError, Global};
 
 /// What the words ask for. It has no Debug, which would show a secret.
-#[derive(Clone, Copy, PartialEq, Eq)]
+#[derive(Drop, PartialEq, Eq)]
 pub(crate) enum Task<'a> {
     /// To do what is asked of a run over the input and the output.
     Run(Request<'a>),
@@ -40,17 +47,27 @@ pub(crate) enum Task<'a> {
         /// The path of the file of the cluster's key, if one is named.
         key: Option<&'a str>,
     },
+    /// To do something with the store of a node.
+    Store {
+        /// The path of its database.
+        database: &'a str,
+        /// The path of the users file.
+        users: &'a str,
+        action: Action<'a>,
+    },
 }
 
 /// What the help of the program says besides its commands.
 const PROGRAM_HELP: &str = "\
-No password is accepted twice within a run. Nothing is kept between two runs:
-first free factors and the throttle begin anew with each users file, so one
-run is one server.
+oathd init makes a database with what a node keeps, and oathd serve serves the
+node: no password is accepted twice, whichever members are asked, and whenever
+nodes stop and start again. The commands lines, sim and cluster keep nothing
+between two runs: first free factors and the throttle begin anew with each users
+file.
 
-The status is 0 where all lines were answered, 1 where a fault of the input,
-memory or output, which standard error names, ended the run, and 2 where the
-words are wrong.";
+The status is 0 where all is done, 1 where a fault of the input, memory, clock
+or output, which standard error names, ended the run, 2 where the words are
+wrong, 3 where a store failed, and 4 where a socket did.";
 
 /// What the help of the command `lines` says of its input.
 const LINES_HELP: &str = "\
@@ -107,6 +124,11 @@ that begins with # are none. Events are counted from 0.
     cut kept EVENT, cut lost EVENT      the node stops inside one of the first
                                         four: what it writes is kept or lost,
                                         what it sends is lost, and it restarts
+Behind all events there may be one line of the nodes that still run, more than
+half of all, and behind it rounds, in each of which one of them is asked, and
+all that those nodes send each other comes:
+    live A B ..
+    round NODE CLIENT MOMENT REQUEST
 
 When the script is done it prints what was accepted, what was answered and how
 many datagrams were sent:
@@ -151,7 +173,7 @@ Example, which prints MZXW6YTBOI======:
     oathd secret 666f6f626172";
 
 /// How far past the first free factor a code is looked for.
-const LOOK_AHEAD: NumberOption = NumberOption {
+pub(crate) const LOOK_AHEAD: NumberOption = NumberOption {
     name: "look-ahead",
     short: None,
     value_name: "COUNT",
@@ -161,7 +183,7 @@ const LOOK_AHEAD: NumberOption = NumberOption {
 };
 
 /// How many time steps a time token may be off.
-const SKEW: NumberOption = NumberOption {
+pub(crate) const SKEW: NumberOption = NumberOption {
     name: "skew",
     short: None,
     value_name: "STEPS",
@@ -172,7 +194,7 @@ const SKEW: NumberOption = NumberOption {
 };
 
 /// How far past the first free factor two codes in a row are looked for.
-const RANGE: NumberOption = NumberOption {
+pub(crate) const RANGE: NumberOption = NumberOption {
     name: "range",
     short: None,
     value_name: "COUNT",
@@ -182,7 +204,7 @@ const RANGE: NumberOption = NumberOption {
 };
 
 /// The moment at which the users are imported.
-const MOMENT: NumberOption = NumberOption {
+pub(crate) const MOMENT: NumberOption = NumberOption {
     name: "moment",
     short: None,
     value_name: "SECONDS",
@@ -208,7 +230,7 @@ fn lines_command<'a>(alloc: Global) -> Result<Command<'a>, AllocError> {
 }
 
 /// The numbers of nodes that there may be.
-const NODE_COUNTS: [&str; 9] = ["1", "2", "3", "4", "5", "6", "7", "8", "9"];
+pub(crate) const NODE_COUNTS: [&str; 9] = ["1", "2", "3", "4", "5", "6", "7", "8", "9"];
 
 /// A command with what all commands take that run nodes: how many, the limits, the moment and the key.
 fn with_nodes<'a>(alloc: Global, command: Command<'a>) -> Result<Command<'a>, AllocError> {
@@ -283,7 +305,22 @@ pub(crate) fn command<'a>(alloc: Global) -> Result<Command<'a>, AllocError> {
         .subcommand(lines_command(alloc)?)?
         .subcommand(sim_command(alloc)?)?
         .subcommand(cluster_command(alloc)?)?
+        .subcommand(init_command(alloc)?)?
+        .subcommand(serve_command(alloc)?)?
+        .subcommand(export_command(alloc)?)?
+        .subcommand(audit_command(alloc)?)?
         .subcommand(secret_command(alloc)?)
+}
+
+/// The limits that the options give, or `None` where a number is out of its range or written with anything but digits.
+pub(crate) fn settings_of(matches: &ArgMatches<'_>) -> Option<Settings>
+    ensures some { IfSome result (GivesLimits (found_of matches.now)) }
+    ensures none { IfNone result ((limits : Limits) → GivesLimits (found_of matches.now) limits → ⊥) }
+{
+    let look_ahead = number_of(matches, "look-ahead")?;
+    let skew = number_of(matches, "skew")?;
+    let range = number_of(matches, "range")?;
+    Settings::new(look_ahead, skew, range)
 }
 
 /// The limits and the moment that the options give, or `None` where a number is out of its range or written with
@@ -293,14 +330,11 @@ fn numbers_of(matches: &ArgMatches<'_>) -> Option<(Settings, u64)>
     ensures none { IfNone result ((limits : Limits) (moment : ℕ)
         → GivesNumbers (found_of matches.now) limits moment → ⊥) }
 {
-    let look_ahead = number_of(matches, "look-ahead")?;
-    let skew = number_of(matches, "skew")?;
-    let range = number_of(matches, "range")?;
+    let settings = settings_of(matches)?;
     let moment = number_of(matches, "moment")?;
     if moment >= MOMENTS_END {
         return None;
     }
-    let settings = Settings::new(look_ahead, skew, range)?;
     Some((settings, moment))
 }
 
@@ -314,18 +348,16 @@ fn lines_task<'a>(matches: &ArgMatches<'a>) -> Option<Task<'a>>
     Some(Task::Run(Request::Lines { settings, moment }))
 }
 
-/// How many nodes are asked for, or `None` where it isn't 1 to 9 in digits alone.
-fn nodes_of(matches: &ArgMatches<'_>) -> Option<u8>
-    ensures some { IfSome result (λ nodes. (number_at (found_of matches.now) (codes "N") ≡ Some nodes)
-        × (1 ≤ nodes) × (nodes ≤ 9)) }
-    ensures none { IfNone result ((nodes : ℕ) → number_at (found_of matches.now) (codes "N") ≡ Some nodes
-        → 1 ≤ nodes → nodes ≤ 9 → ⊥) }
+/// The number from 1 to 9 that is given under a name, or `None` where it isn't one in digits alone.
+pub(crate) fn member_number(matches: &ArgMatches<'_>, name: &str) -> Option<u8>
+    ensures some { IfSome result (GivesMember (found_of matches.now) name.now) }
+    ensures none { IfNone result ((number : ℕ) → GivesMember (found_of matches.now) name.now number → ⊥) }
 {
-    let nodes = number_of(matches, "N")?;
-    if nodes < 1 || nodes > 9 {
+    let number = number_of(matches, name)?;
+    if number < 1 || number > 9 {
         return None;
     }
-    Some(nodes as u8)
+    Some(number as u8)
 }
 
 /// What the values of the command `sim` ask for, or `None` where they ask for nothing.
@@ -334,7 +366,7 @@ fn sim_task<'a>(matches: &ArgMatches<'a>) -> Option<Task<'a>>
     ensures none { IfNone result ((nodes : ℕ) (limits : Limits) (moment : ℕ) (key : Option (List ℕ))
         → AsksForNodes (found_of matches.now) nodes limits moment key → ⊥) }
 {
-    let nodes = nodes_of(matches)?;
+    let nodes = member_number(matches, "N")?;
     let (settings, moment) = numbers_of(matches)?;
     let key = matches.get_str("key");
     Some(Task::Sim {
@@ -353,7 +385,7 @@ fn cluster_task<'a>(matches: &ArgMatches<'a>) -> Option<Task<'a>>
         → AsksForNodes (found_of matches.now) nodes limits moment key → ⊥) }
 {
     let users = matches.get_str("USERS")?;
-    let nodes = nodes_of(matches)?;
+    let nodes = member_number(matches, "N")?;
     let (settings, moment) = numbers_of(matches)?;
     let key = matches.get_str("key");
     Some(Task::Cluster {
@@ -374,23 +406,63 @@ fn secret_task<'a>(matches: &ArgMatches<'a>) -> Option<Task<'a>>
     Some(Task::Run(Request::Secret { hex }))
 }
 
-/// What the values of the command with this name ask for, or `None` where they ask for nothing.
-fn task_of<'a>(name: &str, matches: &ArgMatches<'a>) -> Option<Task<'a>>
-    ensures some { IfSome result (AsksFor name.now (found_of matches.now)) }
-    ensures none { IfNone result (AsksForNothing name.now (found_of matches.now)) }
+/// What the values of a command over a database with this name ask for, or `None` where they ask for nothing.
+fn store_task<'a>(
+    alloc: Global,
+    name: &str,
+    matches: &ArgMatches<'a>,
+) -> Result<Option<Task<'a>>, AllocError>
+    ensures some { IfOk result (λ read. IfSome read (AsksFor name.now (found_of matches.now))) }
+    ensures none { IfOk result (λ read. IfNone read ((database users : List ℕ) (action : AnyAction)
+        → AsksForStore name.now (found_of matches.now) database users action → ⊥)) }
 {
-    match name {
-        "lines" => lines_task(matches),
-        "sim" => sim_task(matches),
-        "cluster" => cluster_task(matches),
-        "secret" => secret_task(matches),
-        _ => None,
+    let (Some(database), Some(users)) = (matches.get_str("DB"), matches.get_str("USERS")) else {
+        return Ok(None);
+    };
+    match read_action(alloc, name, matches)? {
+        Some(action) => Ok(Some(Task::Store {
+            database,
+            users,
+            action,
+        })),
+        None => Ok(None),
     }
 }
 
+/// What the values of the command with this name ask for, or `None` where they ask for nothing.
+fn task_of<'a>(
+    alloc: Global,
+    name: &str,
+    matches: &ArgMatches<'a>,
+) -> Result<Option<Task<'a>>, AllocError>
+    ensures some { IfOk result (λ read. IfSome read (AsksFor name.now (found_of matches.now))) }
+    ensures none { IfOk result (λ read. IfNone read (AsksForNothing name.now (found_of matches.now))) }
+{
+    match name {
+        "lines" => Ok(lines_task(matches)),
+        "sim" => Ok(sim_task(matches)),
+        "cluster" => Ok(cluster_task(matches)),
+        "secret" => Ok(secret_task(matches)),
+        _ => store_task(alloc, name, matches),
+    }
+}
+
+/// The error for values of the command with this name that ask for nothing. It names a number that is out of its range
+/// or not in digits alone with that range, and has the usage of the command.
+fn value_error(alloc: Global, name: &str, matches: &ArgMatches<'_>) -> Result<Error, AllocError> {
+    let mut usage = match name {
+        "init" => return init_error(alloc, matches),
+        "serve" => return serve_error(alloc, matches),
+        "sim" => sim_command(alloc)?.bin_name("oathd sim")?,
+        "cluster" => cluster_command(alloc)?.bin_name("oathd cluster")?,
+        _ => lines_command(alloc)?.bin_name("oathd lines")?,
+    };
+    number_error(alloc, &mut usage, matches, &NUMBERS)
+}
+
 /// What the words ask for. The first of them is the program's name. The error has clap's text, which
-/// goes to standard output where help or the version was asked for; a number that is out of its range or
-/// not in digits alone is named with that range, and with the usage of the command.
+/// goes to standard output where help or the version was asked for; a value that asks for nothing is named with the
+/// usage of the command.
 pub(crate) fn read_words<'a>(alloc: Global, words: &'a [String]) -> Result<Task<'a>, Error>
     ensures { IfOk result IsInRange }
 {
@@ -399,15 +471,8 @@ pub(crate) fn read_words<'a>(alloc: Global, words: &'a [String]) -> Result<Task<
     let Some((name, values)) = matches.subcommand() else {
         return Err(command.error(ErrorKind::MissingSubcommand, "a command is missing")?);
     };
-    match task_of(name, values) {
+    match task_of(alloc, name, values)? {
         Some(task) => Ok(task),
-        None => {
-            let mut usage = match name {
-                "sim" => sim_command(alloc)?.bin_name("oathd sim")?,
-                "cluster" => cluster_command(alloc)?.bin_name("oathd cluster")?,
-                _ => lines_command(alloc)?.bin_name("oathd lines")?,
-            };
-            Err(number_error(alloc, &mut usage, values, &NUMBERS)?)
-        }
+        None => Err(value_error(alloc, name, values)?),
     }
 }

@@ -7,6 +7,8 @@ mod database;
 mod files;
 mod serving;
 mod setup;
+#[cfg(test)]
+mod tests;
 
 pub use commands::{audit_store, export_store, init_store};
 pub use files::{audit_file, export_file, init_file, serve_file};

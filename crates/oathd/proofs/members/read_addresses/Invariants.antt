@@ -1,0 +1,7 @@
+use Rattle.std.proofs.Common.{◌≡◌, length}
+use Rattle.oathd.proofs.MembersLemmas.{SaysFront}
+use Rattle.oathd.proofs.members.read_addresses.Given as goal
+
+-- the addresses so far are those of the text's first parts
+abbrev pub invariant-loop : goal.invariant-loop
+invariant-loop l = SaysFront l.fn.text l.rest l.addresses.items × (length l.addresses.items ≡ l.counter)

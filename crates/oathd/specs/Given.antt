@@ -1,0 +1,19 @@
+-- Numbers that several commands are given.
+use Rattle.std.specs.Prelude.{◌≡◌, ◌≤◌, ℕ, List, Some, codes}
+use Rattle.clap.specs.declared.parser.matches.Found.{Found}
+use Rattle.command_line.specs.Number.{number_at}
+use Rattle.otp_core.specs.Limits.{Limits, AreLimits}
+
+-- these limits are given, and in their ranges
+pub record GivesLimits (found : Found) (limits : Limits) : Type 0 where
+  pub look_ahead_given : number_at found (codes "look-ahead") ≡ Some limits.look_ahead
+  pub skew_given : number_at found (codes "skew") ≡ Some limits.skew
+  pub range_given : number_at found (codes "range") ≡ Some limits.range
+  pub no_drift : limits.drift ≡ 0
+  pub in_range : AreLimits limits
+
+-- the number of a member, 1 to 9, is given under this name
+pub record GivesMember (found : Found) (name : List ℕ) (number : ℕ) : Type 0 where
+  pub given : number_at found name ≡ Some number
+  pub first : 1 ≤ number
+  pub last : number ≤ 9

@@ -1,0 +1,69 @@
+-- What the words of the commands over a database ask for, by the values that clap found.
+use Rattle.std.specs.Prelude.{◌≡◌, ◌<◌, ◌≤◌, ◌^◌, ℕ, List, length, Option, Some, None, codes}
+use Rattle.clap.specs.Matches.{first_value}
+use Rattle.clap.specs.declared.parser.matches.Found.{Found}
+use Rattle.command_line.specs.Number.{number_at}
+use Rattle.otp_core.specs.Limits.{Limits, AreLimits, limits_of}
+use Rattle.otp_core.specs.Range.{IsMoment}
+use Rattle.std.specs.declared.net.socket_addr.SocketAddrV4.{SocketAddrV4}
+use Rattle.vote_core.specs.NodeSet.{PlaceRecord}
+use Rattle.vote_core.specs.State.{IsPlace}
+use Rattle.oathd.specs.Given.{GivesLimits, GivesMember}
+use Rattle.oathd.specs.Members.{AreMembers}
+use Rattle.oathd.specs.declared.store_words.Action.{Action}
+use Rattle.oathd.specs.declared.store_words.Action.TheVariants.{Init, Serve, Export, Audit}
+
+-- a moment in its range is given, or none is
+abbrev pub GivesMoment : Found → Option ℕ → Type 0
+GivesMoment found None = first_value found (codes "moment") ≡ None
+GivesMoment found (Some moment) = (number_at found (codes "moment") ≡ Some moment) × IsMoment moment
+
+-- the skew of an import is given, and in its range; the other limits, which no import looks at, are the usual ones
+pub record GivesImport (found : Found) (limits : Limits) : Type 0 where
+  pub skew_given : number_at found (codes "skew") ≡ Some limits.skew
+  pub usual : limits ≡ limits_of 10 limits.skew 100
+  pub in_range : AreLimits limits
+
+-- so many turns are given, and below 2^32
+abbrev pub GivesTurns : Found → ℕ → Type 0
+GivesTurns found turns = (number_at found (codes "turns") ≡ Some turns) × (turns < 2 ^ 32)
+
+-- which member the node is, of how many
+pub record GivesPlace (found : Found) (place : PlaceRecord) : Type 0 where
+  pub node_given : GivesMember found (codes "node") place.me
+  pub within : IsPlace place
+
+-- a node is to be served: this member of these, with these limits and the key at this path, for so many turns
+pub record AsksToServe (found : Found) (limits : Limits) (place : PlaceRecord) (members : List SocketAddrV4)
+    (key : List ℕ) (turns : ℕ) : Type 0 where
+  pub place_given : GivesPlace found place
+  pub text : List ℕ
+  pub text_given : first_value found (codes "members") ≡ Some text
+  pub members_given : AreMembers text members
+  pub each : place.n ≡ length members
+  pub limits_given : GivesLimits found limits
+  pub key_given : first_value found (codes "key") ≡ Some key
+  pub turns_given : GivesTurns found turns
+
+-- the command with this name, and these values, ask for this with a store
+abbrev pub AsksForAction : List ℕ → Found → Action → Type 0
+AsksForAction name found (Init node settings moment) =
+    (name ≡ codes "init") × GivesMember found (codes "node") node × GivesImport found settings × GivesMoment found moment
+AsksForAction name found (Serve settings place members key turns) =
+    (name ≡ codes "serve") × AsksToServe found settings place members.items key.now turns
+AsksForAction name found Export = name ≡ codes "export"
+AsksForAction name found (Audit node) = (name ≡ codes "audit") × GivesMember found (codes "node") node
+
+-- the same, over the store of this database and with this users file
+abbrev pub AsksForStore : List ℕ → Found → List ℕ → List ℕ → Action → Type 0
+AsksForStore name found database users action =
+    (first_value found (codes "DB") ≡ Some database) × (first_value found (codes "USERS") ≡ Some users)
+    × AsksForAction name found action
+
+-- the numbers of what is asked for are in their ranges
+abbrev pub IsActionInRange : Action → Type 0
+IsActionInRange (Init node settings None) = (1 ≤ node) × (node ≤ 9)
+IsActionInRange (Init node settings (Some moment)) = (1 ≤ node) × (node ≤ 9) × IsMoment moment
+IsActionInRange (Serve settings place members key turns) = length members.items ≡ place.n
+IsActionInRange Export = Unit {0}
+IsActionInRange (Audit node) = (1 ≤ node) × (node ≤ 9)
