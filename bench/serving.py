@@ -1,0 +1,143 @@
+"""What the measures and trials over `oathd serve` share: codes, a folder of users and databases, and the processes.
+
+OATHD in the environment is the program, else ./oathd.
+"""
+import hashlib
+import hmac
+import os
+import random
+import shutil
+import signal
+import socket
+import struct
+import subprocess
+import tempfile
+import time
+
+TOP = os.path.dirname(os.path.dirname(os.path.abspath(__file__)))
+PROGRAM = os.environ.get("OATHD", os.path.join(TOP, "oathd"))
+
+
+def code(key, factor):
+    """The six digits of RFC 4226."""
+    mac = hmac.digest(key, struct.pack(">Q", factor), hashlib.sha1)
+    at = mac[-1] & 15
+    return "%06d" % ((struct.unpack(">I", mac[at:at + 4])[0] & 0x7FFFFFFF) % 1_000_000)
+
+
+def key_of(token):
+    return hashlib.sha1(b"token %d" % token).digest()
+
+
+def free_ports(count):
+    """UDP ports of 127.0.0.1 that nobody has."""
+    sockets = [socket.socket(socket.AF_INET, socket.SOCK_DGRAM) for _ in range(count)]
+    for each in sockets:
+        each.bind(("127.0.0.1", 0))
+    ports = [each.getsockname()[1] for each in sockets]
+    for each in sockets:
+        each.close()
+    return ports
+
+
+def client_of(port, seconds):
+    """A socket for lines to the node at a port. It is told where nobody is there."""
+    client = socket.socket(socket.AF_INET, socket.SOCK_DGRAM)
+    client.connect(("127.0.0.1", port))
+    client.settimeout(seconds)
+    return client
+
+
+def hear(client, line):
+    """The answer to a line, or None where none comes. Answers to other lines are passed over."""
+    nonce = line.split()[1]
+    try:
+        while True:
+            answer = client.recv(512).decode()
+            if answer.split()[1] == nonce:
+                return answer
+    except (TimeoutError, ConnectionRefusedError):
+        return None
+
+
+def ask(client, line):
+    """Sends a line. The answer to it, or None where none comes."""
+    try:
+        client.send(line.encode())
+    except ConnectionRefusedError:
+        return None
+    return hear(client, line)
+
+
+class Nodes:
+    """Nodes of a cluster, each a process over a database of its own, in a folder that goes when they go."""
+
+    def __init__(self, rows, count, options=(), moment=0):
+        subprocess.run([PROGRAM, "--version"], check=True, stdout=subprocess.DEVNULL)
+        self.folder = tempfile.mkdtemp(prefix="oathd-")
+        self.users, self.key = self.path("users"), self.path("key")
+        with open(self.users, "w") as users:
+            users.write("".join(row + "\n" for row in rows))
+        with open(self.key, "w") as key:
+            key.write(random.randbytes(32).hex())
+        self.ports = free_ports(count)
+        addresses = ["127.0.0.1:%d" % port for port in self.ports]
+        # of each node the addresses by which it knows the members
+        self.members = [list(addresses) for _ in self.ports]
+        self.options = list(options)
+        self.processes = [None] * count
+        for node in range(count):
+            self.run("init", node, "--node", str(node + 1), "--moment", str(moment))
+
+    def path(self, name):
+        return os.path.join(self.folder, name)
+
+    def database(self, node):
+        return self.path("node%d.db" % (node + 1))
+
+    def run(self, command, node, *words):
+        """What a command over the database of a node prints."""
+        words = [PROGRAM, command, self.database(node), self.users, *words]
+        return subprocess.run(words, check=True, stdout=subprocess.PIPE, text=True).stdout
+
+    def audit(self, node):
+        """The numbers of each pass of a node: its own number, token, lo, hi, boot, seq."""
+        lines = self.run("audit", node, "--node", str(node + 1)).splitlines()
+        return [tuple(int(number) for number in line.split()[1:]) for line in lines]
+
+    def serving_words(self, node, *words):
+        return [PROGRAM, "serve", self.database(node), self.users, "--node", str(node + 1), "--key", self.key,
+                "--members", ",".join(self.members[node]), *self.options, *words]
+
+    def start(self, node, turns=4_294_967_295):
+        """Starts a node, and waits until it answers."""
+        self.processes[node] = subprocess.Popen(self.serving_words(node, "--turns", str(turns)))
+        with client_of(self.ports[node], 0.1) as client:
+            for _ in range(600):
+                if ask(client, "CHECK up nobody 000000 -") == "NO up UNKNOWN":
+                    return
+                if self.processes[node].poll() is not None:
+                    break
+                time.sleep(0.02)
+        raise RuntimeError("node %d does not answer" % (node + 1))
+
+    def kill(self, node):
+        """Stops a node as it stands, if it runs. What the system says of what it used."""
+        process, self.processes[node] = self.processes[node], None
+        if process is None:
+            return None
+        process.send_signal(signal.SIGKILL)
+        usage = os.wait4(process.pid, 0)[2]
+        process.returncode = -signal.SIGKILL
+        return usage
+
+    def close(self):
+        for node in range(len(self.ports)):
+            self.kill(node)
+        shutil.rmtree(self.folder, ignore_errors=True)
+
+    def __enter__(self):
+        return self
+
+    def __exit__(self, *_):
+        self.close()
