@@ -1,5 +1,5 @@
 #!/usr/bin/env python3
-"""Asks the nodes of a cluster one line, a node after the other until one answers, and prints the answer.
+"""Asks the nodes of a cluster one line, a node after the other until one has decided, and prints the last answer.
 
     ask.py LINE HOST:PORT..     status 0 for OK, 1 for NO, 2 where no node answered
 
@@ -9,15 +9,18 @@ import socket
 import sys
 
 line, nodes = sys.argv[1], sys.argv[2:]
+answer = ""
 with socket.socket(socket.AF_INET, socket.SOCK_DGRAM) as client:
     client.settimeout(2.5)
     for node in nodes:
         host, port = node.rsplit(":", 1)
-        client.sendto(line.encode(), (host, int(port)))
+        client.connect((host, int(port)))
         try:
+            client.send(line.encode())
             answer = client.recv(512).decode()
-        except TimeoutError:
+        except OSError:
             continue
-        print(answer)
-        sys.exit(0 if answer.startswith("OK ") else 1)
-sys.exit(2)
+        if answer.split()[2] not in ("TIMEOUT", "BUSY", "CLOCK"):
+            break
+print(answer, end="\n" if answer else "")
+sys.exit(0 if answer.startswith("OK ") else 1 if answer else 2)

@@ -1,21 +1,21 @@
 #!/usr/bin/env bash
-# Asks the nodes of a cluster one line, a node after the other until one answers, and prints the answer.
+# Asks the nodes of a cluster one line, a node after the other until one has decided, and prints the last answer.
 #
 #   ask.sh LINE HOST:PORT..     status 0 for OK, 1 for NO, 2 where no node answered
 #
 # The line is the same for each node, so that its code is used up once at most. dd takes a datagram whole; bash's own
 # read would take its first byte and lose the rest.
 set -u
-line=$1
+line=$1 answer=
 shift
 for node in "$@"; do
     exec 3<> "/dev/udp/${node%:*}/${node##*:}"
     printf '%s' "$line" >&3
-    answer=$(timeout 2.5 dd bs=512 count=1 status=none <&3 2> /dev/null)
+    heard=$(timeout 2.5 dd bs=512 count=1 status=none <&3 2> /dev/null)
     exec 3>&-
-    [ -n "$answer" ] || continue
-    echo "$answer"
-    [ "${answer%% *}" = OK ]
-    exit
+    answer=${heard:-$answer}
+    case ${heard##* } in '' | TIMEOUT | BUSY | CLOCK) ;; *) break ;; esac
 done
-exit 2
+[ -n "$answer" ] || exit 2
+echo "$answer"
+[ "${answer%% *}" = OK ]
