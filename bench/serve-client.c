@@ -1,0 +1,191 @@
+/* Clients of `oathd serve` whose lines are written beforehand, so that next to nothing is computed while time is taken.
+ *
+ *   serve-client ask SECONDS CLIENTS LINES PORT..   asks the nodes at these ports of 127.0.0.1. Each client has a
+ *                                                   socket and one line on its way; client k asks the k-th port, round
+ *                                                   again, the k-th line of the file LINES and then each CLIENTS-th.
+ *                                                   It ends after so many seconds, or when a client has no line left
+ *   serve-client echo PORT                          answers each line with OK at once, for ever
+ *
+ * It prints: answers OK, other answers, lines sent again (where none came in a second), seconds, and of the answers
+ * the median, the 99th percentile and the greatest time in microseconds, and its seconds of processor time.
+ */
+#include <arpa/inet.h>
+#include <poll.h>
+#include <stdio.h>
+#include <stdlib.h>
+#include <string.h>
+#include <sys/resource.h>
+#include <sys/socket.h>
+#include <time.h>
+#include <unistd.h>
+
+enum { MAX_CLIENTS = 64, MAX_ANSWERS = 4000000 };
+static const double PATIENCE = 1.0;
+
+struct client {
+    size_t next;      /* its next line */
+    double begun;     /* when the line on its way was first sent */
+    double sent;      /* when it was last sent */
+};
+
+static char **lines;
+static size_t line_count;
+static double *times;
+static size_t ok_count, other_count, resent_count;
+
+static void fail(const char *what)
+{
+    perror(what);
+    exit(1);
+}
+
+static double now(void)
+{
+    struct timespec t;
+    clock_gettime(CLOCK_MONOTONIC, &t);
+    return (double)t.tv_sec + (double)t.tv_nsec / 1e9;
+}
+
+static struct sockaddr_in loopback(const char *port)
+{
+    struct sockaddr_in address = { .sin_family = AF_INET, .sin_port = htons((unsigned short)atoi(port)) };
+    address.sin_addr.s_addr = htonl(INADDR_LOOPBACK);
+    return address;
+}
+
+static void echo(const char *port)
+{
+    struct sockaddr_in address = loopback(port);
+    int fd = socket(AF_INET, SOCK_DGRAM, 0);
+    if (fd < 0 || bind(fd, (struct sockaddr *)&address, sizeof address) < 0) fail("serve-client: bind");
+    for (;;) {
+        char line[513], answer[64];
+        struct sockaddr_in from;
+        socklen_t len = sizeof from;
+        ssize_t got = recvfrom(fd, line, sizeof line - 1, 0, (struct sockaddr *)&from, &len);
+        if (got < 0) continue;
+        line[got] = 0;
+        char nonce[21] = "";
+        sscanf(line, "%*s %20s", nonce);
+        int size = snprintf(answer, sizeof answer, "OK %s 0", nonce);
+        sendto(fd, answer, (size_t)size, 0, (struct sockaddr *)&from, len);
+    }
+}
+
+static void read_lines(const char *path)
+{
+    FILE *file = fopen(path, "r");
+    size_t room = 0, size = 0;
+    if (!file) fail("serve-client: lines");
+    for (;;) {
+        char *line = NULL;
+        ssize_t len = getline(&line, &size, file);
+        size = 0;
+        if (len < 0) break;
+        if (len > 0 && line[len - 1] == '\n') line[len - 1] = 0;
+        if (line_count == room) lines = realloc(lines, (room = 2 * room + 1024) * sizeof *lines);
+        lines[line_count++] = line;
+    }
+    fclose(file);
+}
+
+static void send_line(struct client *client, struct pollfd *fd, double moment)
+{
+    client->sent = moment;
+    if (send(fd->fd, lines[client->next], strlen(lines[client->next]), 0) < 0) fail("serve-client: send");
+}
+
+static void begin_line(struct client *client, struct pollfd *fd)
+{
+    client->begun = now();
+    send_line(client, fd, client->begun);
+}
+
+/* Whether an answer is to a line: its second word is that of the line. */
+static int is_answer_to(const char *answer, const char *line)
+{
+    const char *nonce = strchr(line, ' ');
+    const char *name = strchr(answer, ' ');
+    size_t len = nonce ? strcspn(nonce + 1, " ") : 0;
+    return name && strncmp(name, nonce, len + 1) == 0 && name[len + 1] == ' ';
+}
+
+/* Takes what came to a client. Whether it was the answer. */
+static int take_answer(struct client *client, struct pollfd *fd, double moment)
+{
+    char answer[513];
+    ssize_t got = recv(fd->fd, answer, sizeof answer - 1, 0);
+    if (got < 0) fail("serve-client: recv");
+    answer[got] = 0;
+    if (!is_answer_to(answer, lines[client->next])) return 0;
+    if (ok_count + other_count < MAX_ANSWERS) times[ok_count + other_count] = moment - client->begun;
+    if (strncmp(answer, "OK ", 3) == 0) ok_count++;
+    else other_count++;
+    return 1;
+}
+
+static void ask(double seconds, size_t clients, struct client *client, struct pollfd *fds)
+{
+    double end = now() + seconds;
+    for (size_t k = 0; k < clients; k++) begin_line(&client[k], &fds[k]);
+    for (;;) {
+        poll(fds, clients, 50);
+        double moment = now();
+        if (moment >= end) return;
+        for (size_t k = 0; k < clients; k++) {
+            if (fds[k].revents && take_answer(&client[k], &fds[k], moment)) {
+                client[k].next += clients;
+                if (client[k].next >= line_count) return;
+                begin_line(&client[k], &fds[k]);
+            } else if (moment - client[k].sent > PATIENCE) {
+                resent_count++;
+                send_line(&client[k], &fds[k], moment);
+            }
+        }
+    }
+}
+
+static int compare(const void *a, const void *b)
+{
+    double x = *(const double *)a, y = *(const double *)b;
+    return (x > y) - (x < y);
+}
+
+static void report(double seconds)
+{
+    size_t count = ok_count + other_count;
+    struct rusage usage;
+    getrusage(RUSAGE_SELF, &usage);
+    if (count > MAX_ANSWERS) count = MAX_ANSWERS;
+    qsort(times, count, sizeof *times, compare);
+    double median = count ? times[count / 2] : 0, late = count ? times[count * 99 / 100] : 0;
+    printf("%zu %zu %zu %.3f %.0f %.0f %.0f %.3f\n", ok_count, other_count, resent_count, seconds, 1e6 * median,
+           1e6 * late, count ? 1e6 * times[count - 1] : 0.0,
+           (double)(usage.ru_utime.tv_sec + usage.ru_stime.tv_sec)
+               + (double)(usage.ru_utime.tv_usec + usage.ru_stime.tv_usec) / 1e6);
+}
+
+int main(int argc, char **argv)
+{
+    static struct client client[MAX_CLIENTS];
+    static struct pollfd fds[MAX_CLIENTS];
+    if (argc == 3 && strcmp(argv[1], "echo") == 0) echo(argv[2]);
+    if (argc < 6 || strcmp(argv[1], "ask") != 0) {
+        fprintf(stderr, "serve-client ask SECONDS CLIENTS LINES PORT.. | echo PORT\n");
+        return 2;
+    }
+    size_t clients = (size_t)atoi(argv[3]);
+    read_lines(argv[4]);
+    times = malloc(MAX_ANSWERS * sizeof *times);
+    if (clients > MAX_CLIENTS || clients > line_count || !times) return 2;
+    for (size_t k = 0; k < clients; k++) {
+        struct sockaddr_in address = loopback(argv[5 + k % (size_t)(argc - 5)]);
+        fds[k] = (struct pollfd){ .fd = socket(AF_INET, SOCK_DGRAM, 0), .events = POLLIN };
+        if (connect(fds[k].fd, (struct sockaddr *)&address, sizeof address) < 0) fail("serve-client: connect");
+        client[k].next = k;
+    }
+    double start = now();
+    ask(atof(argv[2]), clients, client, fds);
+    report(now() - start);
+    return 0;
+}
