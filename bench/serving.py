@@ -6,6 +6,7 @@ import hashlib
 import hmac
 import os
 import random
+import resource
 import shutil
 import signal
 import socket
@@ -109,24 +110,39 @@ class Nodes:
         return [PROGRAM, "serve", self.database(node), self.users, "--node", str(node + 1), "--key", self.key,
                 "--members", ",".join(self.members[node]), *self.options, *words]
 
-    def start(self, node, turns=4_294_967_295):
+    def start(self, node):
         """Starts a node, and waits until it answers."""
-        self.processes[node] = subprocess.Popen(self.serving_words(node, "--turns", str(turns)))
+        self.processes[node] = subprocess.Popen(self.serving_words(node, "--turns", "4294967295"))
+        if not self.answers(node):
+            raise RuntimeError("node %d does not answer" % (node + 1))
+
+    def start_in(self, node, room):
+        """Starts a node whose files may not grow past so many bytes, and waits until it answers or has ended."""
+        def limit():
+            signal.signal(signal.SIGXFSZ, signal.SIG_IGN)
+            resource.setrlimit(resource.RLIMIT_FSIZE, (room, room))
+
+        self.processes[node] = subprocess.Popen(self.serving_words(node, "--turns", "4294967295"), preexec_fn=limit,
+                                                stderr=subprocess.DEVNULL)
+        return self.answers(node)
+
+    def answers(self, node):
+        """Whether a node answers, which is waited for as long as it runs."""
         with client_of(self.ports[node], 0.1) as client:
             for _ in range(600):
                 if ask(client, "CHECK up nobody 000000 -") == "NO up UNKNOWN":
-                    return
+                    return True
                 if self.processes[node].poll() is not None:
                     break
                 time.sleep(0.02)
-        raise RuntimeError("node %d does not answer" % (node + 1))
+        return False
 
     def kill(self, node):
         """Stops a node as it stands, if it runs. What the system says of what it used."""
         process, self.processes[node] = self.processes[node], None
-        if process is None:
+        if process is None or process.poll() is not None:
             return None
-        process.send_signal(signal.SIGKILL)
+        os.kill(process.pid, signal.SIGKILL)
         usage = os.wait4(process.pid, 0)[2]
         process.returncode = -signal.SIGKILL
         return usage
