@@ -10,6 +10,8 @@ mod serving;
 #[cfg(test)]
 mod tests;
 mod users;
+#[cfg(test)]
+mod vote_tests;
 
 pub use commands::{init, open};
 pub use database::Database;

@@ -12,11 +12,11 @@ use vote_core::Place;
 use vote_wire::ClusterKey;
 
 /// The token of RFC 4226, Appendix D.
-const SILVER: &[u8] = b"HOTP silver - 3132333435363738393031323334353637383930\n";
+pub(crate) const SILVER: &[u8] = b"HOTP silver - 3132333435363738393031323334353637383930\n";
 
 /// A database in memory, or one that can't be opened.
 #[derive(Drop)]
-struct InMemory(Option<Connection<MemStore>>);
+pub(crate) struct InMemory(pub(crate) Option<Connection<MemStore>>);
 
 impl Database<MemStore> for InMemory {
     fn connect(self) -> Result<Connection<MemStore>, StoreFault> {
