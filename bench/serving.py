@@ -12,6 +12,7 @@ import signal
 import socket
 import struct
 import subprocess
+import sys
 import tempfile
 import time
 
@@ -153,6 +154,8 @@ class Nodes:
         shutil.rmtree(self.folder, ignore_errors=True)
 
     def __enter__(self):
+        # a SIGTERM ends the nodes too, as Ctrl-C does
+        signal.signal(signal.SIGTERM, lambda *_: sys.exit(1))
         return self
 
     def __exit__(self, *_):
