@@ -1,13 +1,14 @@
 /* Clients of `oathd serve` whose lines are written beforehand, so that next to nothing is computed while time is taken.
  *
- *   serve-client ask SECONDS CLIENTS LINES PORT..   asks the nodes at these ports of 127.0.0.1. Each client has a
- *                                                   socket and one line on its way; client k asks the k-th port, round
- *                                                   again, the k-th line of the file LINES and then each CLIENTS-th.
- *                                                   It ends after so many seconds, or when a client has no line left
- *   serve-client echo PORT                          answers each line with OK at once, for ever
+ *   serve-client ask SECONDS TURN CLIENTS LINES PORT..
+ *       asks the nodes at these ports of 127.0.0.1. Each client has a socket and one line on its way; client k asks the
+ *       k-th port, round again, the k-th line of the file LINES and then each CLIENTS-th. It ends after so many
+ *       seconds, or when a client has no line left. TURN is 0, or says whose turn it works in
+ *   serve-client echo PORT
+ *       answers each line with OK at once, for ever
  *
- * It prints: answers OK, other answers, lines sent again (where none came in a second), seconds, and of the answers
- * the median, the 99th percentile and the greatest time in microseconds, and its seconds of processor time.
+ * It prints: answers OK, other answers, lines sent again (where none came in a second), the seconds of its turns, of
+ * the answers the median, the 99th percentile and the greatest time in microseconds, and its seconds of processor time.
  */
 #include <arpa/inet.h>
 #include <poll.h>
@@ -16,8 +17,9 @@
 #include <string.h>
 #include <sys/resource.h>
 #include <sys/socket.h>
-#include <time.h>
 #include <unistd.h>
+
+#include "serve-turns.h"
 
 enum { MAX_CLIENTS = 64, MAX_ANSWERS = 4000000 };
 static const double PATIENCE = 1.0;
@@ -37,13 +39,6 @@ static void fail(const char *what)
 {
     perror(what);
     exit(1);
-}
-
-static double now(void)
-{
-    struct timespec t;
-    clock_gettime(CLOCK_MONOTONIC, &t);
-    return (double)t.tv_sec + (double)t.tv_nsec / 1e9;
 }
 
 static struct sockaddr_in loopback(const char *port)
@@ -124,18 +119,20 @@ static int take_answer(struct client *client, struct pollfd *fd, double moment)
     return 1;
 }
 
-static void ask(double seconds, size_t clients, struct client *client, struct pollfd *fds)
+/* Asks until the end. How long it slept in the turns of the other. */
+static double ask(double seconds, int turn, size_t clients, struct client *client, struct pollfd *fds)
 {
-    double end = now() + seconds;
+    double end = now() + seconds, slept = await_turn(turn);
     for (size_t k = 0; k < clients; k++) begin_line(&client[k], &fds[k]);
     for (;;) {
         poll(fds, clients, 50);
         double moment = now();
-        if (moment >= end) return;
+        if (moment >= end) return slept;
         for (size_t k = 0; k < clients; k++) {
             if (fds[k].revents && take_answer(&client[k], &fds[k], moment)) {
                 client[k].next += clients;
-                if (client[k].next >= line_count) return;
+                if (client[k].next >= line_count) return slept;
+                slept += await_turn(turn);
                 begin_line(&client[k], &fds[k]);
             } else if (moment - client[k].sent > PATIENCE) {
                 resent_count++;
@@ -170,22 +167,22 @@ int main(int argc, char **argv)
     static struct client client[MAX_CLIENTS];
     static struct pollfd fds[MAX_CLIENTS];
     if (argc == 3 && strcmp(argv[1], "echo") == 0) echo(argv[2]);
-    if (argc < 6 || strcmp(argv[1], "ask") != 0) {
-        fprintf(stderr, "serve-client ask SECONDS CLIENTS LINES PORT.. | echo PORT\n");
+    if (argc < 7 || strcmp(argv[1], "ask") != 0) {
+        fprintf(stderr, "serve-client ask SECONDS TURN CLIENTS LINES PORT.. | echo PORT\n");
         return 2;
     }
-    size_t clients = (size_t)atoi(argv[3]);
-    read_lines(argv[4]);
+    size_t clients = (size_t)atoi(argv[4]);
+    read_lines(argv[5]);
     times = malloc(MAX_ANSWERS * sizeof *times);
     if (clients > MAX_CLIENTS || clients > line_count || !times) return 2;
     for (size_t k = 0; k < clients; k++) {
-        struct sockaddr_in address = loopback(argv[5 + k % (size_t)(argc - 5)]);
+        struct sockaddr_in address = loopback(argv[6 + k % (size_t)(argc - 6)]);
         fds[k] = (struct pollfd){ .fd = socket(AF_INET, SOCK_DGRAM, 0), .events = POLLIN };
         if (connect(fds[k].fd, (struct sockaddr *)&address, sizeof address) < 0) fail("serve-client: connect");
         client[k].next = k;
     }
     double start = now();
-    ask(atof(argv[2]), clients, client, fds);
-    report(now() - start);
+    double slept = ask(atof(argv[2]), atoi(argv[3]), clients, client, fds);
+    report(now() - start - slept);
     return 0;
 }

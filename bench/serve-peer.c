@@ -1,12 +1,13 @@
 /* What a node alone writes for an acceptance, by SQLite's own library: the tables of a store, and for each acceptance
  * one transaction of one UPDATE and one INSERT, in WAL with synchronous=FULL, so that it survives a loss of power.
  *
- *   serve-peer SECONDS TOKENS FILE normal       with SQLite's locks
- *   serve-peer SECONDS TOKENS FILE exclusive    with the file locked once, as `oathd` does
- *   serve-peer SECONDS TOKENS FILE disk         without SQLite: two pages are appended and synced, which is the least
- *                                               that such a transaction writes
+ *   serve-peer SECONDS TURN TOKENS FILE normal       with SQLite's locks
+ *   serve-peer SECONDS TURN TOKENS FILE exclusive    with the file locked once, as `oathd` does
+ *   serve-peer SECONDS TURN TOKENS FILE disk         without SQLite: two pages are appended and synced, which is the
+ *                                                    least that such a transaction writes
  *
- * It prints: transactions, seconds, and its seconds of processor time.
+ * TURN is 0, or says whose turn it works in. It prints: transactions, the seconds of its turns, and its seconds of
+ * processor time.
  */
 #include <fcntl.h>
 #include <sqlite3.h>
@@ -14,8 +15,9 @@
 #include <stdlib.h>
 #include <string.h>
 #include <sys/resource.h>
-#include <time.h>
 #include <unistd.h>
+
+#include "serve-turns.h"
 
 static const char *TABLES =
     "CREATE TABLE self (id INTEGER PRIMARY KEY CHECK (id = 1), version INTEGER NOT NULL,"
@@ -28,12 +30,8 @@ static const char *TABLES =
 
 static sqlite3 *db;
 
-static double now(void)
-{
-    struct timespec t;
-    clock_gettime(CLOCK_MONOTONIC, &t);
-    return (double)t.tv_sec + (double)t.tv_nsec / 1e9;
-}
+/* How long it slept in the turns of the other. */
+static double slept;
 
 static void fail(const char *what)
 {
@@ -75,7 +73,7 @@ static void make_tables(const char *path, const char *locks, sqlite3_int64 token
     run("COMMIT");
 }
 
-static long accept_all(double seconds, sqlite3_int64 tokens)
+static long accept_all(double seconds, int turn, sqlite3_int64 tokens)
 {
     sqlite3_stmt *begin = prepared("BEGIN IMMEDIATE"), *commit = prepared("COMMIT");
     sqlite3_stmt *update = prepared("UPDATE floor SET next = ?2, g_node = ?3, g_boot = ?4, g_seq = ?5, g_lo = ?6,"
@@ -85,6 +83,7 @@ static long accept_all(double seconds, sqlite3_int64 tokens)
     double end = now() + seconds;
     sqlite3_int64 count = 0;
     for (; now() < end; count++) {
+        slept += await_turn(turn);
         sqlite3_int64 token = count % tokens, factor = count / tokens;
         sqlite3_int64 floor[9] = { token, factor + 1, 1, 1, count, factor, factor, 0, 0 };
         sqlite3_int64 pass[6] = { count + 1, token, factor, factor, 1, count };
@@ -98,7 +97,7 @@ static long accept_all(double seconds, sqlite3_int64 tokens)
 
 /* Appends two pages with the heads that a log has, and syncs. The file is written anew from its start every 500 times,
  * as a log is that has been taken over. */
-static long append_all(double seconds, const char *path)
+static long append_all(double seconds, int turn, const char *path)
 {
     static char frames[2 * 4120];
     int fd = open(path, O_RDWR | O_CREAT | O_TRUNC, 0644);
@@ -106,6 +105,7 @@ static long append_all(double seconds, const char *path)
     long count = 0;
     if (fd < 0) fail("open");
     for (; now() < end; count++) {
+        slept += await_turn(turn);
         off_t place = (off_t)(count % 500) * (off_t)sizeof frames;
         if (pwrite(fd, frames, sizeof frames, place) != sizeof frames) fail("write");
         if (fdatasync(fd) < 0) fail("sync");
@@ -116,16 +116,17 @@ static long append_all(double seconds, const char *path)
 int main(int argc, char **argv)
 {
     struct rusage usage;
-    if (argc != 5) {
-        fprintf(stderr, "serve-peer SECONDS TOKENS FILE normal|exclusive|disk\n");
+    if (argc != 6) {
+        fprintf(stderr, "serve-peer SECONDS TURN TOKENS FILE normal|exclusive|disk\n");
         return 2;
     }
     double seconds = atof(argv[1]);
-    int is_disk = strcmp(argv[4], "disk") == 0;
-    if (!is_disk) make_tables(argv[3], argv[4], atol(argv[2]));
+    int turn = atoi(argv[2]), is_disk = strcmp(argv[5], "disk") == 0;
+    long tokens = atol(argv[3]);
+    if (!is_disk) make_tables(argv[4], argv[5], tokens);
     double start = now();
-    long count = is_disk ? append_all(seconds, argv[3]) : accept_all(seconds, atol(argv[2]));
-    double took = now() - start;
+    long count = is_disk ? append_all(seconds, turn, argv[4]) : accept_all(seconds, turn, tokens);
+    double took = now() - start - slept;
     getrusage(RUSAGE_SELF, &usage);
     printf("%ld %.3f %.3f\n", count, took,
            (double)(usage.ru_utime.tv_sec + usage.ru_stime.tv_sec)
