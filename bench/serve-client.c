@@ -1,9 +1,11 @@
 /* Clients of `oathd serve` whose lines are written beforehand, so that next to nothing is computed while time is taken.
  *
  *   serve-client ask SECONDS TURN CLIENTS LINES PORT..
- *       asks the nodes at these ports of 127.0.0.1. Each client has a socket and one line on its way; client k asks the
- *       k-th port, round again, the k-th line of the file LINES and then each CLIENTS-th. It ends after so many
- *       seconds, or when a client has no line left. TURN is 0, or says whose turn it works in
+ *       asks the nodes at these ports of 127.0.0.1. CLIENTS is a number, or two as 1x8: so many clients with so many
+ *       lines on their way each, one where it isn't said. Each client has a socket; client k asks the k-th port, round
+ *       again. The lines are those of the file LINES in order, the first of each place and then those that follow by the
+ *       number of places. It ends after so many seconds, or when a place has no line left. TURN is 0, or says whose
+ *       turn it works in
  *   serve-client echo PORT
  *       answers each line with OK at once, for ever
  *
@@ -21,11 +23,13 @@
 
 #include "serve-turns.h"
 
-enum { MAX_CLIENTS = 64, MAX_ANSWERS = 4000000 };
+enum { MAX_PLACES = 64, MAX_ANSWERS = 4000000 };
 static const double PATIENCE = 1.0;
 
-struct client {
-    size_t next;      /* its next line */
+/* A line on its way. */
+struct place {
+    size_t client;    /* whose it is */
+    size_t next;      /* its number */
     double begun;     /* when the line on its way was first sent */
     double sent;      /* when it was last sent */
 };
@@ -84,16 +88,17 @@ static void read_lines(const char *path)
     fclose(file);
 }
 
-static void send_line(struct client *client, struct pollfd *fd, double moment)
+static void send_line(struct place *place, struct pollfd *fds, double moment)
 {
-    client->sent = moment;
-    if (send(fd->fd, lines[client->next], strlen(lines[client->next]), 0) < 0) fail("serve-client: send");
+    const char *line = lines[place->next];
+    place->sent = moment;
+    if (send(fds[place->client].fd, line, strlen(line), 0) < 0) fail("serve-client: send");
 }
 
-static void begin_line(struct client *client, struct pollfd *fd)
+static void begin_line(struct place *place, struct pollfd *fds)
 {
-    client->begun = now();
-    send_line(client, fd, client->begun);
+    place->begun = now();
+    send_line(place, fds, place->begun);
 }
 
 /* Whether an answer is to a line: its second word is that of the line. */
@@ -105,39 +110,44 @@ static int is_answer_to(const char *answer, const char *line)
     return name && strncmp(name, nonce, len + 1) == 0 && name[len + 1] == ' ';
 }
 
-/* Takes what came to a client. Whether it was the answer. */
-static int take_answer(struct client *client, struct pollfd *fd, double moment)
+/* Takes what came to a client. Its place among these, or NULL where it is no answer that is waited for. */
+static struct place *take_answer(struct place *place, size_t places, size_t client, struct pollfd *fds, double moment)
 {
     char answer[513];
-    ssize_t got = recv(fd->fd, answer, sizeof answer - 1, 0);
+    ssize_t got = recv(fds[client].fd, answer, sizeof answer - 1, 0);
     if (got < 0) fail("serve-client: recv");
     answer[got] = 0;
-    if (!is_answer_to(answer, lines[client->next])) return 0;
-    if (ok_count + other_count < MAX_ANSWERS) times[ok_count + other_count] = moment - client->begun;
-    if (strncmp(answer, "OK ", 3) == 0) ok_count++;
-    else other_count++;
-    return 1;
+    for (size_t k = 0; k < places; k++) {
+        if (place[k].client != client || !is_answer_to(answer, lines[place[k].next])) continue;
+        if (ok_count + other_count < MAX_ANSWERS) times[ok_count + other_count] = moment - place[k].begun;
+        if (strncmp(answer, "OK ", 3) == 0) ok_count++;
+        else other_count++;
+        return &place[k];
+    }
+    return NULL;
 }
 
 /* Asks until the end. How long it slept in the turns of the other. */
-static double ask(double seconds, int turn, size_t clients, struct client *client, struct pollfd *fds)
+static double ask(double seconds, int turn, size_t clients, size_t places, struct place *place, struct pollfd *fds)
 {
     double end = now() + seconds, slept = await_turn(turn);
-    for (size_t k = 0; k < clients; k++) begin_line(&client[k], &fds[k]);
+    for (size_t k = 0; k < places; k++) begin_line(&place[k], fds);
     for (;;) {
         poll(fds, clients, 50);
         double moment = now();
         if (moment >= end) return slept;
         for (size_t k = 0; k < clients; k++) {
-            if (fds[k].revents && take_answer(&client[k], &fds[k], moment)) {
-                client[k].next += clients;
-                if (client[k].next >= line_count) return slept;
-                slept += await_turn(turn);
-                begin_line(&client[k], &fds[k]);
-            } else if (moment - client[k].sent > PATIENCE) {
-                resent_count++;
-                send_line(&client[k], &fds[k], moment);
-            }
+            struct place *answered = fds[k].revents ? take_answer(place, places, k, fds, moment) : NULL;
+            if (!answered) continue;
+            answered->next += places;
+            if (answered->next >= line_count) return slept;
+            slept += await_turn(turn);
+            begin_line(answered, fds);
+        }
+        for (size_t k = 0; k < places; k++) {
+            if (moment - place[k].sent <= PATIENCE) continue;
+            resent_count++;
+            send_line(&place[k], fds, moment);
         }
     }
 }
@@ -164,25 +174,27 @@ static void report(double seconds)
 
 int main(int argc, char **argv)
 {
-    static struct client client[MAX_CLIENTS];
-    static struct pollfd fds[MAX_CLIENTS];
+    static struct place place[MAX_PLACES];
+    static struct pollfd fds[MAX_PLACES];
     if (argc == 3 && strcmp(argv[1], "echo") == 0) echo(argv[2]);
     if (argc < 7 || strcmp(argv[1], "ask") != 0) {
         fprintf(stderr, "serve-client ask SECONDS TURN CLIENTS LINES PORT.. | echo PORT\n");
         return 2;
     }
-    size_t clients = (size_t)atoi(argv[4]);
+    size_t clients = 1, each = 1;
+    sscanf(argv[4], "%zux%zu", &clients, &each);
+    size_t places = clients * each;
     read_lines(argv[5]);
     times = malloc(MAX_ANSWERS * sizeof *times);
-    if (clients > MAX_CLIENTS || clients > line_count || !times) return 2;
+    if (places == 0 || places > MAX_PLACES || places > line_count || !times) return 2;
     for (size_t k = 0; k < clients; k++) {
         struct sockaddr_in address = loopback(argv[6 + k % (size_t)(argc - 6)]);
         fds[k] = (struct pollfd){ .fd = socket(AF_INET, SOCK_DGRAM, 0), .events = POLLIN };
         if (connect(fds[k].fd, (struct sockaddr *)&address, sizeof address) < 0) fail("serve-client: connect");
-        client[k].next = k;
     }
+    for (size_t k = 0; k < places; k++) place[k] = (struct place){ .client = k % clients, .next = k };
     double start = now();
-    double slept = ask(atof(argv[2]), atoi(argv[3]), clients, client, fds);
+    double slept = ask(atof(argv[2]), atoi(argv[3]), clients, places, place, fds);
     report(now() - start - slept);
     return 0;
 }
