@@ -1,5 +1,5 @@
 -- A written-out content of two tokens, and the ends of the ranges of what it keeps.
-use Rattle.std.specs.Prelude.{ℕ, List, [], ◌∷◌, Option, Some, None}
+use Rattle.std.specs.Prelude.{ℕ, ℤ, pos, negsuc, List, [], ◌∷◌, Option, Some, None}
 use Rattle.floor_store.specs.Content.{Content}
 use Rattle.floor_store.specs.Records.{PassRecord, ProposalRecord, RowRecord}
 
@@ -9,6 +9,7 @@ granted_row = record {
   next = 6;
   grant = Some (record { node = 2; boot = 7; seq = 3 }, 5, 5);
   gate = record { fails = 2; until = 130 };
+  drift = negsuc 2;
 }
 
 -- a row from which factors 0 and 1 were taken
@@ -17,11 +18,12 @@ later_row = record {
   next = 2;
   grant = Some (record { node = 1; boot = 4; seq = 9 }, 0, 1);
   gate = record { fails = 1; until = 65 };
+  drift = pos 10;
 }
 
 -- the row of a free factor, without a grant and with a clear gate
 abbrev pub free_row : ℕ → RowRecord
-free_row next = record { next = next; grant = None; gate = record { fails = 0; until = 0 } }
+free_row next = record { next = next; grant = None; gate = record { fails = 0; until = 0 }; drift = pos 0 }
 
 -- the last acceptance at the node
 abbrev pub old_pass : PassRecord

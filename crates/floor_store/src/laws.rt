@@ -1,5 +1,5 @@
-ghost use Rattle.std.specs.Prelude.{◌≡◌, ℕ, List, [], ◌∷◌, Some, None, length, true, false};
-ghost use Rattle.floor_store.specs.Content.{IsContent, opening_content, opening_row, with_next_boot, with_row};
+ghost use Rattle.std.specs.Prelude.{◌≡◌, ℕ, pos, negsuc, List, [], ◌∷◌, Some, None, length, true, false};
+ghost use Rattle.floor_store.specs.Content.{IsContent, accepted_row, opening_content, opening_row, with_next_boot, with_row};
 ghost use Rattle.floor_store.specs.Examples.{content_at, free_row, granted_row, later_row, new_pass, old_pass, pass, proposal, two_rows};
 ghost use Rattle.floor_store.specs.Fault.{IsBrokenBy, IsCounted, is_failure};
 ghost use Rattle.floor_store.specs.Range.{HasSpan, IsPass, IsProposal, IsSpan};
@@ -21,6 +21,10 @@ pub fn contents_are_worked()
     ensures boot { with_next_boot (two_rows granted_row later_row (Some old_pass))
         ≡ record { rows = granted_row ∷ later_row ∷ []; boot = 5; last = Some old_pass } }
     ensures opening_row { opening_row 9 ≡ free_row 9 }
+    ensures accepted { accepted_row (negsuc 0) granted_row
+        ≡ record granted_row { gate = record { fails = 0; until = 0 }; drift = negsuc 0 } }
+    ensures accepted_in_time { accepted_row (pos 0) later_row
+        ≡ record later_row { gate = record { fails = 0; until = 0 }; drift = pos 0 } }
     ensures opening { opening_content (5 ∷ 0 ∷ 5 ∷ [])
         ≡ record { rows = free_row 5 ∷ free_row 0 ∷ free_row 5 ∷ []; boot = 0; last = None } }
     ensures empty { opening_content [] ≡ record { rows = []; boot = 0; last = None } }
