@@ -1,5 +1,5 @@
 -- Each message that is sent may be handed to its receiver.
-use Rattle.std.proofs.Common.{◌≡◌, ◌≢◌, ℕ, zero, suc, ◌+◌, ◌-◌, ◌^◌, ◌<◌, ◌≤◌, ⊎_elim, true, false, not, ◌&&◌, ◌||◌, cond, List, [], ◌∷◌, length, map, Option, Some, None, refl, sym, ◌∙◌, subst, arith, eqb, leb, ltb}
+use Rattle.std.proofs.Common.{◌≡◌, ◌≢◌, ℕ, ℤ, zero, suc, ◌+◌, ◌-◌, ◌^◌, ◌<◌, ◌≤◌, ⊎_elim, true, false, not, ◌&&◌, ◌||◌, cond, List, [], ◌∷◌, length, map, Option, Some, None, refl, sym, ◌∙◌, subst, arith, eqb, leb, ltb}
 use Rattle.std.specs.List.{flat_map, slice_get}
 use Rattle.std.proofs.lemmas.Bool.{cond_both, eqb-true, eqb-false, ltb-true, leb-true, and_parts, or_cases, not-true}
 use Rattle.floor_store.specs.Content.{Content, with_row}
@@ -109,7 +109,7 @@ ask_fits : (place : PlaceRecord) (tokens from : ℕ) (p : ProposalRecord) (t lo 
 unfolding on_ask
 ask_fits place tokens from p t lo hi c v member other fits k =
     let hears = answerer_hears place from other in
-    let grant_put = with_row c t (granted_row p lo hi (row c t).gate) None in
+    let grant_put = with_row c t (granted_row p lo hi (row c t)) None in
     let yes = reply_step from (Grant p t lo hi) c v in
     let take = reply_step from (Grant p t lo hi) grant_put v in
     let no = reply_step from (Deny p t (row c t).next) c v in
@@ -192,10 +192,10 @@ tick_fits place tokens c v member k =
           (floors_reach place tokens c v.turn member k.rows);
     }
 
-propose_fits : (place : PlaceRecord) (tokens t lo hi : ℕ) (c : Content) (v : VoterState) → IsMember place → t < tokens → IsSpan lo hi → NodeFits tokens c v → StepFits place tokens (propose place t lo hi c v)
+propose_fits : (place : PlaceRecord) (tokens t lo hi : ℕ) (drift : ℤ) (c : Content) (v : VoterState) → IsMember place → t < tokens → IsSpan lo hi → NodeFits tokens c v → StepFits place tokens (propose place t lo hi drift c v)
 unfolding propose propose_alone propose_among
-propose_fits place tokens t lo hi c v member within span k =
-    cond_both (eqb place.n 1) (propose_alone place t lo hi c v) (propose_among place t lo hi c v) (λ s. StepFits place tokens s)
+propose_fits place tokens t lo hi drift c v member within span k =
+    cond_both (eqb place.n 1) (propose_alone place t lo hi drift c v) (propose_among place t lo hi drift c v) (λ s. StepFits place tokens s)
     (λ _. record { node = record { rows = put_size c t _ None ∙ k.rows; pending = k.pending }; sends = tt })
     (λ _. record {
       node = record { rows = put_size c t _ None ∙ k.rows; pending = each_append (MayAsk tokens) v.pending _ k.pending (record { token = within; span = span }, tt) };
@@ -239,19 +239,19 @@ span_of lo hi q =
     (λ (x : eqb hi (lo + 1) ≡ true). let e = eqb-true hi (lo + 1) x in record { ordered = omega (arith, e); short = omega (arith, e) })
     (or_cases (eqb hi lo) (eqb hi (lo + 1)) q)
 
-proposal_posts : (tokens event i t lo hi : ℕ) (w : Cluster) → Posts tokens w → is_running w i ≡ true → t < tokens → IsSpan lo hi → Posts tokens (after_proposal event i t lo hi w)
+proposal_posts : (tokens event i t lo hi : ℕ) (drift : ℤ) (w : Cluster) → Posts tokens w → is_running w i ≡ true → t < tokens → IsSpan lo hi → Posts tokens (after_proposal event i t lo hi drift w)
 unfolding after_proposal with_proposal_begun
-proposal_posts tokens event i t lo hi w k runs within span =
+proposal_posts tokens event i t lo hi drift w k runs within span =
     let c = (w.nodes i).content in
     let v = (w.nodes i).voter in
-    let s = propose (place_of w i) t lo hi c v in
+    let s = propose (place_of w i) t lo hi drift c v in
     let begun = with_proposal_begun event i t lo hi w in
     cond_both (ltb v.seq (2 ^ 62)) (cluster_after event i s begun) (with_member i (stopped_member (w.nodes i)) w) (λ x. Posts tokens x)
-    (λ _. step_posts tokens event i s begun (record { nodes = k.nodes; sent = k.sent }) (propose_fits (place_of w i) tokens t lo hi c v (runs_member w i runs) within span (k.nodes i)))
+    (λ _. step_posts tokens event i s begun (record { nodes = k.nodes; sent = k.sent }) (propose_fits (place_of w i) tokens t lo hi drift c v (runs_member w i runs) within span (k.nodes i)))
     (λ _. swap_posts tokens i (stopped_member (w.nodes i)) w k (k.nodes i))
 
-begin_posts : (tokens event i t lo hi : ℕ) (w : Cluster) → Posts tokens w → may_begin w i t lo hi ≡ true → Posts tokens (after_proposal event i t lo hi w)
-begin_posts tokens event i t lo hi w k q =
+begin_posts : (tokens event i t lo hi : ℕ) (drift : ℤ) (w : Cluster) → Posts tokens w → may_begin w i t lo hi ≡ true → Posts tokens (after_proposal event i t lo hi drift w)
+begin_posts tokens event i t lo hi drift w k q =
     let c = (w.nodes i).content in
     let span = eqb hi lo || eqb hi (lo + 1) in
     let few = ltb (length (w.nodes i).voter.pending) 32 in
@@ -259,11 +259,11 @@ begin_posts tokens event i t lo hi w k q =
     let b = and_parts (ltb t (length c.rows)) (leb (row c t).next lo && (span && few)) a.1 in
     let d = and_parts (leb (row c t).next lo) (span && few) b.1 in
     let f = and_parts span few d.1 in
-    proposal_posts tokens event i t lo hi w k a.0 (omega (arith, ltb-true t (length c.rows) b.0, (k.nodes i).rows)) (span_of lo hi f.0)
+    proposal_posts tokens event i t lo hi drift w k a.0 (omega (arith, ltb-true t (length c.rows) b.0, (k.nodes i).rows)) (span_of lo hi f.0)
 
 act_posts : (tokens event : ℕ) (a : Act) (w : Cluster) → Posts tokens w → Posts tokens (after_act event a w)
 unfolding after_act
-act_posts tokens event (Begin i t lo hi) w k = cond_both (may_begin w i t lo hi) (after_proposal event i t lo hi w) w (λ x. Posts tokens x) (λ q. begin_posts tokens event i t lo hi w k q) (λ _. k)
+act_posts tokens event (Begin i t lo hi drift) w k = cond_both (may_begin w i t lo hi) (after_proposal event i t lo hi drift w) w (λ x. Posts tokens x) (λ q. begin_posts tokens event i t lo hi drift w k q) (λ _. k)
 act_posts tokens event (Deliver j) w k = delivery_posts tokens event (slice_get w.sent j) w k (λ l at. each_get (IsDeliverable w.n tokens) w.sent j l k.sent at)
 act_posts tokens event (Tick i) w k =
     let s = tick (place_of w i) (w.nodes i).content (w.nodes i).voter in

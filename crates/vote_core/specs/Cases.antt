@@ -1,11 +1,11 @@
 -- What is seen of a step and of a cluster, and written-out contents, voters and members that they start from.
-use Rattle.std.specs.Prelude.{ℕ, zero, suc, ◌+◌, ◌==◌, nat_lt, Bool, true, false, ◌||◌, ◌&&◌, List, [], ◌∷◌, map, Option, Some, None, if◌then◌else◌, slice_index_or}
+use Rattle.std.specs.Prelude.{ℕ, ℤ, pos, negsuc, zero, suc, ◌+◌, ◌==◌, nat_lt, Bool, true, false, ◌||◌, ◌&&◌, List, [], ◌∷◌, map, Option, Some, None, if◌then◌else◌, slice_index_or}
 use Rattle.std.specs.List.{filter, flat_map}
 use Rattle.floor_store.specs.Content.{Content}
 use Rattle.floor_store.specs.Records.{ProposalRecord, RowRecord, PassRecord}
 use Rattle.otp_core.specs.Acceptance.{Acceptance}
 use Rattle.vote_core.specs.NodeSet.{PlaceRecord}
-use Rattle.vote_core.specs.Schedule.{Begin, Begun, Cluster, Cut, Envelope, Event, Happens, Member, Tick, after_event, may_begin, run}
+use Rattle.vote_core.specs.Schedule.{Act, Begin, Begun, Cluster, Cut, Envelope, Event, Happens, Member, Tick, after_event, may_begin, run}
 use Rattle.vote_core.specs.Voting.{Ballot, VoterState, Voted, on_message, propose, tick}
 use Rattle.vote_core.specs.declared.message.Message.{Message}
 use Rattle.vote_core.specs.declared.message.Message.TheVariants.{Ask, Floor, Grant}
@@ -19,6 +19,7 @@ pub record BallotView : Type 0 where
   pub token : ℕ
   pub lo : ℕ
   pub hi : ℕ
+  pub drift : ℤ
   pub age : ℕ
   pub granting : List ℕ
   pub denying : List ℕ
@@ -68,6 +69,7 @@ ballot_seen view = record {
   token = view.token;
   lo = view.lo;
   hi = view.hi;
+  drift = view.drift;
   age = view.age;
   granting = set_of view.granting;
   denying = set_of view.denying;
@@ -80,6 +82,7 @@ ballot_view ballot = record {
   token = ballot.token;
   lo = ballot.lo;
   hi = ballot.hi;
+  drift = ballot.drift;
   age = ballot.age;
   granting = nodes_in ballot.granting;
   denying = nodes_in ballot.denying;
@@ -129,15 +132,23 @@ pass token lo hi boot seq = record { token = token; lo = lo; hi = hi; boot = boo
 
 -- a row that nothing was granted from, with a clear gate
 abbrev pub free_row : ℕ → RowRecord
-free_row next = record { next = next; grant = None; gate = record { fails = 0; until = 0 } }
+free_row next = record { next = next; grant = None; gate = record { fails = 0; until = 0 }; drift = pos 0 }
 
--- a row with a grant and a clear gate
+-- a row with a grant and a clear gate, of a token without drift
 abbrev pub open_row : ℕ → ProposalRecord → ℕ → ℕ → RowRecord
-open_row next by lo hi = record { next = next; grant = Some (by, lo, hi); gate = record { fails = 0; until = 0 } }
+open_row next by lo hi = record (free_row next) { grant = Some (by, lo, hi) }
 
--- a row with a grant, after two failures
+-- a row with a grant and a clear gate, of a token whose clock is three time steps ahead
+abbrev pub fast_row : ℕ → ProposalRecord → ℕ → ℕ → RowRecord
+fast_row next by lo hi = record (open_row next by lo hi) { drift = pos 3 }
+
+-- the row after two failures
+abbrev pub with_failures : RowRecord → RowRecord
+with_failures old = record old { gate = record { fails = 2; until = 130 } }
+
+-- a row with a grant, after two failures, of a token whose clock is two time steps behind
 abbrev pub shut_row : ℕ → ProposalRecord → ℕ → ℕ → RowRecord
-shut_row next by lo hi = record { next = next; grant = Some (by, lo, hi); gate = record { fails = 2; until = 130 } }
+shut_row next by lo hi = record (with_failures (open_row next by lo hi)) { drift = negsuc 1 }
 
 -- two rows at boot 7, after that pass
 abbrev pub two_rows : RowRecord → RowRecord → PassRecord → Content
@@ -151,13 +162,14 @@ granted = two_rows (shut_row 6 (proposal 2 7 3) 5 5) (free_row 3) (pass 1 2 2 6 
 abbrev pub proposed : Content
 proposed = two_rows (shut_row 7 (proposal 1 7 3) 5 6) (open_row 4 (proposal 1 7 4) 3 3) (pass 1 2 2 6 1)
 
--- a ballot, with the nodes that have granted and denied it
+-- a ballot that keeps a drift of three, with the nodes that have granted and denied it
 abbrev pub ballot : ℕ → ℕ → ℕ → ℕ → ℕ → List ℕ → List ℕ → BallotView
 ballot seq token lo hi age granting denying = record {
   seq = seq;
   token = token;
   lo = lo;
   hi = hi;
+  drift = pos 3;
   age = age;
   granting = granting;
   denying = denying;
@@ -185,9 +197,9 @@ asking granting denying = voter (fourth granting denying ∷ fifth ∷ []) 5 1
 
 -- ---- steps
 
--- what is seen of the step in which a node proposes factors of token 0
+-- what is seen of the step in which a node proposes factors of token 0, for a drift of three
 abbrev pub proposed_at : PlaceRecord → ℕ → ℕ → Content → VoterView → StepView
-proposed_at place lo hi content voter = step_view (propose place 0 lo hi content (voter_seen voter))
+proposed_at place lo hi content voter = step_view (propose place 0 lo hi (pos 3) content (voter_seen voter))
 
 -- what is seen of the step of a node that is handed a message
 abbrev pub heard_at : PlaceRecord → ℕ → Message → Content → VoterView → StepView
@@ -303,6 +315,13 @@ stopped content voter = record { content = content; voter = voter; running = fal
 abbrev pub first_content : Content
 first_content = content_at 3 (shut_row 5 (proposal 2 1 0) 4 4) (open_row 1 (proposal 1 3 3) 0 0)
 
+-- the same once its proposal is accepted
+abbrev pub accepted_content : Content
+accepted_content = record first_content {
+  rows = shut_row 5 (proposal 2 1 0) 4 4 ∷ fast_row 1 (proposal 1 3 3) 0 0 ∷ [];
+  last = Some (pass 1 0 0 3 3);
+}
+
 -- the voter of node 1
 abbrev pub first_voter : VoterView
 first_voter = voter (ballot 3 1 0 0 2 (1 ∷ []) [] ∷ []) 4 0
@@ -356,6 +375,10 @@ after event view = cluster_view (after_event 7 event (cluster_seen view))
 abbrev pub after_all : List Event → ClusterView → ClusterView
 after_all events view = cluster_view (run 7 events (cluster_seen view))
 
+-- the act in which a node proposes factors of a token, for a drift of three
+abbrev pub begin : ℕ → ℕ → ℕ → ℕ → Act
+begin node token lo hi = Begin node token lo hi (pos 3)
+
 -- whether a node may propose these factors
 abbrev pub may_propose : ClusterView → ℕ → ℕ → ℕ → ℕ → Bool
 may_propose view node token lo hi = may_begin (cluster_seen view) node token lo hi
@@ -376,8 +399,8 @@ own_floors node token = slice_index_or (0 ∷ 10 ∷ 20 ∷ 30 ∷ []) node 90 +
 -- a node alone: a factor, a tick, two factors, a stop that loses the next factor, and after it the same again
 abbrev pub alone : List Event
 alone =
-    Happens (Begin 1 0 10 10) ∷ Happens (Tick 1) ∷ Happens (Begin 1 0 11 12) ∷ Cut false (Begin 1 0 13 13)
-    ∷ Happens (Begin 1 0 13 13) ∷ []
+    Happens (Begin 1 0 10 10 (negsuc 0)) ∷ Happens (Tick 1) ∷ Happens (Begin 1 0 11 12 (pos 3))
+    ∷ Cut false (Begin 1 0 13 13 (pos 4)) ∷ Happens (Begin 1 0 13 13 (pos 4)) ∷ []
 
 -- A node takes factor 5 of each token in event 1, and the others keep it.
 abbrev pub taken_at : ℕ → ℕ → ℕ → ℕ → ℕ

@@ -18,7 +18,7 @@ use crate::place::Place;
 use crate::step::{TickStep, VoteStep};
 use arrayvec::ArrayVec;
 use floor_store::{COUNTS_END, FloorStore, StoreFault, is_span};
-use otp_core::Factor;
+use otp_core::{Drift, Factor};
 use std::marker::Model;
 
 mod hearing;
@@ -144,14 +144,15 @@ impl Voter {
         self.ballots.is_full()
     }
 
-    /// Begins a proposal to use the factors up. The node grants it, and asks the others; a node
-    /// alone accepts it.
+    /// Begins a proposal to use the factors up; its acceptance keeps the drift. The node grants it,
+    /// and asks the others; a node alone accepts it.
     pub fn propose<S: FloorStore>(
         &mut self,
         store: &mut S,
         token: u32,
         lo: Factor,
         hi: Factor,
+        drift: Drift,
     ) -> Result<VoteStep, VoteFault>
         requires room { length self.old.ballots < 32 }
         requires known { token < length (S.held store.old).content.rows }
@@ -159,14 +160,14 @@ impl Voter {
         requires free { (S.held store.old).is_clean → (row_in (S.held store.old).content token).next ≤ lo }
         requires store { IsStoreOf self.old (S.held store.old) }
         ensures votes { UnlessSpent result (Votes S.held store.old store.new self.old self.new
-            (spec_propose self.old.place token lo hi)) }
+            (spec_propose self.old.place token lo hi drift)) }
         ensures spent { result ≡ Err VoteFault.Spent ↔ (self.old.seq ≡ 2 ^ 62) }
         ensures unchanged { result ≡ Err VoteFault.Spent → (store.new ≡ store.old) × (self.new ≡ self.old) }
     {
         if self.seq == COUNTS_END {
             return Err(VoteFault::Spent);
         }
-        match self.propose_next(store, token, lo, hi) {
+        match self.propose_next(store, token, lo, hi, drift) {
             Ok(step) => Ok(step),
             Err(fault) => Err(VoteFault::Store(fault)),
         }
