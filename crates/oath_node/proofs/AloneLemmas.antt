@@ -1,5 +1,5 @@
 -- A node of one answers a line as the reference server does.
-use Rattle.std.proofs.Common.{◌≡◌, ℕ, zero, suc, ◌+◌, ◌-◌, ◌^◌, ◌<◌, ◌≤◌, Bool, true, false, List, [], ◌∷◌, length, get_or, set, map, Some, refl, sym, ap, ◌∙◌, subst, arith}
+use Rattle.std.proofs.Common.{◌≡◌, ℕ, pos, zero, suc, ◌+◌, ◌-◌, ◌^◌, ◌<◌, ◌≤◌, Bool, true, false, List, [], ◌∷◌, length, get_or, set, map, Some, refl, sym, ap, ◌∙◌, subst, arith}
 use Rattle.std.specs.Prelude.{nat_lt}
 use Rattle.std.proofs.lemmas.Bool.{cond_both, eq-eqb, lt-ltb}
 use Rattle.std.proofs.lemmas.List.{map-set}
@@ -7,7 +7,7 @@ use Rattle.std.proofs.Math.ListN.{get_or-map}
 use Rattle.admit_core.specs.Gate.{GateRecord, clear_gate, with_failure}
 use Rattle.admit_core.specs.Throttle.{Result, Failed, Accepted as Passed, gate_after}
 use Rattle.answer_ring.specs.Answers.{KeptAnswer}
-use Rattle.floor_store.specs.Content.{Content}
+use Rattle.floor_store.specs.Content.{Content, accepted_row}
 use Rattle.floor_store.specs.Records.{PassRecord, RowRecord}
 use Rattle.vote_core.specs.Rows.{granted_row, no_row, row, row_with_gate}
 use Rattle.vote_core.specs.Voting.{Ballot, pass_of, propose, propose_alone}
@@ -74,10 +74,10 @@ wrong_content law c s l nonce token outcome h =
     }
 
 fitting_content : (c : Content) (s : Server) (l : Line) (nonce : List ℕ) (seq turn token lo hi : ℕ) → IsContentOf c s
-    → IsContentOf (propose_alone alone_place token lo hi c (record { pending = []; seq = seq; turn = turn })).content (service_by s l (Fitting nonce token lo hi)).server
+    → IsContentOf (propose_alone alone_place token lo hi (pos 0) c (record { pending = []; seq = seq; turn = turn })).content (service_by s l (Fitting nonce token lo hi)).server
 unfolding propose_alone
 fitting_content c s l nonce seq turn token lo hi h =
-    let r : RowRecord = granted_row (record { node = 1; boot = c.boot; seq = seq }) lo hi clear_gate in
+    let r : RowRecord = accepted_row (pos 0) (granted_row (record { node = 1; boot = c.boot; seq = seq }) lo hi (row c token)) in
     record {
       floors = map-set (λ (r : RowRecord). r.next) c.rows token r ∙ ap (λ fs. set fs token (hi + 1)) h.floors;
       gates = map-set (λ (r : RowRecord). r.gate) c.rows token r ∙ ap (λ gs. set gs token clear_gate) h.gates
@@ -103,7 +103,7 @@ unfolding made_by_proposal propose propose_alone
 fitting_alone count c seq turn s l nonce token lo hi h begun =
     let x = lone c seq turn s.front.answers in
     let owner : Owner = record { seq = seq; client = l.client; line = without_lf l.text; nonce = nonce } in
-    let v = propose alone_place token lo hi c x.voter in
+    let v = propose alone_place token lo hi (pos 0) c x.voter in
     let pass = pass_of token lo hi c.boot seq in
     let text = answer_bytes (ReplyAnswer nonce (Accepted hi)) in
     let one : KeptAnswer = record { client = l.client; line = without_lf l.text; text = text } in

@@ -1,5 +1,5 @@
 -- How much one event sends and replies.
-use Rattle.std.proofs.Common.{◌≡◌, ℕ, zero, suc, ◌+◌, ◌*◌, ◌-◌, ◌^◌, ◌≤◌, Bool, true, false, cond, List, [], ◌∷◌, ◌++◌, length, map, Option, Some, None, refl, ap, ◌∙◌, inl, inr, arith, length-append}
+use Rattle.std.proofs.Common.{◌≡◌, ℕ, ℤ, pos, zero, suc, ◌+◌, ◌*◌, ◌-◌, ◌^◌, ◌≤◌, Bool, true, false, cond, List, [], ◌∷◌, ◌++◌, length, map, Option, Some, None, refl, ap, ◌∙◌, inl, inr, arith, length-append}
 use Rattle.std.specs.Prelude.{◌==◌, filter, nat_le, nat_lt, not}
 use Rattle.std.specs.List.{flat_map}
 use Rattle.std.proofs.lemmas.Bool.{cond_both, cases_eq, eq-eqb}
@@ -116,9 +116,9 @@ message_few place from (Grant p t lo hi) c v = grant_few place from c v _
 message_few place from (Deny p t next) c v = deny_few place from (raise t next c) v _
 message_few place from (Floor t next) c v = omega arith
 
-propose_few : (place : PlaceRecord) (t lo hi : ℕ) (c : Content) (v : VoterState) → IsPlace place → Few (propose place t lo hi c v)
+propose_few : (place : PlaceRecord) (t lo hi : ℕ) (drift : ℤ) (c : Content) (v : VoterState) → IsPlace place → Few (propose place t lo hi drift c v)
 unfolding propose propose_alone propose_among
-propose_few place t lo hi c v h =
+propose_few place t lo hi drift c v h =
     cond_both (place.n == 1) _ _ Few (λ _. omega arith)
     (λ _. omega (arith, each_few place (Ask (record { node = place.me; boot = c.boot; seq = v.seq }) t lo hi) h))
 
@@ -144,9 +144,9 @@ unfolding made_by_proposal
 proposal_brief place client line nonce t lo hi x h =
     let owners = x.owners ++ next_owner client line nonce x ∷ [] in
     let began = Some (next_beginning place t lo hi x) in
-    let v = propose place t lo hi x.content x.voter in
+    let v = propose place t lo hi (pos 0) x.content x.voter in
     cond_both (nat_lt x.voter.seq (2 ^ 62)) (made_by_vote owners began v x) (quiet_made (stopped_node x)) IsBrief
-    (λ _. vote_brief x owners began v (propose_few place t lo hi x.content x.voter h))
+    (λ _. vote_brief x owners began v (propose_few place t lo hi (pos 0) x.content x.voter h))
     (λ _. omega arith)
 
 ruling_brief : (place : PlaceRecord) (client moment : ℕ) (line : List ℕ) (r : Ruling) (x : NodeState) → IsPlace place

@@ -1,5 +1,5 @@
 -- After each event each line that waits still has a proposal of its own.
-use Rattle.std.proofs.Common.{◌≡◌, ℕ, ◌+◌, ◌-◌, ◌^◌, Bool, true, false, cond, List, [], ◌∷◌, ◌++◌, Option, Some, None, refl, sym, subst, ◌∙◌}
+use Rattle.std.proofs.Common.{◌≡◌, ℕ, ℤ, pos, ◌+◌, ◌-◌, ◌^◌, Bool, true, false, cond, List, [], ◌∷◌, ◌++◌, Option, Some, None, refl, sym, subst, ◌∙◌}
 use Rattle.std.specs.Prelude.{◌==◌, nat_le, nat_lt}
 use Rattle.std.proofs.lemmas.Bool.{cond_both}
 use Rattle.floor_store.specs.Content.{Content}
@@ -45,9 +45,9 @@ message_seq place from (Grant p t lo hi) c v = grant_seq place from c v _
 message_seq place from (Deny p t next) c v = deny_seq place from (raise t next c) v _
 message_seq place from (Floor t next) c v = refl
 
-propose_seq : (place : PlaceRecord) (t lo hi : ℕ) (c : Content) (v : VoterState) → v.seq + 1 ≡ (propose place t lo hi c v).voter.seq
+propose_seq : (place : PlaceRecord) (t lo hi : ℕ) (drift : ℤ) (c : Content) (v : VoterState) → v.seq + 1 ≡ (propose place t lo hi drift c v).voter.seq
 unfolding propose propose_alone propose_among
-propose_seq place t lo hi c v = cond_both (place.n == 1) _ _ (λ (s : Voted). v.seq + 1 ≡ s.voter.seq) (λ _. refl) (λ _. refl)
+propose_seq place t lo hi drift c v = cond_both (place.n == 1) _ _ (λ (s : Voted). v.seq + 1 ≡ s.voter.seq) (λ _. refl) (λ _. refl)
 
 tick_seq : (place : PlaceRecord) (c : Content) (v : VoterState) → v.seq ≡ (tick place c v).voter.seq
 unfolding tick
@@ -66,11 +66,11 @@ unfolding made_by_proposal
 proposal_owned place client line nonce t lo hi x h =
     let owners = x.owners ++ next_owner client line nonce x ∷ [] in
     let began = Some (next_beginning place t lo hi x) in
-    let v = propose place t lo hi x.content x.voter in
+    let v = propose place t lo hi (pos 0) x.content x.voter in
     cond_both (nat_lt x.voter.seq (2 ^ 62)) (made_by_vote owners began v x) (quiet_made (stopped_node x))
     (λ (m : Made). IsOwned m.state)
     (λ _. vote_owned x owners began v
-    (subst (λ n. AreApart n owners) (propose_seq place t lo hi x.content x.voter) (apart_push x.voter.seq (next_owner client line nonce x) x.owners refl h.apart)))
+    (subst (λ n. AreApart n owners) (propose_seq place t lo hi (pos 0) x.content x.voter) (apart_push x.voter.seq (next_owner client line nonce x) x.owners refl h.apart)))
     (λ _. record { apart = h.apart; pending = h.pending })
 
 ruling_owned : (place : PlaceRecord) (client moment : ℕ) (line : List ℕ) (r : Ruling) (x : NodeState) → IsOwned x → IsOwned (made_by_ruling place client moment line r x).state

@@ -1,7 +1,7 @@
 -- The machine of a node. A client's line is answered by the rules. What the rules propose, and what comes from the
 -- other members, goes to the node's voter, whose three calls are made here. A datagram stands as the envelope that its
 -- bytes say, or as None where they are outside the peer format.
-use Rattle.std.specs.Prelude.{ℕ, ◌-◌, ◌^◌, ◌==◌, ◌&&◌, nat_le, nat_lt, not, Bool, true, false, if◌then◌else◌, List, [], ◌∷◌, ◌++◌, length, map, filter, Option, Some, None}
+use Rattle.std.specs.Prelude.{ℕ, pos, ◌-◌, ◌^◌, ◌==◌, ◌&&◌, nat_le, nat_lt, not, Bool, true, false, if◌then◌else◌, List, [], ◌∷◌, ◌++◌, length, map, filter, Option, Some, None}
 use Rattle.std.specs.List.{flat_map, list_any}
 use Rattle.std.specs.Str.{bytes_eq}
 use Rattle.otp_core.specs.Limits.{Limits}
@@ -218,7 +218,7 @@ next_owner client line nonce node = record { seq = node.voter.seq; client = clie
 unfoldable pub made_by_proposal : PlaceRecord → ℕ → List ℕ → List ℕ → ℕ → ℕ → ℕ → NodeState → Made
 made_by_proposal place client line nonce token lo hi node =
     let owners = node.owners ++ next_owner client line nonce node ∷ [] in
-    let voted = propose place token lo hi node.content node.voter in
+    let voted = propose place token lo hi (pos 0) node.content node.voter in
     if nat_lt node.voter.seq (2 ^ 62)
     then made_by_vote owners (Some (next_beginning place token lo hi node)) voted node
     else quiet_made (stopped_node node)

@@ -25,7 +25,7 @@ use crate::settling::{finish_tick, finish_vote, line_of, text_of};
 use answer_ring::{Answers, answer_again, keep};
 use arrayvec::ArrayVec;
 use floor_store::{FloorStore, StoreFault};
-use otp_core::{Factor, Settings};
+use otp_core::{Drift, Factor, Settings};
 use token_file::Book;
 use vote_core::{Message, VoteFault, Voter};
 use vote_wire::{
@@ -170,7 +170,10 @@ impl<S: FloorStore> Parts<S> {
             (made_by_proposal self.old.voter.place client line.now nonce token lo hi) result }
     {
         let seq = self.voter.next_seq();
-        match self.voter.propose(&mut self.store, token, lo, hi) {
+        match self
+            .voter
+            .propose(&mut self.store, token, lo, hi, Drift::default())
+        {
             Ok(step) => {
                 self.owners.push(Owner {
                     seq,
