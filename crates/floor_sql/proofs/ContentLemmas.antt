@@ -4,22 +4,23 @@ use Rattle.std.specs.Option.{option_to_list}
 use Rattle.std.specs.List.Sorted.{IsPermutation}
 use Rattle.std.specs.List.{last_or}
 use Rattle.sqlite.specs.declared.types.Value.TheVariants.{Int}
+use Rattle.sqlite.specs.Order.{Row}
 use Rattle.sqlite.specs.Tree.{Trees, has_rowid, without_rowid}
 use Rattle.sqlite.specs.Effect.{Database}
 use Rattle.floor_store.specs.Records.{ProposalRecord, RowRecord, PassRecord}
 use Rattle.floor_store.specs.Content.{Content, with_row, with_next_boot}
 use Rattle.floor_sql.specs.Schema.{floor_schema}
-use Rattle.floor_sql.specs.Stored.{Holds, HoldsSelf, HoldsRow, HoldsRows, HoldsPasses, IsUpdated, IsAppended, Puts, Raises, floor_row, floor_columns, floor_values, row_values, grant_values, self_columns, self_values, self_row, pass_columns, pass_row, pass_rows}
-use Rattle.floor_sql.proofs.HoldLemmas.{rows_updated, same_grant}
+use Rattle.floor_sql.specs.Stored.{HasRow, Holds, HoldsSelf, HoldsRow, HoldsRows, HoldsPasses, IsAppended, PutsRow, Puts, Raises, floor_columns, floor_values, row_values, grant_values, drift_columns, drift_values, self_columns, version_values, self_row, pass_columns, pass_row, pass_rows}
+use Rattle.floor_sql.proofs.HoldLemmas.{rows_put, same_grant}
 use Rattle.floor_sql.proofs.RowLemmas.{find-put_row}
 use Rattle.floor_sql.proofs.PassLemmas.{passes_appended, last_appended, same_items, same_passes}
 
--- the columns of a row are of one row
-pub same_row : (a b : RowRecord) → row_values a ≡ row_values b → a ≡ b
-same_row a b e = go a.grant b.grant refl refl e
+-- the columns of a row, with its drift, are of one row
+pub same_row : (a b : RowRecord) → row_values a ≡ row_values b → a.drift ≡ b.drift → a ≡ b
+same_row a b e drift = go a.grant b.grant refl refl e
   where
     made : a.next ≡ b.next → a.grant ≡ b.grant → a.gate.fails ≡ b.gate.fails → a.gate.until ≡ b.gate.until → a ≡ b
-    made next grant fails until = λ i. record { next = next i; grant = grant i; gate = record { fails = fails i; until = until i } }
+    made next grant fails until = λ i. record { next = next i; grant = grant i; gate = record { fails = fails i; until = until i }; drift = drift i }
 
     go : (x y : Option (ProposalRecord × ℕ × ℕ)) → a.grant ≡ x → b.grant ≡ y
         → Int (pos a.next) ∷ grant_values x ++ Int (pos a.gate.fails) ∷ Int (pos a.gate.until) ∷ [] ≡ Int (pos b.next) ∷ grant_values y ++ Int (pos b.gate.fails) ∷ Int (pos b.gate.until) ∷ [] → a ≡ b
@@ -30,20 +31,24 @@ same_row a b e = go a.grant b.grant refl refl e
         let grant : grant_values (Some x) ≡ grant_values (Some y) = cc in
         made (cc) (is_x ∙ same_grant (Some x) (Some y) grant ∙ sym is_y) (cc) (cc)
 
-one_self : (trees : Trees) (m n a b p q : ℕ) → HoldsSelf trees m a p → HoldsSelf trees n b q → (m ≡ n) × (a ≡ b) × (p ≡ q)
-one_self trees m n a b p q one two =
+-- the row with a key has one list of columns
+pub one_shown : (rows : List Row) (key : ℕ) (columns : Row → Row) (a b : Row) → HasRow rows key columns a → HasRow rows key columns b → a ≡ b
+one_shown rows key columns a b one two =
     let both : Some one.found ≡ Some two.found = sym one.place ∙ two.place in
     let found : one.found ≡ two.found = cc in
-    let same : self_values m a p ≡ self_values n b q = sym one.shows ∙ ap self_columns found ∙ two.shows in
+    sym one.shows ∙ ap columns found ∙ two.shows
+
+one_self : (trees : Trees) (m n a b p q : ℕ) → HoldsSelf trees m a p → HoldsSelf trees n b q → (m ≡ n) × (a ≡ b) × (p ≡ q)
+one_self trees m n a b p q one two =
+    let same : version_values 2 m a p ≡ version_values 2 n b q = one_shown (trees 0) 1 self_columns _ _ one two in
     (cc, cc, cc)
 
 one_row : (trees : Trees) (token : ℕ) (r s : RowRecord) → HoldsRow trees token r → HoldsRow trees token s → r ≡ s
 one_row trees token r s one two =
-    let both : Some one.found ≡ Some two.found = sym one.place ∙ two.place in
-    let found : one.found ≡ two.found = cc in
-    let same : floor_values token r ≡ floor_values token s = sym one.shows ∙ ap floor_columns found ∙ two.shows in
+    let floor : floor_values token r ≡ floor_values token s = one_shown (trees 1) token floor_columns _ _ one.floor two.floor in
+    let drift : drift_values token r.drift ≡ drift_values token s.drift = one_shown (trees 3) token drift_columns _ _ one.drift two.drift in
     let values : row_values r ≡ row_values s = cc in
-    same_row r s values
+    same_row r s values (cc)
 
 -- tables hold one content
 pub one_content : (trees : Trees) (a b : Content) (xs ys : List PassRecord) → Holds trees a xs → Holds trees b ys → a ≡ b
@@ -64,29 +69,36 @@ abbrev pub Alters : (Database → Database → Type 0) → Content → ℕ → C
 Alters IsChange c count after more = (old new : Database) (passes : List PassRecord) → old.schema ≡ floor_schema → Holds old.trees c passes → length passes ≡ count → IsChange old new
     → (new.schema ≡ floor_schema) × Holds new.trees after (passes ++ more)
 
--- the row of `self` stays where its table stays
-pub self_stays : (old new : Trees) (node tokens boot : ℕ) → new 0 ≡ old 0 → HoldsSelf old node tokens boot → HoldsSelf new node tokens boot
-self_stays old new node tokens boot same it = record { found = it.found; place = ap (find (has_rowid (pos 1))) same ∙ it.place; shows = it.shows }
+-- a row stays where its table stays
+pub row_stays : (old new : List Row) (key : ℕ) (columns : Row → Row) (values : Row) → new ≡ old → HasRow old key columns values → HasRow new key columns values
+row_stays old new key columns values same it = subst (λ rows. HasRow rows key columns values) (sym same) it
 
-pub rows_stay : (old new : Trees) (rows : List RowRecord) → new 1 ≡ old 1 → HoldsRows old rows → HoldsRows new rows
-rows_stay old new rows same held token row got =
-    let it = held token row got in record { found = it.found; place = ap (find (has_rowid (pos token))) same ∙ it.place; shows = it.shows }
+pub self_stays : (old new : Trees) (node tokens boot : ℕ) → new 0 ≡ old 0 → HoldsSelf old node tokens boot → HoldsSelf new node tokens boot
+self_stays old new node tokens boot same it = row_stays (old 0) (new 0) 1 self_columns (version_values 2 node tokens boot) same it
+
+pub rows_stay : (old new : Trees) (rows : List RowRecord) → new 1 ≡ old 1 → new 3 ≡ old 3 → HoldsRows old rows → HoldsRows new rows
+rows_stay old new rows floors drifts held token row got =
+    let it = held token row got in
+    record {
+      floor = row_stays (old 1) (new 1) token floor_columns (floor_values token row) floors it.floor;
+      drift = row_stays (old 3) (new 3) token drift_columns (drift_values token row.drift) drifts it.drift;
+    }
 
 pub passes_stay : (old new : Trees) (passes : List PassRecord) → new 2 ≡ old 2 → HoldsPasses old passes → HoldsPasses new passes
 passes_stay old new passes same held = subst (λ rows. IsPermutation (pass_rows 1 passes) (map pass_columns rows)) (sym same) held
 
-row_put : (token : ℕ) (row : RowRecord) (c : Content) (old new : Database) (passes : List PassRecord) → Holds old.trees c passes → IsUpdated old new token (floor_row token row) → Holds new.trees (with_row c token row None) passes
+row_put : (token : ℕ) (row : RowRecord) (c : Content) (old new : Database) (passes : List PassRecord) → Holds old.trees c passes → PutsRow token row old new → Holds new.trees (with_row c token row None) passes
 row_put token row c old new passes it change = record {
-  rows = rows_updated old new token row c.rows change it.rows;
+  rows = rows_put old new token row c.rows change it.rows;
   node = it.node;
-  self = subst (λ n. HoldsSelf new.trees it.node n c.boot) (sym (length_set c.rows token row)) (self_stays old.trees new.trees it.node (length c.rows) c.boot change.self it.self);
-  pass = passes_stay old.trees new.trees passes change.pass it.pass;
+  self = subst (λ n. HoldsSelf new.trees it.node n c.boot) (sym (length_set c.rows token row)) (self_stays old.trees new.trees it.node (length c.rows) c.boot (change.2.self ∙ change.1.self) it.self);
+  pass = passes_stay old.trees new.trees passes (change.2.pass ∙ change.1.pass) it.pass;
   last = it.last;
 }
 
 pass_put : (number : ℕ) (p : PassRecord) (c : Content) (old new : Database) (passes : List PassRecord) → number ≡ length passes + 1 → Holds old.trees c passes → IsAppended old new (pass_row number p) → Holds new.trees (record c { last = Some p }) (passes ++ p ∷ [])
 pass_put number p c old new passes is it change = record {
-  rows = rows_stay old.trees new.trees c.rows change.floor it.rows;
+  rows = rows_stay old.trees new.trees c.rows change.floor change.drift it.rows;
   node = it.node;
   self = self_stays old.trees new.trees it.node (length c.rows) c.boot change.self it.self;
   pass = passes_appended old new number passes p is it.pass change;
@@ -94,7 +106,7 @@ pass_put number p c old new passes is it change = record {
 }
 
 pub puts : (token : ℕ) (row : RowRecord) (count : ℕ) (pass : Option PassRecord) (c : Content) → Alters (Puts token row (count + 1) pass) c count (with_row c token row pass) (option_to_list pass)
-puts token row count None c old new passes schema it counted change = (change.schema, subst (Holds new.trees (with_row c token row None)) (sym (append-nil passes)) (row_put token row c old new passes it change))
+puts token row count None c old new passes schema it counted change = (change.2.schema, subst (Holds new.trees (with_row c token row None)) (sym (append-nil passes)) (row_put token row c old new passes it change))
 puts token row count (Some p) c old new passes schema it counted change =
     let first = row_put token row c old change.0 passes it change.1 in
     (change.2.schema, pass_put (count + 1) p (with_row c token row None) change.0 new passes (ap (λ n. n + 1) (sym counted)) first change.2)
@@ -106,7 +118,7 @@ raises count c old new passes schema it counted change =
     let row = self_row was.node was.tokens (c.boot + 1) in
     let held : HoldsSelf new.trees was.node was.tokens (c.boot + 1) = record { found = row; place = ap (find (has_rowid (pos 1))) change.self ∙ find-put_row (pos 1) row refl (without_rowid (pos 1) (old.trees 0)); shows = refl } in
     let now : Holds new.trees (with_next_boot c) passes = record {
-      rows = rows_stay old.trees new.trees c.rows change.floor it.rows;
+      rows = rows_stay old.trees new.trees c.rows change.floor change.drift it.rows;
       node = it.node;
       self = subst₂ (λ m n. HoldsSelf new.trees m n (c.boot + 1)) same.0 same.1 held;
       pass = passes_stay old.trees new.trees passes change.pass it.pass;

@@ -7,6 +7,7 @@ use Rattle.sqlite.specs.State.{State, HasCleanDisk, Survives}
 use Rattle.sqlite.specs.View.{doubt}
 use Rattle.sqlite.specs.Effect.{Database}
 use Rattle.sqlite.specs.declared.types.Value.TheVariants.{Int}
+use Rattle.sqlite.specs.Order.{Row}
 use Rattle.sqlite.specs.Tree.{Trees, rowid, has_rowid}
 use Rattle.sqlite_rules.proofs.ListLemmas.{has_found}
 use Rattle.floor_store.specs.declared.fault.StoreFault.{StoreFault}
@@ -14,19 +15,21 @@ use Rattle.floor_store.specs.declared.fault.StoreFault.TheVariants.{Spent}
 use Rattle.floor_store.specs.Content.{Content, opening_row, with_next_boot}
 use Rattle.floor_store.specs.Fault.{is_failure}
 use Rattle.floor_store.specs.Records.{PassRecord}
-use Rattle.floor_sql.specs.Stored.{HasFloor, HasSelf, Holds, Commits, MayCommit, KeepsCommit}
+use Rattle.floor_sql.specs.Stored.{HasRow, HasKey, floor_columns, drift_columns, HasFloor, HasSelf, Holds, Commits, MayCommit, KeepsCommit}
 use Rattle.floor_store.specs.Held.{RaisesBoot, Writes}
 use Rattle.floor_sql.specs.Held.{SqlHeld, Mirrors, IsKept, Leaves, sql_held}
 use Rattle.floor_sql.proofs.ContentLemmas.{Alters, one_content}
 use Rattle.floor_sql.proofs.PassLemmas.{same_passes}
 
+-- a row that is found under a key has that key
+has_key : (rows : List Row) (key : ℕ) (columns : Row → Row) (values : Row) (it : HasRow rows key columns values) → (columns it.found ≡ values → rowid it.found ≡ Int (pos key)) → HasKey rows key
+has_key rows key columns values it keyed = record { was = it.found; there = (has_found (has_rowid (pos key)) rows it.found it.place).0; keyed = keyed it.shows }
+
 pub has_floor : (s : State) (c : Content) (count token : ℕ) → token < length c.rows → Mirrors s c count → HasFloor s.now token
 has_floor s c count token low it =
     let d = opening_row 0 in
     let row = it.holds.rows token _ (slice_get-get_or c.rows token d low) in
-    let shows = row.shows in
-    let keyed : rowid row.found ≡ Int (pos token) = cc in
-    record { schema = it.schema; was = row.found; there = (has_found (has_rowid (pos token)) (s.now.trees 1) row.found row.place).0; keyed = keyed }
+    record { schema = it.schema; floor = has_key (s.now.trees 1) token floor_columns _ row.floor (λ shows. cc); drift = has_key (s.now.trees 3) token drift_columns _ row.drift (λ shows. cc) }
 
 pub has_self : (s : State) (c : Content) (count : ℕ) → Mirrors s c count → HasSelf s.now
 has_self s c count it = record { schema = it.schema; node = it.holds.node; tokens = length c.rows; boot = c.boot; held = it.holds.self }

@@ -31,7 +31,7 @@ use Rattle.floor_sql.proofs.ListLemmas.{kept_by}
 use Rattle.floor_sql.proofs.UpdateLemmas.{picks}
 use Rattle.floor_sql.proofs.ReadLemmas.{all_shown}
 use Rattle.floor_sql.proofs.TextLemmas.{pass_query, select_passes_is, select_passes_plain}
-use Rattle.floor_sql.specs.Schema.{floor_schema}
+use Rattle.floor_sql.specs.Schema.{IsOfStore}
 use Rattle.floor_sql.specs.Text.{select_passes}
 use Rattle.floor_sql.proofs.PassLemmas.{length_rows}
 
@@ -258,20 +258,21 @@ next_row n (q ∷ so_far) (p ∷ audit) (x ∷ given) tail row shows all =
     (it.0, it.1, it.2 ∙ ap (λ k. pass_values k it.0) place)
 
 -- the rows that were given begin an answer
-begun_answer : {S : Type 0} (g : Ghosts S) (h : Held S) (given : List Row) → h.schema ≡ floor_schema → HasGiven g select_passes [] h given
+begun_answer : {S : Type 0} (g : Ghosts S) (h : Held S) (given : List Row) → IsOfStore h.schema → HasGiven g select_passes [] h given
     → (tail : List Row) × IsAnswer pass_query (overlay (state g h).now.trees []) [] (given ++ tail)
 begun_answer g h given has it =
     let begins = given_begin g select_passes [] h given it in
-    let first = begins_as select_passes [] (state g h) (state g h) floor_schema has _ select_passes_is.0 select_passes_plain select_passes_is.1 given begins in
+    let is = select_passes_is h.schema has in
+    let first = begins_as select_passes [] (state g h) (state g h) h.schema refl _ is.0 (select_passes_plain h.schema has) is.1 given begins in
     (first.1.0, first.1.1 Null)
 
-pub next_is : {S : Type 0} (g : Ghosts S) (old new : Held S) (number : ℕ) (so_far audit : List PassRecord) (row : Row) (shown : Option Row) → old.schema ≡ floor_schema
+pub next_is : {S : Type 0} (g : Ghosts S) (old new : Held S) (number : ℕ) (so_far audit : List PassRecord) (row : Row) (shown : Option Row) → IsOfStore old.schema
     → HasShown g old so_far → Advances g old new shown → shown ≡ Some row → IsRead (state g old) (state g new) → number ≡ suc (length so_far)
     → HoldsPasses (state g old).now.trees audit → (p : PassRecord) × (slice_get audit (length so_far) ≡ Some p) × (pass_shown row ≡ pass_values number p)
 next_is g old new number so_far audit row shown schema it moved is read next held =
     let given = it.given ++ row ∷ [] in
     let has : HasGiven g select_passes [] new given = subst (GivesOn g select_passes [] old new it.given) is (moved select_passes [] it.given it.has) in
-    let same : new.schema ≡ floor_schema = ap (λ (d : Database). d.schema) read.now ∙ schema in
+    let same : IsOfStore new.schema = subst (λ (d : Database). IsOfStore d.schema) (sym read.now) schema in
     let answer = begun_answer g new given same has in
     let there : HoldsPasses (state g new).now.trees audit = subst (λ (d : Database). HoldsPasses d.trees audit) (sym read.now) held in
     let all = in_order (state g new).now.trees audit (given ++ answer.0) answer.1 there in
@@ -280,7 +281,7 @@ next_is g old new number so_far audit row shown schema it moved is read next hel
     (found.0, found.1, found.2 ∙ ap (λ k. pass_values k found.0) place)
 
 -- no more were shown than there are
-pub no_more : {S : Type 0} (g : Ghosts S) (h : Held S) (so_far audit : List PassRecord) → h.schema ≡ floor_schema → HasShown g h so_far
+pub no_more : {S : Type 0} (g : Ghosts S) (h : Held S) (so_far audit : List PassRecord) → IsOfStore h.schema → HasShown g h so_far
     → HoldsPasses (state g h).now.trees audit → length so_far ≤ length audit
 no_more g h so_far audit schema it held =
     let answer = begun_answer g h it.given schema it.has in

@@ -20,16 +20,16 @@ use Rattle.sqlite.specs.Listing.{understood}
 use Rattle.sqlite.specs.Given.{IsPlain}
 use Rattle.sqlite.specs.State.{State, Shown, IsNotRun, IsNoStatement, FailsToQuery, FailsToShow, store_error}
 use Rattle.floor_store.specs.declared.fault.StoreFault.TheVariants.{Memory, Disk, Unusable}
-use Rattle.floor_sql.specs.Schema.{floor_schema}
-use Rattle.floor_sql.specs.Stored.{HoldsSelf, self_columns, floor_columns, self_values}
-use Rattle.floor_sql.specs.Shown.{self_shown, floor_shown}
+use Rattle.floor_sql.specs.Schema.{floor_schema, IsOfStore}
+use Rattle.floor_sql.specs.Stored.{HoldsVersion, self_columns, floor_columns, drift_columns, version_values}
+use Rattle.floor_sql.specs.Shown.{self_shown, floor_shown, drift_shown}
 use Rattle.floor_sql.specs.Refusals.{is_want_of_memory, is_of_schema, fault_of}
-use Rattle.floor_sql.specs.Text.{select_self, select_floor}
-use Rattle.floor_sql.specs.Usable.{HasOnly, HasUsableSelf}
+use Rattle.floor_sql.specs.Text.{select_self, select_floor, select_drift}
+use Rattle.floor_sql.specs.Usable.{HasOnly, HasUsableVersion}
 use Rattle.floor_sql.proofs.ListLemmas.{kept_by}
 use Rattle.floor_sql.proofs.UpdateLemmas.{picks}
 use Rattle.floor_sql.proofs.ReadLemmas.{by_param_picks, by_one_picks}
-use Rattle.floor_sql.proofs.TextLemmas.{query_over, by_param, by_one, self_read, select_self_is, select_self_plain, floor_read, select_floor_is, select_floor_plain}
+use Rattle.floor_sql.proofs.TextLemmas.{query_over, by_param, by_one, self_read, select_self_is, select_self_plain, floor_read, select_floor_is, select_floor_plain, drift_read, select_drift_is, select_drift_plain}
 
 -- ---- a refusal of the connection
 
@@ -132,22 +132,35 @@ only_shown filter_by project params tree trees rows found over a one =
     let ordered : a.ordered ≡ output q env ∷ [] = one_permutation (output q env) a.ordered (subst (λ os. IsPermutation os a.ordered) out a.same) in
     a.shown ∙ ap (map (λ (o : Output). o.1)) ordered
 
-pub self_shows : (old new : State) (rows : List Row) (values : Row) → old.now.schema ≡ floor_schema → Shown select_self [] old new rows
+pub self_shows : (old new : State) (rows : List Row) (values : Row) → IsOfStore old.now.schema → Shown select_self [] old new rows
     → HasOnly (old.now.trees 0) 1 self_columns values → (shown : Row) × (rows ≡ shown ∷ []) × (self_shown shown ≡ values)
 self_shows old new rows values has h it =
     let db = old.now.trees in
-    let read = reads_as select_self [] old new floor_schema has _ select_self_is.0 select_self_plain select_self_is.1 rows h in
+    let schema = old.now.schema in
+    let is = select_self_is schema has in
+    let read = reads_as select_self [] old new schema refl _ is.0 (select_self_plain schema has) is.1 rows h in
     let one = filter_same (picks by_one []) (has_rowid (pos 1)) (by_one_picks []) (db 0) ∙ it.only in
     (self_columns it.found, only_shown by_one self_read [] 0 db rows it.found refl (read.answer Null) one, it.shows)
 
-pub floor_shows : (old new : State) (rows : List Row) (token : ℕ) (values : Row) → old.now.schema ≡ floor_schema → Shown select_floor (Int (pos token) ∷ []) old new rows
+pub floor_shows : (old new : State) (rows : List Row) (token : ℕ) (values : Row) → IsOfStore old.now.schema → Shown select_floor (Int (pos token) ∷ []) old new rows
     → HasOnly (old.now.trees 1) token floor_columns values → (shown : Row) × (rows ≡ shown ∷ []) × (floor_shown shown ≡ values)
 floor_shows old new rows token values has h it =
     let db = old.now.trees in
     let params : Row = Int (pos token) ∷ [] in
-    let read = reads_as select_floor params old new floor_schema has _ select_floor_is.0 select_floor_plain select_floor_is.1 rows h in
+    let schema = old.now.schema in
+    let is = select_floor_is schema has in
+    let read = reads_as select_floor params old new schema refl _ is.0 (select_floor_plain schema has) is.1 rows h in
     let one = filter_same (picks by_param params) (has_rowid (pos token)) (by_param_picks (pos token) []) (db 1) ∙ it.only in
     (floor_columns it.found, only_shown by_param floor_read params 1 db rows it.found refl (read.answer Null) one, it.shows)
+
+pub drift_shows : (old new : State) (rows : List Row) (token : ℕ) (values : Row) → old.now.schema ≡ floor_schema → Shown select_drift (Int (pos token) ∷ []) old new rows
+    → HasOnly (old.now.trees 3) token drift_columns values → (shown : Row) × (rows ≡ shown ∷ []) × (drift_shown shown ≡ values)
+drift_shows old new rows token values has h it =
+    let db = old.now.trees in
+    let params : Row = Int (pos token) ∷ [] in
+    let read = reads_as select_drift params old new floor_schema has _ select_drift_is.0 select_drift_plain select_drift_is.1 rows h in
+    let one = filter_same (picks by_param params) (has_rowid (pos token)) (by_param_picks (pos token) []) (db 3) ∙ it.only in
+    (drift_columns it.found, only_shown by_param drift_read params 3 db rows it.found refl (read.answer Null) one, it.shows)
 
 find_only : {X : Type 0} (p : X → Bool) (xs : List X) (found : X) → filter p xs ≡ found ∷ [] → find p xs ≡ Some found
 find_only p [] found is = absurd (cc)
@@ -159,10 +172,10 @@ find_only p (x ∷ xs) found is = go (p x) is (find_only p xs found)
     go false all on = on all
 
 -- the one row of `self` names one node and one number of tokens
-pub self_is : (trees : Trees) (own count boot node tokens : ℕ) → HoldsSelf trees own count boot → HasUsableSelf trees node tokens
+pub self_is : (trees : Trees) (version own count boot node tokens : ℕ) → HoldsVersion trees version own count boot → HasUsableVersion trees version node tokens
     → (own ≡ node) × (count ≡ tokens)
-self_is trees own count boot node tokens it has =
+self_is trees version own count boot node tokens it has =
     let both : Some it.found ≡ Some has.only.found = sym it.place ∙ find_only (has_rowid (pos 1)) (trees 0) has.only.found has.only.only in
     let found : it.found ≡ has.only.found = cc in
-    let same : self_values own count boot ≡ self_values node tokens has.boot = sym it.shows ∙ ap self_columns found ∙ has.only.shows in
+    let same : version_values version own count boot ≡ version_values version node tokens has.boot = sym it.shows ∙ ap self_columns found ∙ has.only.shows in
     (cc, cc)

@@ -1,5 +1,5 @@
 -- Why a write of a store is refused: where the row that it changes is there once, for no cause of a table.
-use Rattle.std.proofs.Common.{◌≡◌, ◌≢◌, ℕ, pos, ◌∷◌, length, Ok, Err, refl, ap, ◌∙◌}
+use Rattle.std.proofs.Common.{◌≡◌, ◌≢◌, ℕ, pos, ◌∷◌, length, Ok, Err, inl, inr, refl, ap, ◌∙◌}
 use Rattle.sqlite.specs.declared.types.Value.TheVariants.{Int}
 use Rattle.sqlite.specs.declared.error.Error.{Error}
 use Rattle.sqlite.specs.Order.{Row}
@@ -9,20 +9,21 @@ use Rattle.sqlite.specs.Source.TheVariants.{Values}
 use Rattle.sqlite.specs.State.{State, Executes, ExecutesInside}
 use Rattle.sqlite.specs.Steps.{FailsToCommit}
 use Rattle.sqlite.proofs.Callers.{runs_as}
+use Rattle.floor_store.specs.declared.fault.StoreFault.{StoreFault}
 use Rattle.floor_store.specs.declared.fault.StoreFault.TheVariants.{Unusable}
-use Rattle.floor_sql.specs.Schema.{self, floor, floor_schema}
+use Rattle.floor_sql.specs.Schema.{self, floor, drift, floor_schema}
 use Rattle.floor_sql.specs.Stored.{HasOneRow}
-use Rattle.floor_sql.specs.Refusals.{fault_of}
-use Rattle.floor_sql.specs.Text.{update_floor, update_boot, insert_pass}
-use Rattle.floor_sql.proofs.TextLemmas.{by_param, by_one, changed_query, floor_terms, boot_terms, boot_query, pass_terms, plain_program, update_floor_is, update_floor_plain, update_boot_is, update_boot_plain, insert_pass_is, insert_pass_plain}
+use Rattle.floor_sql.specs.Refusals.{fault_of, IsFaultOf, ChangesNotOne}
+use Rattle.floor_sql.specs.Text.{update_floor, update_drift, update_boot, insert_pass}
+use Rattle.floor_sql.proofs.TextLemmas.{by_param, by_one, changed_query, floor_terms, drift_terms, boot_terms, boot_query, pass_terms, plain_program, update_floor_is, update_floor_plain, update_drift_is, update_drift_plain, update_boot_is, update_boot_plain, insert_pass_is, insert_pass_plain}
 use Rattle.floor_sql.proofs.UpdateLemmas.{picks, updated}
 use Rattle.floor_sql.proofs.ReadLemmas.{by_param_picks, by_one_picks}
 use Rattle.floor_sql.proofs.UsableLemmas.{only_shown, filter_same}
-use Rattle.floor_sql.proofs.RefusalLemmas.{not_of_text, inside_free, commit_free}
+use Rattle.floor_sql.proofs.RefusalLemmas.{not_of_text, never_of_text, inside_free, commit_free}
 
 -- ---- one row is changed
 
-pub floor_counted : (old new : State) (token : ℕ) (more : Row) (count : ℕ) → old.now.schema ≡ floor_schema
+floor_counted : (old new : State) (token : ℕ) (more : Row) (count : ℕ) → old.now.schema ≡ floor_schema
     → Executes update_floor (Int (pos token) ∷ more) old new (Ok count) → HasOneRow (old.now.trees 1) token → count ≡ 1
 floor_counted old new token more count has h it =
     let params : Row = Int (pos token) ∷ more in
@@ -33,6 +34,17 @@ floor_counted old new token more count has h it =
     let one = filter_same (picks by_param params) (has_rowid (pos token)) (by_param_picks (pos token) more) (db 1) ∙ it.only in
     u.counted ∙ ap length (only_shown by_param floor_terms params 1 db u.shown it.found refl u.answer one)
 
+drift_counted : (old new : State) (token : ℕ) (more : Row) (count : ℕ) → old.now.schema ≡ floor_schema
+    → Executes update_drift (Int (pos token) ∷ more) old new (Ok count) → HasOneRow (old.now.trees 3) token → count ≡ 1
+drift_counted old new token more count has h it =
+    let params : Row = Int (pos token) ∷ more in
+    let db = old.now.trees in
+    let query = changed_query 3 drift_terms in
+    let w = runs_as update_drift params old new floor_schema has (Update 3 (plain_program query)) update_drift_is update_drift_plain count h in
+    let u = updated 3 drift refl query _ params old new count has w in
+    let one = filter_same (picks by_param params) (has_rowid (pos token)) (by_param_picks (pos token) more) (db 3) ∙ it.only in
+    u.counted ∙ ap length (only_shown by_param drift_terms params 3 db u.shown it.found refl u.answer one)
+
 pub self_counted : (old new : State) (params : Row) (count : ℕ) → old.now.schema ≡ floor_schema
     → Executes update_boot params old new (Ok count) → HasOneRow (old.now.trees 0) 1 → count ≡ 1
 self_counted old new params count has h it =
@@ -42,17 +54,22 @@ self_counted old new params count has h it =
     let one = filter_same (picks by_one params) (has_rowid (pos 1)) (by_one_picks params) (db 0) ∙ it.only in
     u.counted ∙ ap length (only_shown by_one boot_terms params 0 db u.shown it.found refl u.answer one)
 
--- ---- no refusal is one of a text
+-- ---- why a statement is refused
 
-module _ (params : Row) (old new : State) (e : Error) (has : old.now.schema ≡ floor_schema) where
-  pub floor_refused : ExecutesInside 0 update_floor params old new (Err e) → fault_of e ≢ Unusable
-  floor_refused h = not_of_text e (inside_free update_floor params old new floor_schema has (Update 1 (plain_program (changed_query 1 floor_terms))) update_floor_is update_floor_plain tt e h)
+module _ (old new : State) (fault : StoreFault) (has : old.now.schema ≡ floor_schema) where
+  pub floor_unusable : (token : ℕ) (more : Row) → ChangesNotOne update_floor (Int (pos token) ∷ more) old new fault → fault ≡ Unusable → ¬ HasOneRow (old.now.trees 1) token
+  floor_unusable token more (inl cause) is one = never_of_text update_floor (Int (pos token) ∷ more) old new floor_schema has (Update 1 (plain_program (changed_query 1 floor_terms))) update_floor_is update_floor_plain tt fault cause is
+  floor_unusable token more (inr ran) is one = ran.1 (floor_counted old new token more ran.0 has ran.2 one)
 
-  pub pass_refused : ExecutesInside 0 insert_pass params old new (Err e) → fault_of e ≢ Unusable
-  pass_refused h = not_of_text e (inside_free insert_pass params old new floor_schema has (Insert 2 (Values pass_terms 7)) insert_pass_is insert_pass_plain tt e h)
+  pub drift_unusable : (token : ℕ) (more : Row) → ChangesNotOne update_drift (Int (pos token) ∷ more) old new fault → fault ≡ Unusable → ¬ HasOneRow (old.now.trees 3) token
+  drift_unusable token more (inl cause) is one = never_of_text update_drift (Int (pos token) ∷ more) old new floor_schema has (Update 3 (plain_program (changed_query 3 drift_terms))) update_drift_is update_drift_plain tt fault cause is
+  drift_unusable token more (inr ran) is one = ran.1 (drift_counted old new token more ran.0 has ran.2 one)
 
-  pub boot_refused : ExecutesInside 0 update_boot params old new (Err e) → fault_of e ≢ Unusable
-  boot_refused h = not_of_text e (inside_free update_boot params old new floor_schema has (Update 0 (plain_program boot_query)) update_boot_is update_boot_plain tt e h)
+  pub pass_kept : (params : Row) → IsFaultOf (λ error. ExecutesInside 0 insert_pass params old new (Err error)) fault → fault ≢ Unusable
+  pass_kept params cause = never_of_text insert_pass params old new floor_schema has (Insert 2 (Values pass_terms 7)) insert_pass_is insert_pass_plain tt fault cause
+
+pub boot_refused : (params : Row) (old new : State) (e : Error) → old.now.schema ≡ floor_schema → ExecutesInside 0 update_boot params old new (Err e) → fault_of e ≢ Unusable
+boot_refused params old new e has h = not_of_text e (inside_free update_boot params old new floor_schema has (Update 0 (plain_program boot_query)) update_boot_is update_boot_plain tt e h)
 
 pub commit_refused : (old new : State) (e : Error) → FailsToCommit old new e → fault_of e ≢ Unusable
 commit_refused old new e h = not_of_text e (commit_free old new e h)

@@ -59,10 +59,10 @@ module _ {S : Type 0} (g : Ghosts S) where
     pub tables : HasCleanDisk (sql.state g new.conn) → HasSame (sql.state g old.conn) (sql.state g new.conn)
     pub survives : Survives (sql.state g old.conn) (sql.state g new.conn) (λ _. ⊥)
 
--- the tables are those of a store of version 1, and name this node
+-- the tables are those of a store of version 2, and name this node
 pub record IsOfNode (db : Database) (node : ℕ) : Type 0 where
   pub schema : db.schema ≡ floor_schema
   pub found : Row
   pub place : find (has_rowid (pos 1)) (db.trees 0) ≡ Some found
-  pub version : column found 2 ≡ Int (pos 1)
+  pub version : column found 2 ≡ Int (pos 2)
   pub of_node : column found 3 ≡ Int (pos node)

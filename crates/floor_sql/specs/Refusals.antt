@@ -1,8 +1,10 @@
 -- Which fault a refusal of the connection is.
-use Rattle.std.specs.Prelude.{◌≡◌, Bool, true, false, if◌then◌else◌}
+use Rattle.std.specs.Prelude.{◌≡◌, ◌≢◌, ◌⊎◌, ℕ, List, Bool, true, false, Ok, Err, if◌then◌else◌}
 use Rattle.sqlite.specs.declared.error.ErrorCode.TheVariants.{OutOfMemory}
 use Rattle.sqlite.specs.declared.error.Error.{Error}
 use Rattle.sqlite.specs.declared.error.Error.TheVariants.{SqliteFailure, SqlInputError}
+use Rattle.sqlite.specs.Order.{Row}
+use Rattle.sqlite.specs.State.{State, Executes, ExecutesInside}
 use Rattle.floor_store.specs.declared.fault.StoreFault.{StoreFault}
 use Rattle.floor_store.specs.declared.fault.StoreFault.TheVariants.{Memory, Disk, Unusable}
 
@@ -25,3 +27,8 @@ pub record IsFaultOf (Refuses : Error → Type 0) (fault : StoreFault) : Type 0 
   pub error : Error
   pub refused : Refuses error
   pub is : fault ≡ fault_of error
+
+-- the statement is refused for this fault, or has changed another number of rows than one
+abbrev pub ChangesNotOne : List ℕ → Row → State → State → StoreFault → Type 0
+ChangesNotOne sql params old new fault = IsFaultOf (λ error. ExecutesInside 0 sql params old new (Err error)) fault
+    ⊎ ((count : ℕ) × (count ≢ 1) × Executes sql params old new (Ok count))

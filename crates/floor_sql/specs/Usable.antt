@@ -1,16 +1,16 @@
 -- Which tables are those of a store, with values in range: the ones that `open` takes.
-use Rattle.std.specs.Prelude.{◌≡◌, ℕ, pos, ◌^◌, ◌<◌, ◌≤◌, List, [], ◌∷◌, filter, slice_get, length, Some}
+use Rattle.std.specs.Prelude.{◌≡◌, ℕ, ℤ, pos, ◌^◌, ◌<◌, ◌≤◌, List, [], ◌∷◌, filter, slice_get, length, Some}
 use Rattle.std.specs.Option.{ForSome}
 use Rattle.sqlite.specs.declared.types.Value.TheVariants.{Int}
 use Rattle.sqlite.specs.Order.{Row, column}
 use Rattle.sqlite.specs.Tree.{Trees, rowid, has_rowid}
 use Rattle.sqlite.specs.Effect.{Database}
-use Rattle.otp_core.specs.Range.{IsFactor, IsNext}
+use Rattle.otp_core.specs.Range.{IsDrift, IsFactor, IsNext}
 use Rattle.admit_core.specs.Gate.{IsGate}
 use Rattle.floor_store.specs.Records.{ProposalRecord, RowRecord, PassRecord}
 use Rattle.floor_store.specs.Range.{IsCount, IsProposal, IsSpan, IsPass}
 use Rattle.floor_sql.specs.Schema.{floor_schema}
-use Rattle.floor_sql.specs.Stored.{HoldsPasses, self_columns, self_values, floor_columns, floor_values}
+use Rattle.floor_sql.specs.Stored.{HoldsPasses, self_columns, version_values, floor_columns, floor_values, drift_columns, drift_values}
 
 -- ---- ranges
 
@@ -25,7 +25,7 @@ pub record IsGrant (grant : ProposalRecord × ℕ × ℕ) : Type 0 where
   pub lo : IsFactor grant.1
   pub hi : IsFactor grant.2
 
--- the values of a row of floors
+-- the values of a row of floors, the drift aside
 pub record IsRow (row : RowRecord) : Type 0 where
   pub next : IsNext row.next
   pub grant : ForSome row.grant IsGrant
@@ -50,28 +50,39 @@ pub record HasOnly (rows : List Row) (key : ℕ) (columns : Row → Row) (values
   pub only : filter (has_rowid (pos key)) rows ≡ found ∷ []
   pub shows : columns found ≡ values
 
--- the one row of `self` is of version 1 and names a node
+-- the one row of `self` is of version 2 and names a node
 pub record HasUsableNode (db : Database) : Type 0 where
   pub schema : db.schema ≡ floor_schema
   pub found : Row
   pub only : filter (has_rowid (pos 1)) (db.trees 0) ≡ found ∷ []
   pub keyed : rowid found ≡ Int (pos 1)
-  pub version : column found 2 ≡ Int (pos 1)
+  pub version : column found 2 ≡ Int (pos 2)
   pub node : ℕ
   pub of_node : column found 3 ≡ Int (pos node)
   pub range : IsNode node
 
--- the one row of `self` is of this node, with so many tokens and a boot in range
-pub record HasUsableSelf (trees : Trees) (node tokens : ℕ) : Type 0 where
+-- the one row of `self` is of this version and of this node, with so many tokens and a boot in range
+pub record HasUsableVersion (trees : Trees) (version node tokens : ℕ) : Type 0 where
   pub boot : ℕ
   pub range : IsCount boot
-  pub only : HasOnly (trees 0) 1 self_columns (self_values node tokens boot)
+  pub only : HasOnly (trees 0) 1 self_columns (version_values version node tokens boot)
 
--- the token has one row, with values in range
-pub record HasUsableRow (trees : Trees) (token : ℕ) : Type 0 where
+-- the token has one row of floors, with values in range
+pub record HasUsableFloor (trees : Trees) (token : ℕ) : Type 0 where
   pub row : RowRecord
   pub range : IsRow row
   pub only : HasOnly (trees 1) token floor_columns (floor_values token row)
+
+-- the token has one row of drifts, with a drift in range
+pub record HasUsableDrift (trees : Trees) (token : ℕ) : Type 0 where
+  pub steps : ℤ
+  pub range : IsDrift steps
+  pub only : HasOnly (trees 3) token drift_columns (drift_values token steps)
+
+-- the token has one row in each of the two tables, with values in range
+pub record HasUsableRow (trees : Trees) (token : ℕ) : Type 0 where
+  pub floor : HasUsableFloor trees token
+  pub drift : HasUsableDrift trees token
 
 -- the passes have the numbers 1, 2, 3 and so on, with values in range
 pub record HasUsablePasses (trees : Trees) : Type 0 where
@@ -84,6 +95,6 @@ pub record HasUsablePasses (trees : Trees) : Type 0 where
 pub record IsUsable (db : Database) (node tokens : ℕ) : Type 0 where
   pub schema : db.schema ≡ floor_schema
   pub of_node : IsNode node
-  pub self : HasUsableSelf db.trees node tokens
+  pub self : HasUsableVersion db.trees 2 node tokens
   pub rows : (token : ℕ) → token < tokens → HasUsableRow db.trees token
   pub passes : HasUsablePasses db.trees

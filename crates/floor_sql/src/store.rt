@@ -245,13 +245,14 @@ impl<S: Alter> FloorStore for SqlStore<S> {
     }
 
     /// Keeps the row of a token and, where one is given, appends the pass, in one transaction.
-    /// `Unusable` where its number would be beyond 2^62, or the token has not just one row.
+    /// `Unusable` where its number would be beyond 2^62, or the token has not just one row of floors and one of drifts.
     fn put(&mut self, token: u32, row: Row, pass: Option<Pass>) -> Result<(), StoreFault>
         requires { token < length self.old.mirror.rows }
         ensures writes { Writes (sql_held S.Store) self.old self.new (with_row self.old.mirror token row pass) result }
         ensures breaks { IfErr result (Breaks (sql_held S.Store) self.old self.new) }
         ensures unusable { HasCleanDisk (state S.Store self.new.conn) → result ≡ Err StoreFault.Unusable
             → self.old.fault ≡ None → HasOneRow ((state S.Store self.old.conn).now.trees 1) token
+            → HasOneRow ((state S.Store self.old.conn).now.trees 3) token
             → 2 ^ 62 < self.old.passes + length (option_to_list pass) }
         ensures audit { HasCleanDisk (state S.Store self.new.conn) → OnOk result ((passes : _)
             → HasAudit S.Store self.old passes → HasAudit S.Store self.new (passes ++ option_to_list pass)) }

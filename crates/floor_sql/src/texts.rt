@@ -1,4 +1,5 @@
-//! The texts of the statements, over the tables of version 1.
+//! The texts of the statements. Those of the tables `self`, `floor` and `pass` are understood over version 1 and 2
+//! alike.
 
 // What makes the tables and their first rows.
 
@@ -16,10 +17,19 @@ pub const CREATE_PASS: &str =
         lo INTEGER NOT NULL, hi INTEGER NOT NULL, boot INTEGER NOT NULL, seq INTEGER NOT NULL) STRICT";
 
 pub const INSERT_SELF: &str =
-    "INSERT INTO self (id, version, node, tokens, boot) VALUES (1, 1, ?1, ?2, 0)";
+    "INSERT INTO self (id, version, node, tokens, boot) VALUES (1, 2, ?1, ?2, 0)";
 
 pub const INSERT_FLOOR: &str =
     "INSERT INTO floor (token, next, fails, until) VALUES (?1, ?2, 0, 0)";
+
+// What version 2 adds to version 1.
+
+pub const CREATE_DRIFT: &str =
+    "CREATE TABLE drift (token INTEGER PRIMARY KEY, steps INTEGER NOT NULL) STRICT";
+
+pub const INSERT_DRIFT: &str = "INSERT INTO drift (token, steps) VALUES (?1, 0)";
+
+pub const UPDATE_VERSION: &str = "UPDATE self SET version = 2 WHERE id = 1";
 
 // What reads them.
 
@@ -28,6 +38,8 @@ pub const SELECT_SELF: &str = "SELECT id, version, node, tokens, boot FROM self 
 pub const SELECT_FLOOR: &str =
     "SELECT token, next, g_node, g_boot, g_seq, g_lo, g_hi, fails, until FROM floor WHERE token = ?1";
 
+pub const SELECT_DRIFT: &str = "SELECT token, steps FROM drift WHERE token = ?1";
+
 pub const SELECT_PASSES: &str = "SELECT number, token, lo, hi, boot, seq FROM pass ORDER BY number";
 
 // What a put and the raise of a boot write.
@@ -35,6 +47,8 @@ pub const SELECT_PASSES: &str = "SELECT number, token, lo, hi, boot, seq FROM pa
 pub const UPDATE_FLOOR: &str =
     "UPDATE floor SET next = ?2, g_node = ?3, g_boot = ?4, g_seq = ?5, g_lo = ?6, g_hi = ?7, \
         fails = ?8, until = ?9 WHERE token = ?1";
+
+pub const UPDATE_DRIFT: &str = "UPDATE drift SET steps = ?2 WHERE token = ?1";
 
 pub const INSERT_PASS: &str =
     "INSERT INTO pass (number, token, lo, hi, boot, seq) VALUES (?1, ?2, ?3, ?4, ?5, ?6)";

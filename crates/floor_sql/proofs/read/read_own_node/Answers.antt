@@ -1,4 +1,4 @@
-use Rattle.std.proofs.Common.{◌≡◌, [], ◌∷◌, length, refl, sym, ap, ◌∙◌, arith, rules}
+use Rattle.std.proofs.Common.{◌≡◌, [], ◌∷◌, length, inr, refl, sym, ap, ◌∙◌, arith, rules}
 use Rattle.sqlite.specs.Held.{state}
 use Rattle.floor_sql.proofs.ShapeLemmas.{one_item}
 use Rattle.floor_sql.proofs.TextLemmas.{select_self_plain}
@@ -10,8 +10,8 @@ use Rattle.floor_sql.proofs.UsableLemmas.{self_shows}
 use Rattle.floor_sql.proofs.read.read_own_node.Goals as goal
 use Rattle.floor_sql.proofs.read.read_own_node.Goals.{in_default-via-then-as_slice-lt1, in_default-via-else-as_slice-lt1+else-this-lt2}
 
-pub ask-requires-clause-plain : goal.ask-requires-clause-plain
-ask-requires-clause-plain g c = select_self_plain
+pub ask-requires : goal.ask-requires
+ask-requires g c clean = select_self_plain c.args.conn.now.schema (inr (c.requires clean))
 
 pub returns-in-Some-clause-value : goal.returns-in-Some-clause-value
 returns-in-Some-clause-value g c clean =
@@ -23,7 +23,7 @@ pub returns-in_default-clause-unusable : goal.returns-in_default-clause-unusable
 returns-in_default-clause-unusable g c clean is has =
     let rows = c.in_ok-rows.rows.items in
     let it = self_shows (state g.S.Store c.args.conn.now) (state g.S.Store c.ask.new.conn) rows (self_columns has.found)
-    (c.requires (omega (arith, c.ask.ensures.crash.clean))) (c.in_ok-rows.ensures.shown clean)
+    (inr (c.requires (omega (arith, c.ask.ensures.crash.clean)))) (c.in_ok-rows.ensures.shown clean)
     (record { found = has.found; only = has.only; shows = refl }) in
     let one : length c.as_slice.result.now ≡ 1 = ap length (c.as_slice.ensures.value ∙ it.1) in
     elim c.in_default.branch [
@@ -35,7 +35,7 @@ pub returns-clause-unusable : goal.returns-clause-unusable
 returns-clause-unusable g c clean is has =
     let rows = c.in_ok-rows.rows.items in
     let it = self_shows (state g.S.Store c.args.conn.now) (state g.S.Store c.ask.new.conn) rows (self_columns has.found)
-    (c.requires (omega (arith, c.ask.ensures.crash.clean))) (c.in_ok-rows.ensures.shown clean)
+    (inr (c.requires (omega (arith, c.ask.ensures.crash.clean)))) (c.in_ok-rows.ensures.shown clean)
     (record { found = has.found; only = has.only; shows = refl }) in
     let one : rows ≡ c.shown-item.result ∷ [] = sym c.as_slice.ensures.value ∙ one_item c.as_slice.result.now c.shown-item.result (omega arith) (omega arith) c.shown-item.is in
     let both = sym it.1 ∙ one in
