@@ -14,8 +14,8 @@ use Rattle.floor_store.specs.declared.fault.StoreFault.TheVariants.{Unusable}
 use Rattle.floor_sql.specs.Schema.{self, floor, drift, floor_schema}
 use Rattle.floor_sql.specs.Stored.{HasOneRow}
 use Rattle.floor_sql.specs.Refusals.{fault_of, IsFaultOf, ChangesNotOne}
-use Rattle.floor_sql.specs.Text.{update_floor, update_drift, update_boot, insert_pass}
-use Rattle.floor_sql.proofs.TextLemmas.{by_param, by_one, changed_query, floor_terms, drift_terms, boot_terms, boot_query, pass_terms, plain_program, update_floor_is, update_floor_plain, update_drift_is, update_drift_plain, update_boot_is, update_boot_plain, insert_pass_is, insert_pass_plain}
+use Rattle.floor_sql.specs.Text.{update_floor, update_drift, update_boot, update_version, insert_pass}
+use Rattle.floor_sql.proofs.TextLemmas.{by_param, by_one, changed_query, floor_terms, drift_terms, boot_terms, boot_query, version_terms, version_query, pass_terms, plain_program, update_floor_is, update_floor_plain, update_drift_is, update_drift_plain, update_boot_is, update_boot_plain, update_version_is, update_version_plain, insert_pass_is, insert_pass_plain}
 use Rattle.floor_sql.proofs.UpdateLemmas.{picks, updated}
 use Rattle.floor_sql.proofs.ReadLemmas.{by_param_picks, by_one_picks}
 use Rattle.floor_sql.proofs.UsableLemmas.{only_shown, filter_same}
@@ -54,6 +54,15 @@ self_counted old new params count has h it =
     let one = filter_same (picks by_one params) (has_rowid (pos 1)) (by_one_picks params) (db 0) ∙ it.only in
     u.counted ∙ ap length (only_shown by_one boot_terms params 0 db u.shown it.found refl u.answer one)
 
+version_counted : (old new : State) (params : Row) (count : ℕ) → old.now.schema ≡ floor_schema
+    → Executes update_version params old new (Ok count) → HasOneRow (old.now.trees 0) 1 → count ≡ 1
+version_counted old new params count has h it =
+    let db = old.now.trees in
+    let w = runs_as update_version params old new floor_schema has (Update 0 (plain_program version_query)) update_version_is update_version_plain count h in
+    let u = updated 0 self refl version_query _ params old new count has w in
+    let one = filter_same (picks by_one params) (has_rowid (pos 1)) (by_one_picks params) (db 0) ∙ it.only in
+    u.counted ∙ ap length (only_shown by_one version_terms params 0 db u.shown it.found refl u.answer one)
+
 -- ---- why a statement is refused
 
 module _ (old new : State) (fault : StoreFault) (has : old.now.schema ≡ floor_schema) where
@@ -64,6 +73,10 @@ module _ (old new : State) (fault : StoreFault) (has : old.now.schema ≡ floor_
   pub drift_unusable : (token : ℕ) (more : Row) → ChangesNotOne update_drift (Int (pos token) ∷ more) old new fault → fault ≡ Unusable → ¬ HasOneRow (old.now.trees 3) token
   drift_unusable token more (inl cause) is one = never_of_text update_drift (Int (pos token) ∷ more) old new floor_schema has (Update 3 (plain_program (changed_query 3 drift_terms))) update_drift_is update_drift_plain tt fault cause is
   drift_unusable token more (inr ran) is one = ran.1 (drift_counted old new token more ran.0 has ran.2 one)
+
+  pub version_unusable : (params : Row) → ChangesNotOne update_version params old new fault → fault ≡ Unusable → ¬ HasOneRow (old.now.trees 0) 1
+  version_unusable params (inl cause) is one = never_of_text update_version params old new floor_schema has (Update 0 (plain_program version_query)) update_version_is update_version_plain tt fault cause is
+  version_unusable params (inr ran) is one = ran.1 (version_counted old new params ran.0 has ran.2 one)
 
   pub pass_kept : (params : Row) → IsFaultOf (λ error. ExecutesInside 0 insert_pass params old new (Err error)) fault → fault ≢ Unusable
   pass_kept params cause = never_of_text insert_pass params old new floor_schema has (Insert 2 (Values pass_terms 7)) insert_pass_is insert_pass_plain tt fault cause

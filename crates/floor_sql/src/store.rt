@@ -1,13 +1,14 @@
-ghost use Rattle.std.specs.Prelude.{◌≡◌, ◌≢◌, ◌≤◌, length, true, false, None, Err, IsErrAnd, IsTrue, IfOk, IfErr, OnOk};
+ghost use Rattle.std.specs.Prelude.{◌≡◌, ◌≢◌, ◌≤◌, ℕ, length, true, false, None, Err, IsErr, IsErrAnd, IsTrue, IfOk, IfErr, OnOk};
 ghost use Rattle.sqlite.specs.Held.{state};
 ghost use Rattle.sqlite.specs.State.{HasCleanDisk};
 ghost use Rattle.floor_store.specs.Fault.{is_failure};
 ghost use Rattle.std.specs.Option.{option_to_list};
 
 use crate::create::write_opening;
+use crate::migrate::migrate_tables;
 use crate::mirror::Mirror;
-use crate::read::{Refusal, list_passes};
-use crate::schema::{has_own_table, is_no_schema};
+use crate::read::{Refusal, list_passes, read_own_node};
+use crate::schema::{has_own_table, is_floor_schema, is_no_schema};
 use crate::tables::{read_node, read_tables};
 use crate::write::{write_boot, write_put};
 use floor_store::{FloorStore, Pass, Row, StoreFault};
@@ -43,6 +44,8 @@ impl<S: Alter> SqlStore<S> {
     ghost use Rattle.floor_store.specs.Held.{Breaks};
     ghost use Rattle.floor_store.specs.declared.fault.StoreFault.TheVariants.{AlreadyThere, Unusable};
     ghost use Rattle.floor_sql.specs.Created.{IsForeign, Opens, has_own_table};
+    ghost use Rattle.floor_sql.specs.Migrate.{IsMigrated, IsUsableUndrifted, Migrates};
+    ghost use Rattle.floor_sql.specs.Schema.{floor_schema};
     ghost use Rattle.floor_sql.specs.Stored.{MayCommit};
     ghost use Rattle.floor_sql.specs.Held.{Mirrors, HasAudit, sql_held};
     ghost use Rattle.floor_sql.specs.Usable.{HasUsableNode, HasUsablePasses, IsNode, IsUsable};
@@ -124,6 +127,41 @@ impl<S: Alter> SqlStore<S> {
             passes,
             fault: None,
         })
+    }
+
+    /// Makes the store of version 1 of this node with so many tokens, which a connection holds, one of
+    /// version 2: no token has a drift, and all else is kept. The connection stands outside a transaction
+    /// and has no limit on its steps, and is handed back beside a refusal too: `AlreadyThere` at a store
+    /// of version 2, whatever its node, and `Unusable` at anything else.
+    pub fn migrate(
+        mut conn: Connection<S>,
+        node: u8,
+        tokens: u32,
+    ) -> Result<Connection<S>, (Connection<S>, StoreFault)>
+        requires idle { conn.in_transaction ≡ false }
+        requires tokens { tokens ≤ 10000 }
+        ensures made { IfOk result (IsMigrated S.Store node tokens conn) }
+        ensures found { conn.schema ≡ floor_schema → IsErr result }
+        ensures there { IfErr result (λ e. e.1 ≡ StoreFault.AlreadyThere → HasCleanDisk (state S.Store e.0)
+            → (own : ℕ) × IsOfNode (state S.Store conn).now own) }
+        ensures unusable { IfErr result (λ e. e.1 ≡ StoreFault.Unusable → HasCleanDisk (state S.Store e.0)
+            → (¬ IsUsableUndrifted (state S.Store conn).now node tokens) × (¬ HasUsableNode (state S.Store conn).now)) }
+        ensures failure { IfErr result (λ e. e.1 ≢ StoreFault.AlreadyThere → IsTrue (is_failure e.1)) }
+        ensures refused { IfErr result (λ e. HandsBack S.Store conn e.0
+            (MayCommit (Migrates node tokens) (state S.Store conn))) }
+    {
+        // Outside a transaction the connection sees what was last committed.
+        let _ = conn.is_autocommit();
+        if is_floor_schema(conn.schema()) {
+            return match read_own_node(&mut conn) {
+                Ok(_own) => Err((conn, StoreFault::AlreadyThere)),
+                Err(Refusal(fault)) => Err((conn, fault)),
+            };
+        }
+        match migrate_tables(&mut conn, node, tokens) {
+            Ok(()) => Ok(conn),
+            Err(Refusal(fault)) => Err((conn, fault)),
+        }
     }
 
     /// The number of the node whose store the tables of a connection hold, and the connection. It

@@ -1,4 +1,4 @@
-//! The texts of the statements. Those of the tables `self`, `floor` and `pass` are understood over version 1 and 2
+//! The texts of the statements. Those of `self`, `floor` and `pass` are understood over version 1 and 2
 //! alike.
 
 // What makes the tables and their first rows.

@@ -1,4 +1,4 @@
-use Rattle.std.proofs.Common.{◌≡◌, sym, subst, ap, rules, arith}
+use Rattle.std.proofs.Common.{◌≡◌, sym, subst, rules, arith}
 use Rattle.sqlite.specs.Order.{Row}
 use Rattle.std.proofs.Common.{List}
 use Rattle.sqlite.specs.Held.{state}

@@ -1,0 +1,87 @@
+-- How the tables of version 1 become those of version 2.
+use Rattle.std.specs.Prelude.{◌≡◌, ◌<◌, ℕ, pos, false, List, length, slice_get, Some, None}
+use Rattle.std.specs.List.{last_or}
+use Rattle.sqlite.specs.Store.{Ghosts}
+use Rattle.sqlite.specs.Tree.{Trees, put_row, without_rowid}
+use Rattle.sqlite.specs.Held as sql
+use Rattle.sqlite.specs.State.{HasCleanDisk, Survives}
+use Rattle.sqlite.specs.Effect.{Database}
+use Rattle.floor_store.specs.Records.{RowRecord, PassRecord}
+use Rattle.floor_store.specs.Content.{Content}
+use Rattle.floor_sql.specs.Schema.{undrifted_schema, floor_schema}
+use Rattle.floor_sql.specs.Stored.{Holds, HoldsDrift, HoldsFloors, HoldsPasses, HoldsVersion, HasVersion, Commits, MayCommit, self_row}
+use Rattle.floor_sql.specs.Usable.{IsNode, HasUsableVersion, HasUsableFloor, HasUsablePasses}
+
+-- ---- the tables of version 1
+
+-- no token of these rows has a drift
+abbrev pub AreUndrifted : List RowRecord → Type 0
+AreUndrifted rows = (token : ℕ) (row : RowRecord) → slice_get rows token ≡ Some row → row.drift ≡ pos 0
+
+-- the table of floors has rows of so many tokens
+pub record HasUndrifted (trees : Trees) (tokens : ℕ) : Type 0 where
+  pub rows : List RowRecord
+  pub counted : length rows ≡ tokens
+  pub floors : HoldsFloors trees rows
+  pub undrifted : AreUndrifted rows
+
+-- The tables are those of a store of version 1 of this node with so many tokens. They hold this content, in which no
+-- token has a drift, and have these passes in order.
+pub record HoldsUndrifted (db : Database) (node tokens : ℕ) (c : Content) (passes : List PassRecord) : Type 0 where
+  pub schema : db.schema ≡ undrifted_schema
+  pub floors : HoldsFloors db.trees c.rows
+  pub undrifted : AreUndrifted c.rows
+  pub of_tokens : length c.rows ≡ tokens
+  pub self : HoldsVersion db.trees 1 node tokens c.boot
+  pub pass : HoldsPasses db.trees passes
+  pub last : c.last ≡ last_or None passes
+
+-- they hold some content
+abbrev pub IsUndrifted : Database → ℕ → ℕ → Type 0
+IsUndrifted db node tokens = (c : Content) × (passes : List PassRecord) × HoldsUndrifted db node tokens c passes
+
+-- a store of version 1 of this node with so many tokens, with values in range: what `migrate` takes
+pub record IsUsableUndrifted (db : Database) (node tokens : ℕ) : Type 0 where
+  pub schema : db.schema ≡ undrifted_schema
+  pub of_node : IsNode node
+  pub self : HasUsableVersion db.trees 1 node tokens
+  pub floors : (token : ℕ) → token < tokens → HasUsableFloor db.trees token
+  pub passes : HasUsablePasses db.trees
+
+-- ---- the change
+
+-- the row of `self` is of version 2, and the other tables are as they were
+pub record RaisesVersion (old new : Database) : Type 0 where
+  pub schema : new.schema ≡ floor_schema
+  pub was : HasVersion old floor_schema 1
+  pub self : new.trees 0 ≡ put_row (self_row was.node was.tokens was.boot) (without_rowid (pos 1) (old.trees 0))
+  pub floor : new.trees 1 ≡ old.trees 1
+  pub pass : new.trees 2 ≡ old.trees 2
+  pub drift : new.trees 3 ≡ old.trees 3
+
+-- the table of drifts is there, with none for each of so many tokens, and the version is raised
+pub record AddsVersion (tokens : ℕ) (old new : Database) : Type 0 where
+  pub schema : new.schema ≡ floor_schema
+  pub was : HasVersion old undrifted_schema 1
+  pub self : HoldsVersion new.trees 2 was.node was.tokens was.boot
+  pub floor : new.trees 1 ≡ old.trees 1
+  pub pass : new.trees 2 ≡ old.trees 2
+  pub drift : (token : ℕ) → token < tokens → HoldsDrift new.trees token (pos 0)
+
+-- The content of a store of version 1 of this node with so many tokens is that of a store of version 2. All drifts are
+-- 0, and the rows of floors and passes are the same, one by one.
+pub record Migrates (node tokens : ℕ) (old new : Database) : Type 0 where
+  pub content : Content
+  pub passes : List PassRecord
+  pub was : HoldsUndrifted old node tokens content passes
+  pub schema : new.schema ≡ floor_schema
+  pub holds : Holds new.trees content passes
+  pub of_node : holds.node ≡ node
+  pub floor : new.trees 1 ≡ old.trees 1
+  pub pass : new.trees 2 ≡ old.trees 2
+
+-- a connection whose tables were migrated in one commit, outside a transaction
+pub record IsMigrated {S : Type 0} (g : Ghosts S) (node tokens : ℕ) (old new : sql.Held S) : Type 0 where
+  pub idle : new.in_transaction ≡ false
+  pub tables : HasCleanDisk (sql.state g new) → Commits (Migrates node tokens) (sql.state g old) (sql.state g new)
+  pub survives : Survives (sql.state g old) (sql.state g new) (MayCommit (Migrates node tokens) (sql.state g old))

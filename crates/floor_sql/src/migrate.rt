@@ -1,0 +1,164 @@
+//! The tables of version 1, and what makes those of version 2 of them.
+
+ghost use Rattle.std.specs.Prelude.{◌≡◌, ◌<◌, ◌≤◌, ℕ, false, IsTrue, IfErr, OnOk, OnErr};
+ghost use Rattle.sqlite.specs.Held.{state};
+ghost use Rattle.sqlite.specs.State.{HasCleanDisk, Survives, KeepsCommit};
+ghost use Rattle.floor_store.specs.Fault.{is_failure};
+ghost use Rattle.floor_store.specs.declared.fault.StoreFault.TheVariants.{Unusable};
+ghost use Rattle.floor_sql.specs.Schema.{undrifted_schema, floor_schema, IsOfStore};
+ghost use Rattle.floor_sql.specs.Shown.{IsRead, IsLeft};
+ghost use Rattle.floor_sql.specs.Stored.{HasOneRow, HasVersion, Commits, MayCommit, KeepsCommit as KeepsLast};
+ghost use Rattle.floor_sql.specs.Usable.{HasUsableFloor};
+ghost use Rattle.floor_sql.specs.Migrate.{HasUndrifted, IsUndrifted, IsUsableUndrifted, RaisesVersion, AddsVersion, Migrates};
+
+use crate::create::{create_drift, insert_drifts};
+use crate::read::{Refusal, count_passes, read_floor, read_self};
+use crate::run::change_one;
+use crate::schema::is_undrifted_schema;
+use crate::texts::UPDATE_VERSION;
+use floor_store::StoreFault;
+use otp_core::Drift;
+use sqlite::{Alter, Connection, Transaction};
+
+/// Reads the rows of floors of so many tokens.
+fn check_floors<S: Alter>(conn: &mut Connection<S>, tokens: u32) -> Result<(), Refusal>
+    requires { HasCleanDisk (state S.Store conn.old) → IsOfStore conn.old.schema }
+    ensures value { HasCleanDisk (state S.Store conn.new)
+        → OnOk result (HasUndrifted (state S.Store conn.old).now.trees tokens) }
+    ensures read { HasCleanDisk (state S.Store conn.new)
+        → OnOk result (IsRead (state S.Store conn.old) (state S.Store conn.new)) }
+    ensures left { HasCleanDisk (state S.Store conn.new) → IsLeft (state S.Store conn.old) (state S.Store conn.new) }
+    ensures failure { IfErr result (λ e. IsTrue (is_failure e.0)) }
+    ensures unusable { HasCleanDisk (state S.Store conn.new) → IfErr result (λ e. e.0 ≡ Unusable
+        → ¬ ((token : ℕ) → token < tokens → HasUsableFloor (state S.Store conn.old).now.trees token)) }
+    ensures idle { conn.old.in_transaction ≡ false → conn.new.in_transaction ≡ false }
+    ensures crash { Survives (state S.Store conn.old) (state S.Store conn.new) (λ _. ⊥) }
+{
+    for token in 0..tokens {
+        let _row = read_floor(conn, token, Drift::default())?;
+    }
+    Ok(())
+}
+
+/// Reads the tables of a store of version 1, of this node with so many tokens.
+fn check_tables<S: Alter>(conn: &mut Connection<S>, node: u8, tokens: u32) -> Result<(), Refusal>
+    requires { tokens ≤ 10000 }
+    ensures value { HasCleanDisk (state S.Store conn.new)
+        → OnOk result (IsUndrifted (state S.Store conn.old).now node tokens) }
+    ensures read { HasCleanDisk (state S.Store conn.new)
+        → OnOk result (IsRead (state S.Store conn.old) (state S.Store conn.new)) }
+    ensures left { HasCleanDisk (state S.Store conn.new) → IsLeft (state S.Store conn.old) (state S.Store conn.new) }
+    ensures failure { IfErr result (λ e. IsTrue (is_failure e.0)) }
+    ensures unusable { HasCleanDisk (state S.Store conn.new) → IfErr result (λ e. e.0 ≡ Unusable
+        → ¬ IsUsableUndrifted (state S.Store conn.old).now node tokens) }
+    ensures idle { conn.old.in_transaction ≡ false → conn.new.in_transaction ≡ false }
+    ensures crash { Survives (state S.Store conn.old) (state S.Store conn.new) (λ _. ⊥) }
+{
+    if !is_undrifted_schema(conn.schema()) {
+        return Err(Refusal(StoreFault::Unusable));
+    }
+    let (own, count, _boot) = read_self(conn, 1)?;
+    if own != node || count != tokens {
+        return Err(Refusal(StoreFault::Unusable));
+    }
+    check_floors(conn, tokens)?;
+    let _passes = count_passes(conn)?;
+    Ok(())
+}
+
+/// Makes the row of `self` one of version 2.
+fn update_version<S: Alter>(tx: &mut Transaction<'_, S>) -> Result<(), Refusal>
+    requires inside { HasCleanDisk (state S.Store tx.old.conn.now)
+        → IsTrue (state S.Store tx.old.conn.now).in_transaction }
+    requires there { HasCleanDisk (state S.Store tx.old.conn.now)
+        → HasVersion (state S.Store tx.old.conn.now).now floor_schema 1 }
+    ensures updated { HasCleanDisk (state S.Store tx.new.conn.now)
+        → OnOk result (RaisesVersion (state S.Store tx.old.conn.now).now (state S.Store tx.new.conn.now).now) }
+    ensures same_reference { tx.new.conn.ghost_name ≡ tx.old.conn.ghost_name }
+    ensures goes { HasCleanDisk (state S.Store tx.new.conn.now)
+        → OnOk result (IsTrue (state S.Store tx.new.conn.now).in_transaction) }
+    ensures kept { HasCleanDisk (state S.Store tx.new.conn.now)
+        → KeepsCommit (state S.Store tx.old.conn.now) (state S.Store tx.new.conn.now) }
+    ensures failure { IfErr result (λ e. IsTrue (is_failure e.0)) }
+    ensures unusable { HasCleanDisk (state S.Store tx.new.conn.now) → IfErr result (λ e. e.0 ≡ Unusable
+        → ¬ HasOneRow ((state S.Store tx.old.conn.now).now.trees 0) 1) }
+    ensures crash { Survives (state S.Store tx.old.conn.now) (state S.Store tx.new.conn.now) (λ _. ⊥) }
+{
+    change_one(tx, UPDATE_VERSION, &[])?;
+    Ok(())
+}
+
+/// Adds the table of drifts, with none for each of so many tokens, and raises the version.
+fn add_version<S: Alter>(tx: &mut Transaction<'_, S>, tokens: u32) -> Result<(), Refusal>
+    requires inside { HasCleanDisk (state S.Store tx.old.conn.now)
+        → IsTrue (state S.Store tx.old.conn.now).in_transaction }
+    requires there { HasCleanDisk (state S.Store tx.old.conn.now)
+        → HasVersion (state S.Store tx.old.conn.now).now undrifted_schema 1 }
+    ensures added { HasCleanDisk (state S.Store tx.new.conn.now)
+        → OnOk result (AddsVersion tokens (state S.Store tx.old.conn.now).now (state S.Store tx.new.conn.now).now) }
+    ensures same_reference { tx.new.conn.ghost_name ≡ tx.old.conn.ghost_name }
+    ensures goes { HasCleanDisk (state S.Store tx.new.conn.now)
+        → OnOk result (IsTrue (state S.Store tx.new.conn.now).in_transaction) }
+    ensures kept { HasCleanDisk (state S.Store tx.new.conn.now)
+        → KeepsCommit (state S.Store tx.old.conn.now) (state S.Store tx.new.conn.now) }
+    ensures failure { IfErr result (λ e. IsTrue (is_failure e.0)) }
+    ensures unusable { HasCleanDisk (state S.Store tx.new.conn.now) → IfErr result (λ e. e.0 ≡ Unusable
+        → ¬ HasOneRow ((state S.Store tx.old.conn.now).now.trees 0) 1) }
+    ensures crash { Survives (state S.Store tx.old.conn.now) (state S.Store tx.new.conn.now) (λ _. ⊥) }
+{
+    create_drift(tx)?;
+    insert_drifts(tx, tokens)?;
+    update_version(tx)?;
+    Ok(())
+}
+
+/// Makes the tables of version 1 those of version 2, in one transaction.
+fn write_version<S: Alter>(conn: &mut Connection<S>, tokens: u32) -> Result<(), Refusal>
+    requires idle { conn.old.in_transaction ≡ false }
+    requires there { HasCleanDisk (state S.Store conn.old)
+        → HasVersion (state S.Store conn.old).now undrifted_schema 1 }
+    ensures idle { conn.new.in_transaction ≡ false }
+    ensures ok { HasCleanDisk (state S.Store conn.new)
+        → OnOk result (Commits (AddsVersion tokens) (state S.Store conn.old) (state S.Store conn.new)) }
+    ensures err { HasCleanDisk (state S.Store conn.new)
+        → OnErr result (KeepsLast (state S.Store conn.old) (state S.Store conn.new)) }
+    ensures failure { IfErr result (λ e. IsTrue (is_failure e.0)) }
+    ensures unusable { HasCleanDisk (state S.Store conn.new) → IfErr result (λ e. e.0 ≡ Unusable
+        → ¬ HasOneRow ((state S.Store conn.old).now.trees 0) 1) }
+    ensures crash { Survives (state S.Store conn.old) (state S.Store conn.new) (MayCommit (AddsVersion tokens)
+        (state S.Store conn.old)) }
+{
+    let mut tx = conn.transaction();
+    match add_version(&mut tx, tokens) {
+        Ok(()) => {}
+        Err(refusal) => return Err(refusal),
+    }
+    match tx.commit() {
+        Ok(()) => Ok(()),
+        Err(error) => Err(Refusal::from(error)),
+    }
+}
+
+/// Makes a store of version 1, of this node with so many tokens, one of version 2.
+pub fn migrate_tables<S: Alter>(
+    conn: &mut Connection<S>,
+    node: u8,
+    tokens: u32,
+) -> Result<(), Refusal>
+    requires idle { conn.old.in_transaction ≡ false }
+    requires tokens { tokens ≤ 10000 }
+    ensures idle { conn.new.in_transaction ≡ false }
+    ensures ok { HasCleanDisk (state S.Store conn.new)
+        → OnOk result (Commits (Migrates node tokens) (state S.Store conn.old) (state S.Store conn.new)) }
+    ensures left { HasCleanDisk (state S.Store conn.new)
+        → OnErr result (IsLeft (state S.Store conn.old) (state S.Store conn.new)) }
+    ensures failure { IfErr result (λ e. IsTrue (is_failure e.0)) }
+    ensures unusable { HasCleanDisk (state S.Store conn.new) → IfErr result (λ e. e.0 ≡ Unusable
+        → ¬ IsUsableUndrifted (state S.Store conn.old).now node tokens) }
+    ensures crash { Survives (state S.Store conn.old) (state S.Store conn.new) (MayCommit (Migrates node tokens)
+        (state S.Store conn.old)) }
+{
+    check_tables(conn, node, tokens)?;
+    write_version(conn, tokens)?;
+    Ok(())
+}
