@@ -1,5 +1,5 @@
 -- Each act is the vote that the refinement names.
-use Rattle.std.proofs.Common.{◌≡◌, ℕ, ◌+◌, ◌^◌, ◌<◌, Bool, true, false, cond, ◌&&◌, ◌||◌, ⊎_elim, List, [], ◌∷◌, ◌++◌, length, Option, Some, None, refl, sym, ap, ◌∙◌, subst, arith, eqb, leb, ltb}
+use Rattle.std.proofs.Common.{◌≡◌, ℕ, ℤ, pos, ◌+◌, ◌^◌, ◌<◌, Bool, true, false, cond, ◌&&◌, ◌||◌, ⊎_elim, List, [], ◌∷◌, ◌++◌, length, Option, Some, None, refl, sym, ap, ◌∙◌, subst, arith, eqb, leb, ltb}
 use Rattle.std.specs.List.{slice_get}
 use Rattle.std.proofs.lemmas.Bool.{cond_both, cond-true, cond-false, eqb-true, eq-eqb, and_parts, and_from, and_left, and_right, lt-ltb, le-leb, leb-false, cases_eq}
 use Rattle.floor_store.specs.Range.{IsSpan}
@@ -46,12 +46,12 @@ gated config e i x w V works rests =
 
 -- ---- a proposal
 
-begun_after : (e i : ℕ) (w : World) (owners : List Owner) (t lo hi : ℕ) → (w.nodes i).running ≡ true
-    → cluster_of (world_with_made e i (made_by_vote owners (Some (next_beginning (place_at w i) t lo hi (w.nodes i))) (propose (place_at w i) t lo hi (w.nodes i).content (w.nodes i).voter) (w.nodes i)) w)
-    ≡ cluster_after e i (propose (place_of (cluster_of w) i) t lo hi (w.nodes i).content (w.nodes i).voter) (with_proposal_begun e i t lo hi (cluster_of w))
+begun_after : (e i : ℕ) (w : World) (owners : List Owner) (t lo hi : ℕ) (drift : ℤ) → (w.nodes i).running ≡ true
+    → cluster_of (world_with_made e i (made_by_vote owners (Some (next_beginning (place_at w i) t lo hi (w.nodes i))) (propose (place_at w i) t lo hi drift (w.nodes i).content (w.nodes i).voter) (w.nodes i)) w)
+    ≡ cluster_after e i (propose (place_of (cluster_of w) i) t lo hi drift (w.nodes i).content (w.nodes i).voter) (with_proposal_begun e i t lo hi (cluster_of w))
 unfolding with_proposal_begun cluster_after
-begun_after e i w owners t lo hi running =
-    made_after e i (made_by_vote owners (Some (next_beginning (place_at w i) t lo hi (w.nodes i))) (propose (place_at w i) t lo hi (w.nodes i).content (w.nodes i).voter) (w.nodes i)) w running
+begun_after e i w owners t lo hi drift running =
+    made_after e i (made_by_vote owners (Some (next_beginning (place_at w i) t lo hi (w.nodes i))) (propose (place_at w i) t lo hi drift (w.nodes i).content (w.nodes i).voter) (w.nodes i)) w running
 
 halted_now : (e i : ℕ) (w : World) → cluster_of (world_with_made e i (quiet_made (stopped_node (w.nodes i))) w) ≡ with_member i (stopped_member (member_of (w.nodes i))) (cluster_of w)
 unfolding world_with_made
@@ -88,20 +88,20 @@ fitting_may config client moment text line nonce i t lo hi w sized up h =
     (and_from c d (span_true lo hi h.span) (lt-ltb (length x.voter.pending) 32 (leb-false 32 (length x.voter.pending) h.room)))))
 
 proposes_same : (e i client : ℕ) (line nonce : List ℕ) (t lo hi : ℕ) (w : World) → (w.nodes i).running ≡ true → may_begin (cluster_of w) i t lo hi ≡ true
-    → cluster_of (world_with_made e i (made_by_proposal (place_at w i) client line nonce t lo hi (w.nodes i)) w) ≡ after_act e (Begin i t lo hi) (cluster_of w)
+    → cluster_of (world_with_made e i (made_by_proposal (place_at w i) client line nonce t lo hi (w.nodes i)) w) ≡ after_act e (Begin i t lo hi (pos 0)) (cluster_of w)
 unfolding after_act made_by_proposal after_proposal
 proposes_same e i client line nonce t lo hi w running may =
     let x = w.nodes i in
     let owner = next_owner client line nonce x in
     let owners = x.owners ++ owner ∷ [] in
-    let s = propose (place_of (cluster_of w) i) t lo hi x.content x.voter in
-    let goes = made_by_vote owners (Some (next_beginning (place_at w i) t lo hi x)) (propose (place_at w i) t lo hi x.content x.voter) x in
+    let s = propose (place_of (cluster_of w) i) t lo hi (pos 0) x.content x.voter in
+    let goes = made_by_vote owners (Some (next_beginning (place_at w i) t lo hi x)) (propose (place_at w i) t lo hi (pos 0) x.content x.voter) x in
     let vyes = cluster_after e i s (with_proposal_begun e i t lo hi (cluster_of w)) in
     let vno = with_member i (stopped_member (member_of x)) (cluster_of w) in
     let b = ltb x.voter.seq (2 ^ 62) in
     let step : cluster_of (world_with_made e i (cond b goes (quiet_made (stopped_node x))) w) ≡ cond b vyes vno =
     cond_both b goes (quiet_made (stopped_node x)) (λ o. cluster_of (world_with_made e i o w) ≡ cond b vyes vno)
-    (λ q. begun_after e i w owners t lo hi running ∙ sym (cond-true b vyes vno q))
+    (λ q. begun_after e i w owners t lo hi (pos 0) running ∙ sym (cond-true b vyes vno q))
     (λ q. halted_now e i w ∙ sym (cond-false b vyes vno q)) in
     step ∙ sym (cond-true (may_begin (cluster_of w) i t lo hi) (cond b vyes vno) (cluster_of w) may)
 

@@ -69,10 +69,10 @@ not_granted p lo hi next (Some g) h low le =
     and_right (same_proposal g.0 p) (eqb g.1 lo && eqb g.2 hi) (and_right (eqb g.1 lo) (eqb g.2 hi) (ne_eqb g.2 hi (λ q. absurd (omega (arith, q, h, low, le)))))
 
 asked : (from : ℕ) (p : ProposalRecord) (t lo hi : ℕ) (c : Content) (v : VoterState) → Each Lies c.rows → (row c t).next ≤ lo → lo ≤ hi
-    → on_ask from p t lo hi c v ≡ reply_step from (Grant p t lo hi) (with_row c t (granted_row p lo hi (row c t).gate) None) v
+    → on_ask from p t lo hi c v ≡ reply_step from (Grant p t lo hi) (with_row c t (granted_row p lo hi (row c t)) None) v
 unfolding on_ask
 asked from p t lo hi c v h low le =
-    let grants = reply_step from (Grant p t lo hi) (with_row c t (granted_row p lo hi (row c t).gate) None) v in
+    let grants = reply_step from (Grant p t lo hi) (with_row c t (granted_row p lo hi (row c t)) None) v in
     let denies = reply_step from (Deny p t (row c t).next) c v in
     cond-false (is_grant p lo hi (row c t).grant) (reply_step from (Grant p t lo hi) c v) (cond (leb (row c t).next lo) grants denies) (not_granted p lo hi (row c t).next (row c t).grant (lies_row c t h) low le)
     ∙ cond-true (leb (row c t).next lo) grants denies (le-leb (row c t).next lo low)
@@ -92,11 +92,11 @@ record Answered (live : List ℕ) (i : ℕ) (p : ProposalRecord) (t lo hi g : �
   sent : v.sent ≡ w.sent ++ grant_to i p t lo hi g ∷ []
 
 ask_made : (live : List ℕ) (tokens e i : ℕ) (p : ProposalRecord) (t lo hi g : ℕ) (w : World) → AreUp live w → is_live live g ≡ true → length (w.nodes g).content.rows ≡ tokens → t < tokens
-    → Answered live i p t lo hi g w (world_with_made e g (made_by_vote (w.nodes g).owners None (reply_step i (Grant p t lo hi) (with_row (w.nodes g).content t (granted_row p lo hi (row (w.nodes g).content t).gate) None) (w.nodes g).voter) (w.nodes g)) w)
+    → Answered live i p t lo hi g w (world_with_made e g (made_by_vote (w.nodes g).owners None (reply_step i (Grant p t lo hi) (with_row (w.nodes g).content t (granted_row p lo hi (row (w.nodes g).content t)) None) (w.nodes g).voter) (w.nodes g)) w)
 unfolding world_with_made
 ask_made live tokens e i p t lo hi g w up here size known =
     let x = w.nodes g in
-    let r = granted_row p lo hi (row x.content t).gate in
+    let r = granted_row p lo hi (row x.content t) in
     let o = made_by_vote x.owners None (reply_step i (Grant p t lo hi) (with_row x.content t r None) x.voter) x in
     record {
       silent = made_silent live e g o w up (up g here).1 refl refl refl refl;

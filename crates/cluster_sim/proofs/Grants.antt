@@ -1,9 +1,8 @@
 -- The Grants of a round: with the majority's the proposal is accepted, and what comes later does nothing.
-use Rattle.std.proofs.Common.{◌≡◌, ℕ, zero, suc, ◌+◌, ◌*◌, ◌/◌, ◌<◌, ◌≤◌, ◌⊎◌, inl, inr, ⊎_elim, Bool, true, false, not, cond, ◌&&◌, List, [], ◌∷◌, ◌++◌, length, map, Option, Some, None, refl, sym, ap, ◌∙◌, subst, arith, eqb, leb}
+use Rattle.std.proofs.Common.{◌≡◌, ℕ, ℤ, zero, suc, ◌+◌, ◌*◌, ◌/◌, ◌<◌, ◌≤◌, ◌⊎◌, inl, inr, ⊎_elim, Bool, true, false, not, cond, ◌&&◌, List, [], ◌∷◌, ◌++◌, length, map, Option, Some, None, refl, sym, ap, ◌∙◌, subst, arith, eqb, leb}
 use Rattle.std.specs.List.{slice_get}
 use Rattle.std.proofs.lemmas.Bool.{cond_both, cond-true, cond-false, eqb-true, eq-eqb, ne_eqb, leb-false, and_from, or_cases, or_from, or_left, or_right, not_from_false, both_ways, cases_Bool, cases_eq}
 use Rattle.std.proofs.lemmas.List.{append-nil}
-use Rattle.admit_core.specs.Gate.{clear_gate}
 use Rattle.answer_ring.specs.Answers.{KeptAnswer, kept_with}
 use Rattle.cluster_sim.proofs.Asks.{Differs, Distinct, Silent, each_both, grant_to, made_silent, silent_none, silent_then}
 use Rattle.cluster_sim.proofs.Servers.{ascending_above, ascending_rest}
@@ -13,7 +12,7 @@ use Rattle.cluster_sim.specs.Answered.{ok_bytes}
 use Rattle.cluster_sim.specs.Results.{results_in, results_with_pass}
 use Rattle.cluster_sim.specs.Rounds.{AreUp, IsAscending, deliveries, is_between, is_live}
 use Rattle.cluster_sim.specs.World.{Deliver, Happens, World, WorldEvent, place_at, world_after_event, world_after_events, world_with_made}
-use Rattle.floor_store.specs.Content.{Content, with_row}
+use Rattle.floor_store.specs.Content.{Content, accepted_row, with_row}
 use Rattle.floor_store.specs.Records.{PassRecord, ProposalRecord}
 use Rattle.oath_node.specs.Machine.{Config, Made, NodeState, Owner, made_by_vote}
 use Rattle.otp_core.specs.Acceptance.{majority_of, size}
@@ -75,8 +74,8 @@ live_size n (j ∷ js) up h =
 
 -- ---- one Grant, at the node
 
-abbrev pub asking : ℕ → ℕ → ℕ → ℕ → (ℕ → Bool) → Ballot
-asking s t lo hi G = record { seq = s; token = t; lo = lo; hi = hi; age = 0; granting = G; denying = nobody }
+abbrev pub asking : ℕ → ℕ → ℕ → ℕ → ℤ → (ℕ → Bool) → Ballot
+asking s t lo hi drift G = record { seq = s; token = t; lo = lo; hi = hi; drift = drift; age = 0; granting = G; denying = nobody }
 
 -- the node with this proposal alone pending
 abbrev pub waiting : Content → ℕ → ℕ → Owner → List KeptAnswer → Ballot → NodeState
@@ -85,13 +84,13 @@ waiting c sq turn o A q = record { content = c; voter = record { pending = q ∷
 abbrev pub settled : Content → ℕ → ℕ → List KeptAnswer → NodeState
 settled c sq turn A = record { content = c; voter = record { pending = []; seq = sq; turn = turn }; owners = []; answers = A; running = true }
 
-abbrev pub cleared : Content → ℕ → Option PassRecord → Content
-cleared c t p = with_row c t (record { next = (row c t).next; grant = (row c t).grant; gate = clear_gate }) p
+abbrev pub cleared : Content → ℕ → ℤ → Option PassRecord → Content
+cleared c t drift p = with_row c t (accepted_row drift (row c t)) p
 
 -- accepted
-abbrev pub passing : Content → ℕ → ℕ → ℕ → ℕ → ℕ → ℕ → ℕ → List ℕ → List ℕ → List KeptAnswer → Made
-passing c s sq turn t lo hi client line nonce A = record {
-  state = settled (cleared c t (Some (pass_of t lo hi c.boot s))) sq turn (kept_with A (record { client = client; line = line; text = ok_bytes nonce hi }));
+abbrev pub passing : Content → ℕ → ℕ → ℕ → ℕ → ℕ → ℕ → ℤ → ℕ → List ℕ → List ℕ → List KeptAnswer → Made
+passing c s sq turn t lo hi drift client line nonce A = record {
+  state = settled (cleared c t drift (Some (pass_of t lo hi c.boot s))) sq turn (kept_with A (record { client = client; line = line; text = ok_bytes nonce hi }));
   sends = [];
   replies = record { client = client; bytes = ok_bytes nonce hi } ∷ [];
   began = None;
@@ -102,10 +101,10 @@ passing c s sq turn t lo hi client line nonce A = record {
 abbrev pub still : NodeState → Made
 still x = record { state = x; sends = []; replies = []; began = None; pass = None; failed = None }
 
-found : (c : Content) (i s g t lo hi sq turn : ℕ) (G : ℕ → Bool) → G g ≡ false
-    → granted_one g t lo hi (of_this_boot c (record { node = i; boot = c.boot; seq = s }) (record { pending = asking s t lo hi G ∷ []; seq = sq; turn = turn })) ≡ Some (asking s t lo hi G)
-found c i s g t lo hi sq turn G out =
-    let q = asking s t lo hi G in
+found : (c : Content) (i s g t lo hi : ℕ) (drift : ℤ) (sq turn : ℕ) (G : ℕ → Bool) → G g ≡ false
+    → granted_one g t lo hi (of_this_boot c (record { node = i; boot = c.boot; seq = s }) (record { pending = asking s t lo hi drift G ∷ []; seq = sq; turn = turn })) ≡ Some (asking s t lo hi drift G)
+found c i s g t lo hi drift sq turn G out =
+    let q = asking s t lo hi drift G in
     let e : of_this_boot c (record { node = i; boot = c.boot; seq = s }) (record { pending = q ∷ []; seq = sq; turn = turn }) ≡ Some q =
     cond-true (eqb c.boot c.boot) (cond (eqb s s) (Some q) None) None (eq-eqb c.boot c.boot refl) ∙ cond-true (eqb s s) (Some q) None (eq-eqb s s refl) in
     ap (λ o. granted_one g t lo hi o) e
@@ -114,31 +113,31 @@ found c i s g t lo hi sq turn G out =
     (and_from (eqb lo lo) (eqb hi hi && not (has_answered q g)) (eq-eqb lo lo refl)
     (and_from (eqb hi hi) (not (has_answered q g)) (eq-eqb hi hi refl) (not_from_false (has_answered q g) (or_from (G g) false out refl)))))
 
-accepts : (place : PlaceRecord) (c : Content) (i s g t lo hi sq turn client : ℕ) (line nonce : List ℕ) (A : List KeptAnswer) (G : ℕ → Bool) → G g ≡ false → leb (majority_of place.n) (size place.n (with_node g G)) ≡ true
-    → (let x = waiting c sq turn (record { seq = s; client = client; line = line; nonce = nonce }) A (asking s t lo hi G) in
-    made_by_vote x.owners None (on_message place g (Grant (record { node = i; boot = c.boot; seq = s }) t lo hi) x.content x.voter) x) ≡ passing c s sq turn t lo hi client line nonce A
+accepts : (place : PlaceRecord) (c : Content) (i s g t lo hi : ℕ) (drift : ℤ) (sq turn client : ℕ) (line nonce : List ℕ) (A : List KeptAnswer) (G : ℕ → Bool) → G g ≡ false → leb (majority_of place.n) (size place.n (with_node g G)) ≡ true
+    → (let x = waiting c sq turn (record { seq = s; client = client; line = line; nonce = nonce }) A (asking s t lo hi drift G) in
+    made_by_vote x.owners None (on_message place g (Grant (record { node = i; boot = c.boot; seq = s }) t lo hi) x.content x.voter) x) ≡ passing c s sq turn t lo hi drift client line nonce A
 unfolding on_message on_grant count_grant accept
-accepts place c i s g t lo hi sq turn client line nonce A G out many =
+accepts place c i s g t lo hi drift sq turn client line nonce A G out many =
     let o : Owner = record { seq = s; client = client; line = line; nonce = nonce } in
-    let q = asking s t lo hi G in
+    let q = asking s t lo hi drift G in
     let x = waiting c sq turn o A q in
     let v = x.voter in
-    ap (λ z. made_by_vote (o ∷ []) None (count_grant place g c v z) x) (found c i s g t lo hi sq turn G out)
+    ap (λ z. made_by_vote (o ∷ []) None (count_grant place g c v z) x) (found c i s g t lo hi drift sq turn G out)
     ∙ ap (λ z. made_by_vote (o ∷ []) None z x) (cond-true (leb (majority_of place.n) (size place.n (with_node g G))) (accept (with_granting g q) c v) (quiet_step c (with_pending (replace (with_granting g q) v.pending) v)) many)
     ∙ rw (eq-eqb s s refl) refl
 
 -- counted, and not yet enough
-counts : (place : PlaceRecord) (c : Content) (i s g t lo hi sq turn client : ℕ) (line nonce : List ℕ) (A : List KeptAnswer) (G : ℕ → Bool) → G g ≡ false → leb (majority_of place.n) (size place.n (with_node g G)) ≡ false
-    → (let x = waiting c sq turn (record { seq = s; client = client; line = line; nonce = nonce }) A (asking s t lo hi G) in
+counts : (place : PlaceRecord) (c : Content) (i s g t lo hi : ℕ) (drift : ℤ) (sq turn client : ℕ) (line nonce : List ℕ) (A : List KeptAnswer) (G : ℕ → Bool) → G g ≡ false → leb (majority_of place.n) (size place.n (with_node g G)) ≡ false
+    → (let x = waiting c sq turn (record { seq = s; client = client; line = line; nonce = nonce }) A (asking s t lo hi drift G) in
     made_by_vote x.owners None (on_message place g (Grant (record { node = i; boot = c.boot; seq = s }) t lo hi) x.content x.voter) x)
-    ≡ still (waiting c sq turn (record { seq = s; client = client; line = line; nonce = nonce }) A (asking s t lo hi (with_node g G)))
+    ≡ still (waiting c sq turn (record { seq = s; client = client; line = line; nonce = nonce }) A (asking s t lo hi drift (with_node g G)))
 unfolding on_message on_grant count_grant
-counts place c i s g t lo hi sq turn client line nonce A G out few =
+counts place c i s g t lo hi drift sq turn client line nonce A G out few =
     let o : Owner = record { seq = s; client = client; line = line; nonce = nonce } in
-    let q = asking s t lo hi G in
+    let q = asking s t lo hi drift G in
     let x = waiting c sq turn o A q in
     let v = x.voter in
-    ap (λ z. made_by_vote (o ∷ []) None (count_grant place g c v z) x) (found c i s g t lo hi sq turn G out)
+    ap (λ z. made_by_vote (o ∷ []) None (count_grant place g c v z) x) (found c i s g t lo hi drift sq turn G out)
     ∙ ap (λ z. made_by_vote (o ∷ []) None z x) (cond-false (leb (majority_of place.n) (size place.n (with_node g G))) (accept (with_granting g q) c v) (quiet_step c (with_pending (replace (with_granting g q) v.pending) v)) few)
     ∙ rw (eq-eqb s s refl) (rw (eq-eqb s s refl) refl)
 
@@ -235,11 +234,11 @@ accepts_first live e end i t client text pass x w w1 v n told sent results off h
   sent = h.sent ∙ sent;
 }
 
-passing_made : (live : List ℕ) (e i : ℕ) (c : Content) (s sq turn t lo hi client : ℕ) (line nonce : List ℕ) (A : List KeptAnswer) (w : World) → AreUp live w
-    → Accepts live e (suc e) i t client (ok_bytes nonce hi) (pass_of t lo hi c.boot s) (passing c s sq turn t lo hi client line nonce A).state w (world_with_made e i (passing c s sq turn t lo hi client line nonce A) w)
+passing_made : (live : List ℕ) (e i : ℕ) (c : Content) (s sq turn t lo hi : ℕ) (drift : ℤ) (client : ℕ) (line nonce : List ℕ) (A : List KeptAnswer) (w : World) → AreUp live w
+    → Accepts live e (suc e) i t client (ok_bytes nonce hi) (pass_of t lo hi c.boot s) (passing c s sq turn t lo hi drift client line nonce A).state w (world_with_made e i (passing c s sq turn t lo hi drift client line nonce A) w)
 unfolding world_with_made
-passing_made live e i c s sq turn t lo hi client line nonce A w up =
-    let o = passing c s sq turn t lo hi client line nonce A in
+passing_made live e i c s sq turn t lo hi drift client line nonce A w up =
+    let o = passing c s sq turn t lo hi drift client line nonce A in
     record {
       n = refl;
       up = λ m at. ((up m at).0, set_all (λ m y. is_live live m ≡ true → y.running ≡ true) i o.state w.nodes (λ _. refl) (λ m at. (up m at).1) m at);
@@ -290,51 +289,51 @@ covered_next live G g gs h j at =
     ⊎_elim (λ (q : G j ≡ true). inl (or_right (eqb j g) (G j) q))
     (λ (z : is_live (g ∷ gs) j ≡ true). ⊎_elim (λ (q : eqb g j ≡ true). inl (or_left (eqb j g) (G j) (eq-eqb j g (sym (eqb-true g j q))))) (λ (q : is_live gs j ≡ true). inr q) (or_cases (eqb g j) (is_live gs j) z)) (h j at)
 
-pub grant_wave : (config : Config) (live : List ℕ) (i s t lo hi : ℕ) (c : Content) (sq turn client : ℕ) (line nonce : List ℕ) (A : List KeptAnswer) (gs : List ℕ) (G : ℕ → Bool) (k e : ℕ) (w : World)
+pub grant_wave : (config : Config) (live : List ℕ) (i s t lo hi : ℕ) (drift : ℤ) (c : Content) (sq turn client : ℕ) (line nonce : List ℕ) (A : List KeptAnswer) (gs : List ℕ) (G : ℕ → Bool) (k e : ℕ) (w : World)
     → Stands k (map (grant_to i (record { node = i; boot = c.boot; seq = s }) t lo hi) gs) w.sent
     → AreUp live w → IsAscending live → w.n < 2 * length live → is_live live i ≡ true → t < length config.book
     → Each (λ g. is_live live g ≡ true) gs → Each (Differs i) gs → Distinct gs → Each (λ g. G g ≡ false) gs → Covered live G gs → size w.n G < majority_of w.n
-    → w.nodes i ≡ waiting c sq turn (record { seq = s; client = client; line = line; nonce = nonce }) A (asking s t lo hi G)
+    → w.nodes i ≡ waiting c sq turn (record { seq = s; client = client; line = line; nonce = nonce }) A (asking s t lo hi drift G)
     → (let xs = deliveries (is_between live) k (map (grant_to i (record { node = i; boot = c.boot; seq = s }) t lo hi) gs) in
-    Accepts live e (length xs + e) i t client (ok_bytes nonce hi) (pass_of t lo hi c.boot s) (passing c s sq turn t lo hi client line nonce A).state w (world_after_events config e xs w))
+    Accepts live e (length xs + e) i t client (ok_bytes nonce hi) (pass_of t lo hi c.boot s) (passing c s sq turn t lo hi drift client line nonce A).state w (world_after_events config e xs w))
 unfolding world_after_events
-grant_wave config live i s t lo hi c sq turn client line nonce A [] G k e w at up ascending most here known from other distinct fresh_voter covered few is =
+grant_wave config live i s t lo hi drift c sq turn client line nonce A [] G k e w at up ascending most here known from other distinct fresh_voter covered few is =
     absurd (apart (covered_all live w.n G ascending most (λ j at. (up j at).0) covered) few)
   where
     apart : {a b : ℕ} → a ≤ b → b < a → ⊥
     apart x y = omega (arith, x, y)
-grant_wave config live i s t lo hi c sq turn client line nonce A (g ∷ gs) G k e w at up ascending most here known from other distinct fresh_voter covered few is =
+grant_wave config live i s t lo hi drift c sq turn client line nonce A (g ∷ gs) G k e w at up ascending most here known from other distinct fresh_voter covered few is =
     let p : ProposalRecord = record { node = i; boot = c.boot; seq = s } in
     let o : Owner = record { seq = s; client = client; line = line; nonce = nonce } in
     let ls = map (grant_to i p t lo hi) gs in
     let rest = deliveries (is_between live) (suc k) ls in
     let deliver = Happens (Deliver i k) in
-    let x = waiting c sq turn o A (asking s t lo hi G) in
+    let x = waiting c sq turn o A (asking s t lo hi drift G) in
     let v = world_after_event config e deliver w in
     let given = granted_at config live i k e p t lo hi g w x at.0 up here from.0 other.0 known is in
-    let done = passing c s sq turn t lo hi client line nonce A in
+    let done = passing c s sq turn t lo hi drift client line nonce A in
     let ans = ok_bytes nonce hi in
     let pass = pass_of t lo hi c.boot s in
     let goal : List WorldEvent → Type 0 = λ xs. Accepts live e (length xs + e) i t client ans pass done.state w (world_after_events config e xs w) in
     let z = world_after_events config (suc e) rest v in
     let enough : leb (majority_of w.n) (size w.n (with_node g G)) ≡ true → goal (deliver ∷ rest) =
     λ many.
-    let same : v ≡ world_with_made e i done w = given ∙ ap (λ m. world_with_made e i m w) (accepts (place_at w i) c i s g t lo hi sq turn client line nonce A G fresh_voter.0 many) in
-    let one : Accepts live e (suc e) i t client ans pass done.state w v = subst (λ y. Accepts live e (suc e) i t client ans pass done.state w y) (sym same) (passing_made live e i c s sq turn t lo hi client line nonce A w up) in
-    let later = late_wave config live i p t lo hi (cleared c t (Some pass)) sq turn (kept_with A (record { client = client; line = line; text = ans })) gs (suc k) (suc e) v
+    let same : v ≡ world_with_made e i done w = given ∙ ap (λ m. world_with_made e i m w) (accepts (place_at w i) c i s g t lo hi drift sq turn client line nonce A G fresh_voter.0 many) in
+    let one : Accepts live e (suc e) i t client ans pass done.state w v = subst (λ y. Accepts live e (suc e) i t client ans pass done.state w y) (sym same) (passing_made live e i c s sq turn t lo hi drift client line nonce A w up) in
+    let later = late_wave config live i p t lo hi (cleared c t drift (Some pass)) sq turn (kept_with A (record { client = client; line = line; text = ans })) gs (suc k) (suc e) v
     (subst (λ l. Stands (suc k) ls l) (sym one.sent) at.1) one.up here known from.1 other.1 one.node in
     accepts_then live e (suc e) (length (deliver ∷ rest) + e) i t client ans pass done.state w v z (omega arith) one later in
     let not_yet : leb (majority_of w.n) (size w.n (with_node g G)) ≡ false → goal (deliver ∷ rest) =
     λ less.
-    let x1 = waiting c sq turn o A (asking s t lo hi (with_node g G)) in
-    let same : v ≡ world_with_made e i (still x1) w = given ∙ ap (λ m. world_with_made e i m w) (counts (place_at w i) c i s g t lo hi sq turn client line nonce A G fresh_voter.0 less) in
+    let x1 = waiting c sq turn o A (asking s t lo hi drift (with_node g G)) in
+    let same : v ≡ world_with_made e i (still x1) w = given ∙ ap (λ m. world_with_made e i m w) (counts (place_at w i) c i s g t lo hi drift sq turn client line nonce A G fresh_voter.0 less) in
     let silent : Silent live w v = subst (λ y. Silent live w y) (sym same) (made_silent live e i (still x1) w up refl (ap (λ (y : NodeState). y.answers) (sym is)) refl refl refl) in
     let node : v.nodes i ≡ x1 = ap (λ y. y.nodes i) same ∙ heard_node e i x1 w in
     let off : (j : ℕ) → (j ≡ i → ⊥) → v.nodes j ≡ w.nodes j = λ j ne. ap (λ y. y.nodes j) same ∙ heard_off e i x1 w j ne in
     let sent : v.sent ≡ w.sent = ap (λ y. y.sent) same ∙ heard_sent e i x1 w in
     let small : size v.n (with_node g G) < majority_of v.n = subst (λ m. size m (with_node g G) < majority_of m) (sym silent.n) (leb-false (majority_of w.n) (size w.n (with_node g G)) less) in
     let still_fresh = each_weaker (λ h. Differs g h × (G h ≡ false)) (λ h. with_node g G h ≡ false) (λ h y. or_from (eqb h g) (G h) (ne_eqb h g y.0) y.1) gs (each_both (Differs g) (λ h. G h ≡ false) gs distinct.0 fresh_voter.1) in
-    let more = grant_wave config live i s t lo hi c sq turn client line nonce A gs (with_node g G) (suc k) (suc e) v (subst (λ l. Stands (suc k) ls l) (sym sent) at.1) silent.up ascending
+    let more = grant_wave config live i s t lo hi drift c sq turn client line nonce A gs (with_node g G) (suc k) (suc e) v (subst (λ l. Stands (suc k) ls l) (sym sent) at.1) silent.up ascending
     (subst (λ m. m < 2 * length live) (sym silent.n) most) here known from.1 other.1 distinct.1 still_fresh (covered_next live G g gs covered) small node in
     let one = accepts_first live e (length rest + suc e) i t client ans pass done.state w v z silent.n silent.told sent silent.results off more in
     subst (λ m. Accepts live e m i t client ans pass done.state w z) (shift (length rest) e) one in

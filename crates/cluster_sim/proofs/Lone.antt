@@ -1,11 +1,11 @@
 -- One node alone answers as the server with one front end.
-use Rattle.std.proofs.Common.{◌≡◌, ℕ, zero, suc, ◌+◌, ◌-◌, ◌^◌, ◌<◌, ◌≤◌, ⊎_elim, List, [], ◌∷◌, ◌++◌, Bool, true, false, cond, length, get_or, map, Option, Some, None, refl, sym, ap, ◌∙◌, subst, arith, eqb, leb, ltb}
+use Rattle.std.proofs.Common.{◌≡◌, ℕ, ℤ, pos, zero, suc, ◌+◌, ◌-◌, ◌^◌, ◌<◌, ◌≤◌, ⊎_elim, List, [], ◌∷◌, ◌++◌, Bool, true, false, cond, length, get_or, map, Option, Some, None, refl, sym, ap, ◌∙◌, subst, arith, eqb, leb, ltb}
 use Rattle.std.specs.List.{slice_get}
 use Rattle.std.proofs.lemmas.Bool.{cond_both, cond-true, eqb-true, eqb-false, eq-eqb, and_parts, leb-true, ltb-false, cases_lt}
 use Rattle.std.proofs.lemmas.List.{append_assoc}
 use Rattle.admit_core.specs.Gate.{GateRecord, clear_gate, with_failure}
 use Rattle.admit_core.specs.Throttle.{Failed, Accepted as Passed, gate_after}
-use Rattle.floor_store.specs.Content.{Content, with_row, with_next_boot, opening_row}
+use Rattle.floor_store.specs.Content.{Content, accepted_row, with_row, with_next_boot, opening_row}
 use Rattle.floor_store.specs.Records.{ProposalRecord, RowRecord, PassRecord}
 use Rattle.vote_core.specs.NodeSet.{PlaceRecord}
 use Rattle.vote_core.specs.Rows.{row, no_row, granted_row, row_with_gate}
@@ -101,10 +101,10 @@ wrong_alike law tokens b q c seq turn s client moment line text token h =
     cond_false true x y e = absurd cc
     cond_false false x y e = refl
 
-pass_alike : GateLaw → (tokens b q : ℕ) (c : Content) (seq : ℕ) (s : Server) (client : ℕ) (line text : List ℕ) (p : ProposalRecord) (token lo hi : ℕ) (pass : PassRecord) → Rows tokens b q c seq s
-    → Rows tokens b (q + 1) (with_row c token (granted_row p lo hi clear_gate) (Some pass)) (seq + 1) (server_with_front 1 (front_with_answer client line text (front_with_result token Passed (s.fronts 1))) (server_with_used token hi s))
-pass_alike law tokens b q c seq s client line text p token lo hi pass h =
-    let r = granted_row p lo hi clear_gate in
+pass_alike : GateLaw → (tokens b q : ℕ) (c : Content) (seq : ℕ) (s : Server) (client : ℕ) (line text : List ℕ) (p : ProposalRecord) (token lo hi : ℕ) (drift : ℤ) (pass : PassRecord) → Rows tokens b q c seq s
+    → Rows tokens b (q + 1) (with_row c token (accepted_row drift (granted_row p lo hi (row c token))) (Some pass)) (seq + 1) (server_with_front 1 (front_with_answer client line text (front_with_result token Passed (s.fronts 1))) (server_with_used token hi s))
+pass_alike law tokens b q c seq s client line text p token lo hi drift pass h =
+    let r = accepted_row drift (granted_row p lo hi (row c token)) in
     let rs = (s.fronts 1).results in
     let at : (t : ℕ) → t < tokens → row (with_row c token r (Some pass)) t ≡ cond (eqb token t) r (row c t) = λ t lt. put_row c token r (Some pass) t (subst (λ m. t < m) (sym h.sized) lt) in
     record {
@@ -127,7 +127,7 @@ unfolding made_by_proposal propose propose_alone
 fitting_alike law tokens b q e c seq turn s client line nonce token lo hi h below =
     let x = lone c seq turn (s.fronts 1).answers in
     let owner : Owner = record { seq = seq; client = client; line = line; nonce = nonce } in
-    let v = propose place token lo hi c x.voter in
+    let v = propose place token lo hi (pos 0) c x.voter in
     let pass = pass_of token lo hi c.boot seq in
     let one : KeptAnswer = record { client = client; line = line; text = ok_bytes nonce hi } in
     let told : answers_to_decisions (owner ∷ []) (Some pass) v.decisions ≡ one ∷ [] = told_own (owner ∷ []) pass owner (cond-true (eqb seq seq) (Some owner) None (eq-eqb seq seq refl)) in
@@ -139,7 +139,7 @@ fitting_alike law tokens b q e c seq turn s client line nonce token lo hi h belo
         seq = seq + 1;
         turn = turn;
         is = ap (λ l. lone v.content (seq + 1) turn (kept_with_all (s.fronts 1).answers l)) told;
-        rows = pass_alike law tokens b q c seq s client line (ok_bytes nonce hi) (proposal_of place c x.voter) token lo hi pass h;
+        rows = pass_alike law tokens b q c seq s client line (ok_bytes nonce hi) (proposal_of place c x.voter) token lo hi (pos 0) pass h;
       };
       sends = refl;
       replies = ap (λ l. map (told_reply e 1) (map reply_with l)) told;

@@ -1,9 +1,8 @@
 -- A round in which a line proposes: it is accepted, and the floors of the live members rise together.
-use Rattle.std.proofs.Common.{◌≡◌, ℕ, zero, suc, ◌+◌, ◌*◌, ◌/◌, ◌^◌, ◌<◌, ◌≤◌, ◌⊎◌, inl, inr, ⊎_elim, Bool, true, false, not, cond, ◌||◌, List, [], ◌∷◌, ◌++◌, length, map, drop, Option, Some, None, refl, sym, ap, ◌∙◌, subst, arith, eqb, ltb}
+use Rattle.std.proofs.Common.{◌≡◌, ℕ, ℤ, pos, zero, suc, ◌+◌, ◌*◌, ◌/◌, ◌^◌, ◌<◌, ◌≤◌, ◌⊎◌, inl, inr, ⊎_elim, Bool, true, false, not, cond, ◌||◌, List, [], ◌∷◌, ◌++◌, length, map, drop, Option, Some, None, refl, sym, ap, ◌∙◌, subst, arith, eqb, ltb}
 use Rattle.std.specs.List.{filter}
 use Rattle.std.proofs.lemmas.Bool.{cond_both, cond-true, cond-false, eqb-true, eqb-false, eq-eqb, ne_eqb, lt-ltb, or_cases, or_from, or_left, or_right, not_from_false, not-true, both_ways, cases_Bool, cases_eq}
 use Rattle.std.proofs.lemmas.List.{append-nil, append_assoc, drop_at, length-append}
-use Rattle.admit_core.specs.Gate.{clear_gate}
 use Rattle.admit_core.specs.Throttle.{Accepted}
 use Rattle.answer_ring.specs.Answers.{KeptAnswer, kept_with}
 use Rattle.cluster_sim.proofs.Asks.{Differs, Distinct, Silent, ask_letters, ask_wave, grant_to, made_silent, row_off, silent_then}
@@ -16,7 +15,7 @@ use Rattle.cluster_sim.specs.Answered.{ok_bytes}
 use Rattle.cluster_sim.specs.Results.{results_in, results_with_pass}
 use Rattle.cluster_sim.specs.Rounds.{AreUp, IsSettled, RoundLine, deliveries, is_between, is_live, line_event, next_at, round_events}
 use Rattle.cluster_sim.specs.World.{Deliver, Happens, World, WorldEvent, place_at, with_state, world_after_event, world_after_events, world_with_made}
-use Rattle.floor_store.specs.Content.{Content, with_row}
+use Rattle.floor_store.specs.Content.{Content, accepted_row, with_row}
 use Rattle.floor_store.specs.Records.{PassRecord, ProposalRecord, RowRecord}
 use Rattle.oath_node.specs.Machine.{Beginning, Config, Made, NodeState, Owner, made_by_proposal, made_by_ruling, made_by_vote, next_beginning, quiet_made, ruling_at, stopped_node}
 use Rattle.oath_node.specs.Rules.{Fitting}
@@ -84,9 +83,9 @@ calm x p q r =
     ∙ ap (λ os. record { content = x.content; voter = record { pending = []; seq = x.voter.seq; turn = x.voter.turn }; owners = os; answers = x.answers; running = x.running }) q
     ∙ ap (λ b. record { content = x.content; voter = record { pending = []; seq = x.voter.seq; turn = x.voter.turn }; owners = []; answers = x.answers; running = b }) r
 
-abbrev pub alone_made : ℕ → Content → ℕ → ℕ → ℕ → ℕ → ℕ → ℕ → List ℕ → List ℕ → List KeptAnswer → Option Beginning → Made
-alone_made i c s turn t lo hi client line nonce A b = record {
-  state = settled (with_row c t (granted_row (proposal i c s) lo hi clear_gate) (Some (pass_of t lo hi c.boot s))) (s + 1) turn (kept_with A (record { client = client; line = line; text = ok_bytes nonce hi }));
+abbrev pub alone_made : ℕ → Content → ℕ → ℕ → ℕ → ℕ → ℕ → ℤ → ℕ → List ℕ → List ℕ → List KeptAnswer → Option Beginning → Made
+alone_made i c s turn t lo hi drift client line nonce A b = record {
+  state = settled (with_row c t (accepted_row drift (granted_row (proposal i c s) lo hi (row c t))) (Some (pass_of t lo hi c.boot s))) (s + 1) turn (kept_with A (record { client = client; line = line; text = ok_bytes nonce hi }));
   sends = [];
   replies = record { client = client; bytes = ok_bytes nonce hi } ∷ [];
   began = b;
@@ -94,9 +93,9 @@ alone_made i c s turn t lo hi client line nonce A b = record {
   failed = None;
 }
 
-abbrev pub among_made : PlaceRecord → Content → ℕ → ℕ → ℕ → ℕ → ℕ → ℕ → List ℕ → List ℕ → List KeptAnswer → Option Beginning → Made
-among_made place c s turn t lo hi client line nonce A b = record {
-  state = waiting (with_row c t (granted_row (proposal place.me c s) lo hi (row c t).gate) None) (s + 1) turn (record { seq = s; client = client; line = line; nonce = nonce }) A (asking s t lo hi (with_node place.me nobody));
+abbrev pub among_made : PlaceRecord → Content → ℕ → ℕ → ℕ → ℕ → ℕ → ℤ → ℕ → List ℕ → List ℕ → List KeptAnswer → Option Beginning → Made
+among_made place c s turn t lo hi drift client line nonce A b = record {
+  state = waiting (with_row c t (granted_row (proposal place.me c s) lo hi (row c t)) None) (s + 1) turn (record { seq = s; client = client; line = line; nonce = nonce }) A (asking s t lo hi drift (with_node place.me nobody));
   sends = to_each (Ask (proposal place.me c s) t lo hi) (others place);
   replies = [];
   began = b;
@@ -104,36 +103,36 @@ among_made place c s turn t lo hi client line nonce A b = record {
   failed = None;
 }
 
-alone_is : (place : PlaceRecord) (c : Content) (s turn t lo hi client : ℕ) (line nonce : List ℕ) (A : List KeptAnswer) (b : Option Beginning)
-    → (let x = settled c s turn A in made_by_vote (record { seq = s; client = client; line = line; nonce = nonce } ∷ []) b (propose_alone place t lo hi x.content x.voter) x) ≡ alone_made place.me c s turn t lo hi client line nonce A b
+alone_is : (place : PlaceRecord) (c : Content) (s turn t lo hi : ℕ) (drift : ℤ) (client : ℕ) (line nonce : List ℕ) (A : List KeptAnswer) (b : Option Beginning)
+    → (let x = settled c s turn A in made_by_vote (record { seq = s; client = client; line = line; nonce = nonce } ∷ []) b (propose_alone place t lo hi drift x.content x.voter) x) ≡ alone_made place.me c s turn t lo hi drift client line nonce A b
 unfolding propose_alone
-alone_is place c s turn t lo hi client line nonce A b = rw (eq-eqb s s refl) refl
+alone_is place c s turn t lo hi drift client line nonce A b = rw (eq-eqb s s refl) refl
 
-among_is : (place : PlaceRecord) (c : Content) (s turn t lo hi client : ℕ) (line nonce : List ℕ) (A : List KeptAnswer) (b : Option Beginning)
-    → (let x = settled c s turn A in made_by_vote (record { seq = s; client = client; line = line; nonce = nonce } ∷ []) b (propose_among place t lo hi x.content x.voter) x) ≡ among_made place c s turn t lo hi client line nonce A b
+among_is : (place : PlaceRecord) (c : Content) (s turn t lo hi : ℕ) (drift : ℤ) (client : ℕ) (line nonce : List ℕ) (A : List KeptAnswer) (b : Option Beginning)
+    → (let x = settled c s turn A in made_by_vote (record { seq = s; client = client; line = line; nonce = nonce } ∷ []) b (propose_among place t lo hi drift x.content x.voter) x) ≡ among_made place c s turn t lo hi drift client line nonce A b
 unfolding propose_among
-among_is place c s turn t lo hi client line nonce A b = rw (eq-eqb s s refl) refl
+among_is place c s turn t lo hi drift client line nonce A b = rw (eq-eqb s s refl) refl
 
 -- what the line makes of the node, with others or without
-abbrev pub proposed_made : PlaceRecord → NodeState → ℕ → List ℕ → List ℕ → ℕ → ℕ → ℕ → Bool → Made
-proposed_made place x client line nonce t lo hi alone =
+abbrev pub proposed_made : PlaceRecord → NodeState → ℕ → List ℕ → List ℕ → ℕ → ℕ → ℕ → ℤ → Bool → Made
+proposed_made place x client line nonce t lo hi drift alone =
     let b = Some (next_beginning place t lo hi (settled x.content x.voter.seq x.voter.turn x.answers)) in
-    cond alone (alone_made place.me x.content x.voter.seq x.voter.turn t lo hi client line nonce x.answers b) (among_made place x.content x.voter.seq x.voter.turn t lo hi client line nonce x.answers b)
+    cond alone (alone_made place.me x.content x.voter.seq x.voter.turn t lo hi drift client line nonce x.answers b) (among_made place x.content x.voter.seq x.voter.turn t lo hi drift client line nonce x.answers b)
 
 proposes_is : (place : PlaceRecord) (x : NodeState) (client moment : ℕ) (line nonce : List ℕ) (t lo hi : ℕ) → x.voter.pending ≡ [] → x.owners ≡ [] → x.running ≡ true → x.voter.seq < 2 ^ 62
-    → made_by_ruling place client moment line (Fitting nonce t lo hi) x ≡ proposed_made place x client line nonce t lo hi (eqb place.n 1)
+    → made_by_ruling place client moment line (Fitting nonce t lo hi) x ≡ proposed_made place x client line nonce t lo hi (pos 0) (eqb place.n 1)
 unfolding made_by_ruling made_by_proposal propose
 proposes_is place x client moment line nonce t lo hi p q r lt =
     let y = settled x.content x.voter.seq x.voter.turn x.answers in
     let o : Owner = record { seq = x.voter.seq; client = client; line = line; nonce = nonce } in
     let b = Some (next_beginning place t lo hi y) in
-    let one = propose_alone place t lo hi y.content y.voter in
-    let all = propose_among place t lo hi y.content y.voter in
+    let one = propose_alone place t lo hi (pos 0) y.content y.voter in
+    let all = propose_among place t lo hi (pos 0) y.content y.voter in
     ap (λ z. made_by_proposal place client line nonce t lo hi z) (calm x p q r)
-    ∙ cond-true (ltb x.voter.seq (2 ^ 62)) (made_by_vote (o ∷ []) b (propose place t lo hi y.content y.voter) y) (quiet_made (stopped_node y)) (lt-ltb x.voter.seq (2 ^ 62) lt)
-    ∙ cond_both (eqb place.n 1) one all (λ s. made_by_vote (o ∷ []) b s y ≡ proposed_made place x client line nonce t lo hi (eqb place.n 1))
-    (λ k. alone_is place x.content x.voter.seq x.voter.turn t lo hi client line nonce x.answers b ∙ sym (ap (λ z. proposed_made place x client line nonce t lo hi z) k))
-    (λ k. among_is place x.content x.voter.seq x.voter.turn t lo hi client line nonce x.answers b ∙ sym (ap (λ z. proposed_made place x client line nonce t lo hi z) k))
+    ∙ cond-true (ltb x.voter.seq (2 ^ 62)) (made_by_vote (o ∷ []) b (propose place t lo hi (pos 0) y.content y.voter) y) (quiet_made (stopped_node y)) (lt-ltb x.voter.seq (2 ^ 62) lt)
+    ∙ cond_both (eqb place.n 1) one all (λ s. made_by_vote (o ∷ []) b s y ≡ proposed_made place x client line nonce t lo hi (pos 0) (eqb place.n 1))
+    (λ k. alone_is place x.content x.voter.seq x.voter.turn t lo hi (pos 0) client line nonce x.answers b ∙ sym (ap (λ z. proposed_made place x client line nonce t lo hi (pos 0) z) k))
+    (λ k. among_is place x.content x.voter.seq x.voter.turn t lo hi (pos 0) client line nonce x.answers b ∙ sym (ap (λ z. proposed_made place x client line nonce t lo hi (pos 0) z) k))
 
 -- ---- what such a round leaves
 
@@ -163,7 +162,7 @@ pub record Moved (live : List ℕ) (e end i t hi client : ℕ) (line nonce : Lis
   pub seqs : (j : ℕ) → is_live live j ≡ true → (v.nodes j).voter.seq ≤ (w.nodes j).voter.seq + 1
 
 line_made : (config : Config) (live : List ℕ) (e : ℕ) (w : World) (l : RoundLine) (nonce : List ℕ) (t lo hi : ℕ) → Proposing config live w l nonce t lo hi
-    → world_after_event config e (line_event l) w ≡ world_with_made e l.node (proposed_made (place_at w l.node) (w.nodes l.node) l.client (without_lf l.line) nonce t lo hi (eqb w.n 1)) w
+    → world_after_event config e (line_event l) w ≡ world_with_made e l.node (proposed_made (place_at w l.node) (w.nodes l.node) l.client (without_lf l.line) nonce t lo hi (pos 0) (eqb w.n 1)) w
 line_made config live e w l nonce t lo hi h =
     let i = l.node in
     let x = w.nodes i in
@@ -181,16 +180,16 @@ one_alone n i j one a b = let p = member_parts n i a in let q = member_parts n j
     quiet_step : (n i j : ℕ) → n ≡ 1 → 1 ≤ i → i ≤ n → 1 ≤ j → j ≤ n → j ≡ i
     quiet_step n i j z a b c d = omega (arith, z, a, b, c, d)
 
-alone_moved : (config : Config) (live : List ℕ) (e : ℕ) (w : World) (l : RoundLine) (nonce : List ℕ) (t lo hi : ℕ) (b : Option Beginning) → Proposing config live w l nonce t lo hi → w.n ≡ 1
-    → Moved live e (suc e) l.node t hi l.client (without_lf l.line) nonce w (world_with_made e l.node (alone_made l.node (w.nodes l.node).content (w.nodes l.node).voter.seq (w.nodes l.node).voter.turn t lo hi l.client (without_lf l.line) nonce (w.nodes l.node).answers b) w)
+alone_moved : (config : Config) (live : List ℕ) (e : ℕ) (w : World) (l : RoundLine) (nonce : List ℕ) (t lo hi : ℕ) (drift : ℤ) (b : Option Beginning) → Proposing config live w l nonce t lo hi → w.n ≡ 1
+    → Moved live e (suc e) l.node t hi l.client (without_lf l.line) nonce w (world_with_made e l.node (alone_made l.node (w.nodes l.node).content (w.nodes l.node).voter.seq (w.nodes l.node).voter.turn t lo hi drift l.client (without_lf l.line) nonce (w.nodes l.node).answers b) w)
 unfolding world_with_made
-alone_moved config live e w l nonce t lo hi b h one =
+alone_moved config live e w l nonce t lo hi drift b h one =
     let i = l.node in
     let x = w.nodes i in
     let c = x.content in
-    let r = granted_row (proposal i c x.voter.seq) lo hi clear_gate in
+    let r = accepted_row drift (granted_row (proposal i c x.voter.seq) lo hi (row c t)) in
     let p = Some (pass_of t lo hi c.boot x.voter.seq) in
-    let o = alone_made i c x.voter.seq x.voter.turn t lo hi l.client (without_lf l.line) nonce x.answers b in
+    let o = alone_made i c x.voter.seq x.voter.turn t lo hi drift l.client (without_lf l.line) nonce x.answers b in
     let at : (j : ℕ) → is_live live j ≡ true → j ≡ i = λ j k. one_alone w.n i j one (h.calm.up i h.here).0 (h.calm.up j k).0 in
     let node : (j : ℕ) → is_live live j ≡ true → with_state i o.state w.nodes j ≡ o.state = λ j k. ap (λ m. with_state i o.state w.nodes m) (at j k) ∙ set_at i o.state w.nodes in
     record {
@@ -304,28 +303,28 @@ record Asked (live : List ℕ) (i t lo hi : ℕ) (p : ProposalRecord) (w v : Wor
   off : (j : ℕ) → (j ≡ i → ⊥) → v.nodes j ≡ w.nodes j
   sent : v.sent ≡ w.sent ++ ask_letters i p t lo hi (others (record { me = i; n = w.n }))
 
-asked_made : (live : List ℕ) (e i : ℕ) (x : NodeState) (t lo hi client : ℕ) (line nonce : List ℕ) (b : Option Beginning) (w : World) → x ≡ w.nodes i → AreUp live w
-    → Asked live i t lo hi (proposal i x.content x.voter.seq) w (world_with_made e i (among_made (place_at w i) x.content x.voter.seq x.voter.turn t lo hi client line nonce x.answers b) w)
+asked_made : (live : List ℕ) (e i : ℕ) (x : NodeState) (t lo hi : ℕ) (drift : ℤ) (client : ℕ) (line nonce : List ℕ) (b : Option Beginning) (w : World) → x ≡ w.nodes i → AreUp live w
+    → Asked live i t lo hi (proposal i x.content x.voter.seq) w (world_with_made e i (among_made (place_at w i) x.content x.voter.seq x.voter.turn t lo hi drift client line nonce x.answers b) w)
 unfolding world_with_made
-asked_made live e i x t lo hi client line nonce b w is up =
-    let o = among_made (place_at w i) x.content x.voter.seq x.voter.turn t lo hi client line nonce x.answers b in
+asked_made live e i x t lo hi drift client line nonce b w is up =
+    let o = among_made (place_at w i) x.content x.voter.seq x.voter.turn t lo hi drift client line nonce x.answers b in
     record { silent = made_silent live e i o w up refl (ap (λ (y : NodeState). y.answers) is) refl refl refl; off = λ j ne. set_off i j o.state w.nodes ne; sent = refl }
 
 asked_node : (e i : ℕ) (o : Made) (w : World) → (world_with_made e i o w).nodes i ≡ o.state
 unfolding world_with_made
 asked_node e i o w = set_at i o.state w.nodes
 
-cleared_next : (c : Content) (t : ℕ) (p : Option PassRecord) (u : ℕ) → (row (cleared c t p) u).next ≡ (row c u).next
-cleared_next c t p u =
-    let r : RowRecord = record { next = (row c t).next; grant = (row c t).grant; gate = clear_gate } in
+cleared_next : (c : Content) (t : ℕ) (drift : ℤ) (p : Option PassRecord) (u : ℕ) → (row (cleared c t drift p) u).next ≡ (row c u).next
+cleared_next c t drift p u =
+    let r = accepted_row drift (row c t) in
     ⊎_elim (λ (e : row (with_row c t r p) u ≡ row c u). ap (λ (z : RowRecord). z.next) e)
     (λ (z : (u ≡ t) × (row (with_row c t r p) u ≡ r)). ap (λ (y : RowRecord). y.next) z.1 ∙ ap (λ m. (row c m).next) (sym z.0)) (row_cases c t r p u)
 
-among_moved : (config : Config) (live : List ℕ) (e : ℕ) (w : World) (l : RoundLine) (nonce : List ℕ) (t lo hi : ℕ) → Proposing config live w l nonce t lo hi → (w.n ≡ 1 → ⊥)
-    → world_after_event config e (line_event l) w ≡ world_with_made e l.node (among_made (place_at w l.node) (w.nodes l.node).content (w.nodes l.node).voter.seq (w.nodes l.node).voter.turn t lo hi l.client (without_lf l.line) nonce (w.nodes l.node).answers
+among_moved : (config : Config) (live : List ℕ) (e : ℕ) (w : World) (l : RoundLine) (nonce : List ℕ) (t lo hi : ℕ) (drift : ℤ) → Proposing config live w l nonce t lo hi → (w.n ≡ 1 → ⊥)
+    → world_after_event config e (line_event l) w ≡ world_with_made e l.node (among_made (place_at w l.node) (w.nodes l.node).content (w.nodes l.node).voter.seq (w.nodes l.node).voter.turn t lo hi drift l.client (without_lf l.line) nonce (w.nodes l.node).answers
     (Some (next_beginning (place_at w l.node) t lo hi (settled (w.nodes l.node).content (w.nodes l.node).voter.seq (w.nodes l.node).voter.turn (w.nodes l.node).answers)))) w
     → (xs : List WorldEvent) → xs ≡ round_events config live e w l → Moved live e (length xs + e) l.node t hi l.client (without_lf l.line) nonce w (world_after_events config e xs w) × Rounded live (line_event l) xs w (world_after_events config e xs w)
-among_moved config live e w l nonce t lo hi h more is xs all =
+among_moved config live e w l nonce t lo hi drift h more is xs all =
     let tokens = length config.book in
     let i = l.node in
     let x = w.nodes i in
@@ -335,15 +334,15 @@ among_moved config live e w l nonce t lo hi h more is xs all =
     let p = proposal i c0 s in
     let place = place_at w i in
     let b = Some (next_beginning place t lo hi (settled c0 s x.voter.turn x.answers)) in
-    let o = among_made place c0 s x.voter.turn t lo hi l.client line nonce x.answers b in
-    let c = with_row c0 t (granted_row p lo hi (row c0 t).gate) None in
+    let o = among_made place c0 s x.voter.turn t lo hi drift l.client line nonce x.answers b in
+    let c = with_row c0 t (granted_row p lo hi (row c0 t)) None in
     let gs = others place in
     let hs = filter (is_live live) gs in
     let asks = ask_letters i p t lo hi gs in
     let grants = map (grant_to i p t lo hi) hs in
     let w1 = world_with_made e i o w in
     let member : (j : ℕ) → is_live live j ≡ true → is_member w.n j ≡ true = λ j at. (h.calm.up j at).0 in
-    let first = asked_made live e i x t lo hi l.client line nonce b w refl h.calm.up in
+    let first = asked_made live e i x t lo hi drift l.client line nonce b w refl h.calm.up in
     let sound1 : AllSound tokens w1 = subst (λ z. AllSound tokens z) is (happens_sound config tokens e (line_event l) w h.sound) in
     let differ = others_differ w.n i in
     let low1 : Each (λ g. is_live live g ≡ true → next_at w1 g t ≤ lo) gs =
@@ -353,33 +352,33 @@ among_moved config live e w l nonce t lo hi h more is xs all =
     let w2 = world_after_events config (suc e) xs1 w1 in
     let stands : Stands (length w.sent) asks w1.sent = subst (λ z. Stands (length w.sent) asks z) (sym first.sent) (stands_last w.sent asks) in
     let second = ask_wave config live i p t lo hi gs (length w.sent) (suc e) w1 stands sound1 first.silent.up h.here h.known h.span (filter_distinct (λ g. not (eqb g i)) (members w.n) (members_distinct w.n)) differ low1 in
-    let node2 : w2.nodes i ≡ waiting c (s + 1) x.voter.turn (record { seq = s; client = l.client; line = line; nonce = nonce }) x.answers (asking s t lo hi (with_node i nobody)) = second.off i differ ∙ asked_node e i o w in
+    let node2 : w2.nodes i ≡ waiting c (s + 1) x.voter.turn (record { seq = s; client = l.client; line = line; nonce = nonce }) x.answers (asking s t lo hi drift (with_node i nobody)) = second.off i differ ∙ asked_node e i o w in
     let n2 : w2.n ≡ w.n = second.silent.n ∙ first.silent.n in
     let e2 = length xs1 + suc e in
     let xs2 = deliveries (is_between live) (length w1.sent) grants in
     let low : (1 ≤ i) × (i ≤ w.n) = member_parts w.n i (member i h.here) in
-    let third = grant_wave config live i s t lo hi c (s + 1) x.voter.turn l.client line nonce x.answers hs (with_node i nobody) (length w1.sent) e2 w2
+    let third = grant_wave config live i s t lo hi drift c (s + 1) x.voter.turn l.client line nonce x.answers hs (with_node i nobody) (length w1.sent) e2 w2
     (subst (λ z. Stands (length w1.sent) grants z) (sym second.sent) (stands_last w1.sent grants)) second.silent.up h.calm.ascending (subst (λ m. m < 2 * length live) (sym n2) h.calm.majority) h.here h.known
     (each_passes (is_live live) gs) (each_filter (Differs i) (is_live live) gs differ) (filter_distinct (is_live live) gs (filter_distinct (λ g. not (eqb g i)) (members w.n) (members_distinct w.n)))
     (each_filter (λ g. with_node i nobody g ≡ false) (is_live live) gs (each_weaker (Differs i) (λ g. with_node i nobody g ≡ false) (λ g ne. or_from (eqb g i) false (ne_eqb g i ne) refl) gs differ))
     (asked_all live w.n i member) (subst (λ m. size m (with_node i nobody) < majority_of m) (sym n2) (few_alone w.n i more low.0 low.1)) node2 in
     let v = world_after_events config e2 xs2 w2 in
-    let done = passing c s (s + 1) x.voter.turn t lo hi l.client line nonce x.answers in
+    let done = passing c s (s + 1) x.voter.turn t lo hi drift l.client line nonce x.answers in
     let events : xs ≡ line_event l ∷ xs1 ++ xs2 = all ∙ round_is config live e w l w1 asks grants is first.sent second.sent in
     let end : world_after_events config e (line_event l ∷ xs1 ++ xs2) w ≡ v = round_run config e w (line_event l) w1 xs1 xs2 is in
     let quiet_made : Silent live w w2 = silent_then live w w1 w2 first.silent second.silent in
     let away : (j : ℕ) → (j ≡ i → ⊥) → (u : ℕ) → next_at v j u ≡ next_at w2 j u = λ j ne u. ap (λ (y : NodeState). (row y.content u).next) (third.off j ne) in
-    let at_i : (u : ℕ) → next_at v i u ≡ (row c u).next = λ u. ap (λ (y : NodeState). (row y.content u).next) third.node ∙ cleared_next c t done.pass u in
+    let at_i : (u : ℕ) → next_at v i u ≡ (row c u).next = λ u. ap (λ (y : NodeState). (row y.content u).next) third.node ∙ cleared_next c t drift done.pass u in
     let voters : (j : ℕ) → (j ≡ i → ⊥) → (v.nodes j).voter ≡ (w.nodes j).voter = λ j ne. ap (λ (y : NodeState). y.voter) (third.off j ne) ∙ second.voters j ∙ ap (λ (y : NodeState). y.voter) (first.off j ne) in
     let moved : Moved live e (length (line_event l ∷ xs1 ++ xs2) + e) i t hi l.client line nonce w v = record {
       n = third.n ∙ n2;
       up = third.up;
       none = λ j at. ⊎_elim (λ (q : j ≡ i). ap (λ m. (v.nodes m).voter.pending) q ∙ ap (λ (y : NodeState). y.voter.pending) third.node) (λ (ne : j ≡ i → ⊥). ap (λ (y : VoterState). y.pending) (voters j ne) ∙ h.calm.none j at) (cases_eq j i);
       raised = λ j at.
-          ⊎_elim (λ (q : j ≡ i). ap (λ m. next_at v m t) q ∙ at_i t ∙ ap (λ (z : RowRecord). z.next) (row_here c0 t (granted_row p lo hi (row c0 t).gate) None (subst (λ m. t < m) (sym (h.sound i).kept.size) h.known)))
+          ⊎_elim (λ (q : j ≡ i). ap (λ m. next_at v m t) q ∙ at_i t ∙ ap (λ (z : RowRecord). z.next) (row_here c0 t (granted_row p lo hi (row c0 t)) None (subst (λ m. t < m) (sym (h.sound i).kept.size) h.known)))
           (λ (ne : j ≡ i → ⊥). away j ne t ∙ others_each (λ g. is_live live g ≡ true → next_at w2 g t ≡ hi + 1) w.n i j second.raised (member j at) ne at) (cases_eq j i);
       rest = λ j u at ne.
-          ⊎_elim (λ (q : j ≡ i). ap (λ m. next_at v m u) q ∙ at_i u ∙ ap (λ (z : RowRecord). z.next) (row_off c0 t (granted_row p lo hi (row c0 t).gate) None u ne) ∙ ap (λ m. next_at w m u) (sym q))
+          ⊎_elim (λ (q : j ≡ i). ap (λ m. next_at v m u) q ∙ at_i u ∙ ap (λ (z : RowRecord). z.next) (row_off c0 t (granted_row p lo hi (row c0 t)) None u ne) ∙ ap (λ m. next_at w m u) (sym q))
           (λ (off : j ≡ i → ⊥). away j off u ∙ second.rest j u ne ∙ ap (λ (y : NodeState). (row y.content u).next) (first.off j off)) (cases_eq j i);
       answers = ap (λ (y : NodeState). y.answers) third.node;
       others = record { answers = λ j ne. ap (λ (y : NodeState). y.answers) (third.off j ne) ∙ quiet_made.answers j; results = λ j u ne. third.results j u ne ∙ quiet_made.results j u };
@@ -425,8 +424,8 @@ proposal_moved config live e w l nonce t lo hi h =
     let b = Some (next_beginning place t lo hi (settled x.content x.voter.seq x.voter.turn x.answers)) in
     let line = without_lf l.line in
     let is = line_made config live e w l nonce t lo hi h in
-    let one = alone_made i x.content x.voter.seq x.voter.turn t lo hi l.client line nonce x.answers b in
-    let many = among_made place x.content x.voter.seq x.voter.turn t lo hi l.client line nonce x.answers b in
+    let one = alone_made i x.content x.voter.seq x.voter.turn t lo hi (pos 0) l.client line nonce x.answers b in
+    let many = among_made place x.content x.voter.seq x.voter.turn t lo hi (pos 0) l.client line nonce x.answers b in
     let xs = round_events config live e w l in
     ⊎_elim
     (λ (q : eqb w.n 1 ≡ true).
@@ -434,11 +433,11 @@ proposal_moved config live e w l nonce t lo hi h =
     let made_one : world_after_event config e (line_event l) w ≡ w1 = is ∙ ap (λ o. world_with_made e i o w) (cond-true (eqb w.n 1) one many q) in
     let events : xs ≡ line_event l ∷ [] = round_is config live e w l w1 [] [] made_one (alone_sent e i one w refl) (sym (append-nil w1.sent)) in
     let end : world_after_events config e (line_event l ∷ []) w ≡ w1 = made_one in
-    let moved : Moved live e (suc 0 + e) i t hi l.client line nonce w w1 = subst (λ m. Moved live e m i t hi l.client line nonce w w1) (one_on e) (alone_moved config live e w l nonce t lo hi b h (eqb-true w.n 1 q)) in
+    let moved : Moved live e (suc 0 + e) i t hi l.client line nonce w w1 = subst (λ m. Moved live e m i t hi l.client line nonce w w1) (one_on e) (alone_moved config live e w l nonce t lo hi (pos 0) b h (eqb-true w.n 1 q)) in
     let rounded : Rounded live (line_event l) (line_event l ∷ []) w w1 = record { more = []; sent = alone_sent e i one w refl; events = refl } in
     subst (λ ys. Moved live e (length ys + e) i t hi l.client line nonce w (world_after_events config e ys w) × Rounded live (line_event l) ys w (world_after_events config e ys w)) (sym events)
     (subst (λ z. Moved live e (suc 0 + e) i t hi l.client line nonce w z × Rounded live (line_event l) (line_event l ∷ []) w z) (sym end) (moved, rounded)))
-    (λ (q : eqb w.n 1 ≡ false). among_moved config live e w l nonce t lo hi h (eqb-false w.n 1 q) (is ∙ ap (λ o. world_with_made e i o w) (cond-false (eqb w.n 1) one many q)) xs refl)
+    (λ (q : eqb w.n 1 ≡ false). among_moved config live e w l nonce t lo hi (pos 0) h (eqb-false w.n 1 q) (is ∙ ap (λ o. world_with_made e i o w) (cond-false (eqb w.n 1) one many q)) xs refl)
     (cases_Bool (eqb w.n 1))
   where
     one_on : (e : ℕ) → suc e ≡ 1 + e

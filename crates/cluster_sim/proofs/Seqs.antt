@@ -1,5 +1,5 @@
 -- A run uses up at most one number for each event.
-use Rattle.std.proofs.Common.{◌≡◌, ℕ, suc, ◌+◌, ◌^◌, ◌≤◌, true, false, cond, List, [], ◌∷◌, ◌++◌, length, map, Option, Some, None, refl, sym, ap, ◌∙◌, arith, eqb, leb, ltb}
+use Rattle.std.proofs.Common.{◌≡◌, ℕ, ℤ, pos, suc, ◌+◌, ◌^◌, ◌≤◌, true, false, cond, List, [], ◌∷◌, ◌++◌, length, map, Option, Some, None, refl, sym, ap, ◌∙◌, arith, eqb, leb, ltb}
 use Rattle.std.proofs.lemmas.Bool.{cond_both}
 use Rattle.std.proofs.lemmas.List.{append-nil, append_assoc}
 use Rattle.cluster_sim.proofs.Waves.{set_all}
@@ -24,7 +24,7 @@ OneMore seq s = s.voter.seq ≤ seq + 1
 ask_seq : (from : ℕ) (p : ProposalRecord) (t lo hi : ℕ) (c : Content) (v : VoterState) → OneMore v.seq (on_ask from p t lo hi c v)
 unfolding on_ask
 ask_seq from p t lo hi c v =
-    let grants = reply_step from (Grant p t lo hi) (with_row c t (granted_row p lo hi (row c t).gate) None) v in
+    let grants = reply_step from (Grant p t lo hi) (with_row c t (granted_row p lo hi (row c t)) None) v in
     let denies = reply_step from (Deny p t (row c t).next) c v in
     cond_both (is_grant p lo hi (row c t).grant) (reply_step from (Grant p t lo hi) c v) (cond (leb (row c t).next lo) grants denies) (λ s. OneMore v.seq s) (λ _. omega arith)
     (λ _. cond_both (leb (row c t).next lo) grants denies (λ s. OneMore v.seq s) (λ _. omega arith) (λ _. omega arith))
@@ -51,9 +51,9 @@ message_seq place from (Grant p t lo hi) c v = count_seq place from c v (granted
 message_seq place from (Deny p t next) c v = discount_seq place from (raise t next c) v (denied_one from t (of_this_boot c p v))
 message_seq place from (Floor t next) c v = omega arith
 
-propose_seq : (place : PlaceRecord) (t lo hi : ℕ) (c : Content) (v : VoterState) → OneMore v.seq (propose place t lo hi c v)
+propose_seq : (place : PlaceRecord) (t lo hi : ℕ) (drift : ℤ) (c : Content) (v : VoterState) → OneMore v.seq (propose place t lo hi drift c v)
 unfolding propose propose_alone propose_among
-propose_seq place t lo hi c v = cond_both (eqb place.n 1) (propose_alone place t lo hi c v) (propose_among place t lo hi c v) (λ s. OneMore v.seq s) (λ _. omega arith) (λ _. omega arith)
+propose_seq place t lo hi drift c v = cond_both (eqb place.n 1) (propose_alone place t lo hi drift c v) (propose_among place t lo hi drift c v) (λ s. OneMore v.seq s) (λ _. omega arith) (λ _. omega arith)
 
 tick_seq : (place : PlaceRecord) (c : Content) (v : VoterState) → OneMore v.seq (tick place c v)
 unfolding tick
@@ -72,8 +72,8 @@ ruled_seq place x client moment line Waiting = omega arith
 ruled_seq place x client moment line (Denied nonce outcome) = omega arith
 ruled_seq place x client moment line (Wrong nonce outcome token) = omega arith
 ruled_seq place x client moment line (Fitting nonce t lo hi) =
-    cond_both (ltb x.voter.seq (2 ^ 62)) (made_by_vote (x.owners ++ record { seq = x.voter.seq; client = client; line = line; nonce = nonce } ∷ []) (Some (next_beginning place t lo hi x)) (propose place t lo hi x.content x.voter) x) (quiet_made (stopped_node x)) (λ o. MadeOne x o)
-    (λ _. propose_seq place t lo hi x.content x.voter) (λ _. omega arith)
+    cond_both (ltb x.voter.seq (2 ^ 62)) (made_by_vote (x.owners ++ record { seq = x.voter.seq; client = client; line = line; nonce = nonce } ∷ []) (Some (next_beginning place t lo hi x)) (propose place t lo hi (pos 0) x.content x.voter) x) (quiet_made (stopped_node x)) (λ o. MadeOne x o)
+    (λ _. propose_seq place t lo hi (pos 0) x.content x.voter) (λ _. omega arith)
 
 event_seq : (config : Config) (place : PlaceRecord) (x : NodeState) (v : NodeEvent) → MadeOne x (made_while_running config place v x)
 unfolding made_while_running made_by_datagram

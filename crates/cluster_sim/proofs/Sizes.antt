@@ -1,5 +1,5 @@
 -- In every cluster of voters each node keeps as many rows as it had.
-use Rattle.std.proofs.Common.{◌≡◌, ℕ, ◌^◌, true, false, cond, length, Option, Some, None, refl, ◌∙◌, eqb, leb, ltb}
+use Rattle.std.proofs.Common.{◌≡◌, ℕ, ℤ, ◌^◌, true, false, cond, length, Option, Some, None, refl, ◌∙◌, eqb, leb, ltb}
 use Rattle.std.specs.List.{slice_get}
 use Rattle.std.proofs.lemmas.Bool.{cond_both}
 use Rattle.floor_store.specs.Content.{Content, with_row}
@@ -19,11 +19,11 @@ Same c s = length s.content.rows ≡ length c.rows
 ask_size : (from : ℕ) (p : ProposalRecord) (t lo hi : ℕ) (c : Content) (v : VoterState) → Same c (on_ask from p t lo hi c v)
 unfolding on_ask
 ask_size from p t lo hi c v =
-    let grants = reply_step from (Grant p t lo hi) (with_row c t (granted_row p lo hi (row c t).gate) None) v in
+    let grants = reply_step from (Grant p t lo hi) (with_row c t (granted_row p lo hi (row c t)) None) v in
     let denies = reply_step from (Deny p t (row c t).next) c v in
     cond_both (is_grant p lo hi (row c t).grant) (reply_step from (Grant p t lo hi) c v) (cond (leb (row c t).next lo) grants denies) (λ s. Same c s)
     (λ _. refl)
-    (λ _. cond_both (leb (row c t).next lo) grants denies (λ s. Same c s) (λ _. put_size c t (granted_row p lo hi (row c t).gate) None) (λ _. refl))
+    (λ _. cond_both (leb (row c t).next lo) grants denies (λ s. Same c s) (λ _. put_size c t (granted_row p lo hi (row c t)) None) (λ _. refl))
 
 count_size : (place : PlaceRecord) (from : ℕ) (c : Content) (v : VoterState) (o : Option Ballot) → Same c (count_grant place from c v o)
 unfolding count_grant accept
@@ -56,10 +56,10 @@ message_size place from (Grant p t lo hi) c v = grant_size place from p t lo hi 
 message_size place from (Deny p t next) c v = deny_size place from p t next c v
 message_size place from (Floor t next) c v = raise_size t next c
 
-propose_size : (place : PlaceRecord) (t lo hi : ℕ) (c : Content) (v : VoterState) → Same c (propose place t lo hi c v)
+propose_size : (place : PlaceRecord) (t lo hi : ℕ) (drift : ℤ) (c : Content) (v : VoterState) → Same c (propose place t lo hi drift c v)
 unfolding propose propose_alone propose_among
-propose_size place t lo hi c v =
-    cond_both (eqb place.n 1) (propose_alone place t lo hi c v) (propose_among place t lo hi c v) (λ s. Same c s) (λ _. put_size c t _ None) (λ _. put_size c t _ None)
+propose_size place t lo hi drift c v =
+    cond_both (eqb place.n 1) (propose_alone place t lo hi drift c v) (propose_among place t lo hi drift c v) (λ s. Same c s) (λ _. put_size c t _ None) (λ _. put_size c t _ None)
 
 tick_size : (place : PlaceRecord) (c : Content) (v : VoterState) → Same c (tick place c v)
 unfolding tick
@@ -87,17 +87,17 @@ delivered_sized k e (Some l) w h =
     cond_both (is_running w i) (cluster_after e i s w) w (λ x. Sized k x)
     (λ _. after_sized k e i s w h (message_size (place_of w i) l.sender l.message (w.nodes i).content (w.nodes i).voter)) (λ _. h)
 
-proposed_sized : (k e i t lo hi : ℕ) (w : Cluster) → Sized k w → Sized k (after_proposal e i t lo hi w)
+proposed_sized : (k e i t lo hi : ℕ) (drift : ℤ) (w : Cluster) → Sized k w → Sized k (after_proposal e i t lo hi drift w)
 unfolding after_proposal with_proposal_begun
-proposed_sized k e i t lo hi w h =
-    let s = propose (place_of w i) t lo hi (w.nodes i).content (w.nodes i).voter in
+proposed_sized k e i t lo hi drift w h =
+    let s = propose (place_of w i) t lo hi drift (w.nodes i).content (w.nodes i).voter in
     cond_both (ltb (w.nodes i).voter.seq (2 ^ 62)) (cluster_after e i s (with_proposal_begun e i t lo hi w)) (with_member i (stopped_member (w.nodes i)) w) (λ x. Sized k x)
-    (λ _. after_sized k e i s (with_proposal_begun e i t lo hi w) h (propose_size (place_of w i) t lo hi (w.nodes i).content (w.nodes i).voter))
+    (λ _. after_sized k e i s (with_proposal_begun e i t lo hi w) h (propose_size (place_of w i) t lo hi drift (w.nodes i).content (w.nodes i).voter))
     (λ _. set_sized k w i (stopped_member (w.nodes i)) h refl)
 
 act_sized : (k e : ℕ) (a : Act) (w : Cluster) → Sized k w → Sized k (after_act e a w)
 unfolding after_act
-act_sized k e (Begin i t lo hi) w h = cond_both (may_begin w i t lo hi) (after_proposal e i t lo hi w) w (λ x. Sized k x) (λ _. proposed_sized k e i t lo hi w h) (λ _. h)
+act_sized k e (Begin i t lo hi drift) w h = cond_both (may_begin w i t lo hi) (after_proposal e i t lo hi drift w) w (λ x. Sized k x) (λ _. proposed_sized k e i t lo hi drift w h) (λ _. h)
 act_sized k e (Deliver m) w h = delivered_sized k e (slice_get w.sent m) w h
 act_sized k e (Tick i) w h =
     let s = tick (place_of w i) (w.nodes i).content (w.nodes i).voter in

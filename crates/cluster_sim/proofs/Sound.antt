@@ -1,18 +1,18 @@
 -- What every event keeps at each node: a row for each token, each stored grant below its row's next, the token whose
 -- Floor is next a token of the book, and of each owner its proposal pending.
-use Rattle.std.proofs.Common.{◌≡◌, ℕ, zero, suc, ◌+◌, ◌^◌, ◌<◌, ◌⊎◌, inl, inr, true, false, cond, List, [], ◌∷◌, ◌++◌, length, set, Option, Some, None, refl, ◌∙◌, subst, arith, eqb, leb, ltb}
+use Rattle.std.proofs.Common.{◌≡◌, ℕ, ℤ, pos, zero, suc, ◌+◌, ◌^◌, ◌<◌, ◌⊎◌, inl, inr, true, false, cond, List, [], ◌∷◌, ◌++◌, length, set, Option, Some, None, refl, ◌∙◌, subst, arith, eqb, leb, ltb}
 use Rattle.std.proofs.lemmas.Bool.{cond_both, ltb-true, false≢true}
 use Rattle.std.proofs.lemmas.List.{length-set}
-use Rattle.admit_core.specs.Gate.{GateRecord, clear_gate}
+use Rattle.admit_core.specs.Gate.{GateRecord}
 use Rattle.cluster_sim.specs.World.{Cut, Happens, Restart, World, WorldEvent, acting_node, floor_at, node_event_of, node_of, opening_world, place_at, with_state, with_told_of, world_after_act, world_after_event, world_after_events, world_after_restart, world_after_turn, world_with_made}
-use Rattle.floor_store.specs.Content.{Content, with_row}
+use Rattle.floor_store.specs.Content.{Content, accepted_row, with_row}
 use Rattle.floor_store.specs.Records.{ProposalRecord, RowRecord}
 use Rattle.oath_node.specs.Machine.{Beginning, Client, Config, Made, NodeEvent, NodeState, Owner, Peer, Tick, is_heard, is_pending, made_by_datagram, made_by_event, made_by_proposal, made_by_ruling, made_by_vote, made_while_running, next_beginning, quiet_made, restarted_node, ruling_at, stopped_node}
 use Rattle.oath_node.specs.Rules.{Again, Denied, Fitting, Outside, Ruling, Waiting, Wrong}
 use Rattle.otp_core.specs.Acceptance.{majority_of, size}
 use Rattle.vote_core.proofs.Basics.{Each, each_append, each_get_or, each_passes, opening_size}
 use Rattle.vote_core.specs.NodeSet.{PlaceRecord, with_node}
-use Rattle.vote_core.specs.Rows.{granted_row, no_row, row, row_with_next}
+use Rattle.vote_core.specs.Rows.{granted_row, no_row, row, row_with_gate, row_with_next}
 use Rattle.vote_core.specs.Schedule.{is_member, last_boot, opening_rows}
 use Rattle.vote_core.specs.Voting.{Ballot, Voted, VoterState, accept, count_deny, count_grant, denied_one, granted_one, is_grant, of_this_boot, on_ask, on_deny, on_floor, on_grant, on_message, proposal_of, propose, propose_alone, propose_among, quiet_step, raise, replace, reply_step, tick, turn_after, with_granting, with_pending}
 use Rattle.vote_core.specs.declared.message.Message.{Message}
@@ -48,12 +48,15 @@ set_each P (x ∷ xs) (suc t) a h k = (h.0, set_each P xs t a h.1 k)
 put_kept : (tokens : ℕ) (c : Content) (turn t : ℕ) (r : RowRecord) → KeptRows tokens c.rows turn → Lies r → KeptRows tokens (set c.rows t r) turn
 put_kept tokens c turn t r h k = record { size = length-set c.rows t r ∙ h.size; lies = set_each Lies c.rows t r h.lies k; turn = h.turn }
 
--- the gate alone, or another grant
-gate_kept : (tokens : ℕ) (c : Content) (turn t : ℕ) (gate : GateRecord) → KeptRows tokens c.rows turn → KeptRows tokens (set c.rows t (record { next = (row c t).next; grant = (row c t).grant; gate = gate })) turn
+-- the gate alone, an acceptance, or another grant
+gate_kept : (tokens : ℕ) (c : Content) (turn t : ℕ) (gate : GateRecord) → KeptRows tokens c.rows turn → KeptRows tokens (set c.rows t (row_with_gate gate (row c t))) turn
 gate_kept tokens c turn t gate h = put_kept tokens c turn t _ h (lies_row c t h.lies)
 
-grant_kept : (tokens : ℕ) (c : Content) (turn t lo hi : ℕ) (gate : GateRecord) (q : ProposalRecord) → KeptRows tokens c.rows turn → KeptRows tokens (set c.rows t (granted_row q lo hi gate)) turn
-grant_kept tokens c turn t lo hi gate q h = put_kept tokens c turn t (granted_row q lo hi gate) h (omega arith)
+accepted_kept : (tokens : ℕ) (c : Content) (turn t : ℕ) (drift : ℤ) → KeptRows tokens c.rows turn → KeptRows tokens (set c.rows t (accepted_row drift (row c t))) turn
+accepted_kept tokens c turn t drift h = put_kept tokens c turn t _ h (lies_row c t h.lies)
+
+grant_kept : (tokens : ℕ) (c : Content) (turn t lo hi : ℕ) (old : RowRecord) (q : ProposalRecord) → KeptRows tokens c.rows turn → KeptRows tokens (set c.rows t (granted_row q lo hi old)) turn
+grant_kept tokens c turn t lo hi old q h = put_kept tokens c turn t (granted_row q lo hi old) h (omega arith)
 
 abbrev StepKept : ℕ → Content → VoterState → Voted → Type 0
 StepKept tokens c v s = Kept tokens c v → Kept tokens s.content s.voter
@@ -61,18 +64,18 @@ StepKept tokens c v s = Kept tokens c v → Kept tokens s.content s.voter
 ask_kept : (tokens from : ℕ) (p : ProposalRecord) (t lo hi : ℕ) (c : Content) (v : VoterState) → StepKept tokens c v (on_ask from p t lo hi c v)
 unfolding on_ask
 ask_kept tokens from p t lo hi c v h =
-    let grants = reply_step from (Grant p t lo hi) (with_row c t (granted_row p lo hi (row c t).gate) None) v in
+    let grants = reply_step from (Grant p t lo hi) (with_row c t (granted_row p lo hi (row c t)) None) v in
     let denies = reply_step from (Deny p t (row c t).next) c v in
     cond_both (is_grant p lo hi (row c t).grant) (reply_step from (Grant p t lo hi) c v) (cond (leb (row c t).next lo) grants denies) (λ (s : Voted). Kept tokens s.content s.voter)
     (λ _. h)
-    (λ _. cond_both (leb (row c t).next lo) grants denies (λ (s : Voted). Kept tokens s.content s.voter) (λ _. grant_kept tokens c v.turn t lo hi (row c t).gate p h) (λ _. h))
+    (λ _. cond_both (leb (row c t).next lo) grants denies (λ (s : Voted). Kept tokens s.content s.voter) (λ _. grant_kept tokens c v.turn t lo hi (row c t) p h) (λ _. h))
 
 count_kept : (tokens : ℕ) (place : PlaceRecord) (from : ℕ) (c : Content) (v : VoterState) (o : Option Ballot) → StepKept tokens c v (count_grant place from c v o)
 unfolding count_grant accept
 count_kept tokens place from c v None h = h
 count_kept tokens place from c v (Some q) h =
     cond_both (leb (majority_of place.n) (size place.n (with_node from q.granting))) (accept (with_granting from q) c v) (quiet_step c (with_pending (replace (with_granting from q) v.pending) v)) (λ (s : Voted). Kept tokens s.content s.voter)
-    (λ _. gate_kept tokens c v.turn q.token clear_gate h) (λ _. h)
+    (λ _. accepted_kept tokens c v.turn q.token q.drift h) (λ _. h)
 
 under_more : (old next : ℕ) (o : Option (ProposalRecord × ℕ × ℕ)) → old < next → IsUnder old o → IsUnder next o
 under_more old next None lt h = tt
@@ -98,11 +101,11 @@ message_kept tokens place from (Grant p t lo hi) c v h = count_kept tokens place
 message_kept tokens place from (Deny p t next) c v h = discount_kept tokens place from (raise t next c) v (denied_one from t (of_this_boot c p v)) (raise_kept tokens t next c v h)
 message_kept tokens place from (Floor t next) c v h = raise_kept tokens t next c v h
 
-propose_kept : (tokens : ℕ) (place : PlaceRecord) (t lo hi : ℕ) (c : Content) (v : VoterState) → StepKept tokens c v (propose place t lo hi c v)
+propose_kept : (tokens : ℕ) (place : PlaceRecord) (t lo hi : ℕ) (drift : ℤ) (c : Content) (v : VoterState) → StepKept tokens c v (propose place t lo hi drift c v)
 unfolding propose propose_alone propose_among
-propose_kept tokens place t lo hi c v h =
-    cond_both (eqb place.n 1) (propose_alone place t lo hi c v) (propose_among place t lo hi c v) (λ (s : Voted). Kept tokens s.content s.voter)
-    (λ _. grant_kept tokens c v.turn t lo hi clear_gate (proposal_of place c v) h) (λ _. grant_kept tokens c v.turn t lo hi (row c t).gate (proposal_of place c v) h)
+propose_kept tokens place t lo hi drift c v h =
+    cond_both (eqb place.n 1) (propose_alone place t lo hi drift c v) (propose_among place t lo hi drift c v) (λ (s : Voted). Kept tokens s.content s.voter)
+    (λ _. put_kept tokens c v.turn t (accepted_row drift (granted_row (proposal_of place c v) lo hi (row c t))) h (omega arith)) (λ _. grant_kept tokens c v.turn t lo hi (row c t) (proposal_of place c v) h)
 
 turn_is : (n t : ℕ) → IsTurn n (cond (ltb (t + 1) n) (t + 1) 0)
 turn_is n t = cond_both (ltb (t + 1) n) (t + 1) 0 (λ m. IsTurn n m) (λ q. inl (ltb-true (t + 1) n q)) (λ _. inr refl)
@@ -128,10 +131,10 @@ ruled_sound tokens place x client moment line h Waiting = h
 ruled_sound tokens place x client moment line h (Denied nonce outcome) = record { kept = h.kept; owned = h.owned }
 ruled_sound tokens place x client moment line h (Wrong nonce outcome token) = record { kept = gate_kept tokens x.content x.voter.turn token _ h.kept; owned = h.owned }
 ruled_sound tokens place x client moment line h (Fitting nonce t lo hi) =
-    let s = propose place t lo hi x.content x.voter in
+    let s = propose place t lo hi (pos 0) x.content x.voter in
     let owners = x.owners ++ record { seq = x.voter.seq; client = client; line = line; nonce = nonce } ∷ [] in
     cond_both (ltb x.voter.seq (2 ^ 62)) (made_by_vote owners (Some (next_beginning place t lo hi x)) s x) (quiet_made (stopped_node x)) (λ (o : Made). Sound tokens o.state)
-    (λ _. voted_sound tokens x owners (Some (next_beginning place t lo hi x)) s h (propose_kept tokens place t lo hi x.content x.voter)) (λ _. record { kept = h.kept; owned = h.owned })
+    (λ _. voted_sound tokens x owners (Some (next_beginning place t lo hi x)) s h (propose_kept tokens place t lo hi (pos 0) x.content x.voter)) (λ _. record { kept = h.kept; owned = h.owned })
 
 event_sound : (config : Config) (tokens : ℕ) (place : PlaceRecord) (x : NodeState) → Sound tokens x → (v : NodeEvent) → Sound tokens (made_while_running config place v x).state
 unfolding made_while_running made_by_datagram

@@ -1,12 +1,11 @@
 -- Whatever happens, each datagram that a node sends is in the peer format.
-use Rattle.std.proofs.Common.{◌≡◌, ◌≢◌, ℕ, zero, suc, ◌+◌, ◌-◌, ◌^◌, ◌<◌, ◌≤◌, true, false, cond, not, ⊎_elim, List, [], ◌∷◌, length, map, Option, Some, None, refl, sym, subst, arith, eqb, leb, ltb, take, ℤ}
+use Rattle.std.proofs.Common.{◌≡◌, ◌≢◌, ℕ, zero, suc, ◌+◌, ◌-◌, ◌^◌, ◌<◌, ◌≤◌, true, false, cond, not, ⊎_elim, List, [], ◌∷◌, length, map, Option, Some, None, refl, sym, subst, arith, eqb, leb, ltb, take, ℤ, pos}
 use Rattle.std.specs.Prelude.{filter}
 use Rattle.std.specs.List.{slice_get}
 use Rattle.std.proofs.lemmas.Bool.{cond_both, eqb-true, eqb-false, and_parts, not-true, ltb-true, leb-true}
 use Rattle.std.proofs.lemmas.Option.{none-some, same_Some}
-use Rattle.admit_core.specs.Gate.{clear_gate}
 use Rattle.admit_core.specs.Window.{InWindow}
-use Rattle.floor_store.specs.Content.{Content, with_row, with_next_boot}
+use Rattle.floor_store.specs.Content.{Content, accepted_row, with_row, with_next_boot}
 use Rattle.floor_store.specs.Range.{IsProposal, IsSpan}
 use Rattle.floor_store.specs.Records.{PassRecord, ProposalRecord, RowRecord}
 use Rattle.otp_core.specs.Acceptance.{majority_of, size}
@@ -118,18 +117,18 @@ proposal_in place boot seq p b s = record { first = p.first; last = omega (arith
 
 -- ---- a voter's calls
 
-proposed : (place : PlaceRecord) (t lo hi : ℕ) (c : Content) (v : VoterState) → IsPlace place → IsFine c v → v.seq < 2 ^ 62 → t < 10000 → lo < 2 ^ 62 → hi < 2 ^ 62 → IsSpan lo hi
-    → IsFineStep place.me (propose place t lo hi c v)
+proposed : (place : PlaceRecord) (t lo hi : ℕ) (drift : ℤ) (c : Content) (v : VoterState) → IsPlace place → IsFine c v → v.seq < 2 ^ 62 → t < 10000 → lo < 2 ^ 62 → hi < 2 ^ 62 → IsSpan lo hi
+    → IsFineStep place.me (propose place t lo hi drift c v)
 unfolding propose propose_alone propose_among
-proposed place t lo hi c v p h room small l u span =
-    cond_both (eqb place.n 1) (propose_alone place t lo hi c v) (propose_among place t lo hi c v) (λ s. IsFineStep place.me s)
+proposed place t lo hi drift c v p h room small l u span =
+    cond_both (eqb place.n 1) (propose_alone place t lo hi drift c v) (propose_among place t lo hi drift c v) (λ s. IsFineStep place.me s)
     (λ _. record {
-      fine = (let x = put_fine c v t (granted_row (proposal_of place c v) lo hi clear_gate) (Some (pass_of t lo hi c.boot v.seq)) h (omega (arith, u)) in
+      fine = (let x = put_fine c v t (accepted_row drift (granted_row (proposal_of place c v) lo hi (row c t))) (Some (pass_of t lo hi c.boot v.seq)) h (omega (arith, u)) in
           ballots_fine _ v v.pending (v.seq + 1) v.turn x (omega (arith, room)) h.pending);
       sends = tt;
     })
     (λ _. record {
-      fine = (let x = put_fine c v t (granted_row (proposal_of place c v) lo hi (row c t).gate) None h (omega (arith, u)) in
+      fine = (let x = put_fine c v t (granted_row (proposal_of place c v) lo hi (row c t)) None h (omega (arith, u)) in
           ballots_fine _ v _ (v.seq + 1) v.turn x (omega (arith, room))
           (each_append IsBallotIn v.pending _ h.pending (record { seq = room; token = small; lo = l; hi = u; span = span }, tt)));
       sends = to_others place _ (others place) (all_others place)
@@ -150,7 +149,7 @@ back from me token h = record {
 asked : (me from : ℕ) (p : ProposalRecord) (t lo hi : ℕ) (c : Content) (v : VoterState) → IsFine c v → HasEnds from me t → IsVoteOn from p lo hi → IsFineStep me (on_ask from p t lo hi c v)
 unfolding on_ask
 asked me from p t lo hi c v h e vote =
-    let grants = reply_step from (Grant p t lo hi) (with_row c t (granted_row p lo hi (row c t).gate) None) v in
+    let grants = reply_step from (Grant p t lo hi) (with_row c t (granted_row p lo hi (row c t)) None) v in
     let denies = reply_step from (Deny p t (row c t).next) c v in
     cond_both (is_grant p lo hi (row c t).grant) (reply_step from (Grant p t lo hi) c v) (cond (leb (row c t).next lo) grants denies) (λ s. IsFineStep me s)
     (λ _. record { fine = h; sends = ((back from me t e, vote), tt) })
@@ -253,7 +252,7 @@ ruled config place x client moment text line (Wrong nonce outcome token) few p h
     record { fine = put_fine x.content x.voter token _ None h (h.next token); sends = tt }
 ruled config place x client moment text line (Fitting nonce token lo hi) few p h g =
     cond_both (ltb x.voter.seq (2 ^ 62)) _ (quiet_made (stopped_node x)) (λ m. IsFineMade place.me m)
-    (λ b. (let s = proposed place token lo hi x.content x.voter p h (ltb-true x.voter.seq (2 ^ 62) b) (omega (arith, g.within, few))
+    (λ b. (let s = proposed place token lo hi (pos 0) x.content x.voter p h (ltb-true x.voter.seq (2 ^ 62) b) (omega (arith, g.within, few))
     (window_factor g.credential.kind _ config.limits _ _ moment lo g.fit.first) (window_factor g.credential.kind _ config.limits _ _ moment hi g.fit.last) g.span in
     record { fine = s.fine; sends = s.sends }))
     (λ _. record { fine = h; sends = tt })

@@ -1,5 +1,5 @@
 -- What an event at a node tells: each OK belongs to a pass, and each pass has its OK.
-use Rattle.std.proofs.Common.{◌≡◌, ℕ, suc, ◌^◌, ◌<◌, ◌≤◌, List, [], ◌∷◌, ◌++◌, length, get_or, map, Option, Some, None, refl, sym, ap, ◌∙◌, subst, arith, eqb, ltb}
+use Rattle.std.proofs.Common.{◌≡◌, ℕ, pos, suc, ◌^◌, ◌<◌, ◌≤◌, List, [], ◌∷◌, ◌++◌, length, get_or, map, Option, Some, None, refl, sym, ap, ◌∙◌, subst, arith, eqb, ltb}
 use Rattle.std.specs.Prelude.{codes}
 use Rattle.std.specs.List.{filter, slice_get}
 use Rattle.std.proofs.lemmas.Bool.{cond_both, cond-true, eqb-true, and_parts}
@@ -334,8 +334,8 @@ proposing_tells events h e place Premise x client line nonce token lo hi k asked
     let began : Option Beginning = Some (next_beginning place token lo hi x) in
     let b : Begun = record { token = token; lo = lo; hi = hi; event = e } in
     let begun = begun_with e began (begun_in h) in
-    let s = propose place token lo hi x.content x.voter in
-    let next = propose_seq place token lo hi x.content x.voter in
+    let s = propose place token lo hi (pos 0) x.content x.voter in
+    let next = propose_seq place token lo hi (pos 0) x.content x.voter in
     let old : Each (OwnerKept events begun i x.content.boot s.voter.seq) x.owners =
     owners_later events (begun_in h) begun i x.content.boot x.voter.seq s.voter.seq x.owners (omega (arith, next))
     (λ t lt. fresh_begun e i x.content.boot x.voter.seq b (begun_in h) t lt) k.owners in
@@ -344,7 +344,7 @@ proposing_tells events h e place Premise x client line nonce token lo hi k asked
     (below, subst (λ z. Asked events i client line nonce z) (sym (begun_now i x.content.boot x.voter.seq b (begun_in h))) asked) in
     let numbered : Numbered (HasOwner owners) x.voter.pending = each_weaker (λ (q : Ballot). HasOwner x.owners q.seq) (λ (q : Ballot). HasOwner owners q.seq) (λ q f. owner_more x.owners owner q.seq f) x.voter.pending k.owned in
     cond_both (ltb x.voter.seq (2 ^ 62)) (made_by_vote owners began s x) (quiet_made (stopped_node x)) (λ o. Tells events h e i Premise o)
-    (λ _. voted_tells events h e i Premise x owners began s k refl (propose_step (HasOwner owners) place token lo hi x.content x.voter numbered (owner_new x.owners owner))
+    (λ _. voted_tells events h e i Premise x owners began s k refl (propose_step (HasOwner owners) place token lo hi (pos 0) x.content x.voter numbered (owner_new x.owners owner))
     (each_append (OwnerKept events begun i x.content.boot s.voter.seq) x.owners (owner ∷ []) old (new, tt)))
     (λ _. quiet_tells events h e i Premise (stopped_node x) (record { owners = k.owners; owned = k.owned; answers = k.answers }))
 

@@ -1,8 +1,8 @@
 -- A voter's step leaves each gate, but for the pass that clears its token's.
-use Rattle.std.proofs.Common.{◌≡◌, ℕ, ◌-◌, ◌<◌, [], ◌∷◌, ⊎_elim, cond, length, Option, Some, None, refl, sym, ap, ◌∙◌, subst, eqb, leb, ltb}
+use Rattle.std.proofs.Common.{◌≡◌, ℕ, ℤ, ◌-◌, ◌<◌, [], ◌∷◌, ⊎_elim, cond, length, Option, Some, None, refl, sym, ap, ◌∙◌, subst, eqb, leb, ltb}
 use Rattle.std.proofs.lemmas.Bool.{cond_both, eqb-true, eqb-false}
 use Rattle.admit_core.specs.Gate.{GateRecord, clear_gate}
-use Rattle.floor_store.specs.Content.{Content, with_row}
+use Rattle.floor_store.specs.Content.{Content, accepted_row, with_row}
 use Rattle.floor_store.specs.Records.{ProposalRecord, RowRecord, PassRecord}
 use Rattle.otp_core.specs.Acceptance.{size, majority_of}
 use Rattle.vote_core.specs.NodeSet.{PlaceRecord, with_node}
@@ -34,18 +34,18 @@ same_gate c t r p u same =
 ask_gate : (from : ℕ) (p : ProposalRecord) (t lo hi : ℕ) (c : Content) (v : VoterState) → GateStep c (on_ask from p t lo hi c v)
 unfolding on_ask
 ask_gate from p t lo hi c v =
-    let grants = reply_step from (Grant p t lo hi) (with_row c t (granted_row p lo hi (row c t).gate) None) v in
+    let grants = reply_step from (Grant p t lo hi) (with_row c t (granted_row p lo hi (row c t)) None) v in
     let denies = reply_step from (Deny p t (row c t).next) c v in
     cond_both (is_grant p lo hi (row c t).grant) (reply_step from (Grant p t lo hi) c v) (cond (leb (row c t).next lo) grants denies) (λ s. GateStep c s)
     (λ _ u h. refl)
-    (λ _. cond_both (leb (row c t).next lo) grants denies (λ s. GateStep c s) (λ _ u h. same_gate c t (granted_row p lo hi (row c t).gate) None u refl) (λ _ u h. refl))
+    (λ _. cond_both (leb (row c t).next lo) grants denies (λ s. GateStep c s) (λ _ u h. same_gate c t (granted_row p lo hi (row c t)) None u refl) (λ _ u h. refl))
 
 count_gate : (place : PlaceRecord) (from : ℕ) (c : Content) (v : VoterState) (o : Option Ballot) → GateStep c (count_grant place from c v o)
 unfolding count_grant accept
 count_gate place from c v None = λ u h. refl
 count_gate place from c v (Some q) =
     cond_both (leb (majority_of place.n) (size place.n (with_node from q.granting))) (accept (with_granting from q) c v) (quiet_step c (with_pending (replace (with_granting from q) v.pending) v)) (λ s. GateStep c s)
-    (λ _ u h. put_gate c q.token (record { next = (row c q.token).next; grant = (row c q.token).grant; gate = clear_gate }) None u h) (λ _ u h. refl)
+    (λ _ u h. put_gate c q.token (accepted_row q.drift (row c q.token)) None u h) (λ _ u h. refl)
 
 grant_gate : (place : PlaceRecord) (from : ℕ) (p : ProposalRecord) (t lo hi : ℕ) (c : Content) (v : VoterState) → GateStep c (on_grant place from p t lo hi c v)
 unfolding on_grant
@@ -76,12 +76,12 @@ message_gate place from (Grant p t lo hi) c v = grant_gate place from p t lo hi 
 message_gate place from (Deny p t next) c v = deny_gate place from p t next c v
 message_gate place from (Floor t next) c v = λ u h. raise_gate t next c u
 
-pub propose_gate : (place : PlaceRecord) (t lo hi : ℕ) (c : Content) (v : VoterState) → GateStep c (propose place t lo hi c v)
+pub propose_gate : (place : PlaceRecord) (t lo hi : ℕ) (drift : ℤ) (c : Content) (v : VoterState) → GateStep c (propose place t lo hi drift c v)
 unfolding propose propose_alone propose_among
-propose_gate place t lo hi c v =
-    cond_both (eqb place.n 1) (propose_alone place t lo hi c v) (propose_among place t lo hi c v) (λ s. GateStep c s)
-    (λ _ u h. put_gate c t (granted_row (record { node = place.me; boot = c.boot; seq = v.seq }) lo hi clear_gate) None u h)
-    (λ _ u h. same_gate c t (granted_row (record { node = place.me; boot = c.boot; seq = v.seq }) lo hi (row c t).gate) None u refl)
+propose_gate place t lo hi drift c v =
+    cond_both (eqb place.n 1) (propose_alone place t lo hi drift c v) (propose_among place t lo hi drift c v) (λ s. GateStep c s)
+    (λ _ u h. put_gate c t (accepted_row drift (granted_row (record { node = place.me; boot = c.boot; seq = v.seq }) lo hi (row c t))) None u h)
+    (λ _ u h. same_gate c t (granted_row (record { node = place.me; boot = c.boot; seq = v.seq }) lo hi (row c t)) None u refl)
 
 pub tick_gate : (place : PlaceRecord) (c : Content) (v : VoterState) → GateStep c (tick place c v)
 unfolding tick

@@ -1,5 +1,5 @@
 -- What a voter's step decides, by the numbers of what is pending.
-use Rattle.std.proofs.Common.{◌≡◌, ℕ, ◌+◌, ◌-◌, ◌≤◌, List, [], ◌∷◌, cond, not, Option, Some, None, refl, arith, eqb, leb, ltb}
+use Rattle.std.proofs.Common.{◌≡◌, ℕ, ℤ, ◌+◌, ◌-◌, ◌≤◌, List, [], ◌∷◌, cond, not, Option, Some, None, refl, arith, eqb, leb, ltb}
 use Rattle.std.specs.List.{filter}
 use Rattle.std.proofs.lemmas.Bool.{cond_both}
 use Rattle.floor_store.specs.Content.{Content, with_row}
@@ -43,12 +43,12 @@ answer_step P to m c d v same h = record { boot = same; seq = omega arith; pendi
 ask_step : (P : ℕ → Type 0) (from : ℕ) (p : ProposalRecord) (t lo hi : ℕ) (c : Content) (v : VoterState) → Numbered P v.pending → IsStep P c v (on_ask from p t lo hi c v)
 unfolding on_ask
 ask_step P from p t lo hi c v h =
-    let grants = reply_step from (Grant p t lo hi) (with_row c t (granted_row p lo hi (row c t).gate) None) v in
+    let grants = reply_step from (Grant p t lo hi) (with_row c t (granted_row p lo hi (row c t)) None) v in
     let denies = reply_step from (Deny p t (row c t).next) c v in
     cond_both (is_grant p lo hi (row c t).grant) (reply_step from (Grant p t lo hi) c v) (cond (leb (row c t).next lo) grants denies) (λ s. IsStep P c v s)
     (λ _. answer_step P from _ c c v refl h)
     (λ _. cond_both (leb (row c t).next lo) grants denies (λ s. IsStep P c v s)
-    (λ _. answer_step P from _ c (with_row c t (granted_row p lo hi (row c t).gate) None) v refl h) (λ _. answer_step P from _ c c v refl h))
+    (λ _. answer_step P from _ c (with_row c t (granted_row p lo hi (row c t)) None) v refl h) (λ _. answer_step P from _ c c v refl h))
 
 -- ---- the pending one that a vote is for
 
@@ -113,13 +113,13 @@ tick_step P place c v h = record {
 }
 
 -- a proposal takes the next number
-pub propose_step : (P : ℕ → Type 0) (place : PlaceRecord) (t lo hi : ℕ) (c : Content) (v : VoterState) → Numbered P v.pending → P v.seq → IsStep P c v (propose place t lo hi c v)
+pub propose_step : (P : ℕ → Type 0) (place : PlaceRecord) (t lo hi : ℕ) (drift : ℤ) (c : Content) (v : VoterState) → Numbered P v.pending → P v.seq → IsStep P c v (propose place t lo hi drift c v)
 unfolding propose propose_alone propose_among
-propose_step P place t lo hi c v h new =
-    cond_both (eqb place.n 1) (propose_alone place t lo hi c v) (propose_among place t lo hi c v) (λ s. IsStep P c v s)
+propose_step P place t lo hi drift c v h new =
+    cond_both (eqb place.n 1) (propose_alone place t lo hi drift c v) (propose_among place t lo hi drift c v) (λ s. IsStep P c v s)
     (λ _. record { boot = refl; seq = omega arith; pending = h; settled = (refl, new, refl) })
     (λ _. record { boot = refl; seq = omega arith; pending = each_append (λ (q : Ballot). P q.seq) v.pending _ h (new, tt); settled = tt })
 
-pub propose_seq : (place : PlaceRecord) (t lo hi : ℕ) (c : Content) (v : VoterState) → (propose place t lo hi c v).voter.seq ≡ v.seq + 1
+pub propose_seq : (place : PlaceRecord) (t lo hi : ℕ) (drift : ℤ) (c : Content) (v : VoterState) → (propose place t lo hi drift c v).voter.seq ≡ v.seq + 1
 unfolding propose propose_alone propose_among
-propose_seq place t lo hi c v = cond_both (eqb place.n 1) (propose_alone place t lo hi c v) (propose_among place t lo hi c v) (λ s. s.voter.seq ≡ v.seq + 1) (λ _. refl) (λ _. refl)
+propose_seq place t lo hi drift c v = cond_both (eqb place.n 1) (propose_alone place t lo hi drift c v) (propose_among place t lo hi drift c v) (λ s. s.voter.seq ≡ v.seq + 1) (λ _. refl) (λ _. refl)
