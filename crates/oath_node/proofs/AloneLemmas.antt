@@ -1,5 +1,5 @@
 -- A node of one answers a line as the reference server does.
-use Rattle.std.proofs.Common.{◌≡◌, ℕ, pos, zero, suc, ◌+◌, ◌-◌, ◌^◌, ◌<◌, ◌≤◌, Bool, true, false, List, [], ◌∷◌, length, get_or, set, map, Some, refl, sym, ap, ◌∙◌, subst, arith}
+use Rattle.std.proofs.Common.{◌≡◌, ℕ, ℤ, pos, zero, suc, ◌+◌, ◌-◌, ◌^◌, ◌<◌, ◌≤◌, Bool, true, false, List, [], ◌∷◌, length, get_or, set, map, Some, refl, sym, ap, ◌∙◌, subst, arith}
 use Rattle.std.specs.Prelude.{nat_lt}
 use Rattle.std.proofs.lemmas.Bool.{cond_both, eq-eqb, lt-ltb}
 use Rattle.std.proofs.lemmas.List.{map-set}
@@ -16,7 +16,7 @@ use Rattle.vote_wire.specs.Answer.{answer_bytes}
 use Rattle.vote_wire.specs.Request.{without_lf}
 use Rattle.vote_wire.specs.declared.answer.Answer.TheVariants.{Reply as ReplyAnswer}
 use Rattle.vote_wire.specs.declared.answer.Outcome.TheVariants.{Accepted}
-use Rattle.oath_node.specs.Alone.{IsAlone, ServesAlone, alone_place, floors_in, gates_in, gates_of}
+use Rattle.oath_node.specs.Alone.{IsAlone, ServesAlone, alone_place, drifts_in, floors_in, gates_in, gates_of}
 use Rattle.oath_node.specs.Grounds.{HasGrounds, IsSameStanding}
 use Rattle.oath_node.specs.Machine.{Client, Config, Made, NodeState, Owner, answers_to_decisions, content_with_failure, kept_with_all, gate_with_failure, made_by_event, made_by_proposal, made_by_ruling, made_by_vote, made_while_running, next_beginning, quiet_made, reply_with, ruling_at, standing_at, stopped_node}
 use Rattle.oath_node.specs.ReferenceServer.{Line, Server, results_of, ruling_of_line, service_by, service_of, standing_of}
@@ -40,10 +40,11 @@ same_state count x s h =
 
 -- ---- rows
 
--- a content has the floors of a server, and the gates of its results
+-- a content has the floors and the drifts of a server, and the gates of its results
 record IsContentOf (c : Content) (s : Server) : Type 0 where
   floors : floors_in c ≡ s.floors
   gates : gates_in c ≡ gates_of s.front.results
+  drifts : drifts_in c ≡ s.front.drifts
 
 set_same : {A : Type 0} (xs : List A) (i : ℕ) (d : A) → set xs i (get_or xs i d) ≡ xs
 set_same [] i d = refl
@@ -52,6 +53,9 @@ set_same (x ∷ xs) (suc i) d = ap (λ ys. x ∷ ys) (set_same xs i d)
 
 next_at : (c : Content) (token : ℕ) → get_or (floors_in c) token 0 ≡ (row c token).next
 next_at c token = get_or-map (λ (r : RowRecord). r.next) c.rows token no_row
+
+drift_at : (c : Content) (token : ℕ) → get_or (drifts_in c) token (pos 0) ≡ (row c token).drift
+drift_at c token = get_or-map (λ (r : RowRecord). r.drift) c.rows token no_row
 
 gate_at : (c : Content) (s : Server) (token : ℕ) → IsContentOf c s → (row c token).gate ≡ gate_after (results_of s token)
 gate_at c s token h =
@@ -71,17 +75,20 @@ wrong_content law c s l nonce token outcome h =
           ∙ ap (λ x. set (gates_of s.front.results) token (with_failure x l.moment)) (gate_at c s token h)
           ∙ ap (λ x. set (gates_of s.front.results) token x) (sym (law (results_of s token) l.moment))
           ∙ sym (map-set gate_after s.front.results token (Failed l.moment ∷ results_of s token));
+      drifts = map-set (λ (r : RowRecord). r.drift) c.rows token r ∙ ap (λ d. set (drifts_in c) token d) (sym (drift_at c token))
+          ∙ set_same (drifts_in c) token (pos 0) ∙ h.drifts;
     }
 
-fitting_content : (c : Content) (s : Server) (l : Line) (nonce : List ℕ) (seq turn token lo hi : ℕ) → IsContentOf c s
-    → IsContentOf (propose_alone alone_place token lo hi (pos 0) c (record { pending = []; seq = seq; turn = turn })).content (service_by s l (Fitting nonce token lo hi)).server
+fitting_content : (c : Content) (s : Server) (l : Line) (nonce : List ℕ) (seq turn token lo hi : ℕ) (drift : ℤ) → IsContentOf c s
+    → IsContentOf (propose_alone alone_place token lo hi drift c (record { pending = []; seq = seq; turn = turn })).content (service_by s l (Fitting nonce token lo hi drift)).server
 unfolding propose_alone
-fitting_content c s l nonce seq turn token lo hi h =
-    let r : RowRecord = accepted_row (pos 0) (granted_row (record { node = 1; boot = c.boot; seq = seq }) lo hi (row c token)) in
+fitting_content c s l nonce seq turn token lo hi drift h =
+    let r : RowRecord = accepted_row drift (granted_row (record { node = 1; boot = c.boot; seq = seq }) lo hi (row c token)) in
     record {
       floors = map-set (λ (r : RowRecord). r.next) c.rows token r ∙ ap (λ fs. set fs token (hi + 1)) h.floors;
       gates = map-set (λ (r : RowRecord). r.gate) c.rows token r ∙ ap (λ gs. set gs token clear_gate) h.gates
           ∙ sym (map-set gate_after s.front.results token (Passed ∷ results_of s token));
+      drifts = map-set (λ (r : RowRecord). r.drift) c.rows token r ∙ ap (λ ds. set ds token drift) h.drifts;
     }
 
 -- ---- a line
@@ -96,21 +103,21 @@ abbrev pub RunsOn : Made → Type 0
 RunsOn made = made.state.running ≡ true
 
 -- a proposal of a lone node is accepted at once, unless it finds no number
-fitting_alone : (count : ℕ) (c : Content) (seq turn : ℕ) (s : Server) (l : Line) (nonce : List ℕ) (token lo hi : ℕ) → IsContentOf c s → seq ≤ count
-    → RunsOn (made_by_proposal alone_place l.client (without_lf l.text) nonce token lo hi (lone c seq turn s.front.answers))
-    → ServesAlone count (made_by_proposal alone_place l.client (without_lf l.text) nonce token lo hi (lone c seq turn s.front.answers)) l (service_by s l (Fitting nonce token lo hi))
+fitting_alone : (count : ℕ) (c : Content) (seq turn : ℕ) (s : Server) (l : Line) (nonce : List ℕ) (token lo hi : ℕ) (drift : ℤ) → IsContentOf c s → seq ≤ count
+    → RunsOn (made_by_proposal alone_place l.client (without_lf l.text) nonce token lo hi drift (lone c seq turn s.front.answers))
+    → ServesAlone count (made_by_proposal alone_place l.client (without_lf l.text) nonce token lo hi drift (lone c seq turn s.front.answers)) l (service_by s l (Fitting nonce token lo hi drift))
 unfolding made_by_proposal propose propose_alone
-fitting_alone count c seq turn s l nonce token lo hi h begun =
+fitting_alone count c seq turn s l nonce token lo hi drift h begun =
     let x = lone c seq turn s.front.answers in
     let owner : Owner = record { seq = seq; client = l.client; line = without_lf l.text; nonce = nonce } in
-    let v = propose alone_place token lo hi (pos 0) c x.voter in
+    let v = propose alone_place token lo hi drift c x.voter in
     let pass = pass_of token lo hi c.boot seq in
     let text = answer_bytes (ReplyAnswer nonce (Accepted hi)) in
     let one : KeptAnswer = record { client = l.client; line = without_lf l.text; text = text } in
     let told : answers_to_decisions (owner ∷ []) (Some pass) v.decisions ≡ one ∷ [] = told_own owner pass in
-    let rows = fitting_content c s l nonce seq turn token lo hi h in
+    let rows = fitting_content c s l nonce seq turn token lo hi drift h in
     cond_both (nat_lt seq (2 ^ 62)) (made_by_vote (owner ∷ []) (Some (next_beginning alone_place token lo hi x)) v x) (quiet_made (stopped_node x))
-    (λ o. RunsOn o → ServesAlone count o l (service_by s l (Fitting nonce token lo hi)))
+    (λ o. RunsOn o → ServesAlone count o l (service_by s l (Fitting nonce token lo hi drift)))
     (λ _ on. record {
       sends = refl;
       replies = ap (λ ks. map reply_with ks) told;
@@ -122,6 +129,7 @@ fitting_alone count c seq turn s l nonce token lo hi h begun =
         answers = ap (λ ks. kept_with_all s.front.answers ks) told;
         floors = rows.floors;
         gates = rows.gates;
+        drifts = rows.drifts;
         begun = omega (arith, begun);
       };
     })
@@ -136,20 +144,20 @@ ruling_alone law book limits count c seq turn s l h begun Outside g on = record 
   sends = refl;
   replies = refl;
   pass = refl;
-  state = record { running = refl; pending = refl; owners = refl; answers = refl; floors = h.floors; gates = h.gates; begun = omega (arith, begun) };
+  state = record { running = refl; pending = refl; owners = refl; answers = refl; floors = h.floors; gates = h.gates; drifts = h.drifts; begun = omega (arith, begun) };
 }
 ruling_alone law book limits count c seq turn s l h begun (Again text) g on = record {
   sends = refl;
   replies = refl;
   pass = refl;
-  state = record { running = refl; pending = refl; owners = refl; answers = refl; floors = h.floors; gates = h.gates; begun = omega (arith, begun) };
+  state = record { running = refl; pending = refl; owners = refl; answers = refl; floors = h.floors; gates = h.gates; drifts = h.drifts; begun = omega (arith, begun) };
 }
 ruling_alone law book limits count c seq turn s l h begun Waiting g on = let never : false ≡ true = g in absurd cc
 ruling_alone law book limits count c seq turn s l h begun (Denied nonce outcome) g on = record {
   sends = refl;
   replies = refl;
   pass = refl;
-  state = record { running = refl; pending = refl; owners = refl; answers = refl; floors = h.floors; gates = h.gates; begun = omega (arith, begun) };
+  state = record { running = refl; pending = refl; owners = refl; answers = refl; floors = h.floors; gates = h.gates; drifts = h.drifts; begun = omega (arith, begun) };
 }
 ruling_alone law book limits count c seq turn s l h begun (Wrong nonce outcome token) g on =
     let rows = wrong_content law c s l nonce token outcome h in
@@ -157,10 +165,10 @@ ruling_alone law book limits count c seq turn s l h begun (Wrong nonce outcome t
       sends = refl;
       replies = refl;
       pass = refl;
-      state = record { running = refl; pending = refl; owners = refl; answers = refl; floors = rows.floors; gates = rows.gates; begun = omega (arith, begun) };
+      state = record { running = refl; pending = refl; owners = refl; answers = refl; floors = rows.floors; gates = rows.gates; drifts = rows.drifts; begun = omega (arith, begun) };
     }
-ruling_alone law book limits count c seq turn s l h begun (Fitting nonce token lo hi) g on =
-    fitting_alone count c seq turn s l nonce token lo hi h begun on
+ruling_alone law book limits count c seq turn s l h begun (Fitting nonce token lo hi drift) g on =
+    fitting_alone count c seq turn s l nonce token lo hi drift h begun on
 
 same_standing : (tokens : ℕ) (c : Content) (seq turn : ℕ) (s : Server) (l : Line) → IsContentOf c s
     → IsSameStanding tokens (standing_at (lone c seq turn s.front.answers) l.client l.moment (without_lf l.text)) (standing_of s l)
@@ -169,6 +177,7 @@ same_standing tokens c seq turn s l h = record {
   waiting = refl;
   full = refl;
   next = λ t _. sym (next_at c t) ∙ ap (λ fs. get_or fs t 0) h.floors;
+  drift = λ t _. sym (drift_at c t) ∙ ap (λ ds. get_or ds t (pos 0)) h.drifts;
   wait = λ t _. ap (λ (g : GateRecord). g.until - l.moment) (gate_at c s t h);
 }
 
@@ -179,7 +188,7 @@ pub line_alone : GateLaw → FitLaw → (config : Config) (count : ℕ) (x : Nod
 unfolding made_by_event made_while_running
 line_alone law fits config count x s l h =
     let y = lone x.content x.voter.seq x.voter.turn s.front.answers in
-    let rows : IsContentOf x.content s = record { floors = h.floors; gates = h.gates } in
+    let rows : IsContentOf x.content s = record { floors = h.floors; gates = h.gates; drifts = h.drifts } in
     let by_server = ruling_of_line config.book config.limits s l in
     let same : ruling_at config y l.client l.moment l.text ≡ by_server =
     ruling_same config.book config.limits (standing_at y l.client l.moment (without_lf l.text)) (standing_of s l) l.moment l.text
@@ -190,10 +199,10 @@ line_alone law fits config count x s l h =
     (ruling_grounds fits config.book config.limits (standing_of s l) l.moment l.text)))
 
 -- while numbers are left it goes on running
-fitting_runs : (c : Content) (seq turn : ℕ) (answers : List KeptAnswer) (client : ℕ) (line nonce : List ℕ) (token lo hi : ℕ) → seq < 2 ^ 62
-    → RunsOn (made_by_proposal alone_place client line nonce token lo hi (lone c seq turn answers))
+fitting_runs : (c : Content) (seq turn : ℕ) (answers : List KeptAnswer) (client : ℕ) (line nonce : List ℕ) (token lo hi : ℕ) (drift : ℤ) → seq < 2 ^ 62
+    → RunsOn (made_by_proposal alone_place client line nonce token lo hi drift (lone c seq turn answers))
 unfolding made_by_proposal
-fitting_runs c seq turn answers client line nonce token lo hi below = rw (lt-ltb seq (2 ^ 62) below) refl
+fitting_runs c seq turn answers client line nonce token lo hi drift below = rw (lt-ltb seq (2 ^ 62) below) refl
 
 ruling_runs : (c : Content) (seq turn : ℕ) (answers : List KeptAnswer) (client moment : ℕ) (line : List ℕ) (r : Ruling) → seq < 2 ^ 62
     → RunsOn (made_by_ruling alone_place client moment line r (lone c seq turn answers))
@@ -203,7 +212,7 @@ ruling_runs c seq turn answers client moment line (Again text) below = refl
 ruling_runs c seq turn answers client moment line Waiting below = refl
 ruling_runs c seq turn answers client moment line (Denied nonce outcome) below = refl
 ruling_runs c seq turn answers client moment line (Wrong nonce outcome token) below = refl
-ruling_runs c seq turn answers client moment line (Fitting nonce token lo hi) below = fitting_runs c seq turn answers client line nonce token lo hi below
+ruling_runs c seq turn answers client moment line (Fitting nonce token lo hi drift) below = fitting_runs c seq turn answers client line nonce token lo hi drift below
 
 pub line_runs : (config : Config) (count : ℕ) (x : NodeState) (s : Server) (l : Line) → IsAlone count x s → count < 2 ^ 62
     → RunsOn (made_by_event config alone_place (Client l.client l.moment l.text) x)

@@ -1,5 +1,5 @@
 -- How much one event sends and replies.
-use Rattle.std.proofs.Common.{◌≡◌, ℕ, ℤ, pos, zero, suc, ◌+◌, ◌*◌, ◌-◌, ◌^◌, ◌≤◌, Bool, true, false, cond, List, [], ◌∷◌, ◌++◌, length, map, Option, Some, None, refl, ap, ◌∙◌, inl, inr, arith, length-append}
+use Rattle.std.proofs.Common.{◌≡◌, ℕ, ℤ, zero, suc, ◌+◌, ◌*◌, ◌-◌, ◌^◌, ◌≤◌, Bool, true, false, cond, List, [], ◌∷◌, ◌++◌, length, map, Option, Some, None, refl, ap, ◌∙◌, inl, inr, arith, length-append}
 use Rattle.std.specs.Prelude.{◌==◌, filter, nat_le, nat_lt, not}
 use Rattle.std.specs.List.{flat_map}
 use Rattle.std.proofs.lemmas.Bool.{cond_both, cases_eq, eq-eqb}
@@ -138,15 +138,15 @@ vote_brief x owners began v h =
     flat_le _ 1 v.decisions (λ (d : ℕ × Decision). one_answer v.pass d (owner_with d.0 owners)) in
     omega (arith, h, fewer, length-map told reply_with)
 
-proposal_brief : (place : PlaceRecord) (client : ℕ) (line nonce : List ℕ) (t lo hi : ℕ) (x : NodeState) → IsPlace place
-    → IsBrief (made_by_proposal place client line nonce t lo hi x)
+proposal_brief : (place : PlaceRecord) (client : ℕ) (line nonce : List ℕ) (t lo hi : ℕ) (drift : ℤ) (x : NodeState) → IsPlace place
+    → IsBrief (made_by_proposal place client line nonce t lo hi drift x)
 unfolding made_by_proposal
-proposal_brief place client line nonce t lo hi x h =
+proposal_brief place client line nonce t lo hi drift x h =
     let owners = x.owners ++ next_owner client line nonce x ∷ [] in
     let began = Some (next_beginning place t lo hi x) in
-    let v = propose place t lo hi (pos 0) x.content x.voter in
+    let v = propose place t lo hi drift x.content x.voter in
     cond_both (nat_lt x.voter.seq (2 ^ 62)) (made_by_vote owners began v x) (quiet_made (stopped_node x)) IsBrief
-    (λ _. vote_brief x owners began v (propose_few place t lo hi (pos 0) x.content x.voter h))
+    (λ _. vote_brief x owners began v (propose_few place t lo hi drift x.content x.voter h))
     (λ _. omega arith)
 
 ruling_brief : (place : PlaceRecord) (client moment : ℕ) (line : List ℕ) (r : Ruling) (x : NodeState) → IsPlace place
@@ -157,7 +157,7 @@ ruling_brief place client moment line (Again text) x h = omega arith
 ruling_brief place client moment line Waiting x h = omega arith
 ruling_brief place client moment line (Denied nonce outcome) x h = omega arith
 ruling_brief place client moment line (Wrong nonce outcome token) x h = omega arith
-ruling_brief place client moment line (Fitting nonce token lo hi) x h = proposal_brief place client line nonce token lo hi x h
+ruling_brief place client moment line (Fitting nonce token lo hi drift) x h = proposal_brief place client line nonce token lo hi drift x h
 
 datagram_brief : (config : Config) (place : PlaceRecord) (from : ℕ) (read : Option Envelope) (x : NodeState) → IsBrief (made_by_datagram config place from read x)
 unfolding made_by_datagram

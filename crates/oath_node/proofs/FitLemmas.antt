@@ -1,12 +1,13 @@
 -- What the rules propose is a span, and free.
-use Rattle.std.proofs.Common.{◌≡◌, ℕ, ◌^◌, ◌≤◌, ◌<◌, false, Option, Some, None, refl, arith, List, ℤ, pos}
+use Rattle.std.proofs.Common.{◌≡◌, ℕ, ◌^◌, ◌≤◌, ◌<◌, false, Option, Some, None, refl, arith, List, ℤ}
 use Rattle.std.specs.Prelude.{◌==◌, nat_lt, slice_get}
-use Rattle.std.proofs.lemmas.Bool.{cond_both, lt-ltb, le-ltb}
+use Rattle.std.proofs.lemmas.Bool.{cond_both, lt-ltb, le-ltb, ne_eqb}
 use Rattle.otp_core.specs.Limits.{Limits}
 use Rattle.token_file.specs.Credential.{Credential, place_of}
 use Rattle.token_file.specs.declared.token.Kind.{Kind}
 use Rattle.token_file.specs.declared.token.Kind.TheVariants.{Event, Time30, Time60}
 use Rattle.admit_core.specs.Fit.{Submission, Check, Resync, Fits, least_fit, reach_of}
+use Rattle.admit_core.specs.Password.{PasswordFits}
 use Rattle.admit_core.specs.Window.{InWindow}
 use Rattle.floor_store.specs.Range.{IsSpan}
 use Rattle.oath_node.specs.Column.{column_fits}
@@ -14,6 +15,7 @@ use Rattle.oath_node.specs.Recording.{IfProposes}
 use Rattle.oath_node.specs.Rules.{Standing, fit_verdict, remaining_verdict, open_verdict, token_verdict, request_verdict}
 use Rattle.oath_node.specs.declared.rules.Verdict.{Verdict}
 use Rattle.oath_node.specs.declared.rules.Verdict.TheVariants.{BadLine, Refused, Fails, Proposes}
+use Rattle.oath_node.proofs.ColumnLemmas.{decides_column}
 use Rattle.oath_node.proofs.GroundLemmas.{FitLaw}
 use Rattle.vote_wire.specs.Request.{Request}
 use Rattle.vote_wire.specs.declared.answer.Outcome.TheVariants.{Exhausted, Password, Throttled}
@@ -31,42 +33,48 @@ span_of_fit : (c : Credential) (s : Submission) (lo hi : ℕ) → Fits c s lo hi
 span_of_fit c (Check code) lo hi h = record { ordered = omega (arith, h.0); short = omega (arith, h.0) }
 span_of_fit c (Resync first second) lo hi h = record { ordered = omega (arith, h.0); short = omega (arith, h.0) }
 
-fit_suits : FitLaw → (limits : Limits) (next moment : ℕ) (r : Request) (token : ℕ) (c : Credential)
-    → (fit : Option (ℕ × ℕ)) → least_fit c limits next (pos 0) moment r.submission ≡ fit → Suits token next (fit_verdict r token fit)
-fit_suits law limits next moment r token c None e = (tt, tt)
-fit_suits law limits next moment r token c (Some (lo, hi)) e =
-    let least = (law c limits next (pos 0) moment r.submission lo hi).0 e in
-    (span_of_fit c r.submission lo hi least.fits, (refl, free_of_window c.kind (reach_of limits r.submission) limits next (pos 0) moment lo least.first))
+fit_suits : FitLaw → (limits : Limits) (next : ℕ) (drift : ℤ) (moment : ℕ) (r : Request) (token : ℕ) (c : Credential)
+    → (fit : Option (ℕ × ℕ)) → least_fit c limits next drift moment r.submission ≡ fit → Suits token next (fit_verdict c.kind limits moment r token fit)
+fit_suits law limits next drift moment r token c None e = (tt, tt)
+fit_suits law limits next drift moment r token c (Some (lo, hi)) e =
+    let least = (law c limits next drift moment r.submission lo hi).0 e in
+    (span_of_fit c r.submission lo hi least.fits, (refl, free_of_window c.kind (reach_of limits r.submission) limits next drift moment lo least.first))
 
-remaining_suits : FitLaw → (limits : Limits) (next moment : ℕ) (r : Request) (token : ℕ) (c : Credential) → Suits token next (remaining_verdict limits next moment r token c)
-remaining_suits law limits next moment r token c =
-    cond_both (next == 2 ^ 62) (Refused r.nonce Exhausted) (fit_verdict r token (least_fit c limits next (pos 0) moment r.submission)) (Suits token next)
-    (λ _. (tt, tt)) (λ _. fit_suits law limits next moment r token c _ refl)
+remaining_suits : FitLaw → (limits : Limits) (next : ℕ) (drift : ℤ) (moment : ℕ) (r : Request) (token : ℕ) (c : Credential) → Suits token next (remaining_verdict limits next drift moment r token c)
+remaining_suits law limits next drift moment r token c =
+    cond_both (next == 2 ^ 62) (Refused r.nonce Exhausted) (fit_verdict c.kind limits moment r token (least_fit c limits next drift moment r.submission)) (Suits token next)
+    (λ _. (tt, tt)) (λ _. fit_suits law limits next drift moment r token c _ refl)
 
-open_suits : FitLaw → (limits : Limits) (next moment : ℕ) (r : Request) (token : ℕ) (c : Credential) → Suits token next (open_verdict limits next moment r token c)
-open_suits law limits next moment r token c =
-    cond_both (column_fits c.password r.password) (remaining_verdict limits next moment r token c) (Fails r.nonce Password token) (Suits token next)
-    (λ _. remaining_suits law limits next moment r token c) (λ _. (tt, tt))
+open_suits : FitLaw → (limits : Limits) (next : ℕ) (drift : ℤ) (moment : ℕ) (r : Request) (token : ℕ) (c : Credential) → Suits token next (open_verdict limits next drift moment r token c)
+open_suits law limits next drift moment r token c =
+    cond_both (column_fits c.password r.password) (remaining_verdict limits next drift moment r token c) (Fails r.nonce Password token) (Suits token next)
+    (λ _. remaining_suits law limits next drift moment r token c) (λ _. (tt, tt))
 
-pub token_suits : FitLaw → (limits : Limits) (next wait moment : ℕ) (r : Request) (token : ℕ) (c : Credential) → Suits token next (token_verdict limits next wait moment r token c)
-token_suits law limits next wait moment r token c =
-    cond_both (nat_lt 0 wait) (Refused r.nonce (Throttled wait)) (open_verdict limits next moment r token c) (Suits token next)
-    (λ _. (tt, tt)) (λ _. open_suits law limits next moment r token c)
+pub token_suits : FitLaw → (limits : Limits) (next : ℕ) (drift : ℤ) (wait moment : ℕ) (r : Request) (token : ℕ) (c : Credential) → Suits token next (token_verdict limits next drift wait moment r token c)
+token_suits law limits next drift wait moment r token c =
+    cond_both (nat_lt 0 wait) (Refused r.nonce (Throttled wait)) (open_verdict limits next drift moment r token c) (Suits token next)
+    (λ _. (tt, tt)) (λ _. open_suits law limits next drift moment r token c)
 
 -- a request at a moment in range, where there is room, for a user
 pub request_token : (book : List Credential) (limits : Limits) (s : Standing) (moment : ℕ) (r : Request) (token : ℕ) (c : Credential)
     → moment < 2 ^ 40 → s.is_full ≡ false → place_of r.user book ≡ Some token → slice_get book token ≡ Some c
-    → request_verdict book limits s moment r ≡ token_verdict limits (s.next token) (s.wait token) moment r token c
+    → request_verdict book limits s moment r ≡ token_verdict limits (s.next token) (s.drift token) (s.wait token) moment r token c
 request_token book limits s moment r token c below room place here =
     rw (lt-ltb moment (2 ^ 40) below, room, place, here) refl
 
-pub token_open : (limits : Limits) (next wait moment : ℕ) (r : Request) (token : ℕ) (c : Credential)
-    → wait ≤ 0 → token_verdict limits next wait moment r token c ≡ open_verdict limits next moment r token c
-token_open limits next wait moment r token c none = rw (le-ltb 0 wait none) refl
+pub token_open : (limits : Limits) (next : ℕ) (drift : ℤ) (wait moment : ℕ) (r : Request) (token : ℕ) (c : Credential)
+    → wait ≤ 0 → token_verdict limits next drift wait moment r token c ≡ open_verdict limits next drift moment r token c
+token_open limits next drift wait moment r token c none = rw (le-ltb 0 wait none) refl
+
+-- a password that fits, and a factor that is left
+pub open_fit : (limits : Limits) (next : ℕ) (drift : ℤ) (moment : ℕ) (r : Request) (token : ℕ) (c : Credential)
+    → PasswordFits c.password r.password → (next ≡ 2 ^ 62 → ⊥)
+    → open_verdict limits next drift moment r token c ≡ fit_verdict c.kind limits moment r token (least_fit c limits next drift moment r.submission)
+open_fit limits next drift moment r token c given left = rw ((decides_column c.password r.password).1 given, ne_eqb next (2 ^ 62) left) refl
 
 -- what holds of a proposal, if the verdict is one, holds for less
 pub proposes_less : (v : Verdict) (P Q : ℕ → ℕ → ℕ → Type 0) → ((t lo hi : ℕ) → P t lo hi → Q t lo hi) → IfProposes v P → IfProposes v Q
 proposes_less BadLine P Q f h = tt
 proposes_less (Refused nonce outcome) P Q f h = tt
 proposes_less (Fails nonce outcome t) P Q f h = tt
-proposes_less (Proposes nonce t lo hi) P Q f h = f t lo hi h
+proposes_less (Proposes nonce t lo hi drift) P Q f h = f t lo hi h

@@ -1,5 +1,5 @@
 -- What becomes of a line has its grounds.
-use Rattle.std.proofs.Common.{◌≡◌, ℕ, ◌^◌, ◌≤◌, Bool, false, cond, List, length, Option, Some, None, refl, ap, ◌∙◌, arith, ℤ, pos}
+use Rattle.std.proofs.Common.{◌≡◌, ℕ, ◌^◌, ◌≤◌, Bool, false, cond, List, length, Option, Some, None, refl, ap, ◌∙◌, arith, ℤ}
 use Rattle.std.specs.Prelude.{◌==◌, ◌↔◌, nat_lt, slice_get}
 use Rattle.std.proofs.lemmas.Bool.{cond_both, ltb-true, ltb-false}
 use Rattle.std.proofs.lemmas.Option.{slice_get_within}
@@ -48,11 +48,11 @@ span_of c (Resync first second) lo hi h = record { ordered = omega (arith, h.0);
 
 fit_grounds : FitLaw → (book : List Credential) (limits : Limits) (s : Standing) (moment : ℕ) (line : List ℕ) (r : Request) (token : ℕ) (c : Credential)
     → IsAdmissible book s moment line r token c → PasswordFits c.password r.password
-    → (fit : Option (ℕ × ℕ)) → least_fit c limits (s.next token) (pos 0) moment r.submission ≡ fit → HasGrounds book limits s moment line (verdict_ruling (fit_verdict r token fit))
+    → (fit : Option (ℕ × ℕ)) → least_fit c limits (s.next token) (s.drift token) moment r.submission ≡ fit → HasGrounds book limits s moment line (verdict_ruling (fit_verdict c.kind limits moment r token fit))
 fit_grounds law book limits s moment line r token c h password None e =
     record { refused = tt; within = slice_get_within book token c h.is_token; in_range = h.in_range; is_open = h.is_open }
 fit_grounds law book limits s moment line r token c h password (Some (lo, hi)) e =
-    let fit = (law c limits (s.next token) (pos 0) moment r.submission lo hi).0 e in
+    let fit = (law c limits (s.next token) (s.drift token) moment r.submission lo hi).0 e in
     record {
       room = h.room;
       within = slice_get_within book token c h.is_token;
@@ -66,23 +66,24 @@ fit_grounds law book limits s moment line r token c h password (Some (lo, hi)) e
       is_open = h.is_open;
       password = password;
       fit = fit;
-      free = free_of c.kind (reach_of limits r.submission) limits (s.next token) (pos 0) moment lo fit.first;
+      kept = refl;
+      free = free_of c.kind (reach_of limits r.submission) limits (s.next token) (s.drift token) moment lo fit.first;
       span = span_of c r.submission lo hi fit.fits;
     }
 
 remaining_grounds : FitLaw → (book : List Credential) (limits : Limits) (s : Standing) (moment : ℕ) (line : List ℕ) (r : Request) (token : ℕ) (c : Credential)
     → IsAdmissible book s moment line r token c → PasswordFits c.password r.password
-    → HasGrounds book limits s moment line (verdict_ruling (remaining_verdict limits (s.next token) moment r token c))
+    → HasGrounds book limits s moment line (verdict_ruling (remaining_verdict limits (s.next token) (s.drift token) moment r token c))
 remaining_grounds law book limits s moment line r token c h password =
-    cond_both (s.next token == 2 ^ 62) (Refused r.nonce Exhausted) (fit_verdict r token (least_fit c limits (s.next token) (pos 0) moment r.submission))
+    cond_both (s.next token == 2 ^ 62) (Refused r.nonce Exhausted) (fit_verdict c.kind limits moment r token (least_fit c limits (s.next token) (s.drift token) moment r.submission))
     (λ v. HasGrounds book limits s moment line (verdict_ruling v))
     (λ _. tt)
     (λ _. fit_grounds law book limits s moment line r token c h password _ refl)
 
 open_grounds : FitLaw → (book : List Credential) (limits : Limits) (s : Standing) (moment : ℕ) (line : List ℕ) (r : Request) (token : ℕ) (c : Credential)
-    → IsAdmissible book s moment line r token c → HasGrounds book limits s moment line (verdict_ruling (open_verdict limits (s.next token) moment r token c))
+    → IsAdmissible book s moment line r token c → HasGrounds book limits s moment line (verdict_ruling (open_verdict limits (s.next token) (s.drift token) moment r token c))
 open_grounds law book limits s moment line r token c h =
-    cond_both (column_fits c.password r.password) (remaining_verdict limits (s.next token) moment r token c) (Fails r.nonce Password token)
+    cond_both (column_fits c.password r.password) (remaining_verdict limits (s.next token) (s.drift token) moment r token c) (Fails r.nonce Password token)
     (λ v. HasGrounds book limits s moment line (verdict_ruling v))
     (λ fits. remaining_grounds law book limits s moment line r token c h ((decides_column c.password r.password).0 fits))
     (λ _. record { refused = tt; within = slice_get_within book token c h.is_token; in_range = h.in_range; is_open = h.is_open })
@@ -92,7 +93,7 @@ place_grounds : FitLaw → (book : List Credential) (limits : Limits) (s : Stand
     → (found : Option Credential) → slice_get book token ≡ found → HasGrounds book limits s moment line (verdict_ruling (place_verdict limits s moment r token found))
 place_grounds law book limits s moment line r token room in_range grammar place None e = tt
 place_grounds law book limits s moment line r token room in_range grammar place (Some c) e =
-    cond_both (nat_lt 0 (s.wait token)) (Refused r.nonce (Throttled (s.wait token))) (open_verdict limits (s.next token) moment r token c)
+    cond_both (nat_lt 0 (s.wait token)) (Refused r.nonce (Throttled (s.wait token))) (open_verdict limits (s.next token) (s.drift token) moment r token c)
     (λ v. HasGrounds book limits s moment line (verdict_ruling v))
     (λ _. tt)
     (λ now. open_grounds law book limits s moment line r token c (record {
@@ -147,8 +148,9 @@ same_place_verdict : (limits : Limits) (book : List Credential) (a b : Standing)
 same_place_verdict limits book a b moment r token h None e = refl
 same_place_verdict limits book a b moment r token h (Some c) e =
     let within = slice_get_within book token c e in
-    ap (λ (n : ℕ). token_verdict limits n (a.wait token) moment r token c) (h.next token within)
-    ∙ ap (λ (n : ℕ). token_verdict limits (b.next token) n moment r token c) (h.wait token within)
+    ap (λ (n : ℕ). token_verdict limits n (a.drift token) (a.wait token) moment r token c) (h.next token within)
+    ∙ ap (λ (d : ℤ). token_verdict limits (b.next token) d (a.wait token) moment r token c) (h.drift token within)
+    ∙ ap (λ (n : ℕ). token_verdict limits (b.next token) (b.drift token) n moment r token c) (h.wait token within)
 
 same_user_verdict : (book : List Credential) (limits : Limits) (a b : Standing) (moment : ℕ) (r : Request) (place : Option ℕ) → IsSameStanding (length book) a b
     → user_verdict book limits a moment r place ≡ user_verdict book limits b moment r place

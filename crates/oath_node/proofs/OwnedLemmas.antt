@@ -1,5 +1,5 @@
 -- After each event each line that waits still has a proposal of its own.
-use Rattle.std.proofs.Common.{◌≡◌, ℕ, ℤ, pos, ◌+◌, ◌-◌, ◌^◌, Bool, true, false, cond, List, [], ◌∷◌, ◌++◌, Option, Some, None, refl, sym, subst, ◌∙◌}
+use Rattle.std.proofs.Common.{◌≡◌, ℕ, ℤ, ◌+◌, ◌-◌, ◌^◌, Bool, true, false, cond, List, [], ◌∷◌, ◌++◌, Option, Some, None, refl, sym, subst, ◌∙◌}
 use Rattle.std.specs.Prelude.{◌==◌, nat_le, nat_lt}
 use Rattle.std.proofs.lemmas.Bool.{cond_both}
 use Rattle.floor_store.specs.Content.{Content}
@@ -61,16 +61,16 @@ vote_owned x owners began v h = record {
   pending = pending_filter v.voter.pending owners;
 }
 
-proposal_owned : (place : PlaceRecord) (client : ℕ) (line nonce : List ℕ) (t lo hi : ℕ) (x : NodeState) → IsOwned x → IsOwned (made_by_proposal place client line nonce t lo hi x).state
+proposal_owned : (place : PlaceRecord) (client : ℕ) (line nonce : List ℕ) (t lo hi : ℕ) (drift : ℤ) (x : NodeState) → IsOwned x → IsOwned (made_by_proposal place client line nonce t lo hi drift x).state
 unfolding made_by_proposal
-proposal_owned place client line nonce t lo hi x h =
+proposal_owned place client line nonce t lo hi drift x h =
     let owners = x.owners ++ next_owner client line nonce x ∷ [] in
     let began = Some (next_beginning place t lo hi x) in
-    let v = propose place t lo hi (pos 0) x.content x.voter in
+    let v = propose place t lo hi drift x.content x.voter in
     cond_both (nat_lt x.voter.seq (2 ^ 62)) (made_by_vote owners began v x) (quiet_made (stopped_node x))
     (λ (m : Made). IsOwned m.state)
     (λ _. vote_owned x owners began v
-    (subst (λ n. AreApart n owners) (propose_seq place t lo hi (pos 0) x.content x.voter) (apart_push x.voter.seq (next_owner client line nonce x) x.owners refl h.apart)))
+    (subst (λ n. AreApart n owners) (propose_seq place t lo hi drift x.content x.voter) (apart_push x.voter.seq (next_owner client line nonce x) x.owners refl h.apart)))
     (λ _. record { apart = h.apart; pending = h.pending })
 
 ruling_owned : (place : PlaceRecord) (client moment : ℕ) (line : List ℕ) (r : Ruling) (x : NodeState) → IsOwned x → IsOwned (made_by_ruling place client moment line r x).state
@@ -80,7 +80,7 @@ ruling_owned place client moment line (Again text) x h = h
 ruling_owned place client moment line Waiting x h = h
 ruling_owned place client moment line (Denied nonce outcome) x h = record { apart = h.apart; pending = h.pending }
 ruling_owned place client moment line (Wrong nonce outcome token) x h = record { apart = h.apart; pending = h.pending }
-ruling_owned place client moment line (Fitting nonce token lo hi) x h = proposal_owned place client line nonce token lo hi x h
+ruling_owned place client moment line (Fitting nonce token lo hi drift) x h = proposal_owned place client line nonce token lo hi drift x h
 
 datagram_owned : (config : Config) (place : PlaceRecord) (from : ℕ) (read : Option Envelope) (x : NodeState) → IsOwned x → IsOwned (made_by_datagram config place from read x).state
 unfolding made_by_datagram
@@ -131,7 +131,7 @@ ruling_stops place client moment line (Again text) x on off = absurd (let t = sy
 ruling_stops place client moment line Waiting x on off = absurd (let t = sym on ∙ off in cc)
 ruling_stops place client moment line (Denied nonce outcome) x on off = absurd (let t = sym on ∙ off in cc)
 ruling_stops place client moment line (Wrong nonce outcome token) x on off = absurd (let t = sym on ∙ off in cc)
-ruling_stops place client moment line (Fitting nonce token lo hi) x on off = tt
+ruling_stops place client moment line (Fitting nonce token lo hi drift) x on off = tt
 
 datagram_runs : (config : Config) (place : PlaceRecord) (from : ℕ) (read : Option Envelope) (x : NodeState)
     → (made_by_datagram config place from read x).state.running ≡ x.running

@@ -35,12 +35,13 @@ gate_alone c token gate =
       tokens = length-set c.rows token r;
       next = λ t. shared (λ (w : RowRecord). w.next) c.rows token t r no_row refl;
       grant = λ t. shared (λ (w : RowRecord). w.grant) c.rows token t r no_row refl;
+      drift = λ t. shared (λ (w : RowRecord). w.drift) c.rows token t r no_row refl;
       boot = refl;
       last = refl;
     }
 
 nothing_changes : (c : Content) → KeepsFloors c c
-nothing_changes c = record { tokens = refl; next = λ t. refl; grant = λ t. refl; boot = refl; last = refl }
+nothing_changes c = record { tokens = refl; next = λ t. refl; grant = λ t. refl; drift = λ t. refl; boot = refl; last = refl }
 
 ruling_keeps : (place : PlaceRecord) (client moment : ℕ) (line : List ℕ) (r : Ruling) (x : NodeState) → IsRefusal r
     → KeepsFloors x.content (made_by_ruling place client moment line r x).state.content
@@ -50,7 +51,7 @@ ruling_keeps place client moment line (Again text) x h = nothing_changes x.conte
 ruling_keeps place client moment line Waiting x h = nothing_changes x.content
 ruling_keeps place client moment line (Denied nonce outcome) x h = nothing_changes x.content
 ruling_keeps place client moment line (Wrong nonce outcome token) x h = gate_alone x.content token (gate_with_failure x.content token moment)
-ruling_keeps place client moment line (Fitting nonce token lo hi) x h = absurd h
+ruling_keeps place client moment line (Fitting nonce token lo hi drift) x h = absurd h
 
 ruling_gates : (place : PlaceRecord) (client moment : ℕ) (line : List ℕ) (r : Ruling) (token : ℕ) (x : NodeState) → IsRefusal r → SparesToken token r
     → (row (made_by_ruling place client moment line r x).state.content token).gate ≡ (row x.content token).gate
@@ -62,7 +63,7 @@ ruling_gates place client moment line (Denied nonce outcome) token x h n = refl
 ruling_gates place client moment line (Wrong nonce outcome failed) token x h n =
     ap (λ (w : RowRecord). w.gate)
     (elsewhere x.content.rows failed token (row_with_gate (gate_with_failure x.content failed moment) (row x.content failed)) no_row n)
-ruling_gates place client moment line (Fitting nonce t lo hi) token x h n = absurd h
+ruling_gates place client moment line (Fitting nonce t lo hi drift) token x h n = absurd h
 
 pub refused_keeps : (config : Config) (place : PlaceRecord) (x : NodeState) (client moment : ℕ) (text : List ℕ)
     → IsRefusal (ruling_at config x client moment text)

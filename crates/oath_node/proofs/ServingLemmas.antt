@@ -1,5 +1,5 @@
 -- A line leads from a state of the reference server to the next one.
-use Rattle.std.proofs.Common.{◌≡◌, ℕ, ◌+◌, ◌^◌, List, [], ◌∷◌, length, replicate, Option, Some, None, refl, sym, ap, subst, ◌∙◌, arith, ◌<◌, ◌≤◌, true, false}
+use Rattle.std.proofs.Common.{◌≡◌, ℕ, pos, ◌+◌, ◌^◌, List, [], ◌∷◌, length, replicate, Option, Some, None, refl, sym, ap, subst, ◌∙◌, arith, ◌<◌, ◌≤◌, true, false}
 use Rattle.std.specs.Prelude.{Result, Ok, Err, IsErrAnd}
 use Rattle.std.specs.Map.Iter.{TakesFirst}
 use Rattle.otp_core.specs.Limits.{Limits}
@@ -10,7 +10,7 @@ use Rattle.floor_store.specs.Held.{Held}
 use Rattle.floor_store.specs.declared.fault.StoreFault.{StoreFault}
 use Rattle.floor_store.specs.declared.fault.StoreFault.TheVariants as broken
 use Rattle.vote_core.specs.NodeSet.{PlaceRecord}
-use Rattle.oath_node.specs.Alone.{IsAlone, ServesAlone, alone_place, floors_in, gates_in, gates_of}
+use Rattle.oath_node.specs.Alone.{IsAlone, ServesAlone, alone_place, drifts_in, floors_in, gates_in, gates_of}
 use Rattle.oath_node.specs.Calls.{FailsBy, IsMade, IsRefused}
 use Rattle.oath_node.specs.Hosted.{Hosted, IsSameNode, config_of}
 use Rattle.oath_node.specs.Machine.{Client, Config, Made, NodeEvent, NodeState, made_by_event, opened_node}
@@ -82,6 +82,10 @@ gates_at_start : (floors : List ℕ) → gates_in (opening_content floors) ≡ g
 gates_at_start [] = refl
 gates_at_start (f ∷ fs) = ap (λ gates. clear_gate ∷ gates) (gates_at_start fs)
 
+drifts_at_start : (floors : List ℕ) → drifts_in (opening_content floors) ≡ replicate (length floors) (pos 0)
+drifts_at_start [] = refl
+drifts_at_start (f ∷ fs) = ap (λ drifts. pos 0 ∷ drifts) (drifts_at_start fs)
+
 pub alone_at_start : (floors : List ℕ) → IsAlone 0 (opened_node (opening_content floors)) (server_at floors)
 alone_at_start floors = record {
   running = refl;
@@ -90,6 +94,7 @@ alone_at_start floors = record {
   answers = refl;
   floors = floors_at_start floors;
   gates = gates_at_start floors;
+  drifts = drifts_at_start floors;
   begun = omega arith;
 }
 

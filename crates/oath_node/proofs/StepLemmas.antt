@@ -1,5 +1,5 @@
 -- A step of the voter, as a step of the machine; and a step of the parts by another name.
-use Rattle.std.proofs.Common.{◌≡◌, ℕ, ℤ, pos, ◌-◌, ◌^◌, ◌<◌, Bool, true, false, List, [], ◌∷◌, ◌++◌, map, Option, Some, None, inl, refl, sym, ap, subst, ◌∙◌, arith}
+use Rattle.std.proofs.Common.{◌≡◌, ℕ, ℤ, ◌-◌, ◌^◌, ◌<◌, Bool, true, false, List, [], ◌∷◌, ◌++◌, map, Option, Some, None, inl, refl, sym, ap, subst, ◌∙◌, arith}
 use Rattle.std.specs.Prelude.{◌==◌, ◌||◌, ◌⊎◌, nat_le, nat_lt, Result, Ok, Err, OnOk, OnErr}
 use Rattle.std.specs.List.{list_any}
 use Rattle.std.specs.Option.{option_map}
@@ -92,16 +92,16 @@ pub propose_begun : (place : PlaceRecord) (t lo hi : ℕ) (drift : ℤ) (c : Con
 unfolding propose propose_alone propose_among
 propose_begun place t lo hi drift c v = cond_both (place.n == 1) _ _ (λ (s : Voted). Some (proposal_of place c v) ≡ s.begun) (λ _. refl) (λ _. refl)
 
-pub proposal_below : (place : PlaceRecord) (client : ℕ) (line nonce : List ℕ) (t lo hi : ℕ) (x : NodeState) → x.voter.seq < 2 ^ 62
-    → made_by_proposal place client line nonce t lo hi x
-    ≡ made_by_vote (x.owners ++ next_owner client line nonce x ∷ []) (Some (next_beginning place t lo hi x)) (propose place t lo hi (pos 0) x.content x.voter) x
+pub proposal_below : (place : PlaceRecord) (client : ℕ) (line nonce : List ℕ) (t lo hi : ℕ) (drift : ℤ) (x : NodeState) → x.voter.seq < 2 ^ 62
+    → made_by_proposal place client line nonce t lo hi drift x
+    ≡ made_by_vote (x.owners ++ next_owner client line nonce x ∷ []) (Some (next_beginning place t lo hi x)) (propose place t lo hi drift x.content x.voter) x
 unfolding made_by_proposal
-proposal_below place client line nonce t lo hi x below = rw (lt-ltb x.voter.seq (2 ^ 62) below) refl
+proposal_below place client line nonce t lo hi drift x below = rw (lt-ltb x.voter.seq (2 ^ 62) below) refl
 
-pub proposal_spent : (place : PlaceRecord) (client : ℕ) (line nonce : List ℕ) (t lo hi : ℕ) (x : NodeState) → x.voter.seq ≡ 2 ^ 62
-    → made_by_proposal place client line nonce t lo hi x ≡ quiet_made (stopped_node x)
+pub proposal_spent : (place : PlaceRecord) (client : ℕ) (line nonce : List ℕ) (t lo hi : ℕ) (drift : ℤ) (x : NodeState) → x.voter.seq ≡ 2 ^ 62
+    → made_by_proposal place client line nonce t lo hi drift x ≡ quiet_made (stopped_node x)
 unfolding made_by_proposal
-proposal_spent place client line nonce t lo hi x end = rw (le-ltb x.voter.seq (2 ^ 62) (omega (arith, end))) refl
+proposal_spent place client line nonce t lo hi drift x end = rw (le-ltb x.voter.seq (2 ^ 62) (omega (arith, end))) refl
 
 -- ---- another name of the same step
 

@@ -1,5 +1,5 @@
 -- On what grounds the rules propose factors or count a failure, and what that makes of a server.
-use Rattle.std.proofs.Common.{◌≡◌, ℕ, zero, suc, ◌+◌, ◌*◌, ◌<◌, ◌≤◌, ⊎_elim, inr, List, [], ◌∷◌, length, get_or, set, Some, refl, sym, subst, arith, ℤ, pos}
+use Rattle.std.proofs.Common.{◌≡◌, ℕ, zero, suc, ◌+◌, ◌*◌, ◌<◌, ◌≤◌, ⊎_elim, inr, List, [], ◌∷◌, length, get_or, set, Some, refl, sym, subst, arith, ℤ}
 use Rattle.std.specs.Prelude.{slice_get}
 use Rattle.std.proofs.lemmas.Bool.{cases_eq}
 use Rattle.std.proofs.lemmas.List.{length-set, get_or-set_same, get_or-set_other}
@@ -8,24 +8,26 @@ use Rattle.otp_core.specs.Limits.{Limits}
 use Rattle.token_file.specs.Credential.{Credential}
 use Rattle.token_file.specs.declared.token.Kind.{Kind}
 use Rattle.token_file.specs.declared.token.Kind.TheVariants.{Event, Time30, Time60}
+use Rattle.admit_core.specs.Drift.{kept_drift}
 use Rattle.admit_core.specs.Entitled.{IsEntitled}
 use Rattle.admit_core.specs.Fit.{Submission, Check, Resync, Fits, reach_of}
 use Rattle.admit_core.specs.Throttle.{Result, Failed, Accepted, AreGated, IsOpenAfter, counted_failures, last_failure, wait_after}
 use Rattle.admit_core.specs.Window.{InWindow}
 use Rattle.oath_node.specs.Grounds.{HasGrounds as HasRulingGrounds}
-use Rattle.oath_node.specs.ReferenceServer.{Server, Line, floor_of, floors_after, results_of, ruling_of_line, service_by, standing_of}
+use Rattle.oath_node.specs.ReferenceServer.{Server, Line, drift_of, drifts_after, floor_of, floors_after, results_of, ruling_of_line, service_by, standing_of}
 use Rattle.vote_wire.specs.Request.{Request, IsLine}
 use Rattle.oath_node.specs.Rules.{Ruling, Outside, Again, Waiting, Denied, Wrong, Fitting}
 use Rattle.oath_node.proofs.GroundLemmas.{FitLaw, ruling_grounds}
 
 -- what a line meets whose factors are proposed
-pub record Grounds (book : List Credential) (limits : Limits) (s : Server) (l : Line) (token lo hi : ℕ) : Type 0 where
+pub record Grounds (book : List Credential) (limits : Limits) (s : Server) (l : Line) (token lo hi : ℕ) (drift : ℤ) : Type 0 where
   pub request : Request
   pub grammar : IsLine l.text request
   pub credential : Credential
   pub token_is : slice_get book token ≡ Some credential
   pub user : credential.name ≡ request.user
-  pub entitled : IsEntitled credential limits l.moment request.submission request.password (floor_of s token) (pos 0) (results_of s token) lo hi
+  pub entitled : IsEntitled credential limits l.moment request.submission request.password (floor_of s token) (drift_of s token) (results_of s token) lo hi
+  pub kept : drift ≡ kept_drift credential.kind limits l.moment hi
 
 -- a ruling that proposes factors has its grounds, and one that counts a failure comes while the token is open
 abbrev pub HasGrounds : List Credential → Limits → Server → Line → Ruling → Type 0
@@ -34,7 +36,7 @@ HasGrounds book limits s l (Again text) = Unit {0}
 HasGrounds book limits s l Waiting = Unit {0}
 HasGrounds book limits s l (Denied nonce outcome) = Unit {0}
 HasGrounds book limits s l (Wrong nonce outcome token) = IsOpenAfter (results_of s token) l.moment
-HasGrounds book limits s l (Fitting nonce token lo hi) = Grounds book limits s l token lo hi
+HasGrounds book limits s l (Fitting nonce token lo hi drift) = Grounds book limits s l token lo hi drift
 
 -- a token for which nobody has to wait is open
 no_wait : (results : List Result) (moment : ℕ) → wait_after results moment ≤ 0 → IsOpenAfter results moment
@@ -50,7 +52,7 @@ of_ruling book limits s l (Again text) g = tt
 of_ruling book limits s l Waiting g = tt
 of_ruling book limits s l (Denied nonce outcome) g = tt
 of_ruling book limits s l (Wrong nonce outcome token) g = no_wait (results_of s token) l.moment g.is_open
-of_ruling book limits s l (Fitting nonce token lo hi) g = record {
+of_ruling book limits s l (Fitting nonce token lo hi drift) g = record {
   request = g.request;
   grammar = g.grammar;
   credential = g.credential;
@@ -62,6 +64,7 @@ of_ruling book limits s l (Fitting nonce token lo hi) g = record {
     is_open = no_wait (results_of s token) l.moment g.is_open;
     fit = g.fit;
   };
+  kept = g.kept;
 }
 
 pub line_grounds : FitLaw → (book : List Credential) (limits : Limits) (s : Server) (l : Line)
@@ -77,7 +80,15 @@ length-floors_after floors (Again text) = refl
 length-floors_after floors Waiting = refl
 length-floors_after floors (Denied nonce outcome) = refl
 length-floors_after floors (Wrong nonce outcome token) = refl
-length-floors_after floors (Fitting nonce token lo hi) = length-set floors token (hi + 1)
+length-floors_after floors (Fitting nonce token lo hi drift) = length-set floors token (hi + 1)
+
+pub length-drifts_after : (drifts : List ℤ) (v : Ruling) → length (drifts_after drifts v) ≡ length drifts
+length-drifts_after drifts Outside = refl
+length-drifts_after drifts (Again text) = refl
+length-drifts_after drifts Waiting = refl
+length-drifts_after drifts (Denied nonce outcome) = refl
+length-drifts_after drifts (Wrong nonce outcome token) = refl
+length-drifts_after drifts (Fitting nonce token lo hi drift) = length-set drifts token drift
 
 -- the window is free
 free_of_window : (kind : Kind) (reach : ℕ) (limits : Limits) (next : ℕ) (drift : ℤ) (moment m : ℕ) → InWindow kind reach limits next drift moment m → next ≤ m
@@ -89,20 +100,20 @@ ordered_of_fit : (c : Credential) (s : Submission) (lo hi : ℕ) → Fits c s lo
 ordered_of_fit c (Check code) lo hi h = omega (arith, h.0)
 ordered_of_fit c (Resync first second) lo hi h = omega (arith, h.0)
 
-pub free : (book : List Credential) (limits : Limits) (s : Server) (l : Line) (token lo hi : ℕ) → Grounds book limits s l token lo hi
+pub free : (book : List Credential) (limits : Limits) (s : Server) (l : Line) (token lo hi : ℕ) (drift : ℤ) → Grounds book limits s l token lo hi drift
     → floor_of s token ≤ lo
-free book limits s l token lo hi g =
-    free_of_window g.credential.kind (reach_of limits g.request.submission) limits (floor_of s token) (pos 0) l.moment lo g.entitled.fit.first
+free book limits s l token lo hi drift g =
+    free_of_window g.credential.kind (reach_of limits g.request.submission) limits (floor_of s token) (drift_of s token) l.moment lo g.entitled.fit.first
 
-pub ordered : (book : List Credential) (limits : Limits) (s : Server) (l : Line) (token lo hi : ℕ) → Grounds book limits s l token lo hi
+pub ordered : (book : List Credential) (limits : Limits) (s : Server) (l : Line) (token lo hi : ℕ) (drift : ℤ) → Grounds book limits s l token lo hi drift
     → lo ≤ hi
-ordered book limits s l token lo hi g = ordered_of_fit g.credential g.request.submission lo hi g.entitled.fit.fits
+ordered book limits s l token lo hi drift g = ordered_of_fit g.credential g.request.submission lo hi g.entitled.fit.fits
 
 -- what is proposed is used up
-pub floor_of-proposed : (book : List Credential) (limits : Limits) (s : Server) (l : Line) (nonce : List ℕ) (token lo hi : ℕ)
-    → length s.floors ≡ length book → Grounds book limits s l token lo hi
-    → floor_of (service_by s l (Fitting nonce token lo hi)).server token ≡ hi + 1
-floor_of-proposed book limits s l nonce token lo hi sized g =
+pub floor_of-proposed : (book : List Credential) (limits : Limits) (s : Server) (l : Line) (nonce : List ℕ) (token lo hi : ℕ) (drift : ℤ)
+    → length s.floors ≡ length book → Grounds book limits s l token lo hi drift
+    → floor_of (service_by s l (Fitting nonce token lo hi drift)).server token ≡ hi + 1
+floor_of-proposed book limits s l nonce token lo hi drift sized g =
     let within : token < length book = slice_get_within book token g.credential g.token_is in
     get_or-set_same s.floors token (hi + 1) 0 (omega arith)
 
@@ -115,11 +126,11 @@ floor_rises book limits s l (Again text) sized g token = omega arith
 floor_rises book limits s l Waiting sized g token = omega arith
 floor_rises book limits s l (Denied nonce outcome) sized g token = omega arith
 floor_rises book limits s l (Wrong nonce outcome t) sized g token = omega arith
-floor_rises book limits s l (Fitting nonce t lo hi) sized g token =
-    let after = (service_by s l (Fitting nonce t lo hi)).server in
-    let used = floor_of-proposed book limits s l nonce t lo hi sized g in
-    let low = free book limits s l t lo hi g in
-    let up = ordered book limits s l t lo hi g in
+floor_rises book limits s l (Fitting nonce t lo hi drift) sized g token =
+    let after = (service_by s l (Fitting nonce t lo hi drift)).server in
+    let used = floor_of-proposed book limits s l nonce t lo hi drift sized g in
+    let low = free book limits s l t lo hi drift g in
+    let up = ordered book limits s l t lo hi drift g in
     let same : token ≡ t → floor_of s token ≤ floor_of after token = λ e.
     subst (λ (n : ℕ). floor_of s n ≤ floor_of after n) (sym e) (omega (arith, used, low, up)) in
     let other : (token ≡ t → ⊥) → floor_of s token ≤ floor_of after token = λ ne.
@@ -148,5 +159,5 @@ gates_kept book limits s l Waiting g h token = h token
 gates_kept book limits s l (Denied nonce outcome) g h token = h token
 gates_kept book limits s l (Wrong nonce outcome t) g h token =
     either AreGated s.front.results t token (Failed l.moment ∷ results_of s t) [] (g, h t) (h token)
-gates_kept book limits s l (Fitting nonce t lo hi) g h token =
+gates_kept book limits s l (Fitting nonce t lo hi drift) g h token =
     either AreGated s.front.results t token (Accepted ∷ results_of s t) [] (h t) (h token)

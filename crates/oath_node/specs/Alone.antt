@@ -1,5 +1,5 @@
 -- A node of one, beside the reference server.
-use Rattle.std.specs.Prelude.{◌≡◌, ℕ, ◌+◌, ◌≤◌, true, List, [], ◌∷◌, map}
+use Rattle.std.specs.Prelude.{◌≡◌, ℕ, ℤ, ◌+◌, ◌≤◌, true, List, [], ◌∷◌, map}
 use Rattle.std.specs.Option.{option_map}
 use Rattle.admit_core.specs.Gate.{GateRecord}
 use Rattle.admit_core.specs.Throttle.{Result, gate_after}
@@ -21,12 +21,17 @@ floors_in content = map (λ row. row.next) content.rows
 abbrev pub gates_in : Content → List GateRecord
 gates_in content = map (λ row. row.gate) content.rows
 
+-- the drift of each row
+abbrev pub drifts_in : Content → List ℤ
+drifts_in content = map (λ row. row.drift) content.rows
+
 -- the gates of the results of each token
 abbrev pub gates_of : List (List Result) → List GateRecord
 gates_of results = map gate_after results
 
 -- A node that runs is this state of the reference server: nothing waits, it keeps the server's answers, its rows have
--- the server's first free factors and the gates of its results, and it has begun no more proposals than this.
+-- the server's first free factors and drifts and the gates of its results, and it has begun no more proposals than
+-- this.
 pub record IsAlone (count : ℕ) (state : NodeState) (server : Server) : Type 0 where
   pub running : state.running ≡ true
   pub pending : state.voter.pending ≡ []
@@ -34,6 +39,7 @@ pub record IsAlone (count : ℕ) (state : NodeState) (server : Server) : Type 0 
   pub answers : state.answers ≡ server.front.answers
   pub floors : floors_in state.content ≡ server.floors
   pub gates : gates_in state.content ≡ gates_of server.front.results
+  pub drifts : drifts_in state.content ≡ server.front.drifts
   pub begun : state.voter.seq ≤ count
 
 -- the factors that a pass uses up

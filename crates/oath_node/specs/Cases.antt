@@ -1,22 +1,23 @@
 -- Worked steps of a node: what is seen of them, and the nodes that they start from. The codes are those of RFC 4226,
 -- Appendix D.
-use Rattle.std.specs.Prelude.{ℕ, Bool, true, List, [], ◌∷◌, map, replicate, Option, Some, None, codes}
+use Rattle.std.specs.Prelude.{ℕ, ℤ, pos, Bool, true, List, [], ◌∷◌, map, replicate, Option, Some, None, codes}
 use Rattle.floor_store.specs.Content.{Content}
 use Rattle.floor_store.specs.Records.{PassRecord, RowRecord}
 use Rattle.vote_core.specs.Cases.{BallotView, ballot, free_row, open_row, place, proposal, voter, voter_seen}
 use Rattle.vote_core.specs.declared.message.Message.{Message}
 use Rattle.vote_core.specs.declared.message.Message.TheVariants.{Deny, Grant}
-use Rattle.oath_node.specs.Examples.{narrow_limits, three_tokens}
+use Rattle.oath_node.specs.Examples.{drifting, narrow_limits, one_clock, three_tokens}
 use Rattle.oath_node.specs.Machine.{Beginning, Config, Made, NodeEvent, NodeState, Client, Peer, made_by_event}
 
 -- What is seen of a step: the replies by client, the messages by receiver, and of the state that is left the first free
--- factor and the failures of each token, the numbers of the proposals that wait and whose owners wait, the kept texts
--- and whether the node runs.
+-- factor, the failures and the drift of each token, the numbers of the proposals that wait and whose owners wait, the
+-- kept texts and whether the node runs.
 pub record StepView : Type 0 where
   pub replies : List (ℕ × List ℕ)
   pub sends : List (ℕ × Message)
   pub floors : List ℕ
   pub fails : List ℕ
+  pub drifts : List ℤ
   pub pending : List ℕ
   pub owners : List ℕ
   pub kept : List (List ℕ)
@@ -29,6 +30,7 @@ step_view made = record {
   sends = made.sends;
   floors = map (λ row. row.next) made.state.content.rows;
   fails = map (λ row. row.gate.fails) made.state.content.rows;
+  drifts = map (λ row. row.drift) made.state.content.rows;
   pending = map (λ ballot. ballot.seq) made.state.voter.pending;
   owners = map (λ owner. owner.seq) made.state.owners;
   kept = map (λ answer. answer.text) made.state.answers;
@@ -116,6 +118,7 @@ nothing_at_start = record {
   sends = [];
   floors = 0 ∷ 3 ∷ 4611686018427387904 ∷ [];
   fails = 0 ∷ 0 ∷ 0 ∷ [];
+  drifts = pos 0 ∷ pos 0 ∷ pos 0 ∷ [];
   pending = [];
   owners = [];
   kept = [];
@@ -146,3 +149,18 @@ told_of_asking text = record nothing_of_asking {
 -- what else is told of a step: the proposal that was begun, the pass, and the failure
 abbrev pub facts_of : Made → Option Beginning × Option PassRecord × Option (ℕ × ℕ)
 facts_of made = (made.began, made.pass, made.failed)
+
+-- ---- drifts
+
+-- a node with a token of 30 seconds, whose first free factor is 4, with this drift
+abbrev pub clock_node : ℤ → NodeState
+clock_node drift = record (idle_node 0) { content = content_with (record (free_row 4) { drift = drift } ∷ []) }
+
+-- The line with the code of step 4 in step 6: the drifts of the rows that it leaves at node 1 of so many, and those for
+-- which proposals wait.
+abbrev pub drifts_left : ℕ → ℤ → List ℤ × List ℤ
+drifts_left n drift =
+    let clock : Config = record { book = one_clock; limits = drifting 10 } in
+    let text = codes "CHECK a silver 338314 -" in
+    let left = (made_by_event clock (place 1 n) (Client 7 180 text) (clock_node drift)).state in
+    (map (λ row. row.drift) left.content.rows, map (λ ballot. ballot.drift) left.voter.pending)

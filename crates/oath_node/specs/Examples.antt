@@ -1,16 +1,16 @@
 -- Worked cases: what the rules make of lines, and what one server answers. The codes are those of RFC 4226,
 -- Appendix D.
-use Rattle.std.specs.Prelude.{ℕ, zero, suc, false, List, [], ◌∷◌, ◌++◌, map, None, codes}
+use Rattle.std.specs.Prelude.{ℕ, zero, suc, ℤ, pos, false, List, [], ◌∷◌, ◌++◌, map, None, codes}
 use Rattle.admit_core.specs.Throttle.{Result}
 use Rattle.hmac_core.specs.declared.hash.Hash.TheVariants.{Sha1}
 use Rattle.otp_core.specs.Limits.{Limits}
 use Rattle.otp_core.specs.declared.digits.Digits.TheVariants.{Six}
 use Rattle.token_file.specs.Credential.{Credential}
-use Rattle.token_file.specs.declared.token.Kind.TheVariants.{Event}
+use Rattle.token_file.specs.declared.token.Kind.TheVariants.{Event, Time30}
 use Rattle.token_file.specs.declared.token.Password.{Password}
 use Rattle.token_file.specs.declared.token.Password.TheVariants.{NoneAllowed, NotChecked, Equal}
 use Rattle.oath_node.specs.ReferenceServer.{Line, Server, server_after, server_at}
-use Rattle.oath_node.specs.Report.{IsJustified, LinePass, floor_before, report_of, results_before}
+use Rattle.oath_node.specs.Report.{IsJustified, LinePass, drift_after, floor_before, report_of, results_before}
 use Rattle.oath_node.specs.Rules.{Standing, verdict}
 use Rattle.oath_node.specs.declared.rules.Verdict.{Verdict}
 
@@ -51,6 +51,7 @@ standing_with next wait = record {
   is_waiting = false;
   is_full = false;
   next = by_token next 3 4611686018427387904;
+  drift = λ token. pos 0;
   wait = by_token wait 0 0;
 }
 
@@ -125,3 +126,39 @@ silver_before number = (
 -- whether a pass of that run is justified
 abbrev pub IsJustifiedInRun : LinePass → Type 0
 IsJustifiedInRun pass = IsJustified three_tokens narrowest_limits (0 ∷ 0 ∷ 0 ∷ []) lines_of_a_run pass
+
+-- ---- Drifts
+
+-- a token of 30 seconds
+abbrev pub one_clock : List Credential
+one_clock = record (token_of (codes "silver") NoneAllowed) { kind = Time30 } ∷ []
+
+-- a skew of 1, and this drift
+abbrev pub drifting : ℕ → Limits
+drifting steps = record { look_ahead = 1; skew = 1; range = 2; drift = steps }
+
+-- the code of the step before the present one, of two before, of three before, and of the present one
+abbrev pub lines_of_a_clock : List Line
+lines_of_a_clock =
+    line_at 120 (codes "CHECK 1 silver 969429 -") ∷ line_at 180 (codes "CHECK 2 silver 338314 -")
+    ∷ line_at 240 (codes "CHECK 3 silver 254676 -") ∷ line_at 270 (codes "CHECK 4 silver 520489 -") ∷ []
+
+-- what these lines are answered where so many steps may be drifted, and the drift that the server is left with
+abbrev pub outcome_of_clock : ℕ → List (List ℕ) × List ℤ
+outcome_of_clock steps = (
+  map (λ answer. answer.bytes) (report_of one_clock (drifting steps) (2 ∷ []) lines_of_a_clock).answers,
+  (server_after one_clock (drifting steps) (server_at (2 ∷ [])) lines_of_a_clock).front.drifts,
+)
+
+-- a pass of one factor
+abbrev pub pass_with : ℕ → ℕ → ℕ → LinePass
+pass_with began token factor = record { began = began; token = token; lo = factor; hi = factor }
+
+-- the drift of a token, which was 7, after these passes with those lines; the book is that token and the three of above
+abbrev pub drift_of_passes : ℕ → List LinePass → ℤ
+drift_of_passes token passes =
+    drift_after (one_clock ++ three_tokens) (drifting 3) lines_of_a_clock token (pos 7) passes
+
+-- whether a pass of that run is justified where up to ten steps may be drifted
+abbrev pub IsJustifiedByClock : LinePass → Type 0
+IsJustifiedByClock pass = IsJustified one_clock (drifting 10) (2 ∷ []) lines_of_a_clock pass

@@ -1,8 +1,9 @@
 -- On what grounds the rules decide: what a line meets whose factors are proposed, and what one that fails.
-use Rattle.std.specs.Prelude.{◌≡◌, ℕ, ◌<◌, ◌≤◌, true, false, List, length, Some, slice_get, pos}
+use Rattle.std.specs.Prelude.{◌≡◌, ℕ, ℤ, ◌<◌, ◌≤◌, true, false, List, length, Some, slice_get}
 use Rattle.otp_core.specs.Limits.{Limits}
 use Rattle.otp_core.specs.Range.{IsMoment}
 use Rattle.token_file.specs.Credential.{Credential}
+use Rattle.admit_core.specs.Drift.{kept_drift}
 use Rattle.admit_core.specs.Fit.{IsLeastFit}
 use Rattle.admit_core.specs.Password.{PasswordFits}
 use Rattle.floor_store.specs.Range.{IsSpan}
@@ -26,9 +27,9 @@ IsRefusedBy Exhausted = Unit {0}
 
 -- A line whose factors lo to hi are proposed, with its nonce: there is room for it; it is in the line grammar, at a
 -- moment in range, for the user of a token that is open, with a password as its column says; and the factors are the
--- least in the window that fit.
+-- least in the window that fit, and the drift is what they keep by that moment.
 pub record IsFitting (book : List Credential) (limits : Limits) (standing : Standing) (moment : ℕ)
-    (line nonce : List ℕ) (token lo hi : ℕ) : Type 0 where
+    (line nonce : List ℕ) (token lo hi : ℕ) (drift : ℤ) : Type 0 where
   pub room : standing.is_full ≡ false
   pub within : token < length book
   pub request : Request
@@ -40,7 +41,8 @@ pub record IsFitting (book : List Credential) (limits : Limits) (standing : Stan
   pub in_range : IsMoment moment
   pub is_open : standing.wait token ≤ 0
   pub password : PasswordFits credential.password request.password
-  pub fit : IsLeastFit credential limits (standing.next token) (pos 0) moment request.submission lo hi
+  pub fit : IsLeastFit credential limits (standing.next token) (standing.drift token) moment request.submission lo hi
+  pub kept : drift ≡ kept_drift credential.kind limits moment hi
   pub free : standing.next token ≤ lo
   pub span : IsSpan lo hi
 
@@ -59,8 +61,8 @@ HasGrounds book limits standing moment line (Again text) = standing.kept ≡ Som
 HasGrounds book limits standing moment line Waiting = standing.is_waiting ≡ true
 HasGrounds book limits standing moment line (Denied nonce outcome) = IsRefusedBy outcome
 HasGrounds book limits standing moment line (Wrong nonce outcome token) = IsWrong book standing moment outcome token
-HasGrounds book limits standing moment line (Fitting nonce token lo hi) =
-    IsFitting book limits standing moment line nonce token lo hi
+HasGrounds book limits standing moment line (Fitting nonce token lo hi drift) =
+    IsFitting book limits standing moment line nonce token lo hi drift
 
 -- two standings that tell the rules the same of the tokens of a book
 pub record IsSameStanding (tokens : ℕ) (one other : Standing) : Type 0 where
@@ -68,4 +70,5 @@ pub record IsSameStanding (tokens : ℕ) (one other : Standing) : Type 0 where
   pub waiting : one.is_waiting ≡ other.is_waiting
   pub full : one.is_full ≡ other.is_full
   pub next : (token : ℕ) → token < tokens → one.next token ≡ other.next token
+  pub drift : (token : ℕ) → token < tokens → one.drift token ≡ other.drift token
   pub wait : (token : ℕ) → token < tokens → one.wait token ≡ other.wait token

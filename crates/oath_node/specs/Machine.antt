@@ -1,7 +1,7 @@
 -- The machine of a node. A client's line is answered by the rules. What the rules propose, and what comes from the
 -- other members, goes to the node's voter, whose three calls are made here. A datagram stands as the envelope that its
 -- bytes say, or as None where they are outside the peer format.
-use Rattle.std.specs.Prelude.{ℕ, pos, ◌-◌, ◌^◌, ◌==◌, ◌&&◌, nat_le, nat_lt, not, Bool, true, false, if◌then◌else◌, List, [], ◌∷◌, ◌++◌, length, map, filter, Option, Some, None}
+use Rattle.std.specs.Prelude.{ℕ, ℤ, ◌-◌, ◌^◌, ◌==◌, ◌&&◌, nat_le, nat_lt, not, Bool, true, false, if◌then◌else◌, List, [], ◌∷◌, ◌++◌, length, map, filter, Option, Some, None}
 use Rattle.std.specs.List.{flat_map, list_any}
 use Rattle.std.specs.Str.{bytes_eq}
 use Rattle.otp_core.specs.Limits.{Limits}
@@ -117,6 +117,7 @@ standing_at node client moment line = record {
   is_waiting = is_owned node.owners client line;
   is_full = nat_le 32 (length node.voter.pending);
   next = λ token. (row node.content token).next;
+  drift = λ token. (row node.content token).drift;
   wait = λ token. (row node.content token).gate.until - moment;
 }
 
@@ -214,11 +215,11 @@ next_beginning place token lo hi node =
 abbrev pub next_owner : ℕ → List ℕ → List ℕ → NodeState → Owner
 next_owner client line nonce node = record { seq = node.voter.seq; client = client; line = line; nonce = nonce }
 
--- the factors of the token are proposed for the line of a client; with no number left the node stops
-unfoldable pub made_by_proposal : PlaceRecord → ℕ → List ℕ → List ℕ → ℕ → ℕ → ℕ → NodeState → Made
-made_by_proposal place client line nonce token lo hi node =
+-- the factors of the token are proposed for the line of a client, and the drift; with no number left the node stops
+unfoldable pub made_by_proposal : PlaceRecord → ℕ → List ℕ → List ℕ → ℕ → ℕ → ℕ → ℤ → NodeState → Made
+made_by_proposal place client line nonce token lo hi drift node =
     let owners = node.owners ++ next_owner client line nonce node ∷ [] in
-    let voted = propose place token lo hi (pos 0) node.content node.voter in
+    let voted = propose place token lo hi drift node.content node.voter in
     if nat_lt node.voter.seq (2 ^ 62)
     then made_by_vote owners (Some (next_beginning place token lo hi node)) voted node
     else quiet_made (stopped_node node)
@@ -235,8 +236,8 @@ made_by_ruling place client moment line (Wrong nonce outcome token) node =
     let text = answer_bytes (ReplyAnswer nonce outcome) in
     reply_made client text (Some (token, moment))
     (node_with_answer client line text (node_with_failure token moment node))
-made_by_ruling place client moment line (Fitting nonce token lo hi) node =
-    made_by_proposal place client line nonce token lo hi node
+made_by_ruling place client moment line (Fitting nonce token lo hi drift) node =
+    made_by_proposal place client line nonce token lo hi drift node
 
 -- what a client's line makes of the node, as it came
 abbrev pub made_by_line : Config → PlaceRecord → ℕ → ℕ → List ℕ → NodeState → Made

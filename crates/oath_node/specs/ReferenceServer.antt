@@ -1,6 +1,6 @@
 -- One server with one first free factor for each token, which answers each line at once at a front end, and keeps its
 -- last answers there to give them again. Nothing is voted on, sent or waited for.
-use Rattle.std.specs.Prelude.{ℕ, ◌+◌, false, List, [], ◌∷◌, length, replicate, Option, Some, None, slice_index, slice_index_or, slice_set}
+use Rattle.std.specs.Prelude.{ℕ, ℤ, pos, ◌+◌, false, List, [], ◌∷◌, length, replicate, Option, Some, None, slice_index, slice_index_or, slice_set}
 use Rattle.otp_core.specs.Limits.{Limits}
 use Rattle.token_file.specs.Credential.{Credential}
 use Rattle.admit_core.specs.Throttle.{Result, Failed, Accepted as Passed, wait_after}
@@ -11,9 +11,10 @@ use Rattle.vote_wire.specs.declared.answer.Answer.TheVariants.{BadLine, Reply}
 use Rattle.vote_wire.specs.declared.answer.Outcome.TheVariants.{Accepted}
 use Rattle.oath_node.specs.Rules.{Standing, Ruling, Outside, Again, Waiting, Denied, Wrong, Fitting, ruling}
 
--- a front end: the results of each token there, the newest first, and the last answers
+-- a front end: the results of each token there, the newest first, its drift there, and the last answers
 pub record Front : Type 0 where
   pub results : List (List Result)
+  pub drifts : List ℤ
   pub answers : List KeptAnswer
 
 -- the first free factor of each token, which all front ends share, and the front end that answers;
@@ -22,10 +23,12 @@ pub record Server : Type 0 where
   pub floors : List ℕ
   pub front : Front
 
--- no token has a result yet, and no answer is kept
+-- no token has a result yet, or a drift, and no answer is kept
 abbrev pub server_at : List ℕ → Server
-server_at floors =
-    record { floors = floors; front = record { results = replicate (length floors) []; answers = [] } }
+server_at floors = record {
+  floors = floors;
+  front = record { results = replicate (length floors) []; drifts = replicate (length floors) (pos 0); answers = [] };
+}
 
 -- a client's line, and the moment at which it came
 pub record Line : Type 0 where
@@ -57,6 +60,10 @@ floor_of server token = slice_index server.floors token
 abbrev pub results_of : Server → ℕ → List Result
 results_of server token = slice_index_or server.front.results token []
 
+-- the drift of a token
+abbrev pub drift_of : Server → ℕ → ℤ
+drift_of server token = slice_index_or server.front.drifts token (pos 0)
+
 -- what the rules ask of the server: no line waits, and the wait is that of the results, by the throttle's definition
 abbrev pub standing_of : Server → Line → Standing
 standing_of server line = record {
@@ -64,6 +71,7 @@ standing_of server line = record {
   is_waiting = false;
   is_full = false;
   next = floor_of server;
+  drift = drift_of server;
   wait = λ token. wait_after (results_of server token) line.moment;
 }
 
@@ -79,7 +87,7 @@ told_by (Again text) = record { bytes = text; accepted = None }
 told_by Waiting = record { bytes = []; accepted = None }
 told_by (Denied nonce outcome) = record { bytes = answer_bytes (Reply nonce outcome); accepted = None }
 told_by (Wrong nonce outcome token) = record { bytes = answer_bytes (Reply nonce outcome); accepted = None }
-told_by (Fitting nonce token lo hi) = record {
+told_by (Fitting nonce token lo hi drift) = record {
   bytes = answer_bytes (Reply nonce (Accepted hi));
   accepted = Some (record { token = token; lo = lo; hi = hi });
 }
@@ -91,7 +99,7 @@ floors_after floors (Again text) = floors
 floors_after floors Waiting = floors
 floors_after floors (Denied nonce outcome) = floors
 floors_after floors (Wrong nonce outcome token) = floors
-floors_after floors (Fitting nonce token lo hi) = slice_set floors token (hi + 1)
+floors_after floors (Fitting nonce token lo hi drift) = slice_set floors token (hi + 1)
 
 -- with one result more for a token
 abbrev pub with_result : List (List Result) → ℕ → Result → List (List Result)
@@ -104,7 +112,16 @@ results_after results moment (Again text) = results
 results_after results moment Waiting = results
 results_after results moment (Denied nonce outcome) = results
 results_after results moment (Wrong nonce outcome token) = with_result results token (Failed moment)
-results_after results moment (Fitting nonce token lo hi) = with_result results token Passed
+results_after results moment (Fitting nonce token lo hi drift) = with_result results token Passed
+
+-- an acceptance keeps its drift, and nothing else changes one
+abbrev pub drifts_after : List ℤ → Ruling → List ℤ
+drifts_after drifts Outside = drifts
+drifts_after drifts (Again text) = drifts
+drifts_after drifts Waiting = drifts
+drifts_after drifts (Denied nonce outcome) = drifts
+drifts_after drifts (Wrong nonce outcome token) = drifts
+drifts_after drifts (Fitting nonce token lo hi drift) = slice_set drifts token drift
 
 -- with one answer more, to a line, which is kept without an LF at its end
 abbrev pub with_answer_to : Line → List ℕ → List KeptAnswer → List KeptAnswer
@@ -119,7 +136,7 @@ answers_after answers line Waiting = answers
 answers_after answers line (Denied nonce outcome) = with_answer_to line (answer_bytes (Reply nonce outcome)) answers
 answers_after answers line (Wrong nonce outcome token) =
     with_answer_to line (answer_bytes (Reply nonce outcome)) answers
-answers_after answers line (Fitting nonce token lo hi) =
+answers_after answers line (Fitting nonce token lo hi drift) =
     with_answer_to line (answer_bytes (Reply nonce (Accepted hi))) answers
 
 -- what a ruling on a line leads to
@@ -129,6 +146,7 @@ service_by server line ruling = record {
     floors = floors_after server.floors ruling;
     front = record {
       results = results_after server.front.results line.moment ruling;
+      drifts = drifts_after server.front.drifts ruling;
       answers = answers_after server.front.answers line ruling;
     };
   };
@@ -148,4 +166,5 @@ server_after book limits server (line ∷ lines) =
 -- the server after a restart of its front end, which forgets the answers and nothing else
 abbrev pub restarted_server : Server → Server
 restarted_server server =
-    record { floors = server.floors; front = record { results = server.front.results; answers = [] } }
+    let old = server.front in
+    record { floors = server.floors; front = record { results = old.results; drifts = old.drifts; answers = [] } }

@@ -4,11 +4,12 @@ use Rattle.floor_store.specs.Content.{Content}
 use Rattle.vote_core.specs.Rows.{row}
 use Rattle.oath_node.specs.Rules.{Ruling, Outside, Again, Waiting, Denied, Wrong, Fitting}
 
--- each first free factor and each grant, the boot and the last pass are as they were
+-- each first free factor, each grant and each drift, the boot and the last pass are as they were
 pub record KeepsFloors (old new : Content) : Type 0 where
   pub tokens : length new.rows ≡ length old.rows
   pub next : (token : ℕ) → (row new token).next ≡ (row old token).next
   pub grant : (token : ℕ) → (row new token).grant ≡ (row old token).grant
+  pub drift : (token : ℕ) → (row new token).drift ≡ (row old token).drift
   pub boot : new.boot ≡ old.boot
   pub last : new.last ≡ old.last
 
@@ -19,7 +20,7 @@ IsRefusal (Again text) = Unit {0}
 IsRefusal Waiting = Unit {0}
 IsRefusal (Denied nonce outcome) = Unit {0}
 IsRefusal (Wrong nonce outcome token) = Unit {0}
-IsRefusal (Fitting nonce token lo hi) = ⊥
+IsRefusal (Fitting nonce token lo hi drift) = ⊥
 
 -- the token doesn't fail
 abbrev pub SparesToken : ℕ → Ruling → Type 0
@@ -28,4 +29,4 @@ SparesToken token (Again text) = Unit {0}
 SparesToken token Waiting = Unit {0}
 SparesToken token (Denied nonce outcome) = Unit {0}
 SparesToken token (Wrong nonce outcome failed) = token ≢ failed
-SparesToken token (Fitting nonce proposed lo hi) = Unit {0}
+SparesToken token (Fitting nonce proposed lo hi drift) = Unit {0}

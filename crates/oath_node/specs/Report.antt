@@ -1,9 +1,10 @@
 -- What the reference server tells of a run of lines: what it accepts, and each answer; and when an acceptance is
 -- entitled to be one.
-use Rattle.std.specs.Prelude.{◌≡◌, ℕ, ◌+◌, List, [], ◌∷◌, ◌++◌, map, take, Option, Some, None, slice_get, pos}
+use Rattle.std.specs.Prelude.{◌≡◌, ℕ, ℤ, pos, ◌+◌, ◌==◌, if◌then◌else◌, List, [], ◌∷◌, ◌++◌, map, take, Option, Some, None, slice_get}
 use Rattle.otp_core.specs.Acceptance.{Acceptance}
 use Rattle.otp_core.specs.Limits.{Limits}
 use Rattle.token_file.specs.Credential.{Credential}
+use Rattle.admit_core.specs.Drift.{kept_drift}
 use Rattle.admit_core.specs.Entitled.{IsEntitled}
 use Rattle.admit_core.specs.Throttle.{Result}
 use Rattle.oath_node.specs.ReferenceServer.{Server, Line, Span, Told, Service, floor_of, results_of, service_of, server_after, server_at}
@@ -81,6 +82,25 @@ floor_before book limits floors lines token number = floor_of (server_before boo
 abbrev pub results_before : List Credential → Limits → List ℕ → List Line → ℕ → ℕ → List Result
 results_before book limits floors lines token number = results_of (server_before book limits floors lines number) token
 
+-- the drift that an acceptance up to a factor keeps, by its token and its line
+abbrev pub drift_by : Limits → Option Credential → Option Line → ℕ → ℤ
+drift_by limits None line hi = pos 0
+drift_by limits (Some credential) None hi = pos 0
+drift_by limits (Some credential) (Some line) hi = kept_drift credential.kind limits line.moment hi
+
+-- the drift of a token after these passes, the oldest first, which was this one before: what the last of its own keeps
+abbrev pub drift_after : List Credential → Limits → List Line → ℕ → ℤ → List LinePass → ℤ
+drift_after book limits lines token drift [] = drift
+drift_after book limits lines token drift (pass ∷ passes) =
+    let kept = drift_by limits (slice_get book pass.token) (slice_get lines pass.began) pass.hi in
+    drift_after book limits lines token (if pass.token == token then kept else drift) passes
+
+-- The drift of a token before the line of a number, from the passes before it and their lines alone: what the last pass
+-- of the token keeps by the moment of its line, and 0 where there is none.
+abbrev pub drift_before : List Credential → Limits → List ℕ → List Line → ℕ → ℕ → ℤ
+drift_before book limits floors lines token number =
+    drift_after book limits lines token (pos 0) (report_of book limits floors (take number lines)).passes
+
 -- all results of a token in a run
 abbrev pub results_in : List Credential → Limits → List ℕ → List Line → ℕ → List Result
 results_in book limits floors lines token = results_of (server_after book limits (server_at floors) lines) token
@@ -88,7 +108,7 @@ results_in book limits floors lines token = results_of (server_after book limits
 -- The line with which a pass began is in the line grammar, for the user of the pass's token, and what it
 -- submits is entitled to the pass's factors: its moment is in range, its password is as the token's
 -- column says, the token is open at that moment by its results before that line, and the factors are the
--- least in the window that fit, for the token's first free factor before that line.
+-- least in the window that fit, for the token's first free factor and its drift before that line.
 pub record IsJustified (book : List Credential) (limits : Limits) (floors : List ℕ) (lines : List Line)
     (pass : LinePass) : Type 0 where
   pub line : Line
@@ -99,7 +119,8 @@ pub record IsJustified (book : List Credential) (limits : Limits) (floors : List
   pub token : slice_get book pass.token ≡ Some credential
   pub user : credential.name ≡ request.user
   pub entitled : IsEntitled credential limits line.moment request.submission request.password
-      (floor_before book limits floors lines pass.token pass.began) (pos 0)
+      (floor_before book limits floors lines pass.token pass.began)
+      (drift_before book limits floors lines pass.token pass.began)
       (results_before book limits floors lines pass.token pass.began) pass.lo pass.hi
 
 -- each pass of a list is

@@ -158,6 +158,7 @@ impl<S: FloorStore> Parts<S> {
         token: u32,
         lo: Factor,
         hi: Factor,
+        drift: Drift,
     ) -> Result<Outputs<'k>, NodeFault>
         requires store { IsStoreOf self.old.voter (S.held self.old.store) }
         requires room { length self.old.voter.ballots < 32 }
@@ -167,13 +168,10 @@ impl<S: FloorStore> Parts<S> {
         requires span { IsSpan lo hi }
         requires free { (S.held self.old.store).is_clean → (row (S.held self.old.store).content token).next ≤ lo }
         ensures { Steps S.held key.now self.old self.new
-            (made_by_proposal self.old.voter.place client line.now nonce token lo hi) result }
+            (made_by_proposal self.old.voter.place client line.now nonce token lo hi drift) result }
     {
         let seq = self.voter.next_seq();
-        match self
-            .voter
-            .propose(&mut self.store, token, lo, hi, Drift::default())
-        {
+        match self.voter.propose(&mut self.store, token, lo, hi, drift) {
             Ok(step) => {
                 self.owners.push(Owner {
                     seq,
@@ -232,7 +230,8 @@ impl<S: FloorStore> Parts<S> {
                 token,
                 lo,
                 hi,
-            } => self.propose(key, client, line, nonce, token.value(), lo, hi),
+                drift,
+            } => self.propose(key, client, line, nonce, token.value(), lo, hi, drift),
         }
     }
 

@@ -1,7 +1,7 @@
-ghost use Rattle.std.specs.Prelude.{◌≡◌, ◌<◌, ◌≤◌, ◌^◌, ◌∷◌, ◌++◌, [], ℕ, List, Some, None, codes, false, length, replicate, true};
+ghost use Rattle.std.specs.Prelude.{pos, negsuc, ◌≡◌, ◌<◌, ◌≤◌, ◌^◌, ◌∷◌, ◌++◌, [], ℕ, List, Some, None, codes, false, length, replicate, true};
 ghost use Rattle.token_file.specs.declared.token.Password.TheVariants.{Equal, NoneAllowed, NotChecked};
 ghost use Rattle.admit_core.specs.Throttle.{Accepted as Passed, Failed, SpacesFailures};
-ghost use Rattle.oath_node.specs.Cases.{asking_node, config, content_with, datagram, denial, facts_of, first_line, full_node, grant, idle_node, line, node_with_kept, nothing_at_start, nothing_of_asking, rows_at_start, step_alone, step_among, told_at_start, told_of_asking};
+ghost use Rattle.oath_node.specs.Cases.{asking_node, config, content_with, datagram, denial, drifts_left, facts_of, first_line, full_node, grant, idle_node, line, node_with_kept, nothing_at_start, nothing_of_asking, rows_at_start, step_alone, step_among, told_at_start, told_of_asking};
 ghost use Rattle.oath_node.specs.Alone.{IsAlone, ServesAlone, alone_place};
 ghost use Rattle.oath_node.specs.Column.{column_fits};
 ghost use Rattle.oath_node.specs.Grounds.{HasGrounds, IsSameStanding};
@@ -20,7 +20,7 @@ ghost use Rattle.vote_core.specs.Rows.{row};
 ghost use Rattle.vote_core.specs.State.{IsPlace};
 ghost use Rattle.vote_core.specs.Voting.{fresh_voter};
 ghost use Rattle.vote_core.specs.declared.message.Message.TheVariants.{Ask, Floor, Grant};
-ghost use Rattle.oath_node.specs.Examples.{IsJustifiedInRun, kept_in, lines_given_again, lines_of_a_run, outcome_of, server_of, silver_before, verdict_on};
+ghost use Rattle.oath_node.specs.Examples.{IsJustifiedByClock, IsJustifiedInRun, drift_of_passes, kept_in, lines_given_again, lines_of_a_run, outcome_of, outcome_of_clock, pass_with, server_of, silver_before, verdict_on};
 ghost use Rattle.vote_wire.specs.declared.answer.Outcome.TheVariants.{Clock, Exhausted, Invalid, Password, Throttled, Unknown};
 ghost use Rattle.oath_node.specs.declared.rules.Verdict.TheVariants.{BadLine, Fails, Proposes, Refused};
 
@@ -30,7 +30,8 @@ use admit_core::{failures_are_spaced, gate_keeps_throttle, least_fit_is_least};
 pub fn rules_are_worked()
     ensures bad_line { verdict_on 0 1 1099511627776 (codes "CHECK 1 lead 755224") ≡ BadLine }
     ensures clock { verdict_on 0 1 1099511627776 (codes "CHECK 1 lead 755224 -") ≡ Refused (codes "1") Clock }
-    ensures last_moment { verdict_on 0 0 1099511627775 (codes "CHECK 1 silver 755224 -") ≡ Proposes (codes "1") 0 0 0 }
+    ensures last_moment { verdict_on 0 0 1099511627775 (codes "CHECK 1 silver 755224 -")
+        ≡ Proposes (codes "1") 0 0 0 (pos 0) }
     ensures unknown { verdict_on 0 1 100 (codes "CHECK 1 lead 755224 -") ≡ Refused (codes "1") Unknown }
     ensures throttled { verdict_on 4611686018427387904 1 100 (codes "CHECK 1 silver 755224 pw")
         ≡ Refused (codes "1") (Throttled 1) }
@@ -44,13 +45,13 @@ pub fn rules_are_worked()
     ensures not_checked { verdict_on 0 0 100 (codes "CHECK 1 iron 755224 -") ≡ Refused (codes "1") Exhausted }
 
     // each token by its own first free factor, up to the look-ahead or the range
-    ensures first { verdict_on 0 0 100 (codes "CHECK 1 silver 755224 -") ≡ Proposes (codes "1") 0 0 0 }
-    ensures furthest { verdict_on 0 0 100 (codes "CHECK 1 silver 254676 -") ≡ Proposes (codes "1") 0 5 5 }
+    ensures first { verdict_on 0 0 100 (codes "CHECK 1 silver 755224 -") ≡ Proposes (codes "1") 0 0 0 (pos 0) }
+    ensures furthest { verdict_on 0 0 100 (codes "CHECK 1 silver 254676 -") ≡ Proposes (codes "1") 0 5 5 (pos 0) }
     ensures too_far { verdict_on 0 0 100 (codes "CHECK 1 silver 287922 -") ≡ Fails (codes "1") Invalid 0 }
-    ensures gold { verdict_on 0 1 100 (codes "CHECK 1 gold 969429 pw") ≡ Proposes (codes "1") 1 3 3 }
+    ensures gold { verdict_on 0 1 100 (codes "CHECK 1 gold 969429 pw") ≡ Proposes (codes "1") 1 3 3 (pos 0) }
     ensures used_up { verdict_on 0 1 100 (codes "CHECK 1 gold 359152 pw") ≡ Fails (codes "1") Invalid 1 }
     ensures two_codes { verdict_on 0 0 100 (codes "RESYNC 1 silver 399871 520489 -")
-        ≡ Proposes (codes "1") 0 8 9 }
+        ≡ Proposes (codes "1") 0 8 9 (pos 0) }
     ensures two_too_far { verdict_on 0 0 100 (codes "RESYNC 1 silver 520489 403154 -")
         ≡ Fails (codes "1") Invalid 0 }
 {}
@@ -98,8 +99,35 @@ pub fn answers_are_given_again()
         ∷ (7, codes "NO 2 THROTTLED 1") ∷ (7, codes "NO 3 INVALID") ∷ [] }
     ensures restarted { restarted_server (server_of lines_given_again) ≡ record {
       floors = 1 ∷ 0 ∷ 0 ∷ [];
-      front = record { results = (Failed 65 ∷ Failed 60 ∷ Passed ∷ []) ∷ [] ∷ [] ∷ []; answers = [] };
+      front = record {
+        results = (Failed 65 ∷ Failed 60 ∷ Passed ∷ []) ∷ [] ∷ [] ∷ [];
+        drifts = pos 0 ∷ pos 0 ∷ pos 0 ∷ [];
+        answers = [];
+      };
     } }
+{}
+
+/// A clock that falls behind, under settings that allow a drift of ten steps, of one and of none: what each line is
+/// answered, and the drift that is left. A restart keeps it, and it is what the last pass of the token keeps.
+pub fn drifts_are_worked()
+    ensures ten { outcome_of_clock 10
+        ≡ (codes "OK 1 3" ∷ codes "OK 2 4" ∷ codes "OK 3 5" ∷ codes "NO 4 INVALID" ∷ [], negsuc 2 ∷ []) }
+    ensures one { outcome_of_clock 1
+        ≡ (codes "OK 1 3" ∷ codes "OK 2 4" ∷ codes "NO 3 INVALID" ∷ codes "OK 4 9" ∷ [], pos 0 ∷ []) }
+    ensures none { outcome_of_clock 0
+        ≡ (codes "OK 1 3" ∷ codes "NO 2 INVALID" ∷ codes "NO 3 INVALID" ∷ codes "OK 4 9" ∷ [], pos 0 ∷ []) }
+    ensures restarted { (restarted_server (record {
+      floors = 4 ∷ [];
+      front = record { results = [] ∷ []; drifts = negsuc 2 ∷ []; answers = [] };
+    })).front.drifts ≡ negsuc 2 ∷ [] }
+    ensures no_pass { drift_of_passes 0 [] ≡ pos 7 }
+    ensures first_pass { drift_of_passes 0 (pass_with 0 0 3 ∷ []) ≡ negsuc 0 }
+    ensures last_pass { drift_of_passes 0 (pass_with 0 0 3 ∷ pass_with 1 0 4 ∷ []) ≡ negsuc 1 }
+    ensures far_pass { drift_of_passes 0 (pass_with 3 0 4 ∷ []) ≡ negsuc 2 }
+    ensures other_token { drift_of_passes 0 (pass_with 0 0 3 ∷ pass_with 1 1 4 ∷ []) ≡ negsuc 0 }
+    ensures event_token { drift_of_passes 1 (pass_with 0 1 3 ∷ []) ≡ pos 0 }
+    ensures no_line { drift_of_passes 0 (pass_with 9 0 3 ∷ []) ≡ pos 0 }
+    ensures no_token { drift_of_passes 9 (pass_with 0 9 3 ∷ []) ≡ pos 0 }
 {}
 
 /// Whatever lines the reference server answers, from these first free factors on, of which there is one for each
@@ -121,7 +149,8 @@ pub fn reference_server_is_safe()
 }
 
 /// What is said of an acceptance of that run can be broken: by another token, another factor, a line that is none or
-/// isn't there, one that came while the token was closed, and one with a factor that is used up.
+/// isn't there, one that came while the token was closed, and one with a factor that is used up; and of a time token by
+/// a factor that its drift puts outside the window.
 pub fn promises_can_be_broken()
     ensures token { IsJustifiedInRun (record { began = 2; token = 1; lo = 1; hi = 1 }) → ⊥ }
     ensures factor { IsJustifiedInRun (record { began = 2; token = 0; lo = 0; hi = 0 }) → ⊥ }
@@ -129,6 +158,7 @@ pub fn promises_can_be_broken()
     ensures no_line { IsJustifiedInRun (record { began = 8; token = 0; lo = 1; hi = 1 }) → ⊥ }
     ensures closed { IsJustifiedInRun (record { began = 1; token = 0; lo = 0; hi = 0 }) → ⊥ }
     ensures used_up { IsJustifiedInRun (record { began = 3; token = 0; lo = 1; hi = 1 }) → ⊥ }
+    ensures drifted { IsJustifiedByClock (pass_with 3 0 9) → ⊥ }
 {}
 
 /// What becomes of a line has its grounds, whoever answers it, and rests on the standing alone.
@@ -142,8 +172,8 @@ pub fn rulings_have_grounds()
     least_fit_is_least();
 }
 
-/// A line that is refused leaves each first free factor, each grant, the boot and the last pass as they were,
-/// and each gate but that of a token that fails.
+/// A line that is refused leaves each first free factor, each grant, each drift, the boot and the last pass as they
+/// were, and each gate but that of a token that fails.
 pub fn refused_lines_change_gates_alone()
     ensures floors { (config : Config) (place : PlaceRecord) (node : NodeState) (client moment : ℕ) (line : List ℕ)
         → IsRefusal (ruling_at config node client moment line)
@@ -200,7 +230,8 @@ pub fn events_are_worked()
         ≡ (Some (record { proposal = proposal 1 1 0; token = 0; lo = 0; hi = 0 }), Some (pass 0 0 0 1 0), None) }
 
     // Datagrams: what is heard, and what isn't.
-    ensures granted { step_among (datagram 2 2 1 grant) (asking_node 0 []) ≡ told_of_asking (codes "OK a 0") }
+    ensures granted { step_among (datagram 2 2 1 grant) (asking_node 0 [])
+        ≡ record (told_of_asking (codes "OK a 0")) { drifts = pos 3 ∷ pos 0 ∷ pos 0 ∷ [] } }
     ensures accepted { facts_of (made_by_event config (place 1 3) (datagram 2 2 1 grant) (asking_node 0 []))
         ≡ (None, Some (pass 0 0 0 1 0), None) }
     ensures denied { step_among (datagram 3 3 1 (denial 1)) (asking_node 0 (2 ∷ []))
@@ -219,6 +250,11 @@ pub fn events_are_worked()
     ensures no_member { step_among (datagram 4 4 1 grant) (asking_node 0 []) ≡ nothing_of_asking }
     ensures no_node { step_among (datagram 0 0 1 grant) (asking_node 0 []) ≡ nothing_of_asking }
     ensures no_token { step_among (datagram 2 2 1 (Floor 3 9)) (asking_node 0 []) ≡ nothing_of_asking }
+
+    // Drifts: the stored one moves the window, and that of the line is kept alone, or waits with the proposal.
+    ensures drifted_alone { drifts_left 1 (negsuc 0) ≡ (negsuc 1 ∷ [], []) }
+    ensures drifted_among { drifts_left 3 (negsuc 0) ≡ (negsuc 0 ∷ [], negsuc 1 ∷ []) }
+    ensures not_drifted { drifts_left 3 (pos 0) ≡ (pos 0 ∷ [], []) }
 
     // Ticks, and a stopped node.
     ensures late { step_among Tick (asking_node 7 []) ≡ record (told_of_asking (codes "NO a TIMEOUT")) {

@@ -531,3 +531,28 @@ fn stopped_by_its_store(rt: HostRuntime) -> Result<(), Fail> {
     );
     Ok(())
 }
+
+/// The drift of a token moves its window, and a restart keeps it.
+#[test]
+fn drift_survives_restart(rt: HostRuntime) -> Result<(), Fail> {
+    let users = b"HOTP/T30 silver - 3132333435363738393031323334353637383930";
+    let settings = settings()?.with_drift(10).ok_or("a drift")?;
+    let (book, _) = book_of(rt.alloc(), users)?;
+    let floors = [Next::new(0).ok_or("a first free factor")?];
+    let key = zeros()?;
+    let mut node = opened_alone(rt.alloc(), &book, settings, &key, &floors)?;
+    let rows: [(u64, &[u8], &[u8]); 2] = [
+        (120, b"CHECK 1 silver 969429 -", b"OK 1 3"),
+        (180, b"CHECK 2 silver 338314 -", b"OK 2 4"),
+    ];
+    for (moment, line, want) in rows {
+        assert_eq!(rt; reply_to(&mut node, 7, moment, line)?.as_slice(), want);
+        node.restart()?;
+    }
+    let store = node.close();
+    if store.tokens() == 0 {
+        return Err("no token".into());
+    }
+    assert_eq!(rt; store.row(0)?.drift().steps(), -2);
+    Ok(())
+}

@@ -9,7 +9,7 @@ ghost use Rattle.oath_node.specs.Recording.{IfProposes, IsRecordable, standing_i
 ghost use Rattle.oath_node.specs.Rules as spec;
 
 use admit_core::{
-    find_check, find_resync, least_fit_is_least, password_fits, resync_window, window,
+    drift_after, find_check, find_resync, least_fit_is_least, password_fits, resync_window, window,
 };
 use floor_store::{FloorStore, Row, StoreFault};
 use otp_core::{Drift, FACTORS_END, Factor, MOMENTS_END, Next, Settings};
@@ -25,12 +25,13 @@ pub(crate) enum Verdict {
     Refused(Nonce, Outcome),
     /// It is answered so, and a failure of the token.
     Fails(Nonce, Outcome, TokenId),
-    /// The factors `lo` to `hi` of the token fit.
+    /// The factors `lo` to `hi` of the token fit, and their acceptance keeps the drift.
     Proposes {
         nonce: Nonce,
         token: TokenId,
         lo: Factor,
         hi: Factor,
+        drift: Drift,
     },
 }
 
@@ -39,12 +40,13 @@ fn open_verdict(
     token: &Token,
     id: TokenId,
     next: Next,
+    drift: Drift,
     settings: Settings,
     moment: u64,
     request: Line<'_>,
 ) -> Verdict
     requires { IsMoment moment }
-    ensures value { result ≡ spec.open_verdict settings next moment request.entry id token.now }
+    ensures value { result ≡ spec.open_verdict settings next drift moment request.entry id token.now }
     ensures recordable { (tokens : ℕ) → id < tokens → IsRecordable tokens moment result }
 {
     if !password_fits(token, request.password()) {
@@ -53,13 +55,30 @@ fn open_verdict(
     if next.value() == FACTORS_END {
         return Verdict::Refused(request.to_nonce(), Outcome::Exhausted);
     }
-    let drift = Drift::default();
-    match find_fit(token, next, drift, settings, moment, request.codes()) {
+    let fit = find_fit(token, next, drift, settings, moment, request.codes());
+    fit_verdict(token, id, fit, settings, moment, request)
+}
+
+/// The factors that fit are proposed, for the drift by the moment of the line.
+fn fit_verdict(
+    token: &Token,
+    id: TokenId,
+    fit: Option<(Factor, Factor)>,
+    settings: Settings,
+    moment: u64,
+    request: Line<'_>,
+) -> Verdict
+    requires { IsMoment moment }
+    ensures value { result ≡ spec.fit_verdict token.now.kind settings moment request.entry id fit }
+    ensures recordable { (tokens : ℕ) → id < tokens → IsRecordable tokens moment result }
+{
+    match fit {
         Some((lo, hi)) => Verdict::Proposes {
             nonce: request.to_nonce(),
             token: id,
             lo,
             hi,
+            drift: drift_after(token, hi, moment, &settings),
         },
         None => Verdict::Fails(request.to_nonce(), Outcome::Invalid, id),
     }
@@ -119,7 +138,7 @@ fn token_verdict(
 ) -> Verdict
     requires { IsMoment moment }
     ensures value { result
-        ≡ spec.token_verdict settings row.next (row.gate.until - moment) moment request.entry id token.now }
+        ≡ spec.token_verdict settings row.next row.drift (row.gate.until - moment) moment request.entry id token.now }
     ensures recordable { (tokens : ℕ) → id < tokens → IsRecordable tokens moment result }
     ensures spanned { IfProposes result (λ token lo hi. IsSpan lo hi) }
     ensures free { IfProposes result (λ token lo hi. (token ≡ id) × (row.next ≤ lo)) }
@@ -129,7 +148,15 @@ fn token_verdict(
     if wait > 0 {
         return Verdict::Refused(request.to_nonce(), Outcome::Throttled(wait));
     }
-    open_verdict(token, id, row.next(), settings, moment, request)
+    open_verdict(
+        token,
+        id,
+        row.next(),
+        row.drift(),
+        settings,
+        moment,
+        request,
+    )
 }
 
 /// What the rules make of a request that no answer is kept for and that doesn't wait, by the rows of a store:

@@ -130,3 +130,15 @@ returns-clause-clock_before_busy c = refl
 pub returns-clause-busy_before_unknown : goal.returns-clause-busy_before_unknown
 unfolding made_by_event made_while_running made_by_ruling made_by_proposal made_by_datagram propose propose_alone propose_among on_message on_ask on_grant count_grant accept on_deny raise count_deny on_floor tick code_at digits sha1_steps.first_words sha1_steps.schedule sha1_steps.rounds sha1_steps.compress sha1_steps.hash_after sha1_steps.digest_bytes sha1_steps.sha1
 returns-clause-busy_before_unknown c = refl
+
+pub returns-clause-drifted_alone : goal.returns-clause-drifted_alone
+unfolding made_by_event made_while_running made_by_ruling made_by_proposal made_by_datagram propose propose_alone propose_among on_message on_ask on_grant count_grant accept on_deny raise count_deny on_floor tick code_at digits sha1_steps.first_words sha1_steps.schedule sha1_steps.rounds sha1_steps.compress sha1_steps.hash_after sha1_steps.digest_bytes sha1_steps.sha1
+returns-clause-drifted_alone c = refl
+
+pub returns-clause-drifted_among : goal.returns-clause-drifted_among
+unfolding made_by_event made_while_running made_by_ruling made_by_proposal made_by_datagram propose propose_alone propose_among on_message on_ask on_grant count_grant accept on_deny raise count_deny on_floor tick code_at digits sha1_steps.first_words sha1_steps.schedule sha1_steps.rounds sha1_steps.compress sha1_steps.hash_after sha1_steps.digest_bytes sha1_steps.sha1
+returns-clause-drifted_among c = refl
+
+pub returns-clause-not_drifted : goal.returns-clause-not_drifted
+unfolding made_by_event made_while_running made_by_ruling made_by_proposal made_by_datagram propose propose_alone propose_among on_message on_ask on_grant count_grant accept on_deny raise count_deny on_floor tick code_at digits sha1_steps.first_words sha1_steps.schedule sha1_steps.rounds sha1_steps.compress sha1_steps.hash_after sha1_steps.digest_bytes sha1_steps.sha1
+returns-clause-not_drifted c = refl

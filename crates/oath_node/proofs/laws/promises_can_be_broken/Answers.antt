@@ -1,14 +1,17 @@
 -- What the line says and what stood before it are computed, and differ.
-use Rattle.std.proofs.Common.{◌≡◌, ℕ, ◌≤◌, List, [], ◌∷◌, Some, None, ◌⊎◌, inl, inr, refl, arith, ap, sym, ◌∙◌, subst, pos}
+use Rattle.std.proofs.Common.{◌≡◌, ℕ, ◌≤◌, List, [], ◌∷◌, Some, None, ◌⊎◌, inl, inr, refl, arith, ap, sym, ◌∙◌, subst}
+use Rattle.std.specs.Fmt.{digits}
 use Rattle.std.specs.Prelude.{codes, slice_get, slice_index}
+use Rattle.std.proofs.lemmas.Int.{ints}
 use Rattle.admit_core.specs.Entitled.{IsEntitled}
-use Rattle.admit_core.specs.Fit.{Check, code_at}
+use Rattle.admit_core.specs.Fit.{Check, InWindowOf, code_at}
 use Rattle.hmac_core.specs.Unfolded.sha1_steps
 use Rattle.token_file.specs.Credential.{Credential}
+use Rattle.token_file.specs.declared.token.Kind.TheVariants.{Time30}
 use Rattle.token_file.specs.declared.token.Password.TheVariants.{Equal, NoneAllowed}
-use Rattle.oath_node.specs.Examples.{IsJustifiedInRun, line_at, lines_of_a_run, narrowest_limits, three_tokens, token_of}
+use Rattle.oath_node.specs.Examples.{IsJustifiedInRun, drifting, line_at, lines_of_a_clock, lines_of_a_run, narrowest_limits, one_clock, three_tokens, token_of}
 use Rattle.oath_node.specs.ReferenceServer.{Line, server_after}
-use Rattle.oath_node.specs.Report.{LinePass, floor_before, results_before}
+use Rattle.oath_node.specs.Report.{LinePass, drift_before, floor_before, report_from, results_before}
 use Rattle.vote_wire.specs.Request.{Request, request_at}
 use Rattle.vote_wire.proofs.RequestLemmas.{request_of_line}
 use Rattle.oath_node.proofs.laws.promises_can_be_broken.Goals as goal
@@ -33,16 +36,18 @@ credential_is pass credential j t = same_some j.credential credential (sym j.tok
 entitled : (pass : LinePass) (line : Line) (request : Request) (credential : Credential) (j : IsJustifiedInRun pass)
     → slice_get lines_of_a_run pass.began ≡ Some line → request_at line.text ≡ Some request → slice_get three_tokens pass.token ≡ Some credential
     → IsEntitled credential narrowest_limits line.moment request.submission request.password
-    (floor_before three_tokens narrowest_limits (0 ∷ 0 ∷ 0 ∷ []) lines_of_a_run pass.token pass.began) (pos 0)
+    (floor_before three_tokens narrowest_limits (0 ∷ 0 ∷ 0 ∷ []) lines_of_a_run pass.token pass.began)
+    (drift_before three_tokens narrowest_limits (0 ∷ 0 ∷ 0 ∷ []) lines_of_a_run pass.token pass.began)
     (results_before three_tokens narrowest_limits (0 ∷ 0 ∷ 0 ∷ []) lines_of_a_run pass.token pass.began) pass.lo pass.hi
 entitled pass line request credential j l r t =
     let next = floor_before three_tokens narrowest_limits (0 ∷ 0 ∷ 0 ∷ []) lines_of_a_run pass.token pass.began in
+    let drift = drift_before three_tokens narrowest_limits (0 ∷ 0 ∷ 0 ∷ []) lines_of_a_run pass.token pass.began in
     let results = results_before three_tokens narrowest_limits (0 ∷ 0 ∷ 0 ∷ []) lines_of_a_run pass.token pass.began in
-    let by_line = subst (λ (line : Line). IsEntitled j.credential narrowest_limits line.moment j.request.submission j.request.password next (pos 0) results pass.lo pass.hi)
+    let by_line = subst (λ (line : Line). IsEntitled j.credential narrowest_limits line.moment j.request.submission j.request.password next drift results pass.lo pass.hi)
     (same_some j.line line (sym j.began ∙ l)) j.entitled in
-    let by_request = subst (λ (request : Request). IsEntitled j.credential narrowest_limits line.moment request.submission request.password next (pos 0) results pass.lo pass.hi)
+    let by_request = subst (λ (request : Request). IsEntitled j.credential narrowest_limits line.moment request.submission request.password next drift results pass.lo pass.hi)
     (request_is pass line request j l r) by_line in
-    subst (λ (credential : Credential). IsEntitled credential narrowest_limits line.moment request.submission request.password next (pos 0) results pass.lo pass.hi)
+    subst (λ (credential : Credential). IsEntitled credential narrowest_limits line.moment request.submission request.password next drift results pass.lo pass.hi)
     (credential_is pass credential j t) by_request
 
 -- the token silver, and a CHECK for it
@@ -86,3 +91,14 @@ returns-clause-used_up c h =
     let e = entitled pass (line_at 106 (codes "CHECK d silver 287082 -")) (check (codes "d") (codes "287082")) silver h refl refl refl in
     let free : 2 ≤ 1 = e.fit.first.free in
     omega (arith, free)
+
+-- the request and the credential of the clock's last line
+pub returns-clause-drifted : goal.returns-clause-drifted
+unfolding code_at sha1_steps.first_words sha1_steps.schedule sha1_steps.rounds sha1_steps.compress sha1_steps.hash_after sha1_steps.digest_bytes sha1_steps.sha1 server_after report_from digits
+returns-clause-drifted c h =
+    let last : h.line ≡ line_at 270 (codes "CHECK 4 silver 520489 -") = same_some h.line _ (sym h.began ∙ refl) in
+    let clock : h.credential ≡ record silver { kind = Time30 } = same_some h.credential _ (sym h.token ∙ refl) in
+    let drift = drift_before one_clock (drifting 10) (2 ∷ []) lines_of_a_clock 0 3 in
+    let by_line = subst (λ (line : Line). InWindowOf h.credential (drifting 10) (floor_before one_clock (drifting 10) (2 ∷ []) lines_of_a_clock 0 3) drift line.moment h.request.submission 9) last h.entitled.fit.first in
+    let window = subst (λ (credential : Credential). InWindowOf credential (drifting 10) (floor_before one_clock (drifting 10) (2 ∷ []) lines_of_a_clock 0 3) drift 270 h.request.submission 9) clock by_line in
+    let e = window.near in omega (arith, ints)

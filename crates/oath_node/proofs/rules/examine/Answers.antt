@@ -15,7 +15,7 @@ returns-clause-value g c clean =
     let id = c.in-Some.id in
     let token = c.token.result.now in
     c.token_verdict.ensures.value
-    ∙ ap (λ (w : RowRecord). token_verdict c.args.settings w.next (w.gate.until - moment) moment r id token)
+    ∙ ap (λ (w : RowRecord). token_verdict c.args.settings w.next w.drift (w.gate.until - moment) moment r id token)
     (c.in-Ok.ensures.ok clean ∙ ap (λ (n : ℕ). row content n) c.value.ensures.value)
     ∙ sym (request_token c.args.book.now c.args.settings (standing_in content c.args.is_full moment) moment r id token
     (omega (arith, c.if-moment-ge-MOMENTS_END.false)) c.if-is_full.false

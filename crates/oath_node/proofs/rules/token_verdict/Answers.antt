@@ -1,4 +1,4 @@
-use Rattle.std.proofs.Common.{ℕ, ◌-◌, ◌≤◌, sym, ap, subst, ◌∙◌, arith}
+use Rattle.std.proofs.Common.{ℕ, ℤ, ◌-◌, ◌≤◌, sym, ap, subst, ◌∙◌, arith}
 use Rattle.admit_core.specs.Gate.{GateRecord}
 use Rattle.oath_node.specs.Rules.{open_verdict}
 use Rattle.oath_node.proofs.FitLemmas.{Suits, token_open, token_suits}
@@ -11,17 +11,18 @@ returns-clause-value c =
     let until = ap (λ (g : GateRecord). g.until) c.gate.ensures in
     let none : row.gate.until - moment ≤ 0 = omega (arith, c.wait-wait.ensures, until, c.if-wait-gt0.false) in
     c.open_verdict.ensures.value
-    ∙ ap (λ (n : ℕ). open_verdict c.args.settings n moment c.args.request c.args.id c.args.token.now) c.next.ensures
-    ∙ sym (token_open c.args.settings row.next (row.gate.until - moment) moment c.args.request c.args.id c.args.token.now none)
+    ∙ ap (λ (n : ℕ). open_verdict c.args.settings n c.drift.result moment c.args.request c.args.id c.args.token.now) c.next.ensures
+    ∙ ap (λ (d : ℤ). open_verdict c.args.settings row.next d moment c.args.request c.args.id c.args.token.now) c.drift.ensures
+    ∙ sym (token_open c.args.settings row.next row.drift (row.gate.until - moment) moment c.args.request c.args.id c.args.token.now none)
 
 pub returns-clause-spanned : goal.returns-clause-spanned
 returns-clause-spanned c =
     let row = c.args.row in
     (subst (Suits c.args.id row.next) (sym (returns-clause-value c))
-    (token_suits c.least_fit_is_least.ensures.some c.args.settings row.next (row.gate.until - c.args.moment) c.args.moment c.args.request c.args.id c.args.token.now)).0
+    (token_suits c.least_fit_is_least.ensures.some c.args.settings row.next row.drift (row.gate.until - c.args.moment) c.args.moment c.args.request c.args.id c.args.token.now)).0
 
 pub returns-clause-free : goal.returns-clause-free
 returns-clause-free c =
     let row = c.args.row in
     (subst (Suits c.args.id row.next) (sym (returns-clause-value c))
-    (token_suits c.least_fit_is_least.ensures.some c.args.settings row.next (row.gate.until - c.args.moment) c.args.moment c.args.request c.args.id c.args.token.now)).1
+    (token_suits c.least_fit_is_least.ensures.some c.args.settings row.next row.drift (row.gate.until - c.args.moment) c.args.moment c.args.request c.args.id c.args.token.now)).1
