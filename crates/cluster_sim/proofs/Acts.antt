@@ -1,5 +1,5 @@
 -- Each act is the vote that the refinement names.
-use Rattle.std.proofs.Common.{◌≡◌, ℕ, ℤ, pos, ◌+◌, ◌^◌, ◌<◌, Bool, true, false, cond, ◌&&◌, ◌||◌, ⊎_elim, List, [], ◌∷◌, ◌++◌, length, Option, Some, None, refl, sym, ap, ◌∙◌, subst, arith, eqb, leb, ltb}
+use Rattle.std.proofs.Common.{◌≡◌, ℕ, ℤ, ◌+◌, ◌^◌, ◌<◌, Bool, true, false, cond, ◌&&◌, ◌||◌, ⊎_elim, List, [], ◌∷◌, ◌++◌, length, Option, Some, None, refl, sym, ap, ◌∙◌, subst, arith, eqb, leb, ltb}
 use Rattle.std.specs.List.{slice_get}
 use Rattle.std.proofs.lemmas.Bool.{cond_both, cond-true, cond-false, eqb-true, eq-eqb, and_parts, and_from, and_left, and_right, lt-ltb, le-leb, leb-false, cases_eq}
 use Rattle.floor_store.specs.Range.{IsSpan}
@@ -26,7 +26,7 @@ down e i x moment (Again text) w h = refl
 down e i x moment Waiting w h = refl
 down e i x moment (Denied nonce outcome) w h = refl
 down e i x moment (Wrong nonce outcome token) w h = sym (cond-false (is_running w i) _ _ h)
-down e i x moment (Fitting nonce t lo hi) w h = sym (cond-false (may_begin w i t lo hi) _ _ (ap (λ b. b && (ltb t (length (w.nodes i).content.rows) && (leb (row (w.nodes i).content t).next lo && ((eqb hi lo || eqb hi (lo + 1)) && ltb (length (w.nodes i).voter.pending) 32)))) h))
+down e i x moment (Fitting nonce t lo hi drift) w h = sym (cond-false (may_begin w i t lo hi) _ _ (ap (λ b. b && (ltb t (length (w.nodes i).content.rows) && (leb (row (w.nodes i).content t).next lo && ((eqb hi lo || eqb hi (lo + 1)) && ltb (length (w.nodes i).voter.pending) 32)))) h))
 
 -- an event at a node: what it is where the node runs, and that it is nothing where it doesn't
 gated : (config : Config) (e i : ℕ) (x : NodeEvent) (w : World) (V : Cluster)
@@ -74,9 +74,9 @@ span_true lo hi h =
     or_right true = refl
     or_right false = refl
 
-fitting_may : (config : Config) (client moment : ℕ) (text line nonce : List ℕ) (i t lo hi : ℕ) (w : World) → Sized (length config.book) (cluster_of w) → is_running (cluster_of w) i ≡ true
-    → IsFitting config.book config.limits (standing_at (w.nodes i) client moment line) moment text nonce t lo hi → may_begin (cluster_of w) i t lo hi ≡ true
-fitting_may config client moment text line nonce i t lo hi w sized up h =
+fitting_may : (config : Config) (client moment : ℕ) (text line nonce : List ℕ) (i t lo hi : ℕ) (drift : ℤ) (w : World) → Sized (length config.book) (cluster_of w) → is_running (cluster_of w) i ≡ true
+    → IsFitting config.book config.limits (standing_at (w.nodes i) client moment line) moment text nonce t lo hi drift → may_begin (cluster_of w) i t lo hi ≡ true
+fitting_may config client moment text line nonce i t lo hi drift w sized up h =
     let x = w.nodes i in
     let a = ltb t (length x.content.rows) in
     let b = leb (row x.content t).next lo in
@@ -87,21 +87,21 @@ fitting_may config client moment text line nonce i t lo hi w sized up h =
     (and_from b (c && d) (le-leb (row x.content t).next lo h.free)
     (and_from c d (span_true lo hi h.span) (lt-ltb (length x.voter.pending) 32 (leb-false 32 (length x.voter.pending) h.room)))))
 
-proposes_same : (e i client : ℕ) (line nonce : List ℕ) (t lo hi : ℕ) (w : World) → (w.nodes i).running ≡ true → may_begin (cluster_of w) i t lo hi ≡ true
-    → cluster_of (world_with_made e i (made_by_proposal (place_at w i) client line nonce t lo hi (w.nodes i)) w) ≡ after_act e (Begin i t lo hi (pos 0)) (cluster_of w)
+proposes_same : (e i client : ℕ) (line nonce : List ℕ) (t lo hi : ℕ) (drift : ℤ) (w : World) → (w.nodes i).running ≡ true → may_begin (cluster_of w) i t lo hi ≡ true
+    → cluster_of (world_with_made e i (made_by_proposal (place_at w i) client line nonce t lo hi drift (w.nodes i)) w) ≡ after_act e (Begin i t lo hi drift) (cluster_of w)
 unfolding after_act made_by_proposal after_proposal
-proposes_same e i client line nonce t lo hi w running may =
+proposes_same e i client line nonce t lo hi drift w running may =
     let x = w.nodes i in
     let owner = next_owner client line nonce x in
     let owners = x.owners ++ owner ∷ [] in
-    let s = propose (place_of (cluster_of w) i) t lo hi (pos 0) x.content x.voter in
-    let goes = made_by_vote owners (Some (next_beginning (place_at w i) t lo hi x)) (propose (place_at w i) t lo hi (pos 0) x.content x.voter) x in
+    let s = propose (place_of (cluster_of w) i) t lo hi drift x.content x.voter in
+    let goes = made_by_vote owners (Some (next_beginning (place_at w i) t lo hi x)) (propose (place_at w i) t lo hi drift x.content x.voter) x in
     let vyes = cluster_after e i s (with_proposal_begun e i t lo hi (cluster_of w)) in
     let vno = with_member i (stopped_member (member_of x)) (cluster_of w) in
     let b = ltb x.voter.seq (2 ^ 62) in
     let step : cluster_of (world_with_made e i (cond b goes (quiet_made (stopped_node x))) w) ≡ cond b vyes vno =
     cond_both b goes (quiet_made (stopped_node x)) (λ o. cluster_of (world_with_made e i o w) ≡ cond b vyes vno)
-    (λ q. begun_after e i w owners t lo hi (pos 0) running ∙ sym (cond-true b vyes vno q))
+    (λ q. begun_after e i w owners t lo hi drift running ∙ sym (cond-true b vyes vno q))
     (λ q. halted_now e i w ∙ sym (cond-false b vyes vno q)) in
     step ∙ sym (cond-true (may_begin (cluster_of w) i t lo hi) (cond b vyes vno) (cluster_of w) may)
 
@@ -118,8 +118,8 @@ says_same config e i client moment text line w sized up running (Denied nonce ou
 says_same config e i client moment text line w sized up running (Wrong nonce outcome token) h =
     made_after e i (made_by_ruling (place_at w i) client moment line (Wrong nonce outcome token) (w.nodes i)) w running
     ∙ sym (cond-true (is_running (cluster_of w) i) (cluster_after e i (quiet_step (content_with_gate token (gate_with_failure (w.nodes i).content token moment) (w.nodes i).content) (w.nodes i).voter) (cluster_of w)) (cluster_of w) up)
-says_same config e i client moment text line w sized up running (Fitting nonce t lo hi) h =
-    proposes_same e i client line nonce t lo hi w running (fitting_may config client moment text line nonce i t lo hi w sized up h)
+says_same config e i client moment text line w sized up running (Fitting nonce t lo hi drift) h =
+    proposes_same e i client line nonce t lo hi drift w running (fitting_may config client moment text line nonce i t lo hi drift w sized up h)
 
 -- ---- a letter
 
@@ -228,7 +228,7 @@ line_node i x moment (Again text) w = refl
 line_node i x moment Waiting w = refl
 line_node i x moment (Denied nonce outcome) w = refl
 line_node i x moment (Wrong nonce outcome token) w = refl
-line_node i x moment (Fitting nonce t lo hi) w = refl
+line_node i x moment (Fitting nonce t lo hi drift) w = refl
 
 letter_node : (config : Config) (w : World) (i k : ℕ) (o : Option Envelope) → slice_get w.sent k ≡ o → vote_node (vote_on_datagram config w i k o) (cluster_of w) ≡ node_if_sent i o
 letter_node config w i k None at = ap receiver_of at

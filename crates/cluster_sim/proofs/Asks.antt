@@ -4,9 +4,10 @@ use Rattle.std.specs.List.{filter, slice_get}
 use Rattle.std.proofs.lemmas.Bool.{cond_both, cond-true, cond-false, ne_eqb, le-leb, and_from, and_parts, and_right, both_ways, cases_Bool}
 use Rattle.std.proofs.lemmas.List.{append-nil, append_assoc}
 use Rattle.cluster_sim.proofs.Sound.{AllSound, IsUnder, Lies, happens_sound, lies_row}
+use Rattle.cluster_sim.proofs.VoteDrifts.{same_drift}
 use Rattle.cluster_sim.proofs.Waves.{Stands, hands, is_heard_at, set_all, set_at, set_off, stands_more}
 use Rattle.cluster_sim.specs.Results.{results_in, results_with_failure, results_with_pass}
-use Rattle.cluster_sim.specs.Rounds.{AreUp, deliveries, is_between, is_live, next_at}
+use Rattle.cluster_sim.specs.Rounds.{AreUp, deliveries, drift_at, is_between, is_live, next_at}
 use Rattle.cluster_sim.specs.World.{Deliver, Happens, World, told_reply, world_after_event, world_after_events, world_with_made}
 use Rattle.floor_store.specs.Content.{Content, with_row}
 use Rattle.floor_store.specs.Records.{PassRecord, ProposalRecord, RowRecord}
@@ -32,7 +33,7 @@ abbrev pub Distinct : List ℕ → Type 0
 Distinct [] = Unit {0}
 Distinct (g ∷ gs) = Each (Differs g) gs × Distinct gs
 
--- ---- nothing told, kept or counted
+-- ---- nothing told, kept, counted or drifted
 
 pub record Silent (live : List ℕ) (w v : World) : Type 0 where
   pub n : v.n ≡ w.n
@@ -40,17 +41,18 @@ pub record Silent (live : List ℕ) (w v : World) : Type 0 where
   pub told : v.told ≡ w.told
   pub answers : (j : ℕ) → (v.nodes j).answers ≡ (w.nodes j).answers
   pub results : (j u : ℕ) → results_in v.history j u ≡ results_in w.history j u
+  pub drifts : (j u : ℕ) → drift_at v j u ≡ drift_at w j u
 
 pub silent_none : (live : List ℕ) (w : World) → AreUp live w → Silent live w w
-silent_none live w up = record { n = refl; up = up; told = refl; answers = λ j. refl; results = λ j u. refl }
+silent_none live w up = record { n = refl; up = up; told = refl; answers = λ j. refl; results = λ j u. refl; drifts = λ j u. refl }
 
 pub silent_then : (live : List ℕ) (w v z : World) → Silent live w v → Silent live v z → Silent live w z
-silent_then live w v z h k = record { n = k.n ∙ h.n; up = k.up; told = k.told ∙ h.told; answers = λ j. k.answers j ∙ h.answers j; results = λ j u. k.results j u ∙ h.results j u }
+silent_then live w v z h k = record { n = k.n ∙ h.n; up = k.up; told = k.told ∙ h.told; answers = λ j. k.answers j ∙ h.answers j; results = λ j u. k.results j u ∙ h.results j u; drifts = λ j u. k.drifts j u ∙ h.drifts j u }
 
 pub made_silent : (live : List ℕ) (e i : ℕ) (o : Made) (w : World) → AreUp live w → o.state.running ≡ true → o.state.answers ≡ (w.nodes i).answers → o.replies ≡ [] → o.pass ≡ None → o.failed ≡ None
-    → Silent live w (world_with_made e i o w)
+    → ((u : ℕ) → (row o.state.content u).drift ≡ drift_at w i u) → Silent live w (world_with_made e i o w)
 unfolding world_with_made
-made_silent live e i o w up running answers replies pass failed = record {
+made_silent live e i o w up running answers replies pass failed drifts = record {
   n = refl;
   up = λ m at. ((up m at).0, set_all (λ m y. is_live live m ≡ true → y.running ≡ true) i o.state w.nodes (λ _. running) (λ m at. (up m at).1) m at);
   told = ap (λ rs. w.told ++ map (told_reply e i) rs) replies ∙ append-nil w.told;
@@ -59,6 +61,7 @@ made_silent live e i o w up running answers replies pass failed = record {
       let rs = results_in w.history j u in
       cond_both (eqb j i) (results_with_failure u o.failed (results_with_pass u o.pass rs)) rs (λ l. l ≡ rs)
       (λ _. ap (λ f. results_with_failure u f (results_with_pass u o.pass rs)) failed ∙ ap (λ p. results_with_pass u p rs) pass) (λ _. refl);
+  drifts = λ j u. set_all (λ m y. (row y.content u).drift ≡ drift_at w m u) i o.state w.nodes (drifts u) (λ m. refl) j;
 }
 
 -- ---- one Ask
@@ -99,7 +102,7 @@ ask_made live tokens e i p t lo hi g w up here size known =
     let r = granted_row p lo hi (row x.content t) in
     let o = made_by_vote x.owners None (reply_step i (Grant p t lo hi) (with_row x.content t r None) x.voter) x in
     record {
-      silent = made_silent live e g o w up (up g here).1 refl refl refl refl;
+      silent = made_silent live e g o w up (up g here).1 refl refl refl refl (λ u. same_drift x.content t r None u refl);
       voters = λ j. set_all (λ m y. y.voter ≡ (w.nodes m).voter) g o.state w.nodes refl (λ m. refl) j;
       off = λ j ne. set_off g j o.state w.nodes ne;
       rest = λ j u ne. set_all (λ m y. (row y.content u).next ≡ next_at w m u) g o.state w.nodes (ap (λ (z : RowRecord). z.next) (row_off x.content t r None u ne)) (λ m. refl) j;

@@ -1,5 +1,5 @@
 -- The gate of each token at each node is the gate after its results there, and each failure came while the token was open.
-use Rattle.std.proofs.Common.{◌≡◌, ℕ, pos, zero, suc, ◌-◌, ◌^◌, ◌<◌, ◌≤◌, Bool, true, false, cond, List, [], ◌∷◌, ◌++◌, length, Option, Some, None, refl, sym, ap, ◌∙◌, subst, arith, eqb, ltb}
+use Rattle.std.proofs.Common.{◌≡◌, ℕ, zero, suc, ◌-◌, ◌^◌, ◌<◌, ◌≤◌, Bool, true, false, cond, List, [], ◌∷◌, ◌++◌, length, Option, Some, None, refl, sym, ap, ◌∙◌, subst, arith, eqb, ltb}
 use Rattle.std.proofs.lemmas.Bool.{cond_both, eqb-true}
 use Rattle.admit_core.specs.Gate.{GateRecord, clear_gate, with_failure}
 use Rattle.admit_core.specs.Throttle.{Result, Failed, Accepted, gate_after, IsOpenAfter, AreGated, SpacesFailures}
@@ -115,11 +115,11 @@ ruling_right law config rs place x client moment text line sized h (Wrong nonce 
   gates = wrong_gates law (length config.book) rs x token moment sized h;
   opened = wrong_opened law (length config.book) rs x token moment g.within h g.is_open;
 }
-ruling_right law config rs place x client moment text line sized h (Fitting nonce t lo hi) g =
-    let s = propose place t lo hi (pos 0) x.content x.voter in
+ruling_right law config rs place x client moment text line sized h (Fitting nonce t lo hi drift) g =
+    let s = propose place t lo hi drift x.content x.voter in
     let owner : Owner = record { seq = x.voter.seq; client = client; line = line; nonce = nonce } in
     cond_both (ltb x.voter.seq (2 ^ 62)) (made_by_vote (x.owners ++ owner ∷ []) (Some (next_beginning place t lo hi x)) s x) (quiet_made (stopped_node x)) (λ o. MadeRight (length config.book) rs o)
-    (λ _. voted_right law (length config.book) rs x (x.owners ++ owner ∷ []) (Some (next_beginning place t lo hi x)) s sized h (propose_gate place t lo hi (pos 0) x.content x.voter))
+    (λ _. voted_right law (length config.book) rs x (x.owners ++ owner ∷ []) (Some (next_beginning place t lo hi x)) s sized h (propose_gate place t lo hi drift x.content x.voter))
     (λ _. quiet_right _ rs (quiet_made (stopped_node x)) h refl refl)
 
 event_right : GroundLaw → GateLaw → (config : Config) (rs : ℕ → List Result) (place : PlaceRecord) (x : NodeState) → length x.content.rows ≡ length config.book → GatedAt (length config.book) rs x

@@ -178,7 +178,7 @@ pub record Late (live : List ℕ) (w v : World) : Type 0 where
 late_made : (live : List ℕ) (e i : ℕ) (x : NodeState) (w : World) → AreUp live w → x.running ≡ true → w.nodes i ≡ x → Late live w (world_with_made e i (still x) w)
 unfolding world_with_made
 late_made live e i x w up running is = record {
-  silent = made_silent live e i (still x) w up running (ap (λ (y : NodeState). y.answers) (sym is)) refl refl refl;
+  silent = made_silent live e i (still x) w up running (ap (λ (y : NodeState). y.answers) (sym is)) refl refl refl (λ u. ap (λ (y : NodeState). (row y.content u).drift) (sym is));
   nodes = λ j. set_all (λ m y. y ≡ w.nodes m) i x w.nodes (sym is) (λ m. refl) j;
   sent = append-nil w.sent;
 }
@@ -327,7 +327,7 @@ grant_wave config live i s t lo hi drift c sq turn client line nonce A (g ∷ gs
     λ less.
     let x1 = waiting c sq turn o A (asking s t lo hi drift (with_node g G)) in
     let same : v ≡ world_with_made e i (still x1) w = given ∙ ap (λ m. world_with_made e i m w) (counts (place_at w i) c i s g t lo hi drift sq turn client line nonce A G fresh_voter.0 less) in
-    let silent : Silent live w v = subst (λ y. Silent live w y) (sym same) (made_silent live e i (still x1) w up refl (ap (λ (y : NodeState). y.answers) (sym is)) refl refl refl) in
+    let silent : Silent live w v = subst (λ y. Silent live w y) (sym same) (made_silent live e i (still x1) w up refl (ap (λ (y : NodeState). y.answers) (sym is)) refl refl refl (λ u. ap (λ (y : NodeState). (row y.content u).drift) (sym is))) in
     let node : v.nodes i ≡ x1 = ap (λ y. y.nodes i) same ∙ heard_node e i x1 w in
     let off : (j : ℕ) → (j ≡ i → ⊥) → v.nodes j ≡ w.nodes j = λ j ne. ap (λ y. y.nodes j) same ∙ heard_off e i x1 w j ne in
     let sent : v.sent ≡ w.sent = ap (λ y. y.sent) same ∙ heard_sent e i x1 w in

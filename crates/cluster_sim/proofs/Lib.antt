@@ -13,6 +13,8 @@ pub mod Sizes
 pub mod Tells
 pub mod VoteGates
 pub mod VoteSteps
+mod VoteDrifts
+mod Drifted
 mod Starts
 mod Hosts
 mod Records

@@ -1,5 +1,5 @@
 -- One node alone answers as the server with one front end.
-use Rattle.std.proofs.Common.{◌≡◌, ℕ, ℤ, pos, zero, suc, ◌+◌, ◌-◌, ◌^◌, ◌<◌, ◌≤◌, ⊎_elim, List, [], ◌∷◌, ◌++◌, Bool, true, false, cond, length, get_or, map, Option, Some, None, refl, sym, ap, ◌∙◌, subst, arith, eqb, leb, ltb}
+use Rattle.std.proofs.Common.{◌≡◌, ℕ, ℤ, zero, suc, ◌+◌, ◌-◌, ◌^◌, ◌<◌, ◌≤◌, ⊎_elim, List, [], ◌∷◌, ◌++◌, Bool, true, false, cond, length, get_or, map, Option, Some, None, refl, sym, ap, ◌∙◌, subst, arith, eqb, leb, ltb}
 use Rattle.std.specs.List.{slice_get}
 use Rattle.std.proofs.lemmas.Bool.{cond_both, cond-true, eqb-true, eqb-false, eq-eqb, and_parts, leb-true, ltb-false, cases_lt}
 use Rattle.std.proofs.lemmas.List.{append_assoc}
@@ -20,7 +20,7 @@ use Rattle.vote_core.specs.Schedule.{content_with_gate}
 use Rattle.vote_wire.specs.Request.{without_lf}
 use Rattle.oath_node.specs.Rules.{Ruling, Outside, Again, Waiting, Denied, Wrong, Fitting}
 use Rattle.cluster_sim.specs.Answered.{ok_bytes}
-use Rattle.cluster_sim.specs.FrontEnds.{Server, Served, standing_of, server_with_front, server_with_used, front_with_answer, front_with_result, served_by_ruling, served_line, server_with_restarted}
+use Rattle.cluster_sim.specs.FrontEnds.{Server, Served, standing_of, server_with_front, server_with_used, front_with_answer, front_with_acceptance, front_with_result, served_by_ruling, served_line, server_with_restarted}
 use Rattle.cluster_sim.specs.SingleNode.{server_after_act, front_of, server_after_restart, server_after_event, told_answer, answers_to_act, answers_to_event, reference_answers, opening_server}
 use Rattle.cluster_sim.specs.World.{World, Told, Act, Says, Deliver, Ticks, Noise, WorldEvent, Happens, Cut, Restart, delivered_event, noise_event, place_at, with_state, told_reply, world_with_made, world_after_turn, world_after_act, node_if_sent, node_of, world_after_restart, with_told_of, world_after_event, world_after_events, opening_world, floor_at, report_of}
 use Rattle.cluster_sim.proofs.Acts.{noise_cases, unheard, unread}
@@ -42,6 +42,12 @@ gated_next c t g u =
     (λ (w : (u ≡ t) × (row (content_with_gate t g c) u ≡ row_with_gate g (row c t))). ap (λ (x : RowRecord). x.next) w.1 ∙ ap (λ m. (row c m).next) (sym w.0))
     (row_cases c t (row_with_gate g (row c t)) None u)
 
+pub gated_drift : (c : Content) (t : ℕ) (g : GateRecord) (u : ℕ) → (row (content_with_gate t g c) u).drift ≡ (row c u).drift
+gated_drift c t g u =
+    ⊎_elim (λ (e : row (content_with_gate t g c) u ≡ row c u). ap (λ (x : RowRecord). x.drift) e)
+    (λ (w : (u ≡ t) × (row (content_with_gate t g c) u ≡ row_with_gate g (row c t))). ap (λ (x : RowRecord). x.drift) w.1 ∙ ap (λ m. (row c m).drift) (sym w.0))
+    (row_cases c t (row_with_gate g (row c t)) None u)
+
 -- ---- the node, and what it is in the server
 
 abbrev place : PlaceRecord
@@ -51,11 +57,12 @@ place = record { me = 1; n = 1 }
 abbrev lone : Content → ℕ → ℕ → List KeptAnswer → NodeState
 lone c seq turn answers = record { content = c; voter = record { pending = []; seq = seq; turn = turn }; owners = []; answers = answers; running = true }
 
--- the rows have the floors, and the gates of the results; the boot and the number are bounded
+-- the rows have the floors, the gates of the results and the drifts; the boot and the number are bounded
 record Rows (tokens b q : ℕ) (c : Content) (seq : ℕ) (s : Server) : Type 0 where
   sized : length c.rows ≡ tokens
   floors : (t : ℕ) → t < tokens → (row c t).next ≡ s.floors t
   gates : (t : ℕ) → t < tokens → (row c t).gate ≡ gate_after ((s.fronts 1).results t)
+  drifts : (t : ℕ) → t < tokens → (row c t).drift ≡ (s.fronts 1).drifts t
   boot : c.boot ≤ b
   low : seq ≤ q
 
@@ -73,7 +80,7 @@ record LineAlike (tokens b q e client : ℕ) (o : Made) (t : Served) : Type 0 wh
   replies : map (told_reply e 1) o.replies ≡ told_answer e client t.reply
 
 one_more : (tokens b q : ℕ) (c : Content) (seq : ℕ) (s : Server) → Rows tokens b q c seq s → Rows tokens b (q + 1) c seq s
-one_more tokens b q c seq s h = record { sized = h.sized; floors = h.floors; gates = h.gates; boot = h.boot; low = omega (arith, h.low) }
+one_more tokens b q c seq s h = record { sized = h.sized; floors = h.floors; gates = h.gates; drifts = h.drifts; boot = h.boot; low = omega (arith, h.low) }
 
 wrong_alike : GateLaw → (tokens b q : ℕ) (c : Content) (seq turn : ℕ) (s : Server) (client moment : ℕ) (line text : List ℕ) (token : ℕ) → Rows tokens b q c seq s
     → Rows tokens b (q + 1) (content_with_gate token (gate_with_failure (lone c seq turn (s.fronts 1).answers).content token moment) c) seq (server_with_front 1 (front_with_answer client line text (front_with_result token (Failed moment) (s.fronts 1))) s)
@@ -93,6 +100,7 @@ wrong_alike law tokens b q c seq turn s client moment line text token h =
           here ∙ sym (cond-true (eqb token t) (gate_after (Failed moment ∷ rs t)) (gate_after (rs t)) e))
           (λ e. h.gates t lt ∙ sym (cond_false (eqb token t) (gate_after (Failed moment ∷ rs t)) (gate_after (rs t)) e))
           ∙ sym (push gate_after (eqb token t) (Failed moment ∷ rs t) (rs t));
+      drifts = λ t lt. gated_drift c token g t ∙ h.drifts t lt;
       boot = h.boot;
       low = omega (arith, h.low);
     }
@@ -102,7 +110,7 @@ wrong_alike law tokens b q c seq turn s client moment line text token h =
     cond_false false x y e = refl
 
 pass_alike : GateLaw → (tokens b q : ℕ) (c : Content) (seq : ℕ) (s : Server) (client : ℕ) (line text : List ℕ) (p : ProposalRecord) (token lo hi : ℕ) (drift : ℤ) (pass : PassRecord) → Rows tokens b q c seq s
-    → Rows tokens b (q + 1) (with_row c token (accepted_row drift (granted_row p lo hi (row c token))) (Some pass)) (seq + 1) (server_with_front 1 (front_with_answer client line text (front_with_result token Passed (s.fronts 1))) (server_with_used token hi s))
+    → Rows tokens b (q + 1) (with_row c token (accepted_row drift (granted_row p lo hi (row c token))) (Some pass)) (seq + 1) (server_with_front 1 (front_with_answer client line text (front_with_acceptance token drift (s.fronts 1))) (server_with_used token hi s))
 pass_alike law tokens b q c seq s client line text p token lo hi drift pass h =
     let r = accepted_row drift (granted_row p lo hi (row c token)) in
     let rs = (s.fronts 1).results in
@@ -115,23 +123,25 @@ pass_alike law tokens b q c seq s client line text p token lo hi drift pass h =
           ap (λ (x : RowRecord). x.gate) (at t lt) ∙ push (λ (x : RowRecord). x.gate) (eqb token t) r (row c t)
           ∙ ap (λ z. cond (eqb token t) clear_gate z) (h.gates t lt) ∙ ap (λ z. cond (eqb token t) z (gate_after (rs t))) (sym (law.accepted (rs t)))
           ∙ sym (push gate_after (eqb token t) (Passed ∷ rs t) (rs t));
+      drifts = λ t lt.
+          ap (λ (x : RowRecord). x.drift) (at t lt) ∙ push (λ (x : RowRecord). x.drift) (eqb token t) r (row c t) ∙ ap (λ z. cond (eqb token t) drift z) (h.drifts t lt);
       boot = h.boot;
       low = omega (arith, h.low);
     }
 
 -- a proposal of a lone node is accepted at once
-fitting_alike : GateLaw → (tokens b q e : ℕ) (c : Content) (seq turn : ℕ) (s : Server) (client : ℕ) (line nonce : List ℕ) (token lo hi : ℕ) → Rows tokens b q c seq s → seq < 2 ^ 62
-    → LineAlike tokens b (q + 1) e client (made_by_proposal place client line nonce token lo hi (lone c seq turn (s.fronts 1).answers))
-    (record { server = server_with_front 1 (front_with_answer client line (ok_bytes nonce hi) (front_with_result token Passed (s.fronts 1))) (server_with_used token hi s); reply = Some (ok_bytes nonce hi) })
+fitting_alike : GateLaw → (tokens b q e : ℕ) (c : Content) (seq turn : ℕ) (s : Server) (client : ℕ) (line nonce : List ℕ) (token lo hi : ℕ) (drift : ℤ) → Rows tokens b q c seq s → seq < 2 ^ 62
+    → LineAlike tokens b (q + 1) e client (made_by_proposal place client line nonce token lo hi drift (lone c seq turn (s.fronts 1).answers))
+    (record { server = server_with_front 1 (front_with_answer client line (ok_bytes nonce hi) (front_with_acceptance token drift (s.fronts 1))) (server_with_used token hi s); reply = Some (ok_bytes nonce hi) })
 unfolding made_by_proposal propose propose_alone
-fitting_alike law tokens b q e c seq turn s client line nonce token lo hi h below =
+fitting_alike law tokens b q e c seq turn s client line nonce token lo hi drift h below =
     let x = lone c seq turn (s.fronts 1).answers in
     let owner : Owner = record { seq = seq; client = client; line = line; nonce = nonce } in
-    let v = propose place token lo hi (pos 0) c x.voter in
+    let v = propose place token lo hi drift c x.voter in
     let pass = pass_of token lo hi c.boot seq in
     let one : KeptAnswer = record { client = client; line = line; text = ok_bytes nonce hi } in
     let told : answers_to_decisions (owner ∷ []) (Some pass) v.decisions ≡ one ∷ [] = told_own (owner ∷ []) pass owner (cond-true (eqb seq seq) (Some owner) None (eq-eqb seq seq refl)) in
-    let serves : Served = record { server = server_with_front 1 (front_with_answer client line (ok_bytes nonce hi) (front_with_result token Passed (s.fronts 1))) (server_with_used token hi s); reply = Some (ok_bytes nonce hi) } in
+    let serves : Served = record { server = server_with_front 1 (front_with_answer client line (ok_bytes nonce hi) (front_with_acceptance token drift (s.fronts 1))) (server_with_used token hi s); reply = Some (ok_bytes nonce hi) } in
     cond_both (ltb seq (2 ^ 62)) (made_by_vote (owner ∷ []) (Some (next_beginning place token lo hi x)) v x) (quiet_made (stopped_node x)) (λ o. LineAlike tokens b (q + 1) e client o serves)
     (λ _. record {
       alike = record {
@@ -139,7 +149,7 @@ fitting_alike law tokens b q e c seq turn s client line nonce token lo hi h belo
         seq = seq + 1;
         turn = turn;
         is = ap (λ l. lone v.content (seq + 1) turn (kept_with_all (s.fronts 1).answers l)) told;
-        rows = pass_alike law tokens b q c seq s client line (ok_bytes nonce hi) (proposal_of place c x.voter) token lo hi (pos 0) pass h;
+        rows = pass_alike law tokens b q c seq s client line (ok_bytes nonce hi) (proposal_of place c x.voter) token lo hi drift pass h;
       };
       sends = refl;
       replies = ap (λ l. map (told_reply e 1) (map reply_with l)) told;
@@ -161,7 +171,7 @@ ruling_alike law config b q e c seq turn s client moment line h below (Denied no
     seq = seq;
     turn = turn;
     is = refl;
-    rows = record { sized = h.sized; floors = h.floors; gates = h.gates; boot = h.boot; low = omega (arith, h.low) };
+    rows = record { sized = h.sized; floors = h.floors; gates = h.gates; drifts = h.drifts; boot = h.boot; low = omega (arith, h.low) };
   };
   sends = refl;
   replies = refl;
@@ -177,8 +187,8 @@ ruling_alike law config b q e c seq turn s client moment line h below (Wrong non
   sends = refl;
   replies = refl;
 }
-ruling_alike law config b q e c seq turn s client moment line h below (Fitting nonce token lo hi) =
-    fitting_alike law (length config.book) b q e c seq turn s client line nonce token lo hi h below
+ruling_alike law config b q e c seq turn s client moment line h below (Fitting nonce token lo hi drift) =
+    fitting_alike law (length config.book) b q e c seq turn s client line nonce token lo hi drift h below
 
 same_standing : GateLaw → (tokens b q : ℕ) (c : Content) (seq turn : ℕ) (s : Server) (client moment : ℕ) (line : List ℕ) → Rows tokens b q c seq s
     → IsSameStanding tokens (standing_at (lone c seq turn (s.fronts 1).answers) client moment line) (standing_of s (s.fronts 1) client moment line)
@@ -187,6 +197,7 @@ same_standing law tokens b q c seq turn s client moment line h = record {
   waiting = refl;
   full = refl;
   next = h.floors;
+  drift = h.drifts;
   wait = λ t lt. ap (λ (g : GateRecord). g.until - moment) (h.gates t lt) ∙ law.waits ((s.fronts 1).results t) moment;
 }
 
@@ -223,7 +234,7 @@ lone_weaker tokens b q b' q' w s lb lq h =
         seq = h.node.seq;
         turn = h.node.turn;
         is = h.node.is;
-        rows = record { sized = r.sized; floors = r.floors; gates = r.gates; boot = omega (arith, r.boot, lb); low = omega (arith, r.low, lq) };
+        rows = record { sized = r.sized; floors = r.floors; gates = r.gates; drifts = r.drifts; boot = omega (arith, r.boot, lb); low = omega (arith, r.low, lq) };
       };
     }
 
@@ -375,7 +386,7 @@ restarted_alike tokens b q x s low h =
       seq = 0;
       turn = 0;
       is = refl;
-      rows = record { sized = r.sized; floors = r.floors; gates = r.gates; boot = omega (arith, r.boot); low = omega arith };
+      rows = record { sized = r.sized; floors = r.floors; gates = r.gates; drifts = r.drifts; boot = omega (arith, r.boot); low = omega arith };
     })
     (λ out. absurd (omega (arith, low, r.boot, ltb-false c.boot last_boot out))))
 
@@ -463,6 +474,7 @@ start_lone law config floors = record {
       sized = opening_size (length config.book) (floor_at (floors ∷ []) 1);
       floors = λ t lt. ap (λ (r : RowRecord). r.next) (opening_get (length config.book) (floor_at (floors ∷ []) 1) t lt);
       gates = λ t lt. ap (λ (r : RowRecord). r.gate) (opening_get (length config.book) (floor_at (floors ∷ []) 1) t lt) ∙ sym law.start;
+      drifts = λ t lt. ap (λ (r : RowRecord). r.drift) (opening_get (length config.book) (floor_at (floors ∷ []) 1) t lt);
       boot = omega arith;
       low = omega arith;
     };

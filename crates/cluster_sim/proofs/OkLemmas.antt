@@ -1,5 +1,5 @@
 -- An OK tells its nonce and its last factor.
-use Rattle.std.proofs.Common.{◌≡◌, ℕ, zero, suc, ⊎_elim, List, [], ◌∷◌, ◌++◌, true, false, get_or, drop, Option, Some, None, refl, sym, ap, ◌∙◌, subst, arith, ℤ, pos}
+use Rattle.std.proofs.Common.{◌≡◌, ℕ, ℤ, zero, suc, ⊎_elim, List, [], ◌∷◌, ◌++◌, true, false, get_or, drop, Option, Some, None, refl, sym, ap, ◌∙◌, subst, arith, ℤ}
 use Rattle.std.specs.Prelude.{All, slice_get}
 use Rattle.std.specs.Char.{IsAsciiAlphanumeric}
 use Rattle.std.specs.Int.{IsInRange}
@@ -18,6 +18,7 @@ use Rattle.oath_node.specs.Machine.{Config}
 use Rattle.vote_wire.specs.Request.{Request, IsRequest, fields_of, without_lf}
 use Rattle.cluster_sim.specs.Answered.{IsOk, ok_bytes, IsTextOf, IsAskedIn, NamePasses}
 use Rattle.cluster_sim.specs.Justified.{IsGround, IsGroundOf}
+use Rattle.cluster_sim.specs.Drifts.{drift_before}
 use Rattle.cluster_sim.specs.Results.{results_before}
 use Rattle.cluster_sim.specs.World.{Says, Deliver, Ticks, Noise, WorldEvent, Happens, Cut, Restart, floor_before, report_of}
 use Rattle.cluster_sim.proofs.BelowLaws.{GroundLaw, GateLaw, VoteLaw}
@@ -88,26 +89,26 @@ window_factor Event reach limits next drift moment m h = h.factor
 window_factor Time30 reach limits next drift moment m h = h.factor
 window_factor Time60 reach limits next drift moment m h = h.factor
 
-last_factor : (config : Config) (moment : ℕ) (line : List ℕ) (token next : ℕ) (results : List Result) (lo hi : ℕ) → IsGround config moment line token next results lo hi → IsFactor hi
-last_factor config moment line token next results lo hi g = window_factor g.credential.kind _ config.limits next (pos 0) moment hi g.entitled.fit.last
+last_factor : (config : Config) (moment : ℕ) (line : List ℕ) (token next : ℕ) (drift : ℤ) (results : List Result) (lo hi : ℕ) → IsGround config moment line token next drift results lo hi → IsFactor hi
+last_factor config moment line token next drift results lo hi g = window_factor g.credential.kind _ config.limits next drift moment hi g.entitled.fit.last
 
-ground_factor : (config : Config) (next : ℕ) (results : List Result) (p : Acceptance) (o : Option WorldEvent) → IsGroundOf config next results p o → IsFactor p.hi
-ground_factor config next results p None h = absurd h
-ground_factor config next results p (Some (Happens (Says i c moment text))) h = last_factor config moment text p.token next results p.lo p.hi h.1
-ground_factor config next results p (Some (Happens (Deliver i k))) h = absurd h
-ground_factor config next results p (Some (Happens (Ticks i))) h = absurd h
-ground_factor config next results p (Some (Happens (Noise i from read))) h = absurd h
-ground_factor config next results p (Some (Cut true (Says i c moment text))) h = last_factor config moment text p.token next results p.lo p.hi h.1
-ground_factor config next results p (Some (Cut true (Deliver i k))) h = absurd h
-ground_factor config next results p (Some (Cut true (Ticks i))) h = absurd h
-ground_factor config next results p (Some (Cut true (Noise i from read))) h = absurd h
-ground_factor config next results p (Some (Cut false a)) h = absurd h
-ground_factor config next results p (Some (Restart i)) h = absurd h
+ground_factor : (config : Config) (next : ℕ) (drift : ℤ) (results : List Result) (p : Acceptance) (o : Option WorldEvent) → IsGroundOf config next drift results p o → IsFactor p.hi
+ground_factor config next drift results p None h = absurd h
+ground_factor config next drift results p (Some (Happens (Says i c moment text))) h = last_factor config moment text p.token next drift results p.lo p.hi h.1
+ground_factor config next drift results p (Some (Happens (Deliver i k))) h = absurd h
+ground_factor config next drift results p (Some (Happens (Ticks i))) h = absurd h
+ground_factor config next drift results p (Some (Happens (Noise i from read))) h = absurd h
+ground_factor config next drift results p (Some (Cut true (Says i c moment text))) h = last_factor config moment text p.token next drift results p.lo p.hi h.1
+ground_factor config next drift results p (Some (Cut true (Deliver i k))) h = absurd h
+ground_factor config next drift results p (Some (Cut true (Ticks i))) h = absurd h
+ground_factor config next drift results p (Some (Cut true (Noise i from read))) h = absurd h
+ground_factor config next drift results p (Some (Cut false a)) h = absurd h
+ground_factor config next drift results p (Some (Restart i)) h = absurd h
 
 pub name_passes : GroundLaw → GateLaw → VoteLaw → (config : Config) (floors : List (List ℕ)) (events : List WorldEvent) → let report = report_of config floors events in NamePasses events report.passes report.answers
 name_passes grounds gates votes config floors events k t nonce hi at is_nonce is_factor bytes =
     let b = tell_truth grounds config floors events k t at (subst IsOk (sym bytes) (begins_ok nonce hi)) in
-    let last = ground_factor config (floor_before config floors events b.pass.node b.pass.token b.pass.began) (results_before config floors events b.pass.node b.pass.token b.pass.began) b.pass (slice_get events b.pass.began)
+    let last = ground_factor config (floor_before config floors events b.pass.node b.pass.token b.pass.began) (drift_before config floors events b.pass.node b.pass.token b.pass.began) (results_before config floors events b.pass.node b.pass.token b.pass.began) b.pass (slice_get events b.pass.began)
     (justified grounds gates votes config floors events b.place b.pass b.is_pass) in
     let same = same_ok b.nonce nonce b.pass.hi hi (asked_nonce t.node t.client b.line b.nonce (slice_get events b.pass.began) b.asked) is_nonce last is_factor (sym b.bytes ∙ bytes) in
     record {

@@ -1,5 +1,5 @@
 -- A round in which a line proposes: it is accepted, and the floors of the live members rise together.
-use Rattle.std.proofs.Common.{◌≡◌, ℕ, ℤ, pos, zero, suc, ◌+◌, ◌*◌, ◌/◌, ◌^◌, ◌<◌, ◌≤◌, ◌⊎◌, inl, inr, ⊎_elim, Bool, true, false, not, cond, ◌||◌, List, [], ◌∷◌, ◌++◌, length, map, drop, Option, Some, None, refl, sym, ap, ◌∙◌, subst, arith, eqb, ltb}
+use Rattle.std.proofs.Common.{◌≡◌, ℕ, ℤ, zero, suc, ◌+◌, ◌*◌, ◌/◌, ◌^◌, ◌<◌, ◌≤◌, ◌⊎◌, inl, inr, ⊎_elim, Bool, true, false, not, cond, ◌||◌, List, [], ◌∷◌, ◌++◌, length, map, drop, Option, Some, None, refl, sym, ap, ◌∙◌, subst, arith, eqb, ltb}
 use Rattle.std.specs.List.{filter}
 use Rattle.std.proofs.lemmas.Bool.{cond_both, cond-true, cond-false, eqb-true, eqb-false, eq-eqb, ne_eqb, lt-ltb, or_cases, or_from, or_left, or_right, not_from_false, not-true, both_ways, cases_Bool, cases_eq}
 use Rattle.std.proofs.lemmas.List.{append-nil, append_assoc, drop_at, length-append}
@@ -10,17 +10,18 @@ use Rattle.cluster_sim.proofs.Grants.{Covered, asking, cleared, grant_wave, pass
 use Rattle.cluster_sim.proofs.Servers.{OthersSame}
 use Rattle.cluster_sim.proofs.Sound.{AllSound, happens_sound, no_owners}
 use Rattle.cluster_sim.proofs.Turns.{member_parts, others_each}
+use Rattle.cluster_sim.proofs.VoteDrifts.{same_drift}
 use Rattle.cluster_sim.proofs.Waves.{Stands, run_append, says, set_at, set_off, stands_last}
 use Rattle.cluster_sim.specs.Answered.{ok_bytes}
 use Rattle.cluster_sim.specs.Results.{results_in, results_with_pass}
-use Rattle.cluster_sim.specs.Rounds.{AreUp, IsSettled, RoundLine, deliveries, is_between, is_live, line_event, next_at, round_events}
+use Rattle.cluster_sim.specs.Rounds.{AreUp, IsSettled, RoundLine, deliveries, drift_at, is_between, is_live, line_event, next_at, round_events}
 use Rattle.cluster_sim.specs.World.{Deliver, Happens, World, WorldEvent, place_at, with_state, world_after_event, world_after_events, world_with_made}
 use Rattle.floor_store.specs.Content.{Content, accepted_row, with_row}
 use Rattle.floor_store.specs.Records.{PassRecord, ProposalRecord, RowRecord}
 use Rattle.oath_node.specs.Machine.{Beginning, Config, Made, NodeState, Owner, made_by_proposal, made_by_ruling, made_by_vote, next_beginning, quiet_made, ruling_at, stopped_node}
 use Rattle.oath_node.specs.Rules.{Fitting}
 use Rattle.otp_core.specs.Acceptance.{majority_of, size}
-use Rattle.vote_core.proofs.Basics.{Each, each_append, each_filter, each_passes, each_weaker, row_cases, row_here}
+use Rattle.vote_core.proofs.Basics.{Each, each_append, each_filter, each_passes, each_weaker, put_size, row_cases, row_here}
 use Rattle.vote_core.specs.NodeSet.{PlaceRecord, members, nobody, others, with_node}
 use Rattle.vote_core.specs.Rows.{granted_row, row}
 use Rattle.vote_core.specs.Schedule.{Envelope, envelope_from, is_member}
@@ -119,34 +120,34 @@ proposed_made place x client line nonce t lo hi drift alone =
     let b = Some (next_beginning place t lo hi (settled x.content x.voter.seq x.voter.turn x.answers)) in
     cond alone (alone_made place.me x.content x.voter.seq x.voter.turn t lo hi drift client line nonce x.answers b) (among_made place x.content x.voter.seq x.voter.turn t lo hi drift client line nonce x.answers b)
 
-proposes_is : (place : PlaceRecord) (x : NodeState) (client moment : ℕ) (line nonce : List ℕ) (t lo hi : ℕ) → x.voter.pending ≡ [] → x.owners ≡ [] → x.running ≡ true → x.voter.seq < 2 ^ 62
-    → made_by_ruling place client moment line (Fitting nonce t lo hi) x ≡ proposed_made place x client line nonce t lo hi (pos 0) (eqb place.n 1)
+proposes_is : (place : PlaceRecord) (x : NodeState) (client moment : ℕ) (line nonce : List ℕ) (t lo hi : ℕ) (drift : ℤ) → x.voter.pending ≡ [] → x.owners ≡ [] → x.running ≡ true → x.voter.seq < 2 ^ 62
+    → made_by_ruling place client moment line (Fitting nonce t lo hi drift) x ≡ proposed_made place x client line nonce t lo hi drift (eqb place.n 1)
 unfolding made_by_ruling made_by_proposal propose
-proposes_is place x client moment line nonce t lo hi p q r lt =
+proposes_is place x client moment line nonce t lo hi drift p q r lt =
     let y = settled x.content x.voter.seq x.voter.turn x.answers in
     let o : Owner = record { seq = x.voter.seq; client = client; line = line; nonce = nonce } in
     let b = Some (next_beginning place t lo hi y) in
-    let one = propose_alone place t lo hi (pos 0) y.content y.voter in
-    let all = propose_among place t lo hi (pos 0) y.content y.voter in
-    ap (λ z. made_by_proposal place client line nonce t lo hi z) (calm x p q r)
-    ∙ cond-true (ltb x.voter.seq (2 ^ 62)) (made_by_vote (o ∷ []) b (propose place t lo hi (pos 0) y.content y.voter) y) (quiet_made (stopped_node y)) (lt-ltb x.voter.seq (2 ^ 62) lt)
-    ∙ cond_both (eqb place.n 1) one all (λ s. made_by_vote (o ∷ []) b s y ≡ proposed_made place x client line nonce t lo hi (pos 0) (eqb place.n 1))
-    (λ k. alone_is place x.content x.voter.seq x.voter.turn t lo hi (pos 0) client line nonce x.answers b ∙ sym (ap (λ z. proposed_made place x client line nonce t lo hi (pos 0) z) k))
-    (λ k. among_is place x.content x.voter.seq x.voter.turn t lo hi (pos 0) client line nonce x.answers b ∙ sym (ap (λ z. proposed_made place x client line nonce t lo hi (pos 0) z) k))
+    let one = propose_alone place t lo hi drift y.content y.voter in
+    let all = propose_among place t lo hi drift y.content y.voter in
+    ap (λ z. made_by_proposal place client line nonce t lo hi drift z) (calm x p q r)
+    ∙ cond-true (ltb x.voter.seq (2 ^ 62)) (made_by_vote (o ∷ []) b (propose place t lo hi drift y.content y.voter) y) (quiet_made (stopped_node y)) (lt-ltb x.voter.seq (2 ^ 62) lt)
+    ∙ cond_both (eqb place.n 1) one all (λ s. made_by_vote (o ∷ []) b s y ≡ proposed_made place x client line nonce t lo hi drift (eqb place.n 1))
+    (λ k. alone_is place x.content x.voter.seq x.voter.turn t lo hi drift client line nonce x.answers b ∙ sym (ap (λ z. proposed_made place x client line nonce t lo hi drift z) k))
+    (λ k. among_is place x.content x.voter.seq x.voter.turn t lo hi drift client line nonce x.answers b ∙ sym (ap (λ z. proposed_made place x client line nonce t lo hi drift z) k))
 
 -- ---- what such a round leaves
 
-pub record Proposing (config : Config) (live : List ℕ) (w : World) (l : RoundLine) (nonce : List ℕ) (t lo hi : ℕ) : Type 0 where
+pub record Proposing (config : Config) (live : List ℕ) (w : World) (l : RoundLine) (nonce : List ℕ) (t lo hi : ℕ) (drift : ℤ) : Type 0 where
   pub sound : AllSound (length config.book) w
   pub calm : IsSettled config live w
   pub here : is_live live l.node ≡ true
-  pub judged : ruling_at config (w.nodes l.node) l.client l.moment l.line ≡ Fitting nonce t lo hi
+  pub judged : ruling_at config (w.nodes l.node) l.client l.moment l.line ≡ Fitting nonce t lo hi drift
   pub known : t < length config.book
   pub free : next_at w l.node t ≤ lo
   pub span : lo ≤ hi
   pub room : (w.nodes l.node).voter.seq < 2 ^ 62
 
-pub record Moved (live : List ℕ) (e end i t hi client : ℕ) (line nonce : List ℕ) (w v : World) : Type 0 where
+pub record Moved (live : List ℕ) (e end i t hi : ℕ) (drift : ℤ) (client : ℕ) (line nonce : List ℕ) (w v : World) : Type 0 where
   pub n : v.n ≡ w.n
   pub up : AreUp live v
   pub none : (j : ℕ) → is_live live j ≡ true → (v.nodes j).voter.pending ≡ []
@@ -155,24 +156,32 @@ pub record Moved (live : List ℕ) (e end i t hi client : ℕ) (line nonce : Lis
   pub answers : (v.nodes i).answers ≡ kept_with (w.nodes i).answers (record { client = client; line = line; text = ok_bytes nonce hi })
   pub others : OthersSame i w v
   pub own : (u : ℕ) → results_in v.history i u ≡ cond (eqb t u) (Accepted ∷ results_in w.history i u) (results_in w.history i u)
+  pub own_drift : (u : ℕ) → drift_at v i u ≡ cond (eqb t u) drift (drift_at w i u)
   pub event : ℕ
   pub since : e ≤ event
   pub before : event < end
   pub told : v.told ≡ w.told ++ record { event = event; node = i; client = client; bytes = ok_bytes nonce hi } ∷ []
   pub seqs : (j : ℕ) → is_live live j ≡ true → (v.nodes j).voter.seq ≤ (w.nodes j).voter.seq + 1
 
-line_made : (config : Config) (live : List ℕ) (e : ℕ) (w : World) (l : RoundLine) (nonce : List ℕ) (t lo hi : ℕ) → Proposing config live w l nonce t lo hi
-    → world_after_event config e (line_event l) w ≡ world_with_made e l.node (proposed_made (place_at w l.node) (w.nodes l.node) l.client (without_lf l.line) nonce t lo hi (pos 0) (eqb w.n 1)) w
-line_made config live e w l nonce t lo hi h =
+line_made : (config : Config) (live : List ℕ) (e : ℕ) (w : World) (l : RoundLine) (nonce : List ℕ) (t lo hi : ℕ) (drift : ℤ) → Proposing config live w l nonce t lo hi drift
+    → world_after_event config e (line_event l) w ≡ world_with_made e l.node (proposed_made (place_at w l.node) (w.nodes l.node) l.client (without_lf l.line) nonce t lo hi drift (eqb w.n 1)) w
+line_made config live e w l nonce t lo hi drift h =
     let i = l.node in
     let x = w.nodes i in
     let none = h.calm.none i h.here in
     let up = h.calm.up i h.here in
     says config e i l.client l.moment l.line w up.0 up.1
     ∙ ap (λ v. world_with_made e i (made_by_ruling (place_at w i) l.client l.moment (without_lf l.line) v x) w) h.judged
-    ∙ ap (λ o. world_with_made e i o w) (proposes_is (place_at w i) x l.client l.moment (without_lf l.line) nonce t lo hi none (no_owners (length config.book) x (h.sound i) none) up.1 h.room)
+    ∙ ap (λ o. world_with_made e i o w) (proposes_is (place_at w i) x l.client l.moment (without_lf l.line) nonce t lo hi drift none (no_owners (length config.book) x (h.sound i) none) up.1 h.room)
 
 -- ---- alone
+
+-- the drift of each row, once one is put
+drift_put : (c : Content) (t : ℕ) (r : RowRecord) (p : Option PassRecord) → t < length c.rows → (u : ℕ) → (row (with_row c t r p) u).drift ≡ cond (eqb t u) r.drift (row c u).drift
+drift_put c t r p lt u =
+    cond_both (eqb t u) r.drift (row c u).drift (λ d. (row (with_row c t r p) u).drift ≡ d)
+    (λ q. ap (λ m. (row (with_row c t r p) m).drift) (sym (eqb-true t u q)) ∙ ap (λ (z : RowRecord). z.drift) (row_here c t r p lt))
+    (λ q. ap (λ (z : RowRecord). z.drift) (row_off c t r p u (λ e. eqb-false t u q (sym e))))
 
 one_alone : (n i j : ℕ) → n ≡ 1 → is_member n i ≡ true → is_member n j ≡ true → j ≡ i
 one_alone n i j one a b = let p = member_parts n i a in let q = member_parts n j b in quiet_step n i j one p.0 p.1 q.0 q.1
@@ -180,8 +189,8 @@ one_alone n i j one a b = let p = member_parts n i a in let q = member_parts n j
     quiet_step : (n i j : ℕ) → n ≡ 1 → 1 ≤ i → i ≤ n → 1 ≤ j → j ≤ n → j ≡ i
     quiet_step n i j z a b c d = omega (arith, z, a, b, c, d)
 
-alone_moved : (config : Config) (live : List ℕ) (e : ℕ) (w : World) (l : RoundLine) (nonce : List ℕ) (t lo hi : ℕ) (drift : ℤ) (b : Option Beginning) → Proposing config live w l nonce t lo hi → w.n ≡ 1
-    → Moved live e (suc e) l.node t hi l.client (without_lf l.line) nonce w (world_with_made e l.node (alone_made l.node (w.nodes l.node).content (w.nodes l.node).voter.seq (w.nodes l.node).voter.turn t lo hi drift l.client (without_lf l.line) nonce (w.nodes l.node).answers b) w)
+alone_moved : (config : Config) (live : List ℕ) (e : ℕ) (w : World) (l : RoundLine) (nonce : List ℕ) (t lo hi : ℕ) (drift : ℤ) (b : Option Beginning) → Proposing config live w l nonce t lo hi drift → w.n ≡ 1
+    → Moved live e (suc e) l.node t hi drift l.client (without_lf l.line) nonce w (world_with_made e l.node (alone_made l.node (w.nodes l.node).content (w.nodes l.node).voter.seq (w.nodes l.node).voter.turn t lo hi drift l.client (without_lf l.line) nonce (w.nodes l.node).answers b) w)
 unfolding world_with_made
 alone_moved config live e w l nonce t lo hi drift b h one =
     let i = l.node in
@@ -199,8 +208,9 @@ alone_moved config live e w l nonce t lo hi drift b h one =
       raised = λ j k. ap (λ (y : NodeState). (row y.content t).next) (node j k) ∙ ap (λ (z : RowRecord). z.next) (row_here c t r p (subst (λ m. t < m) (sym (h.sound i).kept.size) h.known));
       rest = λ j u k ne. ap (λ (y : NodeState). (row y.content u).next) (node j k) ∙ ap (λ (z : RowRecord). z.next) (row_off c t r p u ne) ∙ ap (λ m. next_at w m u) (sym (at j k));
       answers = ap (λ (y : NodeState). y.answers) (set_at i o.state w.nodes);
-      others = record { answers = λ j ne. ap (λ (y : NodeState). y.answers) (set_off i j o.state w.nodes ne); results = λ j u ne. cond-false (eqb j i) (results_with_pass u o.pass (results_in w.history j u)) (results_in w.history j u) (ne_eqb j i ne) };
+      others = record { answers = λ j ne. ap (λ (y : NodeState). y.answers) (set_off i j o.state w.nodes ne); results = λ j u ne. cond-false (eqb j i) (results_with_pass u o.pass (results_in w.history j u)) (results_in w.history j u) (ne_eqb j i ne); drifts = λ j u ne. ap (λ (y : NodeState). (row y.content u).drift) (set_off i j o.state w.nodes ne) };
       own = λ u. cond-true (eqb i i) (results_with_pass u o.pass (results_in w.history i u)) (results_in w.history i u) (eq-eqb i i refl);
+      own_drift = λ u. ap (λ (y : NodeState). (row y.content u).drift) (set_at i o.state w.nodes) ∙ drift_put c t r p (subst (λ m. t < m) (sym (h.sound i).kept.size) h.known) u;
       event = e;
       since = omega arith;
       before = omega arith;
@@ -308,7 +318,7 @@ asked_made : (live : List ℕ) (e i : ℕ) (x : NodeState) (t lo hi : ℕ) (drif
 unfolding world_with_made
 asked_made live e i x t lo hi drift client line nonce b w is up =
     let o = among_made (place_at w i) x.content x.voter.seq x.voter.turn t lo hi drift client line nonce x.answers b in
-    record { silent = made_silent live e i o w up refl (ap (λ (y : NodeState). y.answers) is) refl refl refl; off = λ j ne. set_off i j o.state w.nodes ne; sent = refl }
+    record { silent = made_silent live e i o w up refl (ap (λ (y : NodeState). y.answers) is) refl refl refl (λ u. same_drift x.content t (granted_row (proposal i x.content x.voter.seq) lo hi (row x.content t)) None u refl ∙ ap (λ (y : NodeState). (row y.content u).drift) is); off = λ j ne. set_off i j o.state w.nodes ne; sent = refl }
 
 asked_node : (e i : ℕ) (o : Made) (w : World) → (world_with_made e i o w).nodes i ≡ o.state
 unfolding world_with_made
@@ -320,10 +330,10 @@ cleared_next c t drift p u =
     ⊎_elim (λ (e : row (with_row c t r p) u ≡ row c u). ap (λ (z : RowRecord). z.next) e)
     (λ (z : (u ≡ t) × (row (with_row c t r p) u ≡ r)). ap (λ (y : RowRecord). y.next) z.1 ∙ ap (λ m. (row c m).next) (sym z.0)) (row_cases c t r p u)
 
-among_moved : (config : Config) (live : List ℕ) (e : ℕ) (w : World) (l : RoundLine) (nonce : List ℕ) (t lo hi : ℕ) (drift : ℤ) → Proposing config live w l nonce t lo hi → (w.n ≡ 1 → ⊥)
+among_moved : (config : Config) (live : List ℕ) (e : ℕ) (w : World) (l : RoundLine) (nonce : List ℕ) (t lo hi : ℕ) (drift : ℤ) → Proposing config live w l nonce t lo hi drift → (w.n ≡ 1 → ⊥)
     → world_after_event config e (line_event l) w ≡ world_with_made e l.node (among_made (place_at w l.node) (w.nodes l.node).content (w.nodes l.node).voter.seq (w.nodes l.node).voter.turn t lo hi drift l.client (without_lf l.line) nonce (w.nodes l.node).answers
     (Some (next_beginning (place_at w l.node) t lo hi (settled (w.nodes l.node).content (w.nodes l.node).voter.seq (w.nodes l.node).voter.turn (w.nodes l.node).answers)))) w
-    → (xs : List WorldEvent) → xs ≡ round_events config live e w l → Moved live e (length xs + e) l.node t hi l.client (without_lf l.line) nonce w (world_after_events config e xs w) × Rounded live (line_event l) xs w (world_after_events config e xs w)
+    → (xs : List WorldEvent) → xs ≡ round_events config live e w l → Moved live e (length xs + e) l.node t hi drift l.client (without_lf l.line) nonce w (world_after_events config e xs w) × Rounded live (line_event l) xs w (world_after_events config e xs w)
 among_moved config live e w l nonce t lo hi drift h more is xs all =
     let tokens = length config.book in
     let i = l.node in
@@ -370,7 +380,7 @@ among_moved config live e w l nonce t lo hi drift h more is xs all =
     let away : (j : ℕ) → (j ≡ i → ⊥) → (u : ℕ) → next_at v j u ≡ next_at w2 j u = λ j ne u. ap (λ (y : NodeState). (row y.content u).next) (third.off j ne) in
     let at_i : (u : ℕ) → next_at v i u ≡ (row c u).next = λ u. ap (λ (y : NodeState). (row y.content u).next) third.node ∙ cleared_next c t drift done.pass u in
     let voters : (j : ℕ) → (j ≡ i → ⊥) → (v.nodes j).voter ≡ (w.nodes j).voter = λ j ne. ap (λ (y : NodeState). y.voter) (third.off j ne) ∙ second.voters j ∙ ap (λ (y : NodeState). y.voter) (first.off j ne) in
-    let moved : Moved live e (length (line_event l ∷ xs1 ++ xs2) + e) i t hi l.client line nonce w v = record {
+    let moved : Moved live e (length (line_event l ∷ xs1 ++ xs2) + e) i t hi drift l.client line nonce w v = record {
       n = third.n ∙ n2;
       up = third.up;
       none = λ j at. ⊎_elim (λ (q : j ≡ i). ap (λ m. (v.nodes m).voter.pending) q ∙ ap (λ (y : NodeState). y.voter.pending) third.node) (λ (ne : j ≡ i → ⊥). ap (λ (y : VoterState). y.pending) (voters j ne) ∙ h.calm.none j at) (cases_eq j i);
@@ -381,8 +391,12 @@ among_moved config live e w l nonce t lo hi drift h more is xs all =
           ⊎_elim (λ (q : j ≡ i). ap (λ m. next_at v m u) q ∙ at_i u ∙ ap (λ (z : RowRecord). z.next) (row_off c0 t (granted_row p lo hi (row c0 t)) None u ne) ∙ ap (λ m. next_at w m u) (sym q))
           (λ (off : j ≡ i → ⊥). away j off u ∙ second.rest j u ne ∙ ap (λ (y : NodeState). (row y.content u).next) (first.off j off)) (cases_eq j i);
       answers = ap (λ (y : NodeState). y.answers) third.node;
-      others = record { answers = λ j ne. ap (λ (y : NodeState). y.answers) (third.off j ne) ∙ quiet_made.answers j; results = λ j u ne. third.results j u ne ∙ quiet_made.results j u };
+      others = record { answers = λ j ne. ap (λ (y : NodeState). y.answers) (third.off j ne) ∙ quiet_made.answers j; results = λ j u ne. third.results j u ne ∙ quiet_made.results j u; drifts = λ j u ne. ap (λ (y : NodeState). (row y.content u).drift) (third.off j ne) ∙ quiet_made.drifts j u };
       own = λ u. third.own u ∙ ap (λ rs. cond (eqb t u) (Accepted ∷ rs) rs) (quiet_made.results i u);
+      own_drift = λ u.
+          ap (λ (y : NodeState). (row y.content u).drift) third.node
+          ∙ drift_put c t (accepted_row drift (row c t)) done.pass (subst (λ m. t < m) (sym (put_size c0 t (granted_row p lo hi (row c0 t)) None ∙ (h.sound i).kept.size)) h.known) u
+          ∙ ap (λ d. cond (eqb t u) drift d) (same_drift c0 t (granted_row p lo hi (row c0 t)) None u refl);
       event = third.event;
       since = before_it (length xs1) e third.since;
       before = within xs1 xs2 third.before;
@@ -392,8 +406,8 @@ among_moved config live e w l nonce t lo hi drift h more is xs all =
           (λ (ne : j ≡ i → ⊥). same (ap (λ (y : VoterState). y.seq) (voters j ne))) (cases_eq j i);
     } in
     let rounded : Rounded live (line_event l) (line_event l ∷ xs1 ++ xs2) w v = two_waves live (line_event l) w v (length w1.sent) asks grants (ap (λ z. length z) first.sent) (third.sent ∙ second.sent ∙ ap (λ z. z ++ grants) first.sent) in
-    subst (λ ys. Moved live e (length ys + e) i t hi l.client line nonce w (world_after_events config e ys w) × Rounded live (line_event l) ys w (world_after_events config e ys w)) (sym events)
-    (subst (λ z. Moved live e (length (line_event l ∷ xs1 ++ xs2) + e) i t hi l.client line nonce w z × Rounded live (line_event l) (line_event l ∷ xs1 ++ xs2) w z) (sym end) (moved, rounded))
+    subst (λ ys. Moved live e (length ys + e) i t hi drift l.client line nonce w (world_after_events config e ys w) × Rounded live (line_event l) ys w (world_after_events config e ys w)) (sym events)
+    (subst (λ z. Moved live e (length (line_event l ∷ xs1 ++ xs2) + e) i t hi drift l.client line nonce w z × Rounded live (line_event l) (line_event l ∷ xs1 ++ xs2) w z) (sym end) (moved, rounded))
   where
     before_it : (a e : ℕ) {m : ℕ} → a + suc e ≤ m → e ≤ m
     before_it a e k = omega (arith, k)
@@ -413,19 +427,19 @@ sent_by : (e i : ℕ) (o : Made) (w : World) → (world_with_made e i o w).sent 
 unfolding world_with_made
 sent_by e i o w = refl
 
-pub proposal_moved : (config : Config) (live : List ℕ) (e : ℕ) (w : World) (l : RoundLine) (nonce : List ℕ) (t lo hi : ℕ) → Proposing config live w l nonce t lo hi
-    → Moved live e (length (round_events config live e w l) + e) l.node t hi l.client (without_lf l.line) nonce w (world_after_events config e (round_events config live e w l) w)
+pub proposal_moved : (config : Config) (live : List ℕ) (e : ℕ) (w : World) (l : RoundLine) (nonce : List ℕ) (t lo hi : ℕ) (drift : ℤ) → Proposing config live w l nonce t lo hi drift
+    → Moved live e (length (round_events config live e w l) + e) l.node t hi drift l.client (without_lf l.line) nonce w (world_after_events config e (round_events config live e w l) w)
     × Rounded live (line_event l) (round_events config live e w l) w (world_after_events config e (round_events config live e w l) w)
 unfolding world_after_events
-proposal_moved config live e w l nonce t lo hi h =
+proposal_moved config live e w l nonce t lo hi drift h =
     let i = l.node in
     let x = w.nodes i in
     let place = place_at w i in
     let b = Some (next_beginning place t lo hi (settled x.content x.voter.seq x.voter.turn x.answers)) in
     let line = without_lf l.line in
-    let is = line_made config live e w l nonce t lo hi h in
-    let one = alone_made i x.content x.voter.seq x.voter.turn t lo hi (pos 0) l.client line nonce x.answers b in
-    let many = among_made place x.content x.voter.seq x.voter.turn t lo hi (pos 0) l.client line nonce x.answers b in
+    let is = line_made config live e w l nonce t lo hi drift h in
+    let one = alone_made i x.content x.voter.seq x.voter.turn t lo hi drift l.client line nonce x.answers b in
+    let many = among_made place x.content x.voter.seq x.voter.turn t lo hi drift l.client line nonce x.answers b in
     let xs = round_events config live e w l in
     ⊎_elim
     (λ (q : eqb w.n 1 ≡ true).
@@ -433,11 +447,11 @@ proposal_moved config live e w l nonce t lo hi h =
     let made_one : world_after_event config e (line_event l) w ≡ w1 = is ∙ ap (λ o. world_with_made e i o w) (cond-true (eqb w.n 1) one many q) in
     let events : xs ≡ line_event l ∷ [] = round_is config live e w l w1 [] [] made_one (alone_sent e i one w refl) (sym (append-nil w1.sent)) in
     let end : world_after_events config e (line_event l ∷ []) w ≡ w1 = made_one in
-    let moved : Moved live e (suc 0 + e) i t hi l.client line nonce w w1 = subst (λ m. Moved live e m i t hi l.client line nonce w w1) (one_on e) (alone_moved config live e w l nonce t lo hi (pos 0) b h (eqb-true w.n 1 q)) in
+    let moved : Moved live e (suc 0 + e) i t hi drift l.client line nonce w w1 = subst (λ m. Moved live e m i t hi drift l.client line nonce w w1) (one_on e) (alone_moved config live e w l nonce t lo hi drift b h (eqb-true w.n 1 q)) in
     let rounded : Rounded live (line_event l) (line_event l ∷ []) w w1 = record { more = []; sent = alone_sent e i one w refl; events = refl } in
-    subst (λ ys. Moved live e (length ys + e) i t hi l.client line nonce w (world_after_events config e ys w) × Rounded live (line_event l) ys w (world_after_events config e ys w)) (sym events)
-    (subst (λ z. Moved live e (suc 0 + e) i t hi l.client line nonce w z × Rounded live (line_event l) (line_event l ∷ []) w z) (sym end) (moved, rounded)))
-    (λ (q : eqb w.n 1 ≡ false). among_moved config live e w l nonce t lo hi (pos 0) h (eqb-false w.n 1 q) (is ∙ ap (λ o. world_with_made e i o w) (cond-false (eqb w.n 1) one many q)) xs refl)
+    subst (λ ys. Moved live e (length ys + e) i t hi drift l.client line nonce w (world_after_events config e ys w) × Rounded live (line_event l) ys w (world_after_events config e ys w)) (sym events)
+    (subst (λ z. Moved live e (suc 0 + e) i t hi drift l.client line nonce w z × Rounded live (line_event l) (line_event l ∷ []) w z) (sym end) (moved, rounded)))
+    (λ (q : eqb w.n 1 ≡ false). among_moved config live e w l nonce t lo hi drift h (eqb-false w.n 1 q) (is ∙ ap (λ o. world_with_made e i o w) (cond-false (eqb w.n 1) one many q)) xs refl)
     (cases_Bool (eqb w.n 1))
   where
     one_on : (e : ℕ) → suc e ≡ 1 + e

@@ -67,7 +67,7 @@ all_answered_later events told more passes h =
     (λ p f. answered_later events told more p (slice_get events p.ended) f) passes h
 
 -- a proposal of another node is on record as it was
-begun_elsewhere : (e i : ℕ) (b : Option Beginning) (begun : ProposalRecord → Option Begun) → BeganAt i b → (j boot s : ℕ) → (j ≡ i → ⊥) → begun_with e b begun (named j boot s) ≡ begun (named j boot s)
+pub begun_elsewhere : (e i : ℕ) (b : Option Beginning) (begun : ProposalRecord → Option Begun) → BeganAt i b → (j boot s : ℕ) → (j ≡ i → ⊥) → begun_with e b begun (named j boot s) ≡ begun (named j boot s)
 begun_elsewhere e i None begun at j boot s ne = refl
 begun_elsewhere e i (Some b) begun at j boot s ne =
     cond_both (same_proposal (named j boot s) b.proposal) (Some (record { token = b.token; lo = b.lo; hi = b.hi; event = e })) (begun (named j boot s)) (λ o. o ≡ begun (named j boot s))
@@ -199,7 +199,7 @@ turned_halves law config events e i (Some v) w h comes =
     (λ _. idle_halves events e (Said events e i v) w h)
 
 -- the event with this number is the act, done or kept
-abbrev IsActed : List WorldEvent → ℕ → Act → Type 0
+abbrev pub IsActed : List WorldEvent → ℕ → Act → Type 0
 IsActed events e a = (slice_get events e ≡ Some (Happens a)) ⊎ (slice_get events e ≡ Some (Cut true a))
 
 comes_handed : (events : List WorldEvent) (e i : ℕ) (o : Option Envelope) → ComesWith events e i (delivered_event o)

@@ -1,5 +1,5 @@
 -- Rounds among settled members are answered as the one server answers them.
-use Rattle.std.proofs.Common.{◌≡◌, ℕ, suc, ◌+◌, ◌-◌, ◌*◌, ◌^◌, ◌<◌, ◌≤◌, ⊎_elim, true, false, cond, List, [], ◌∷◌, ◌++◌, length, map, Some, None, refl, sym, ap, ◌∙◌, subst, arith, eqb, leb}
+use Rattle.std.proofs.Common.{◌≡◌, ℕ, ℤ, suc, ◌+◌, ◌-◌, ◌*◌, ◌^◌, ◌<◌, ◌≤◌, ⊎_elim, true, false, cond, List, [], ◌∷◌, ◌++◌, length, map, Some, None, refl, sym, ap, ◌∙◌, subst, arith, eqb, leb}
 use Rattle.std.proofs.lemmas.Bool.{cond_both, cond-true, cond-false, eqb-true, eqb-false, eq-eqb, ne_eqb, cases_eq, both_ways}
 use Rattle.std.proofs.lemmas.List.{append-nil, append_assoc}
 use mathlib.Core.Path.{fun_ext}
@@ -7,6 +7,7 @@ use Rattle.admit_core.specs.Gate.{GateRecord}
 use Rattle.admit_core.specs.Throttle.{Accepted, Failed, Result}
 use Rattle.answer_ring.specs.Answers.{KeptAnswer, kept_with}
 use Rattle.cluster_sim.proofs.BelowLaws.{GateLaw, GroundLaw, RulingLaw}
+use Rattle.cluster_sim.proofs.Lone.{gated_drift}
 use Rattle.cluster_sim.proofs.Gates.{Gated, all_gated, run_gated}
 use Rattle.cluster_sim.proofs.Proposals.{Proposing, Rounded, proposal_moved, round_is}
 use Rattle.cluster_sim.proofs.Seqs.{run_n, run_seq}
@@ -17,7 +18,7 @@ use Rattle.cluster_sim.proofs.Waves.{run_append, says, set_all, set_at, set_off}
 use Rattle.cluster_sim.specs.Answered.{ok_bytes}
 use Rattle.cluster_sim.specs.FrontEnds.{Front, Served, served_by_ruling, served_line, server_with_front, standing_of}
 use Rattle.cluster_sim.specs.Results.{results_in, results_with_failure, results_with_pass}
-use Rattle.cluster_sim.specs.Rounds.{AreAnswersTo, AreAtLive, HaveNumbers, IsAnswerTo, IsSettled, RoundLine, RoundsAreTheReference, RoundsByCount, ServesAsOne, SweepSettles, first_of, front_at, is_live, line_event, next_at, round_events, rounds_events, server_after_lines, server_of, sweep_events}
+use Rattle.cluster_sim.specs.Rounds.{AreAnswersTo, AreAtLive, HaveNumbers, IsAnswerTo, IsSettled, RoundLine, RoundsAreTheReference, RoundsByCount, ServesAsOne, SweepSettles, drift_at, first_of, front_at, is_live, line_event, next_at, round_events, rounds_events, server_after_lines, server_of, sweep_events}
 use Rattle.cluster_sim.specs.World.{Told, World, opening_world, place_at, told_reply, world_after_event, world_after_events, world_of, world_with_made}
 use Rattle.floor_store.specs.Content.{Content}
 use Rattle.floor_store.specs.Records.{RowRecord}
@@ -49,6 +50,7 @@ same_standing law config live w l sound gated calm here =
       waiting = ap (λ os. is_owned os l.client (without_lf l.line)) (no_owners (tokens_of config) x (sound i) none);
       full = ap (λ qs. leb 32 (length qs)) none;
       next = λ t lt. calm.level i (first_of live) t here (first_live live i here) lt;
+      drift = λ t lt. refl;
       wait = λ t lt. ap (λ (g : GateRecord). g.until - l.moment) (gated.gates i t lt) ∙ law.waits (results_in w.history i t) l.moment;
     }
 
@@ -79,11 +81,12 @@ pub record RoundDone (config : Config) (live : List ℕ) (e end : ℕ) (l : Roun
 -- ---- the server after a round
 
 -- one front end, by what is seen of its node
-front_is : (v : World) (i : ℕ) (results : ℕ → List Result) (answers : List KeptAnswer) → ((u : ℕ) → results_in v.history i u ≡ results u) → (v.nodes i).answers ≡ answers
-    → front_at v i ≡ record { results = results; answers = answers }
-front_is v i results answers p q =
-    ap (λ (f : ℕ → List Result). record { results = f; answers = (v.nodes i).answers }) (fun_ext p)
-    ∙ ap (λ (a : List KeptAnswer). record { results = results; answers = a }) q
+front_is : (v : World) (i : ℕ) (results : ℕ → List Result) (drifts : ℕ → ℤ) (answers : List KeptAnswer) → ((u : ℕ) → results_in v.history i u ≡ results u) → ((u : ℕ) → drift_at v i u ≡ drifts u)
+    → (v.nodes i).answers ≡ answers → front_at v i ≡ record { results = results; drifts = drifts; answers = answers }
+front_is v i results drifts answers p d q =
+    ap (λ (f : ℕ → List Result). record { results = f; drifts = drift_at v i; answers = (v.nodes i).answers }) (fun_ext p)
+    ∙ ap (λ (f : ℕ → ℤ). record { results = results; drifts = f; answers = (v.nodes i).answers }) (fun_ext d)
+    ∙ ap (λ (a : List KeptAnswer). record { results = results; drifts = drifts; answers = a }) q
 
 -- the server, by its floors and the one front end that changed
 server_moved : (live : List ℕ) (i : ℕ) (w v : World) (floors : ℕ → ℕ) (front : Front) → OthersSame i w v → ((u : ℕ) → next_at v (first_of live) u ≡ floors u) → front_at v i ≡ front
@@ -96,14 +99,14 @@ server_moved live i w v floors front h p q =
     each j =
         cond_both (eqb j i) front (front_at w j) (λ f. front_at v j ≡ f)
         (λ z. ap (λ m. front_at v m) (eqb-true j i z) ∙ q)
-        (λ z. front_is v j (results_in w.history j) (w.nodes j).answers (λ u. h.results j u (eqb-false j i z)) (h.answers j (eqb-false j i z)))
+        (λ z. front_is v j (results_in w.history j) (drift_at w j) (w.nodes j).answers (λ u. h.results j u (eqb-false j i z)) (λ u. h.drifts j u (eqb-false j i z)) (h.answers j (eqb-false j i z)))
 
 -- nothing changed
 server_same : (live : List ℕ) (w v : World) → ((u : ℕ) → next_at v (first_of live) u ≡ next_at w (first_of live) u) → ((j : ℕ) → (v.nodes j).answers ≡ (w.nodes j).answers)
-    → ((j u : ℕ) → results_in v.history j u ≡ results_in w.history j u) → server_of live v ≡ server_of live w
-server_same live w v p q r =
+    → ((j u : ℕ) → results_in v.history j u ≡ results_in w.history j u) → ((j u : ℕ) → drift_at v j u ≡ drift_at w j u) → server_of live v ≡ server_of live w
+server_same live w v p q r d =
     ap (λ (f : ℕ → ℕ). record { floors = f; fronts = front_at v }) (fun_ext p)
-    ∙ ap (λ (f : ℕ → Front). record { floors = next_at w (first_of live); fronts = f }) (fun_ext (λ j. front_is v j (results_in w.history j) (w.nodes j).answers (r j) (q j)))
+    ∙ ap (λ (f : ℕ → Front). record { floors = next_at w (first_of live); fronts = f }) (fun_ext (λ j. front_is v j (results_in w.history j) (drift_at w j) (w.nodes j).answers (r j) (d j) (q j)))
 
 -- ---- a round in which nothing is proposed
 
@@ -113,6 +116,7 @@ record Plain (w : World) (l : RoundLine) (o : Made) (bytes : List ℕ) : Type 0 
   pass : o.pass ≡ None
   voter : o.state.voter ≡ (w.nodes l.node).voter
   next : (u : ℕ) → (row o.state.content u).next ≡ next_at w l.node u
+  drift : (u : ℕ) → (row o.state.content u).drift ≡ drift_at w l.node u
   running : o.state.running ≡ true
   replies : o.replies ≡ record { client = l.client; bytes = bytes } ∷ []
 
@@ -123,11 +127,16 @@ plain_next : (e : ℕ) (w : World) (l : RoundLine) (o : Made) (bytes : List ℕ)
 unfolding world_with_made
 plain_next e w l o bytes h j u = set_all (λ m y. (row y.content u).next ≡ next_at w m u) l.node o.state w.nodes (h.next u) (λ m. refl) j
 
+plain_drift : (e : ℕ) (w : World) (l : RoundLine) (o : Made) (bytes : List ℕ) → Plain w l o bytes → (j u : ℕ) → drift_at (after_plain e w l o) j u ≡ drift_at w j u
+unfolding world_with_made
+plain_drift e w l o bytes h j u = set_all (λ m y. (row y.content u).drift ≡ drift_at w m u) l.node o.state w.nodes (h.drift u) (λ m. refl) j
+
 plain_others : (e : ℕ) (w : World) (l : RoundLine) (o : Made) → OthersSame l.node w (after_plain e w l o)
 unfolding world_with_made
 plain_others e w l o = record {
   answers = λ j ne. ap (λ (y : NodeState). y.answers) (set_off l.node j o.state w.nodes ne);
   results = λ j u ne. cond-false (eqb j l.node) (results_with_failure u o.failed (results_with_pass u o.pass (results_in w.history j u))) (results_in w.history j u) (ne_eqb j l.node ne);
+  drifts = λ j u ne. ap (λ (y : NodeState). (row y.content u).drift) (set_off l.node j o.state w.nodes ne);
 }
 
 plain_own : (e : ℕ) (w : World) (l : RoundLine) (o : Made) (bytes : List ℕ) → Plain w l o bytes → (u : ℕ) → results_in (after_plain e w l o).history l.node u ≡ results_with_failure u o.failed (results_in w.history l.node u)
@@ -152,14 +161,15 @@ plain_same live e w l o bytes h none answers =
     (λ (q : j ≡ l.node).
     ap (λ m. results_in v.history m u) q ∙ plain_own e w l o bytes h u ∙ ap (λ f. results_with_failure u f (results_in w.history l.node u)) none ∙ ap (λ m. results_in w.history m u) (sym q))
     (λ (ne : j ≡ l.node → ⊥). others.results j u ne) (cases_eq j l.node))
+    (plain_drift e w l o bytes h)
 
 -- one front end changed
 plain_moved : (live : List ℕ) (e : ℕ) (w : World) (l : RoundLine) (o : Made) (bytes : List ℕ) (results : ℕ → List Result) → Plain w l o bytes → ((u : ℕ) → results_with_failure u o.failed (results_in w.history l.node u) ≡ results u)
-    → server_of live (after_plain e w l o) ≡ server_with_front l.node (record { results = results; answers = o.state.answers }) (server_of live w)
+    → server_of live (after_plain e w l o) ≡ server_with_front l.node (record { results = results; drifts = drift_at w l.node; answers = o.state.answers }) (server_of live w)
 plain_moved live e w l o bytes results h own =
     let v = after_plain e w l o in
-    server_moved live l.node w v (next_at w (first_of live)) (record { results = results; answers = o.state.answers }) (plain_others e w l o) (plain_next e w l o bytes h (first_of live))
-    (front_is v l.node results o.state.answers (λ u. plain_own e w l o bytes h u ∙ own u) (ap (λ (y : NodeState). y.answers) (plain_node e w l o)))
+    server_moved live l.node w v (next_at w (first_of live)) (record { results = results; drifts = drift_at w l.node; answers = o.state.answers }) (plain_others e w l o) (plain_next e w l o bytes h (first_of live))
+    (front_is v l.node results (drift_at w l.node) o.state.answers (λ u. plain_own e w l o bytes h u ∙ own u) (plain_drift e w l o bytes h l.node) (ap (λ (y : NodeState). y.answers) (plain_node e w l o)))
 
 plain_done : (config : Config) (live : List ℕ) (e : ℕ) (w : World) (l : RoundLine) (o : Made) (bytes : List ℕ) (t : Served) → IsSettled config live w → is_live live l.node ≡ true → Plain w l o bytes → t.reply ≡ Some bytes
     → server_of live (after_plain e w l o) ≡ t.server → RoundDone config live e (suc e) l w (after_plain e w l o) t
@@ -231,7 +241,7 @@ unfolding made_by_ruling
 denied_round config live e w l nonce outcome calm here q =
     let text = answer_bytes (ReplyAnswer nonce outcome) in
     let o = reply_made l.client text None (node_with_answer l.client (without_lf l.line) text (w.nodes l.node)) in
-    let h : Plain w l o text = record { sends = refl; pass = refl; voter = refl; next = λ u. refl; running = (calm.up l.node here).1; replies = refl } in
+    let h : Plain w l o text = record { sends = refl; pass = refl; voter = refl; next = λ u. refl; drift = λ u. refl; running = (calm.up l.node here).1; replies = refl } in
     let t = in_server live w l (Denied nonce outcome) in
     plain_round config live e w l o t (line_made config live e w l (Denied nonce outcome) calm here q) refl
     (plain_done config live e w l o text t calm here h refl (plain_moved live e w l o text (results_in w.history l.node) h (λ u. refl)))
@@ -249,6 +259,7 @@ wrong_round config live e w l nonce outcome token calm here q =
       pass = refl;
       voter = refl;
       next = gate_next x.content token (gate_with_failure x.content token l.moment);
+      drift = gated_drift x.content token (gate_with_failure x.content token l.moment);
       running = (calm.up l.node here).1;
       replies = refl;
     } in
@@ -258,12 +269,12 @@ wrong_round config live e w l nonce outcome token calm here q =
     (plain_moved live e w l o text (λ u. cond (eqb token u) (Failed l.moment ∷ results_in w.history l.node u) (results_in w.history l.node u)) h (λ u. refl)))
 
 -- the line proposes, and what it proposes is accepted
-fitting_round : (config : Config) (live : List ℕ) (e : ℕ) (w : World) (l : RoundLine) (nonce : List ℕ) (token lo hi : ℕ) → Proposing config live w l nonce token lo hi
-    → Done config live e w l (in_server live w l (Fitting nonce token lo hi))
-fitting_round config live e w l nonce t lo hi h =
+fitting_round : (config : Config) (live : List ℕ) (e : ℕ) (w : World) (l : RoundLine) (nonce : List ℕ) (token lo hi : ℕ) (drift : ℤ) → Proposing config live w l nonce token lo hi drift
+    → Done config live e w l (in_server live w l (Fitting nonce token lo hi drift))
+fitting_round config live e w l nonce t lo hi drift h =
     let i = l.node in
     let calm = h.calm in
-    let both = proposal_moved config live e w l nonce t lo hi h in
+    let both = proposal_moved config live e w l nonce t lo hi drift h in
     let moved = both.0 in
     let v = world_after_events config e (round_events config live e w l) w in
     let first = first_of live in
@@ -283,10 +294,10 @@ fitting_round config live e w l nonce t lo hi h =
         answer = record { event = moved.event; node = i; client = l.client; bytes = ok_bytes nonce hi };
         told = moved.told;
         is = record { since = moved.since; before = moved.before; node = refl; client = refl; bytes = refl };
-        server = server_moved live i w v (λ u. cond (eqb t u) (hi + 1) (next_at w first u)) (record { results = λ u. cond (eqb t u) (Accepted ∷ rs u) (rs u); answers = kept }) moved.others
+        server = server_moved live i w v (λ u. cond (eqb t u) (hi + 1) (next_at w first u)) (record { results = λ u. cond (eqb t u) (Accepted ∷ rs u) (rs u); drifts = λ u. cond (eqb t u) drift (drift_at w i u); answers = kept }) moved.others
             (λ u. cond_both (eqb t u) (hi + 1) (next_at w first u) (λ m. next_at v first u ≡ m)
             (λ q. ap (λ m. next_at v first m) (sym (eqb-true t u q)) ∙ moved.raised first first_here) (λ q. moved.rest first u first_here (λ r. eqb-false t u q (sym r))))
-            (front_is v i (λ u. cond (eqb t u) (Accepted ∷ rs u) (rs u)) kept moved.own moved.answers);
+            (front_is v i (λ u. cond (eqb t u) (Accepted ∷ rs u) (rs u)) (λ u. cond (eqb t u) drift (drift_at w i u)) kept moved.own moved.own_drift moved.answers);
         seqs = moved.seqs;
       },
       both.1,
@@ -299,12 +310,12 @@ unfolding made_by_ruling
 by_ruling grounds config live e w l sound calm here room Outside q g =
     let bytes = answer_bytes BadLine in
     let o = reply_made l.client bytes None (w.nodes l.node) in
-    let h : Plain w l o bytes = record { sends = refl; pass = refl; voter = refl; next = λ u. refl; running = (calm.up l.node here).1; replies = refl } in
+    let h : Plain w l o bytes = record { sends = refl; pass = refl; voter = refl; next = λ u. refl; drift = λ u. refl; running = (calm.up l.node here).1; replies = refl } in
     let t = in_server live w l Outside in
     plain_round config live e w l o t (line_made config live e w l Outside calm here q) refl (plain_done config live e w l o bytes t calm here h refl (plain_same live e w l o bytes h refl refl))
 by_ruling grounds config live e w l sound calm here room (Again text) q g =
     let o = reply_made l.client text None (w.nodes l.node) in
-    let h : Plain w l o text = record { sends = refl; pass = refl; voter = refl; next = λ u. refl; running = (calm.up l.node here).1; replies = refl } in
+    let h : Plain w l o text = record { sends = refl; pass = refl; voter = refl; next = λ u. refl; drift = λ u. refl; running = (calm.up l.node here).1; replies = refl } in
     let t = in_server live w l (Again text) in
     plain_round config live e w l o t (line_made config live e w l (Again text) calm here q) refl (plain_done config live e w l o text t calm here h refl (plain_same live e w l o text h refl refl))
 by_ruling grounds config live e w l sound calm here room Waiting q g =
@@ -312,8 +323,8 @@ by_ruling grounds config live e w l sound calm here room Waiting q g =
     absurd (both_ways (is_owned (w.nodes l.node).owners l.client (without_lf l.line)) idle g)
 by_ruling grounds config live e w l sound calm here room (Denied nonce outcome) q g = denied_round config live e w l nonce outcome calm here q
 by_ruling grounds config live e w l sound calm here room (Wrong nonce outcome token) q g = wrong_round config live e w l nonce outcome token calm here q
-by_ruling grounds config live e w l sound calm here room (Fitting nonce token lo hi) q g =
-    fitting_round config live e w l nonce token lo hi (record { sound = sound; calm = calm; here = here; judged = q; known = g.within; free = g.free; span = g.span.ordered; room = room })
+by_ruling grounds config live e w l sound calm here room (Fitting nonce token lo hi drift) q g =
+    fitting_round config live e w l nonce token lo hi drift (record { sound = sound; calm = calm; here = here; judged = q; known = g.within; free = g.free; span = g.span.ordered; room = room })
 
 -- ---- one round, and all
 

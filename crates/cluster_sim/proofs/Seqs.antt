@@ -1,5 +1,5 @@
 -- A run uses up at most one number for each event.
-use Rattle.std.proofs.Common.{◌≡◌, ℕ, ℤ, pos, suc, ◌+◌, ◌^◌, ◌≤◌, true, false, cond, List, [], ◌∷◌, ◌++◌, length, map, Option, Some, None, refl, sym, ap, ◌∙◌, arith, eqb, leb, ltb}
+use Rattle.std.proofs.Common.{◌≡◌, ℕ, ℤ, suc, ◌+◌, ◌^◌, ◌≤◌, true, false, cond, List, [], ◌∷◌, ◌++◌, length, map, Option, Some, None, refl, sym, ap, ◌∙◌, arith, eqb, leb, ltb}
 use Rattle.std.proofs.lemmas.Bool.{cond_both}
 use Rattle.std.proofs.lemmas.List.{append-nil, append_assoc}
 use Rattle.cluster_sim.proofs.Waves.{set_all}
@@ -71,9 +71,9 @@ ruled_seq place x client moment line (Again answer) = omega arith
 ruled_seq place x client moment line Waiting = omega arith
 ruled_seq place x client moment line (Denied nonce outcome) = omega arith
 ruled_seq place x client moment line (Wrong nonce outcome token) = omega arith
-ruled_seq place x client moment line (Fitting nonce t lo hi) =
-    cond_both (ltb x.voter.seq (2 ^ 62)) (made_by_vote (x.owners ++ record { seq = x.voter.seq; client = client; line = line; nonce = nonce } ∷ []) (Some (next_beginning place t lo hi x)) (propose place t lo hi (pos 0) x.content x.voter) x) (quiet_made (stopped_node x)) (λ o. MadeOne x o)
-    (λ _. propose_seq place t lo hi (pos 0) x.content x.voter) (λ _. omega arith)
+ruled_seq place x client moment line (Fitting nonce t lo hi drift) =
+    cond_both (ltb x.voter.seq (2 ^ 62)) (made_by_vote (x.owners ++ record { seq = x.voter.seq; client = client; line = line; nonce = nonce } ∷ []) (Some (next_beginning place t lo hi x)) (propose place t lo hi drift x.content x.voter) x) (quiet_made (stopped_node x)) (λ o. MadeOne x o)
+    (λ _. propose_seq place t lo hi drift x.content x.voter) (λ _. omega arith)
 
 event_seq : (config : Config) (place : PlaceRecord) (x : NodeState) (v : NodeEvent) → MadeOne x (made_while_running config place v x)
 unfolding made_while_running made_by_datagram

@@ -2,7 +2,7 @@
 use Rattle.std.proofs.Common.{◌≡◌, ℕ, ◌<◌, true, false, ◌||◌, List, [], ◌∷◌, refl, ap, arith}
 use Rattle.std.proofs.lemmas.Bool.{eq-eqb, both_ways}
 use Rattle.cluster_sim.specs.Results.{results_in}
-use Rattle.cluster_sim.specs.Rounds.{IsAscending, first_of, is_live}
+use Rattle.cluster_sim.specs.Rounds.{IsAscending, drift_at, first_of, is_live}
 use Rattle.cluster_sim.specs.World.{World}
 use Rattle.vote_core.proofs.Basics.{Each, each_weaker}
 
@@ -18,6 +18,7 @@ ascending_rest i (j ∷ js) h = h.1
 pub record OthersSame (i : ℕ) (w v : World) : Type 0 where
   pub answers : (j : ℕ) → (j ≡ i → ⊥) → (v.nodes j).answers ≡ (w.nodes j).answers
   pub results : (j u : ℕ) → (j ≡ i → ⊥) → results_in v.history j u ≡ results_in w.history j u
+  pub drifts : (j u : ℕ) → (j ≡ i → ⊥) → drift_at v j u ≡ drift_at w j u
 
 pub first_live : (live : List ℕ) (i : ℕ) → is_live live i ≡ true → is_live live (first_of live) ≡ true
 first_live [] i h = absurd (both_ways false refl h)

@@ -1,6 +1,6 @@
 -- What every event keeps at each node: a row for each token, each stored grant below its row's next, the token whose
 -- Floor is next a token of the book, and of each owner its proposal pending.
-use Rattle.std.proofs.Common.{◌≡◌, ℕ, ℤ, pos, zero, suc, ◌+◌, ◌^◌, ◌<◌, ◌⊎◌, inl, inr, true, false, cond, List, [], ◌∷◌, ◌++◌, length, set, Option, Some, None, refl, ◌∙◌, subst, arith, eqb, leb, ltb}
+use Rattle.std.proofs.Common.{◌≡◌, ℕ, ℤ, zero, suc, ◌+◌, ◌^◌, ◌<◌, ◌⊎◌, inl, inr, true, false, cond, List, [], ◌∷◌, ◌++◌, length, set, Option, Some, None, refl, ◌∙◌, subst, arith, eqb, leb, ltb}
 use Rattle.std.proofs.lemmas.Bool.{cond_both, ltb-true, false≢true}
 use Rattle.std.proofs.lemmas.List.{length-set}
 use Rattle.admit_core.specs.Gate.{GateRecord}
@@ -130,11 +130,11 @@ ruled_sound tokens place x client moment line h (Again answer) = h
 ruled_sound tokens place x client moment line h Waiting = h
 ruled_sound tokens place x client moment line h (Denied nonce outcome) = record { kept = h.kept; owned = h.owned }
 ruled_sound tokens place x client moment line h (Wrong nonce outcome token) = record { kept = gate_kept tokens x.content x.voter.turn token _ h.kept; owned = h.owned }
-ruled_sound tokens place x client moment line h (Fitting nonce t lo hi) =
-    let s = propose place t lo hi (pos 0) x.content x.voter in
+ruled_sound tokens place x client moment line h (Fitting nonce t lo hi drift) =
+    let s = propose place t lo hi drift x.content x.voter in
     let owners = x.owners ++ record { seq = x.voter.seq; client = client; line = line; nonce = nonce } ∷ [] in
     cond_both (ltb x.voter.seq (2 ^ 62)) (made_by_vote owners (Some (next_beginning place t lo hi x)) s x) (quiet_made (stopped_node x)) (λ (o : Made). Sound tokens o.state)
-    (λ _. voted_sound tokens x owners (Some (next_beginning place t lo hi x)) s h (propose_kept tokens place t lo hi (pos 0) x.content x.voter)) (λ _. record { kept = h.kept; owned = h.owned })
+    (λ _. voted_sound tokens x owners (Some (next_beginning place t lo hi x)) s h (propose_kept tokens place t lo hi drift x.content x.voter)) (λ _. record { kept = h.kept; owned = h.owned })
 
 event_sound : (config : Config) (tokens : ℕ) (place : PlaceRecord) (x : NodeState) → Sound tokens x → (v : NodeEvent) → Sound tokens (made_while_running config place v x).state
 unfolding made_while_running made_by_datagram

@@ -1,5 +1,5 @@
 -- Whatever happens, each datagram that a node sends is in the peer format.
-use Rattle.std.proofs.Common.{◌≡◌, ◌≢◌, ℕ, zero, suc, ◌+◌, ◌-◌, ◌^◌, ◌<◌, ◌≤◌, true, false, cond, not, ⊎_elim, List, [], ◌∷◌, length, map, Option, Some, None, refl, sym, subst, arith, eqb, leb, ltb, take, ℤ, pos}
+use Rattle.std.proofs.Common.{◌≡◌, ◌≢◌, ℕ, zero, suc, ◌+◌, ◌-◌, ◌^◌, ◌<◌, ◌≤◌, true, false, cond, not, ⊎_elim, List, [], ◌∷◌, length, map, Option, Some, None, refl, sym, subst, arith, eqb, leb, ltb, take, ℤ}
 use Rattle.std.specs.Prelude.{filter}
 use Rattle.std.specs.List.{slice_get}
 use Rattle.std.proofs.lemmas.Bool.{cond_both, eqb-true, eqb-false, and_parts, not-true, ltb-true, leb-true}
@@ -250,9 +250,9 @@ ruled config place x client moment text line Waiting few p h g = record { fine =
 ruled config place x client moment text line (Denied nonce outcome) few p h g = record { fine = h; sends = tt }
 ruled config place x client moment text line (Wrong nonce outcome token) few p h g =
     record { fine = put_fine x.content x.voter token _ None h (h.next token); sends = tt }
-ruled config place x client moment text line (Fitting nonce token lo hi) few p h g =
+ruled config place x client moment text line (Fitting nonce token lo hi drift) few p h g =
     cond_both (ltb x.voter.seq (2 ^ 62)) _ (quiet_made (stopped_node x)) (λ m. IsFineMade place.me m)
-    (λ b. (let s = proposed place token lo hi (pos 0) x.content x.voter p h (ltb-true x.voter.seq (2 ^ 62) b) (omega (arith, g.within, few))
+    (λ b. (let s = proposed place token lo hi drift x.content x.voter p h (ltb-true x.voter.seq (2 ^ 62) b) (omega (arith, g.within, few))
     (window_factor g.credential.kind _ config.limits _ _ moment lo g.fit.first) (window_factor g.credential.kind _ config.limits _ _ moment hi g.fit.last) g.span in
     record { fine = s.fine; sends = s.sends }))
     (λ _. record { fine = h; sends = tt })

@@ -1,5 +1,5 @@
 -- What an event at a node tells: each OK belongs to a pass, and each pass has its OK.
-use Rattle.std.proofs.Common.{◌≡◌, ℕ, pos, suc, ◌^◌, ◌<◌, ◌≤◌, List, [], ◌∷◌, ◌++◌, length, get_or, map, Option, Some, None, refl, sym, ap, ◌∙◌, subst, arith, eqb, ltb}
+use Rattle.std.proofs.Common.{◌≡◌, ℕ, ℤ, suc, ◌^◌, ◌<◌, ◌≤◌, List, [], ◌∷◌, ◌++◌, length, get_or, map, Option, Some, None, refl, sym, ap, ◌∙◌, subst, arith, eqb, ltb}
 use Rattle.std.specs.Prelude.{codes}
 use Rattle.std.specs.List.{filter, slice_get}
 use Rattle.std.proofs.lemmas.Bool.{cond_both, cond-true, eqb-true, and_parts}
@@ -315,27 +315,27 @@ again_tells events h e i x client line text kept k = record {
 }
 
 -- a proposal of a number that the node has not used in this boot
-fresh_begun : (e i boot seq : ℕ) (b : Begun) (begun : ProposalRecord → Option Begun) (s : ℕ) → s < seq → with_begun (named i boot seq) b begun (named i boot s) ≡ begun (named i boot s)
+pub fresh_begun : (e i boot seq : ℕ) (b : Begun) (begun : ProposalRecord → Option Begun) (s : ℕ) → s < seq → with_begun (named i boot seq) b begun (named i boot s) ≡ begun (named i boot s)
 fresh_begun e i boot seq b begun s lt =
     cond_both (same_proposal (named i boot s) (named i boot seq)) (Some b) (begun (named i boot s)) (λ o. o ≡ begun (named i boot s))
     (λ q. let parts = and_parts (eqb i i) _ q in let more = and_parts (eqb boot boot) (eqb s seq) parts.1 in absurd (omega (arith, lt, eqb-true s seq more.1))) (λ _. refl)
 
-begun_now : (i boot seq : ℕ) (b : Begun) (begun : ProposalRecord → Option Begun) → with_begun (named i boot seq) b begun (named i boot seq) ≡ Some b
+pub begun_now : (i boot seq : ℕ) (b : Begun) (begun : ProposalRecord → Option Begun) → with_begun (named i boot seq) b begun (named i boot seq) ≡ Some b
 begun_now i boot seq b begun = cond-true (same_proposal (named i boot seq) (named i boot seq)) (Some b) (begun (named i boot seq)) (is_same (named i boot seq))
 
-proposing_tells : (events : List WorldEvent) (h : List Note) (e : ℕ) (place : PlaceRecord) (Premise : Type 0) (x : NodeState) (client : ℕ) (line nonce : List ℕ) (token lo hi : ℕ) → NodeKept events h e place.me x
+proposing_tells : (events : List WorldEvent) (h : List Note) (e : ℕ) (place : PlaceRecord) (Premise : Type 0) (x : NodeState) (client : ℕ) (line nonce : List ℕ) (token lo hi : ℕ) (drift : ℤ) → NodeKept events h e place.me x
     → IsAskedIn place.me client line nonce (slice_get events e)
-    → Tells events h e place.me Premise (made_by_proposal place client line nonce token lo hi x)
+    → Tells events h e place.me Premise (made_by_proposal place client line nonce token lo hi drift x)
 unfolding made_by_proposal
-proposing_tells events h e place Premise x client line nonce token lo hi k asked =
+proposing_tells events h e place Premise x client line nonce token lo hi drift k asked =
     let i = place.me in
     let owner : Owner = record { seq = x.voter.seq; client = client; line = line; nonce = nonce } in
     let owners = x.owners ++ owner ∷ [] in
     let began : Option Beginning = Some (next_beginning place token lo hi x) in
     let b : Begun = record { token = token; lo = lo; hi = hi; event = e } in
     let begun = begun_with e began (begun_in h) in
-    let s = propose place token lo hi (pos 0) x.content x.voter in
-    let next = propose_seq place token lo hi (pos 0) x.content x.voter in
+    let s = propose place token lo hi drift x.content x.voter in
+    let next = propose_seq place token lo hi drift x.content x.voter in
     let old : Each (OwnerKept events begun i x.content.boot s.voter.seq) x.owners =
     owners_later events (begun_in h) begun i x.content.boot x.voter.seq s.voter.seq x.owners (omega (arith, next))
     (λ t lt. fresh_begun e i x.content.boot x.voter.seq b (begun_in h) t lt) k.owners in
@@ -344,7 +344,7 @@ proposing_tells events h e place Premise x client line nonce token lo hi k asked
     (below, subst (λ z. Asked events i client line nonce z) (sym (begun_now i x.content.boot x.voter.seq b (begun_in h))) asked) in
     let numbered : Numbered (HasOwner owners) x.voter.pending = each_weaker (λ (q : Ballot). HasOwner x.owners q.seq) (λ (q : Ballot). HasOwner owners q.seq) (λ q f. owner_more x.owners owner q.seq f) x.voter.pending k.owned in
     cond_both (ltb x.voter.seq (2 ^ 62)) (made_by_vote owners began s x) (quiet_made (stopped_node x)) (λ o. Tells events h e i Premise o)
-    (λ _. voted_tells events h e i Premise x owners began s k refl (propose_step (HasOwner owners) place token lo hi (pos 0) x.content x.voter numbered (owner_new x.owners owner))
+    (λ _. voted_tells events h e i Premise x owners began s k refl (propose_step (HasOwner owners) place token lo hi drift x.content x.voter numbered (owner_new x.owners owner))
     (each_append (OwnerKept events begun i x.content.boot s.voter.seq) x.owners (owner ∷ []) old (new, tt)))
     (λ _. quiet_tells events h e i Premise (stopped_node x) (record { owners = k.owners; owned = k.owned; answers = k.answers }))
 
@@ -368,8 +368,8 @@ ruling_tells config events h e place x client moment text comes k Waiting g = qu
 ruling_tells config events h e place x client moment text comes k (Denied nonce outcome) g = refused_tells events h e place.me _ x client (without_lf text) nonce outcome None g k
 ruling_tells config events h e place x client moment text comes k (Wrong nonce outcome token) g =
     refused_tells events h e place.me _ (node_with_failure token moment x) client (without_lf text) nonce outcome (Some (token, moment)) g.refused (record { owners = k.owners; owned = k.owned; answers = k.answers })
-ruling_tells config events h e place x client moment text comes k (Fitting nonce token lo hi) g =
-    proposing_tells events h e place _ x client (without_lf text) nonce token lo hi k
+ruling_tells config events h e place x client moment text comes k (Fitting nonce token lo hi drift) g =
+    proposing_tells events h e place _ x client (without_lf text) nonce token lo hi drift k
     (comes (without_lf text) nonce (record { request = g.request; grammar = g.grammar; nonce_is = g.nonce_is; line_is = refl }))
 
 -- ---- each event

@@ -83,7 +83,7 @@ grant_step P place from c v (Some q) h f =
     (λ _. record { boot = refl; seq = omega arith; pending = each_filter (λ (b : Ballot). P b.seq) _ v.pending h; settled = (refl, f, refl) })
     (λ _. record { boot = refl; seq = omega arith; pending = replaced P (with_granting from q) v.pending f h; settled = tt })
 
-raise_boot : (t next : ℕ) (c : Content) → (raise t next c).boot ≡ c.boot
+pub raise_boot : (t next : ℕ) (c : Content) → (raise t next c).boot ≡ c.boot
 unfolding raise
 raise_boot t next c = cond_both (ltb (row c t).next next) (with_row c t (row_with_next next (row c t)) None) c (λ d. d.boot ≡ c.boot) (λ _. refl) (λ _. refl)
 

@@ -1,10 +1,10 @@
 -- Scripts to reckon with: nodes with the one token of RFC 4226, Appendix D.
-use Rattle.std.specs.Prelude.{ℕ, zero, suc, ◌+◌, ◌++◌, List, [], ◌∷◌, Bool, true, false, Some, None, codes}
+use Rattle.std.specs.Prelude.{ℕ, ℤ, pos, zero, suc, ◌+◌, ◌++◌, List, [], ◌∷◌, map, Option, Bool, true, false, Some, None, codes}
 use Rattle.hmac_core.specs.declared.hash.Hash.TheVariants.{Sha1}
 use Rattle.otp_core.specs.Acceptance.{Acceptance}
 use Rattle.otp_core.specs.declared.digits.Digits.TheVariants.{Six}
 use Rattle.token_file.specs.Credential.{Credential}
-use Rattle.token_file.specs.declared.token.Kind.TheVariants.{Event}
+use Rattle.token_file.specs.declared.token.Kind.TheVariants.{Event, Time30}
 use Rattle.token_file.specs.declared.token.Password.TheVariants.{NoneAllowed, Equal}
 use Rattle.vote_core.specs.Schedule.{Envelope}
 use Rattle.vote_core.specs.declared.message.Message.TheVariants.{Ask}
@@ -13,6 +13,7 @@ use Rattle.vote_wire.specs.Answer.{answer_bytes}
 use Rattle.vote_wire.specs.declared.answer.Answer.TheVariants.{BadLine, Reply}
 use Rattle.vote_wire.specs.declared.answer.Outcome.{Outcome}
 use Rattle.cluster_sim.specs.Answered.{AreAnswered, NamePasses, TellTruth}
+use Rattle.cluster_sim.specs.Drifts.{drift_after, moment_in}
 use Rattle.cluster_sim.specs.Justified.{IsJustified}
 use Rattle.cluster_sim.specs.World.{WorldEvent, Happens, Cut, Restart, Says, Deliver, Ticks, Noise, Told, ReportValue}
 
@@ -254,6 +255,60 @@ many_users = config_with (letter_users 33)
 abbrev pub many_floors : List (List ℕ)
 many_floors = [] ∷ [] ∷ [] ∷ []
 
+-- ---- drifts
+
+-- one user with a token of 30 seconds, and so many steps that may be drifted
+abbrev pub clock_config : ℕ → Config
+clock_config steps = record {
+  book = record (user_named (codes "silver")) { kind = Time30 } ∷ [];
+  limits = record { look_ahead = 5; skew = 1; range = 9; drift = steps };
+}
+
+-- one node whose first free factor is 2
+abbrev pub clock_alone : List (List ℕ)
+clock_alone = (2 ∷ []) ∷ []
+
+-- three of them
+abbrev pub clock_three : List (List ℕ)
+clock_three = (2 ∷ []) ∷ (2 ∷ []) ∷ clock_alone
+
+-- the code of the step before the present one, at node 1
+abbrev pub one_behind : WorldEvent
+one_behind = line_at 1 7 120 (codes "CHECK 1 silver 969429 -")
+
+-- the code of two steps before the present one, at a node
+abbrev pub two_behind : ℕ → WorldEvent
+two_behind node = line_at node 7 180 (codes "CHECK 2 silver 338314 -")
+
+-- then that of three before, and of the present one
+abbrev pub clock_lines : List WorldEvent
+clock_lines =
+    one_behind ∷ two_behind 1 ∷ line_at 1 7 240 (codes "CHECK 3 silver 254676 -")
+    ∷ line_at 1 7 270 (codes "CHECK 4 silver 520489 -") ∷ []
+
+-- node 1 of three accepts the first of these codes; the next one comes to node 2, and then to node 1
+abbrev pub clock_among : List WorldEvent
+clock_among =
+    one_behind ∷ delivery 2 0 ∷ delivery 1 2 ∷ two_behind 2 ∷ two_behind 1 ∷ delivery 2 3 ∷ delivery 1 5 ∷ []
+
+-- it stops inside the step in which it accepts it, and the next one comes
+abbrev pub clock_stopped : Bool → List WorldEvent
+clock_stopped kept = one_behind ∷ delivery 2 0 ∷ Cut kept (Deliver 1 2) ∷ two_behind 1 ∷ []
+
+-- one node stops inside the line of the first code, which it accepts
+abbrev pub clock_line_stopped : List WorldEvent
+clock_line_stopped = Cut true (Says 1 7 120 (codes "CHECK 1 silver 969429 -")) ∷ []
+
+-- the moments in events of each kind that is no line
+abbrev pub moments_of_others : List (Option ℕ)
+moments_of_others =
+    map (λ event. moment_in (Some event))
+    (delivery 1 0 ∷ tick_of 1 ∷ Happens (Noise 1 2 None) ∷ Restart 1 ∷ [])
+
+-- the drift of a token at node 1, which was 7, after these acceptances with the lines of that cluster
+abbrev pub drift_of_passes : ℕ → List Acceptance → ℤ
+drift_of_passes token passes = drift_after (clock_config 10) clock_among 1 token (pos 7) passes
+
 -- ---- what is promised of a run
 
 -- whether an acceptance by a run of these events at three nodes is justified
@@ -263,6 +318,10 @@ IsJustifiedAmong events accepted = IsJustified config three events accepted
 -- whether an acceptance of the fresh token at one node is justified
 abbrev pub IsJustifiedAlone : Acceptance → Type 0
 IsJustifiedAlone accepted = IsJustified config alone fresh_token accepted
+
+-- whether an acceptance of the token whose clock falls behind is justified
+abbrev pub IsJustifiedByClock : Acceptance → Type 0
+IsJustifiedByClock accepted = IsJustified (clock_config 10) clock_alone clock_lines accepted
 
 -- node 1 accepts the first factor in event 2, which began with the line of client 7 in event 0
 abbrev pub first_pass : Acceptance

@@ -1,6 +1,6 @@
 -- One server with one first free factor for each token, behind several front ends. Each line is answered at once at the
 -- front end where it comes in. Nothing is voted on, sent or waited for.
-use Rattle.std.specs.Prelude.{ℕ, ◌+◌, ◌==◌, false, if◌then◌else◌, List, [], ◌∷◌, Option, Some, None}
+use Rattle.std.specs.Prelude.{ℕ, ℤ, ◌+◌, ◌==◌, false, if◌then◌else◌, List, [], ◌∷◌, Option, Some, None}
 use Rattle.admit_core.specs.Throttle.{Result, Failed, Accepted as Passed, wait_after}
 use Rattle.answer_ring.specs.Answers.{KeptAnswer, kept_answer, kept_with}
 use Rattle.vote_wire.specs.Answer.{answer_bytes}
@@ -10,9 +10,10 @@ use Rattle.oath_node.specs.Rules.{Standing, Ruling, Outside, Again, Waiting, Den
 use Rattle.vote_wire.specs.declared.answer.Answer.TheVariants.{BadLine, Reply}
 use Rattle.vote_wire.specs.declared.answer.Outcome.TheVariants.{Accepted}
 
--- a front end: of each token its results there, the newest first, and the last answers
+-- a front end: of each token its results there, the newest first, and its drift there, and the last answers
 pub record Front : Type 0 where
   pub results : ℕ → List Result
+  pub drifts : ℕ → ℤ
   pub answers : List KeptAnswer
 
 -- the server: the first free factor of each token, and its front ends
@@ -32,6 +33,7 @@ standing_of server front client moment line = record {
   is_waiting = false;
   is_full = false;
   next = server.floors;
+  drift = front.drifts;
   wait = λ token. wait_after (front.results token) moment;
 }
 
@@ -55,6 +57,15 @@ abbrev pub front_with_result : ℕ → Result → Front → Front
 front_with_result token result front =
     record front { results = λ other. if token == other then result ∷ front.results other else front.results other }
 
+-- the front end with another drift of the token
+abbrev pub front_with_drift : ℕ → ℤ → Front → Front
+front_with_drift token drift front =
+    record front { drifts = λ other. if token == other then drift else front.drifts other }
+
+-- the front end with an acceptance of the token, which keeps this drift
+abbrev pub front_with_acceptance : ℕ → ℤ → Front → Front
+front_with_acceptance token drift front = front_with_drift token drift (front_with_result token Passed front)
+
 -- what a ruling on the line of a client makes of the server; all answers but that to a bad line are kept
 abbrev pub served_by_ruling : Server → ℕ → ℕ → ℕ → List ℕ → Ruling → Served
 served_by_ruling server place client moment line Outside =
@@ -69,9 +80,9 @@ served_by_ruling server place client moment line (Wrong nonce outcome token) =
     let text = answer_bytes (Reply nonce outcome) in
     let front = front_with_answer client line text (front_with_result token (Failed moment) (server.fronts place)) in
     record { server = server_with_front place front server; reply = Some text }
-served_by_ruling server place client moment line (Fitting nonce token lo hi) =
+served_by_ruling server place client moment line (Fitting nonce token lo hi drift) =
     let text = answer_bytes (Reply nonce (Accepted hi)) in
-    let front = front_with_answer client line text (front_with_result token Passed (server.fronts place)) in
+    let front = front_with_answer client line text (front_with_acceptance token drift (server.fronts place)) in
     record { server = server_with_front place front (server_with_used token hi server); reply = Some text }
 
 -- what a client's line at a front end makes of the server, as it came
@@ -81,6 +92,6 @@ served_line config server place client moment text =
     let standing = standing_of server (server.fronts place) client moment line in
     served_by_ruling server place client moment line (ruling config.book config.limits standing moment text)
 
--- the server after a restart of this front end, which loses its answers
+-- the server after a restart of this front end, which loses its answers alone
 abbrev pub server_with_restarted : ℕ → Server → Server
 server_with_restarted place server = server_with_front place (record (server.fronts place) { answers = [] }) server

@@ -1,4 +1,5 @@
 pub mod Answered
+pub mod Drifts
 pub mod Examples
 pub mod FrontEnds
 pub mod Journal

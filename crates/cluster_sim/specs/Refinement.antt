@@ -1,5 +1,5 @@
 -- The world of nodes as a cluster of voters: which voting event each event is.
-use Rattle.std.specs.Prelude.{ℕ, pos, suc, if◌then◌else◌, List, [], ◌∷◌, Option, Some, None, slice_get}
+use Rattle.std.specs.Prelude.{ℕ, suc, if◌then◌else◌, List, [], ◌∷◌, Option, Some, None, slice_get}
 use Rattle.vote_core.specs.Schedule.{Member, Envelope, Cluster, Act as Vote, Begin, Deliver as Passes, Tick, Throttle, Idle, Event, Happens as Done, Cut as Stopped, Restart as Reopened}
 use Rattle.oath_node.specs.Machine.{Config, NodeState, gate_with_failure, is_heard, ruling_at}
 use Rattle.oath_node.specs.Rules.{Ruling, Outside, Again, Waiting, Denied, Wrong, Fitting}
@@ -27,7 +27,7 @@ vote_on_ruling node x moment Waiting = Idle node
 vote_on_ruling node x moment (Denied nonce outcome) = Idle node
 vote_on_ruling node x moment (Wrong nonce outcome token) =
     Throttle node token (gate_with_failure x.content token moment)
-vote_on_ruling node x moment (Fitting nonce token lo hi) = Begin node token lo hi (pos 0)
+vote_on_ruling node x moment (Fitting nonce token lo hi drift) = Begin node token lo hi drift
 
 -- a datagram that is heard is a delivery; one that is dropped does nothing
 abbrev pub vote_on_datagram : Config → World → ℕ → ℕ → Option Envelope → Vote

@@ -1,6 +1,6 @@
 -- Sweeps and rounds to reckon with, at three nodes with the one token of RFC 4226, Appendix D.
 use Rattle.std.specs.Prelude.{ℕ, List, [], ◌∷◌, ◌++◌, length, codes}
-use Rattle.cluster_sim.specs.Examples.{config, three, line_at, delivery, tick_of, first_at_1}
+use Rattle.cluster_sim.specs.Examples.{clock_config, clock_three, config, three, line_at, delivery, tick_of, first_at_1}
 use Rattle.cluster_sim.specs.Rounds.{RoundLine, events_with_rounds, sweep_events}
 use Rattle.cluster_sim.specs.World.{WorldEvent, world_of}
 
@@ -45,6 +45,16 @@ swept = one_waits ++ sweep_events config (2 ∷ 3 ∷ []) (length one_waits) (wo
 -- a line of the second code
 abbrev pub line_after_sweep : List RoundLine
 line_after_sweep = round_at 3 8 1005 (codes "CHECK c silver 287082 -") ∷ []
+
+-- the code of the step before the present one at node 1, then that of two before at node 2, and at node 1
+abbrev pub lines_of_a_clock : List RoundLine
+lines_of_a_clock =
+    round_at 1 7 120 (codes "CHECK 1 silver 969429 -") ∷ round_at 2 7 180 (codes "CHECK 2 silver 338314 -")
+    ∷ round_at 1 7 180 (codes "CHECK 2 silver 338314 -") ∷ []
+
+-- rounds for these lines, where ten steps may be drifted
+abbrev pub clock_rounds : List WorldEvent
+clock_rounds = events_with_rounds (clock_config 10) clock_three [] (1 ∷ 2 ∷ []) lines_of_a_clock
 
 -- three nodes, of which the second counts the first factor as used up
 abbrev pub not_level : List (List ℕ)

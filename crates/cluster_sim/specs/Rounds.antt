@@ -1,6 +1,6 @@
 -- After faults: a sweep, which levels the floors of live members, and rounds, in each of which one client's line is
 -- answered among them. Whatever else was sent is lost.
-use Rattle.std.specs.Prelude.{◌≡◌, ℕ, zero, suc, ◌+◌, ◌*◌, ◌==◌, ◌&&◌, ◌<◌, ◌≤◌, ◌^◌, max, Bool, true, false, if◌then◌else◌, List, [], ◌∷◌, ◌++◌, length, drop, Option, Some}
+use Rattle.std.specs.Prelude.{◌≡◌, ℕ, ℤ, zero, suc, ◌+◌, ◌*◌, ◌==◌, ◌&&◌, ◌<◌, ◌≤◌, ◌^◌, max, Bool, true, false, if◌then◌else◌, List, [], ◌∷◌, ◌++◌, length, drop, Option, Some}
 use Rattle.std.specs.List.{list_any}
 use Rattle.vote_core.specs.Rows.{row}
 use Rattle.vote_core.specs.Schedule.{Envelope, is_member}
@@ -25,6 +25,10 @@ AreUp live world =
 -- the first free factor that a node has of a token
 abbrev pub next_at : World → ℕ → ℕ → ℕ
 next_at world node token = (row (world.nodes node).content token).next
+
+-- the drift that a node keeps of a token
+abbrev pub drift_at : World → ℕ → ℕ → ℤ
+drift_at world node token = (row (world.nodes node).content token).drift
 
 -- the greatest first free factor that one of these nodes has of a token
 abbrev pub greatest : List ℕ → World → ℕ → ℕ
@@ -198,9 +202,13 @@ abbrev pub first_of : List ℕ → ℕ
 first_of [] = 0
 first_of (node ∷ nodes) = node
 
--- a node's results of each token, and the answers that it keeps
+-- a node's results of each token, the drifts that it keeps, and its answers
 abbrev pub front_at : World → ℕ → Front
-front_at world node = record { results = results_in world.history node; answers = (world.nodes node).answers }
+front_at world node = record {
+  results = results_in world.history node;
+  drifts = drift_at world node;
+  answers = (world.nodes node).answers;
+}
 
 -- the floors of the first live member, which are those of all, and each node as a front end under its number
 abbrev pub server_of : List ℕ → World → Server

@@ -1,5 +1,5 @@
 -- One node, and the server with one front end, over the same events.
-use Rattle.std.specs.Prelude.{ℕ, suc, ◌==◌, true, false, if◌then◌else◌, List, [], ◌∷◌, ◌++◌, Option, Some, None, slice_index_or}
+use Rattle.std.specs.Prelude.{ℕ, pos, suc, ◌==◌, true, false, if◌then◌else◌, List, [], ◌∷◌, ◌++◌, Option, Some, None, slice_index_or}
 use Rattle.oath_node.specs.Machine.{Config}
 use Rattle.cluster_sim.specs.FrontEnds.{Server, served_line, server_with_restarted}
 use Rattle.cluster_sim.specs.World.{Act, Says, Deliver, Ticks, Noise, WorldEvent, Happens, Cut, Restart, Told}
@@ -58,9 +58,9 @@ reference_answers config first (event ∷ events) server =
     answers_to_event config first event server
     ++ reference_answers config (suc first) events (server_after_event config event server)
 
--- the server with these first free factors, and no results or answers yet
+-- the server with these first free factors, and no results, drifts or answers yet
 abbrev pub opening_server : List ℕ → Server
 opening_server floors = record {
   floors = λ token. slice_index_or floors token 0;
-  fronts = λ place. record { results = λ token. []; answers = [] };
+  fronts = λ place. record { results = λ token. []; drifts = λ token. pos 0; answers = [] };
 }

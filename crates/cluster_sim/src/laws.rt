@@ -1,14 +1,15 @@
-ghost use Rattle.std.specs.Prelude.{◌≡◌, ◌+◌, ◌<◌, ◌^◌, List, [], ◌∷◌, ℕ, codes, false, length, true};
+ghost use Rattle.std.specs.Prelude.{pos, negsuc, ◌≡◌, ◌+◌, ◌<◌, ◌^◌, List, [], ◌∷◌, ℕ, None, codes, false, length, true};
 ghost use Rattle.admit_core.specs.Throttle.{Accepted as Passed, Failed, SpacesFailures};
 ghost use Rattle.otp_core.specs.Acceptance.{HaveSingleUse, KeepRealTimeOrder};
 ghost use Rattle.vote_core.specs.Safety.{HaveMajority};
 ghost use Rattle.oath_node.specs.Machine.{Config};
 ghost use Rattle.vote_wire.specs.declared.answer.Outcome.TheVariants.{Accepted, Busy, Clock, Exhausted, Invalid, Password, Spent, Throttled, Timeout, Unknown};
 ghost use Rattle.cluster_sim.specs.Answered.{AreAnswered, NamePasses, TellTruth};
-ghost use Rattle.cluster_sim.specs.Examples.{IsAnsweredBy, IsJustifiedAlone, IsJustifiedAmong, IsToldTruly, NamesItsPass, alone, config, eight_ticks, exhausted, five, four, fresh_token, gate_survives_restart, letter_lines, many_floors, many_users, nothing_happens, old_grants, one_voter_twice, acceptance, password_column, refusal_again, report_with, resynchronization, line_at, second_factor_elsewhere, span_against_one, split_two_to_two, stop_after_the_commit, stop_before_accepting, stop_in_a_line, stop_in_a_tick, stop_in_noise, stop_of_nothing, three, told_outcome, told_bad_line, two_submissions, with_password};
+ghost use Rattle.cluster_sim.specs.Examples.{IsAnsweredBy, IsJustifiedAlone, IsJustifiedAmong, IsJustifiedByClock, IsToldTruly, NamesItsPass, alone, clock_alone, clock_among, clock_config, clock_line_stopped, clock_lines, clock_stopped, clock_three, config, drift_of_passes, eight_ticks, exhausted, five, four, fresh_token, gate_survives_restart, letter_lines, many_floors, many_users, moments_of_others, nothing_happens, old_grants, one_voter_twice, acceptance, password_column, refusal_again, report_with, resynchronization, line_at, second_factor_elsewhere, span_against_one, split_two_to_two, stop_after_the_commit, stop_before_accepting, stop_in_a_line, stop_in_a_tick, stop_in_noise, stop_of_nothing, three, told_outcome, told_bad_line, two_submissions, with_password};
+ghost use Rattle.cluster_sim.specs.Drifts.{drift_before};
 ghost use Rattle.cluster_sim.specs.Justified.{AreJustified};
 ghost use Rattle.cluster_sim.specs.Results.{results_before, results_of};
-ghost use Rattle.cluster_sim.specs.RoundExamples.{line_after_sweep, lines_after_loss, not_level, one_line, one_lost, rounds_from_start, swept, three_lines, two_lines};
+ghost use Rattle.cluster_sim.specs.RoundExamples.{clock_rounds, line_after_sweep, lines_after_loss, not_level, one_line, one_lost, rounds_from_start, swept, three_lines, two_lines};
 ghost use Rattle.cluster_sim.specs.Rounds.{IsSettled, RoundsAreTheReference, RoundsAreThese, RoundsByCount, RoundsReported, SweepEndSettles, SweepLevels, SweepSettles, TurnLevels, events_with_rounds};
 ghost use Rattle.cluster_sim.specs.SingleNode.{reference_answers, opening_server};
 ghost use Rattle.cluster_sim.specs.World.{WorldEvent, floor_before, opening_world, passes_of, report_of};
@@ -163,8 +164,47 @@ pub fn results_are_worked()
     ensures other_token { results_of config alone fresh_token 1 1 ≡ [] }
 {}
 
+/// A clock that falls behind, under settings that allow a drift of ten steps, of one and of none. The drift is kept where
+/// the line is accepted, and a stop that keeps the acceptance keeps it; at another node, or where it is lost, there is
+/// none.
+pub fn drifts_are_worked()
+    ensures ten { report_of (clock_config 10) clock_alone clock_lines
+        ≡ report_with (acceptance 0 0 1 3 3 ∷ acceptance 1 1 1 4 4 ∷ acceptance 2 2 1 5 5 ∷ [])
+        (told_outcome 0 1 7 (codes "1") (Accepted 3) ∷ told_outcome 1 1 7 (codes "2") (Accepted 4)
+        ∷ told_outcome 2 1 7 (codes "3") (Accepted 5) ∷ told_outcome 3 1 7 (codes "4") Invalid ∷ []) 0 }
+    ensures one { report_of (clock_config 1) clock_alone clock_lines
+        ≡ report_with (acceptance 0 0 1 3 3 ∷ acceptance 1 1 1 4 4 ∷ acceptance 3 3 1 9 9 ∷ [])
+        (told_outcome 0 1 7 (codes "1") (Accepted 3) ∷ told_outcome 1 1 7 (codes "2") (Accepted 4)
+        ∷ told_outcome 2 1 7 (codes "3") Invalid ∷ told_outcome 3 1 7 (codes "4") (Accepted 9) ∷ []) 0 }
+    ensures none { report_of (clock_config 0) clock_alone clock_lines
+        ≡ report_with (acceptance 0 0 1 3 3 ∷ acceptance 3 3 1 9 9 ∷ [])
+        (told_outcome 0 1 7 (codes "1") (Accepted 3) ∷ told_outcome 1 1 7 (codes "2") Invalid
+        ∷ told_outcome 2 1 7 (codes "3") Invalid ∷ told_outcome 3 1 7 (codes "4") (Accepted 9) ∷ []) 0 }
+    ensures among { report_of (clock_config 10) clock_three clock_among
+        ≡ report_with (acceptance 0 2 1 3 3 ∷ acceptance 4 6 1 4 4 ∷ [])
+        (told_outcome 2 1 7 (codes "1") (Accepted 3) ∷ told_outcome 3 2 7 (codes "2") Invalid
+        ∷ told_outcome 6 1 7 (codes "2") (Accepted 4) ∷ []) 6 }
+    ensures stop_kept { report_of (clock_config 10) clock_three (clock_stopped true)
+        ≡ report_with (acceptance 0 2 1 3 3 ∷ []) [] 5 }
+    ensures stop_lost { report_of (clock_config 10) clock_three (clock_stopped false)
+        ≡ report_with [] (told_outcome 3 1 7 (codes "2") Invalid ∷ []) 3 }
+    ensures waits { drift_before (clock_config 10) clock_three clock_among 1 0 2 ≡ pos 0 }
+    ensures kept { drift_before (clock_config 10) clock_three clock_among 1 0 3 ≡ negsuc 0 }
+    ensures last { drift_before (clock_config 10) clock_three clock_among 1 0 7 ≡ negsuc 1 }
+    ensures other_node { drift_before (clock_config 10) clock_three clock_among 2 0 7 ≡ pos 0 }
+    ensures stopped { drift_before (clock_config 10) clock_three (clock_stopped true) 1 0 3 ≡ negsuc 0 }
+    ensures stopped_in_line { drift_before (clock_config 10) clock_alone clock_line_stopped 1 0 1 ≡ negsuc 0 }
+    ensures no_pass { drift_of_passes 0 [] ≡ pos 7 }
+    ensures last_factor { drift_of_passes 0 (acceptance 0 0 1 2 3 ∷ []) ≡ negsuc 0 }
+    ensures other_token { drift_of_passes 0 (record (acceptance 0 0 1 3 3) { token = 1 } ∷ []) ≡ pos 7 }
+    ensures no_token { drift_of_passes 1 (record (acceptance 0 0 1 3 3) { token = 1 } ∷ []) ≡ pos 0 }
+    ensures no_event { drift_of_passes 0 (acceptance 9 9 1 3 3 ∷ []) ≡ pos 0 }
+    ensures no_line { moments_of_others ≡ None ∷ None ∷ None ∷ None ∷ [] }
+{}
+
 /// What is said of an acceptance can be broken: by another node, by an event that is no line or is a line that a stop
-/// lost, by another token or factor, and by a line that came while the token was closed or its factor used up.
+/// lost, by another token or factor, by a line that came while the token was closed or its factor used up, and by a
+/// factor that the drift puts outside the window.
 pub fn justifications_can_be_broken()
     ensures node { IsJustifiedAmong second_factor_elsewhere (acceptance 0 2 2 0 0) → ⊥ }
     ensures delivery { IsJustifiedAmong second_factor_elsewhere (acceptance 1 2 1 0 0) → ⊥ }
@@ -177,6 +217,7 @@ pub fn justifications_can_be_broken()
     ensures factor { IsJustifiedAlone (acceptance 0 0 1 1 1) → ⊥ }
     ensures used_up { IsJustifiedAlone (acceptance 1 1 1 0 0) → ⊥ }
     ensures closed { IsJustifiedAlone (acceptance 5 5 1 2 2) → ⊥ }
+    ensures drifted { IsJustifiedByClock (acceptance 3 3 1 9 9) → ⊥ }
 {}
 
 /// What is said of answers can be broken: an `OK` without an acceptance, of another node, client, nonce or factor, told
@@ -205,8 +246,8 @@ pub fn answers_can_be_broken()
     ensures with_factor { IsAnsweredBy (told_outcome 2 1 7 (codes "a") (Accepted 1) ∷ []) → ⊥ }
 {}
 
-/// Rounds worked through: two and three of them, after a node is lost, after a sweep; and what happens where members
-/// are no majority, where the line waits already, and where floors aren't level.
+/// Rounds worked through: two and three of them, after a node is lost, after a sweep, and those of a clock that falls
+/// behind; and what happens where members are no majority, where the line waits already, and where floors aren't level.
 pub fn rounds_are_worked()
     ensures two { report_of config three (rounds_from_start (1 ∷ 2 ∷ []) two_lines)
         ≡ report_with (acceptance 0 2 1 0 0 ∷ acceptance 3 5 2 1 1 ∷ [])
@@ -221,6 +262,10 @@ pub fn rounds_are_worked()
     ensures after_sweep { report_of config three (events_with_rounds config three swept (2 ∷ 3 ∷ []) line_after_sweep)
         ≡ report_with (acceptance 35 37 3 1 1 ∷ [])
         (told_outcome 33 3 8 (codes "b") Timeout ∷ told_outcome 37 3 8 (codes "c") (Accepted 1) ∷ []) 54 }
+    ensures drifted { report_of (clock_config 10) clock_three clock_rounds
+        ≡ report_with (acceptance 0 2 1 3 3 ∷ acceptance 4 6 1 4 4 ∷ [])
+        (told_outcome 2 1 7 (codes "1") (Accepted 3) ∷ told_outcome 3 2 7 (codes "2") Invalid
+        ∷ told_outcome 6 1 7 (codes "2") (Accepted 4) ∷ []) 6 }
     ensures no_majority { report_of config three (rounds_from_start (1 ∷ []) one_line) ≡ report_with [] [] 2 }
     ensures waits_already { report_of config three
         (events_with_rounds config three (line_at 1 7 1000 (codes "CHECK a silver 755224 -") ∷ [])

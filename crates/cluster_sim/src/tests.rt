@@ -14,6 +14,9 @@ use vote_wire::ClusterKey;
 /// The token of RFC 4226, Appendix D.
 const SILVER: &[u8] = b"HOTP silver - 3132333435363738393031323334353637383930";
 
+/// A token of 30 seconds with the same secret.
+const CLOCK: &[u8] = b"HOTP/T30 silver - 3132333435363738393031323334353637383930";
+
 /// An Ask from 1 to 2 for token 0, factors 0 to 0, by proposal 0 of boot 1 of node 1, under 32 zeros.
 const ASK: [u8; 59] = [
     0x4f, 0x56, 2, 1, 1, 2, 0, 0, 0, 0, 1, 0, 0, 0, 0, 0, 0, 0, 1, 0, 0, 0, 0, 0, 0, 0, 0, 0, 0, 0,
@@ -76,17 +79,29 @@ fn lists_of(alloc: Global, floors: &[Next], n: usize) -> Result<Vec<Vec<Next>>, 
     Ok(lists)
 }
 
-/// What a script comes to at so many fresh nodes with the one token, under 32 zeros, with a look-ahead of 5
-/// and a range of 9.
-fn report_at(alloc: Global, n: usize, events: &[WorldEvent<'_>]) -> Result<Report, Fail> {
+/// What a script comes to at so many fresh nodes with these users, under 32 zeros, with a look-ahead of 5, a skew
+/// of 1, a range of 9 and this drift.
+fn report_with(
+    alloc: Global,
+    users: &[u8],
+    drift: u64,
+    n: usize,
+    events: &[WorldEvent<'_>],
+) -> Result<Report, Fail> {
     if n < 1 || n > 9 {
         return Err("how many nodes".into());
     }
     let settings = Settings::new(5, 1, 9).ok_or("settings")?;
+    let settings = settings.with_drift(drift).ok_or("a drift")?;
     let key = ClusterKey::new(&[0; 32]).ok_or("a key")?;
-    let (book, floors) = read_book(alloc, &mut FromRead::new(SILVER), settings, 0)?;
+    let (book, floors) = read_book(alloc, &mut FromRead::new(users), settings, 0)?;
     let lists = lists_of(alloc, &floors, n)?;
     Ok(run_world(alloc, &book, settings, &key, &lists, events)?)
+}
+
+/// What a script comes to at so many fresh nodes with the one token, and no drift.
+fn report_at(alloc: Global, n: usize, events: &[WorldEvent<'_>]) -> Result<Report, Fail> {
+    report_with(alloc, SILVER, 0, n, events)
 }
 
 /// Compares the whole report of a script.
@@ -183,6 +198,33 @@ fn split_two_to_two(rt: HostRuntime) -> Result<(), Fail> {
     ];
     let answers: [Text; 2] = [(9, 1, 7, b"NO a SPENT"), (13, 2, 8, b"NO b SPENT")];
     compare(&rt, 4, &events, &[], &answers, 12)
+}
+
+/// A clock that falls behind: a node that has accepted a line of it takes the next one, and another node doesn't.
+#[test]
+fn clock_falls_behind(rt: HostRuntime) -> Result<(), Fail> {
+    let events = [
+        line(1, 7, 120, b"CHECK 1 silver 969429 -"),
+        delivery(2, 0),
+        delivery(1, 2),
+        line(2, 7, 180, b"CHECK 2 silver 338314 -"),
+        line(1, 7, 180, b"CHECK 2 silver 338314 -"),
+        delivery(2, 3),
+        delivery(1, 5),
+    ];
+    let report = report_with(rt.alloc(), CLOCK, 10, 3, &events)?;
+    let answers: [Text; 3] = [
+        (2, 1, 7, b"OK 1 3"),
+        (3, 2, 7, b"NO 2 INVALID"),
+        (6, 1, 7, b"OK 2 4"),
+    ];
+    compare_report(
+        &rt,
+        &report,
+        &[(0, 2, 1, 3, 3), (4, 6, 1, 4, 4)],
+        &answers,
+        6,
+    )
 }
 
 /// A node stops inside the step in which it grants, and is asked again. What it wrote may be kept or lost.

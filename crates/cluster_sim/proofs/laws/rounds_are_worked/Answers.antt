@@ -48,3 +48,7 @@ returns-clause-settled c = record {
   level = λ i j t p q lt. at_live (λ k. next_at (opening_world config three) k t ≡ next_at (opening_world config three) 1 t) (1 ∷ 2 ∷ []) i (refl, (refl, tt)) p
       ∙ sym (at_live (λ k. next_at (opening_world config three) k t ≡ next_at (opening_world config three) 1 t) (1 ∷ 2 ∷ []) j (refl, (refl, tt)) q);
 }
+
+pub returns-clause-drifted : goal.returns-clause-drifted
+unfolding code_at first_words schedule rounds compress hash_after digest_bytes sha1 world_after_events world_after_event world_after_act world_after_turn world_with_made world_after_restart made_by_event made_while_running made_by_datagram made_by_ruling made_by_proposal propose propose_alone propose_among on_ask accept count_grant on_grant raise count_deny on_deny on_floor on_message tick
+returns-clause-drifted c = refl

@@ -1,0 +1,48 @@
+-- The drift of a token at a node, by the acceptances and the acts of a run. It knows no rows, proposals or votes.
+use Rattle.std.specs.Prelude.{ℕ, ℤ, pos, ◌==◌, ◌&&◌, if◌then◌else◌, List, [], ◌∷◌, take, Option, Some, None, slice_get}
+use Rattle.otp_core.specs.Acceptance.{Acceptance}
+use Rattle.otp_core.specs.Limits.{Limits}
+use Rattle.token_file.specs.Credential.{Credential}
+use Rattle.admit_core.specs.Drift.{kept_drift}
+use Rattle.oath_node.specs.Machine.{Config}
+use Rattle.cluster_sim.specs.World.{Act, Says, Deliver, Ticks, Noise, WorldEvent, Happens, Cut, Restart, passes_of}
+
+-- the moment at which a client says a line
+abbrev pub moment_of : Act → Option ℕ
+moment_of (Says node client moment line) = Some moment
+moment_of (Deliver node k) = None
+moment_of (Ticks node) = None
+moment_of (Noise node from read) = None
+
+-- the moment at which a client says a line in an event, or in a stop inside that
+abbrev pub moment_in : Option WorldEvent → Option ℕ
+moment_in None = None
+moment_in (Some (Happens act)) = moment_of act
+moment_in (Some (Cut kept act)) = moment_of act
+moment_in (Some (Restart node)) = None
+
+-- the drift that an acceptance up to a factor keeps, by its token and the moment at which its line came
+abbrev pub drift_by : Limits → Option Credential → Option ℕ → ℕ → ℤ
+drift_by limits None moment hi = pos 0
+drift_by limits (Some credential) None hi = pos 0
+drift_by limits (Some credential) (Some moment) hi = kept_drift credential.kind limits moment hi
+
+-- the drift that an acceptance keeps in a run of these events
+abbrev pub drift_kept : Config → List WorldEvent → Acceptance → ℤ
+drift_kept config events pass =
+    let moment = moment_in (slice_get events pass.began) in
+    drift_by config.limits (slice_get config.book pass.token) moment pass.hi
+
+-- the drift of a token at a node after these acceptances, the oldest first, which was this one before: what the last
+-- of the token at the node keeps
+abbrev pub drift_after : Config → List WorldEvent → ℕ → ℕ → ℤ → List Acceptance → ℤ
+drift_after config events node token drift [] = drift
+drift_after config events node token drift (pass ∷ passes) =
+    let is_own = (pass.node == node) && (pass.token == token) in
+    drift_after config events node token (if is_own then drift_kept config events pass else drift) passes
+
+-- the drift of the token at the node before the event of that number: what the last acceptance of the token there
+-- before it keeps, and 0 where there is none
+abbrev pub drift_before : Config → List (List ℕ) → List WorldEvent → ℕ → ℕ → ℕ → ℤ
+drift_before config floors events node token event =
+    drift_after config events node token (pos 0) (passes_of config floors (take event events))
