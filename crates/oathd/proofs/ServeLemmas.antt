@@ -8,7 +8,7 @@ use Rattle.vote_core.specs.NodeSet.{PlaceRecord}
 use Rattle.oathd.specs.Members.{AreMembers, SayAddresses, parts_of}
 use Rattle.oathd.specs.StoreWords.{AsksForAction, GivesPlace}
 use Rattle.oathd.specs.declared.store_words.Action.{Action}
-use Rattle.oathd.specs.declared.store_words.Action.TheVariants.{Init, Serve, Export, Audit}
+use Rattle.oathd.specs.declared.store_words.Action.TheVariants.{Init, Serve, Export, Audit, Migrate}
 use Rattle.oathd.proofs.MembersLemmas.{says_unique}
 use Rattle.oathd.proofs.WordsLemmas.{apart}
 
@@ -31,3 +31,4 @@ no_place found text members n given are count none (Serve settings place others 
     none place serve.place_given (serve.each ∙ (ap (length {A = SocketAddrV4}) same ∙ count))
 no_place found text members n given are count none Export asks = apart (codes "serve") _ _ asks refl (lit< tt)
 no_place found text members n given are count none (Audit node) asks = apart (codes "serve") _ _ asks.0 refl (lit< tt)
+no_place found text members n given are count none (Migrate node) asks = apart (codes "serve") _ _ asks.0 refl (lit< tt)

@@ -8,7 +8,7 @@ use Rattle.oathd_core.specs.declared.request.Request.TheVariants.{Lines, Secret}
 use Rattle.oathd.specs.StoreWords.{AsksForAction, AsksForStore}
 use Rattle.oathd.specs.Words.{AsksFor, AsksForNothing, AsksForNodes, GivesNumbers}
 use Rattle.oathd.specs.declared.store_words.Action.{Action}
-use Rattle.oathd.specs.declared.store_words.Action.TheVariants.{Init, Serve, Export, Audit}
+use Rattle.oathd.specs.declared.store_words.Action.TheVariants.{Init, Serve, Export, Audit, Migrate}
 use Rattle.oathd.specs.declared.words.Task.{Task}
 use Rattle.oathd.specs.declared.words.Task.TheVariants.{Run, Sim, Cluster, Store}
 
@@ -21,7 +21,7 @@ pub apart : (name a b : List ℕ) → name ≡ a → name ≡ b → mark a < mar
 apart name a b p q below =
     let same : mark a ≡ mark b = ap mark (sym p ∙ q) in omega (arith, same, below)
 
--- ---- The names in order of their marks: audit, cluster, export, init, lines, sim, serve, secret
+-- ---- The names in order of their marks: audit, cluster, export, init, lines, migrate, sim, serve, secret
 
 module _ (name : List ℕ) (found : Found) where
   pub not_for_lines : name ≡ codes "lines" → ((limits : Limits) (moment : ℕ) → GivesNumbers found limits moment → ⊥) → AsksForNothing name found
@@ -33,6 +33,7 @@ module _ (name : List ℕ) (found : Found) where
   not_for_lines is none (Store database users (Serve settings place members key turns)) asks = apart name _ _ is asks.2.0 (lit< tt)
   not_for_lines is none (Store database users Export) asks = apart name _ _ asks.2 is (lit< tt)
   not_for_lines is none (Store database users (Audit node)) asks = apart name _ _ asks.2.0 is (lit< tt)
+  not_for_lines is none (Store database users (Migrate node)) asks = apart name _ _ is asks.2.0 (lit< tt)
 
   pub not_for_sim : name ≡ codes "sim"
       → ((nodes : ℕ) (limits : Limits) (moment : ℕ) (key : Option (List ℕ)) → AsksForNodes found nodes limits moment key → ⊥)
@@ -45,6 +46,7 @@ module _ (name : List ℕ) (found : Found) where
   not_for_sim is none (Store database users (Serve settings place members key turns)) asks = apart name _ _ is asks.2.0 (lit< tt)
   not_for_sim is none (Store database users Export) asks = apart name _ _ asks.2 is (lit< tt)
   not_for_sim is none (Store database users (Audit node)) asks = apart name _ _ asks.2.0 is (lit< tt)
+  not_for_sim is none (Store database users (Migrate node)) asks = apart name _ _ asks.2.0 is (lit< tt)
 
   pub not_for_cluster : name ≡ codes "cluster"
       → ((users : List ℕ) (nodes : ℕ) (limits : Limits) (moment : ℕ) (key : Option (List ℕ)) → first_value found (codes "USERS") ≡ Some users
@@ -58,6 +60,7 @@ module _ (name : List ℕ) (found : Found) where
   not_for_cluster is none (Store database users (Serve settings place members key turns)) asks = apart name _ _ is asks.2.0 (lit< tt)
   not_for_cluster is none (Store database users Export) asks = apart name _ _ is asks.2 (lit< tt)
   not_for_cluster is none (Store database users (Audit node)) asks = apart name _ _ asks.2.0 is (lit< tt)
+  not_for_cluster is none (Store database users (Migrate node)) asks = apart name _ _ is asks.2.0 (lit< tt)
 
   pub not_for_secret : name ≡ codes "secret" → first_value found (codes "HEX") ≡ None → AsksForNothing name found
   not_for_secret is none (Run (Lines settings moment)) asks = apart name _ _ asks.0 is (lit< tt)
@@ -68,6 +71,7 @@ module _ (name : List ℕ) (found : Found) where
   not_for_secret is none (Store database users (Serve settings place members key turns)) asks = apart name _ _ asks.2.0 is (lit< tt)
   not_for_secret is none (Store database users Export) asks = apart name _ _ asks.2 is (lit< tt)
   not_for_secret is none (Store database users (Audit node)) asks = apart name _ _ asks.2.0 is (lit< tt)
+  not_for_secret is none (Store database users (Migrate node)) asks = apart name _ _ asks.2.0 is (lit< tt)
 
   -- a name of no other command
   pub not_for_store : (name ≡ codes "lines" → ⊥) → (name ≡ codes "sim" → ⊥) → (name ≡ codes "cluster" → ⊥) → (name ≡ codes "secret" → ⊥)

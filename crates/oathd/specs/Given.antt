@@ -9,7 +9,7 @@ pub record GivesLimits (found : Found) (limits : Limits) : Type 0 where
   pub look_ahead_given : number_at found (codes "look-ahead") ≡ Some limits.look_ahead
   pub skew_given : number_at found (codes "skew") ≡ Some limits.skew
   pub range_given : number_at found (codes "range") ≡ Some limits.range
-  pub no_drift : limits.drift ≡ 0
+  pub drift_given : number_at found (codes "drift") ≡ Some limits.drift
   pub in_range : AreLimits limits
 
 -- the number of a member, 1 to 9, is given under this name

@@ -11,7 +11,7 @@ use Rattle.vote_core.specs.State.{IsPlace}
 use Rattle.oathd.specs.Given.{GivesLimits, GivesMember}
 use Rattle.oathd.specs.Members.{AreMembers}
 use Rattle.oathd.specs.declared.store_words.Action.{Action}
-use Rattle.oathd.specs.declared.store_words.Action.TheVariants.{Init, Serve, Export, Audit}
+use Rattle.oathd.specs.declared.store_words.Action.TheVariants.{Init, Serve, Export, Audit, Migrate}
 
 -- a moment in its range is given, or none is
 abbrev pub GivesMoment : Found → Option ℕ → Type 0
@@ -53,6 +53,7 @@ AsksForAction name found (Serve settings place members key turns) =
     (name ≡ codes "serve") × AsksToServe found settings place members.items key.now turns
 AsksForAction name found Export = name ≡ codes "export"
 AsksForAction name found (Audit node) = (name ≡ codes "audit") × GivesMember found (codes "node") node
+AsksForAction name found (Migrate node) = (name ≡ codes "migrate") × GivesMember found (codes "node") node
 
 -- the same, over the store of this database and with this users file
 abbrev pub AsksForStore : List ℕ → Found → List ℕ → List ℕ → Action → Type 0
@@ -67,3 +68,4 @@ IsActionInRange (Init node settings (Some moment)) = (1 ≤ node) × (node ≤ 9
 IsActionInRange (Serve settings place members key turns) = length members.items ≡ place.n
 IsActionInRange Export = Unit {0}
 IsActionInRange (Audit node) = (1 ≤ node) × (node ≤ 9)
+IsActionInRange (Migrate node) = (1 ≤ node) × (node ≤ 9)

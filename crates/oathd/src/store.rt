@@ -8,7 +8,7 @@ use crate::fault::Fault;
 use crate::key::read_key;
 use crate::store_words::Action;
 use node_turns::Clock;
-use oathd_files::{Serving, audit_file, export_file, init_file, serve_file};
+use oathd_files::{Serving, audit_file, export_file, init_file, migrate_file, serve_file};
 use otp_core::MOMENTS_END;
 use std::alloc::Global;
 use std::fs;
@@ -81,6 +81,9 @@ pub(crate) fn perform_action<'a, O: Write>(
         Action::Export => export_file(alloc, rt, database, open_users(rt, users)?, held)?,
         Action::Audit { node } => {
             audit_file(alloc, rt, database, open_users(rt, users)?, node, held)?
+        }
+        Action::Migrate { node } => {
+            migrate_file(alloc, rt, database, open_users(rt, users)?, node)?
         }
     }
     Ok(())

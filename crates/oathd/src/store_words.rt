@@ -8,7 +8,9 @@ ghost use Rattle.oathd.specs.StoreWords.{AsksForAction, GivesImport, GivesMoment
 ghost use Rattle.oathd.specs.declared.store_words.Action.{Action as AnyAction};
 
 use crate::members::read_members;
-use crate::words::{LOOK_AHEAD, MOMENT, NODE_COUNTS, RANGE, SKEW, member_number, settings_of};
+use crate::words::{
+    DRIFT, LOOK_AHEAD, MOMENT, NODE_COUNTS, RANGE, SKEW, member_number, settings_of,
+};
 use clap::error::ErrorKind;
 use clap::{Arg, ArgAction, ArgMatches, Command, Error};
 use command_line::{NumberOption, first_out_of_range, number_error, number_of};
@@ -45,6 +47,11 @@ pub(crate) enum Action<'a> {
     Export,
     /// To write its passes.
     Audit {
+        /// The number of the node: 1 to 9.
+        node: u8,
+    },
+    /// To make it one of the present version.
+    Migrate {
         /// The number of the node: 1 to 9.
         node: u8,
     },
@@ -107,6 +114,16 @@ of the node's vote.
 
 The status is 3 where the database fails, or holds no store of node I.";
 
+/// What the help of the command `migrate` says besides its words.
+const MIGRATE_HELP: &str = "\
+DB is the store of node I as a version of oathd before clock drift made it, and
+USERS the users file that it was made with. It becomes a store that keeps the
+drift of each token, 0 at first, and is otherwise as it was. All is done in one
+step, or nothing.
+
+The status is 3 where the database fails, holds no such store, or is of the
+present version.";
+
 /// How many receives a node has.
 const TURNS: NumberOption = NumberOption {
     name: "turns",
@@ -121,7 +138,7 @@ const TURNS: NumberOption = NumberOption {
 const INIT_NUMBERS: [NumberOption; 2] = [SKEW, MOMENT];
 
 /// The options of the command `serve` that take a number.
-const SERVE_NUMBERS: [NumberOption; 4] = [LOOK_AHEAD, SKEW, RANGE, TURNS];
+const SERVE_NUMBERS: [NumberOption; 5] = [LOOK_AHEAD, SKEW, RANGE, DRIFT, TURNS];
 
 /// A command with the paths that all commands over a database take.
 fn with_paths<'a>(alloc: Global, command: Command<'a>) -> Result<Command<'a>, AllocError> {
@@ -200,6 +217,7 @@ pub(crate) fn serve_command<'a>(alloc: Global) -> Result<Command<'a>, AllocError
         .arg(LOOK_AHEAD.arg(alloc))?
         .arg(SKEW.arg(alloc))?
         .arg(RANGE.arg(alloc))?
+        .arg(DRIFT.arg(alloc))?
         .arg(TURNS.arg(alloc))
 }
 
@@ -216,6 +234,14 @@ pub(crate) fn audit_command<'a>(alloc: Global) -> Result<Command<'a>, AllocError
     let command = Command::new(alloc, "audit")
         .about("Prints what a node accepted")
         .after_help(AUDIT_HELP);
+    with_paths(alloc, command)?.arg(node_arg(alloc))
+}
+
+/// The command `migrate`.
+pub(crate) fn migrate_command<'a>(alloc: Global) -> Result<Command<'a>, AllocError> {
+    let command = Command::new(alloc, "migrate")
+        .about("Makes the store of a node one of the present version")
+        .after_help(MIGRATE_HELP);
     with_paths(alloc, command)?.arg(node_arg(alloc))
 }
 
@@ -334,6 +360,17 @@ fn audit_action<'a>(matches: &ArgMatches<'_>) -> Option<Action<'a>>
     })
 }
 
+/// What the values of the command `migrate` ask for, or `None` where they ask for nothing.
+fn migrate_action<'a>(matches: &ArgMatches<'_>) -> Option<Action<'a>>
+    ensures some { IfSome result (AsksForAction (codes "migrate") (found_of matches.now)) }
+    ensures none { IfNone result ((action : AnyAction)
+        → AsksForAction (codes "migrate") (found_of matches.now) action → ⊥) }
+{
+    Some(Action::Migrate {
+        node: member_number(matches, "node")?,
+    })
+}
+
 /// What the values of a command over a database with this name ask for, or `None` where they ask for nothing.
 pub(crate) fn read_action<'a>(
     alloc: Global,
@@ -349,6 +386,7 @@ pub(crate) fn read_action<'a>(
         "serve" => serve_action(alloc, matches),
         "export" => Ok(Some(Action::Export)),
         "audit" => Ok(audit_action(matches)),
+        "migrate" => Ok(migrate_action(matches)),
         _ => Ok(None),
     }
 }

@@ -57,23 +57,30 @@ fn asks_for_lines(
 #[test]
 fn reads_numbers(rt: HostRuntime) -> Result<(), Fail> {
     for (text, numbers, moment) in [
-        ("", (10, 1, 100), 0),
-        (" --look-ahead 0", (0, 1, 100), 0),
-        (" --look-ahead 100", (100, 1, 100), 0),
-        (" --skew 0", (10, 0, 100), 0),
-        (" --skew 10", (10, 10, 100), 0),
-        (" --range 0", (10, 1, 0), 0),
-        (" --range 1000", (10, 1, 1000), 0),
-        (" --moment 0", (10, 1, 100), 0),
-        (" --moment 1099511627775", (10, 1, 100), 1_099_511_627_775),
+        ("", (10, 1, 100, 0), 0),
+        (" --look-ahead 0", (0, 1, 100, 0), 0),
+        (" --look-ahead 100", (100, 1, 100, 0), 0),
+        (" --skew 0", (10, 0, 100, 0), 0),
+        (" --skew 10", (10, 10, 100, 0), 0),
+        (" --range 0", (10, 1, 0, 0), 0),
+        (" --range 1000", (10, 1, 1000, 0), 0),
+        (" --drift 0", (10, 1, 100, 0), 0),
+        (" --drift 10", (10, 1, 100, 10), 0),
+        (" --moment 0", (10, 1, 100, 0), 0),
         (
-            " --look-ahead 5 --skew=2 --range 9 --moment 59",
-            (5, 2, 9),
+            " --moment 1099511627775",
+            (10, 1, 100, 0),
+            1_099_511_627_775,
+        ),
+        (
+            " --look-ahead 5 --skew=2 --drift 3 --range 9 --moment 59",
+            (5, 2, 9, 3),
             59,
         ),
     ] {
-        let (look_ahead, skew, range) = numbers;
+        let (look_ahead, skew, range, drift) = numbers;
         let settings = Settings::new(look_ahead, skew, range).ok_or("settings")?;
+        let settings = settings.with_drift(drift).ok_or("a drift")?;
         assert!(rt;
             asks_for_lines(rt.alloc(), text, settings, moment)?,
             "{text}"
@@ -115,6 +122,8 @@ fn reads_actions(rt: HostRuntime) -> Result<(), Fail> {
     assert!(rt; asks_for_action(alloc, "export db users", Action::Export)?);
     let wanted = Action::Audit { node: 3 };
     assert!(rt; asks_for_action(alloc, "audit db users --node 3", wanted)?);
+    let wanted = Action::Migrate { node: 9 };
+    assert!(rt; asks_for_action(alloc, "migrate db users --node 9", wanted)?);
     Ok(())
 }
 
@@ -139,15 +148,17 @@ fn reads_what_is_served(rt: HostRuntime) -> Result<(), Fail> {
     };
     let text = "serve db users --node 1 --members 127.0.0.1:7001 --key key";
     assert!(rt; asks_for_action(alloc, text, wanted)?);
+    let settings = Settings::new(5, 2, 9).ok_or("settings")?;
+    let settings = settings.with_drift(10).ok_or("a drift")?;
     let wanted = Action::Serve {
-        settings: Settings::new(5, 2, 9).ok_or("settings")?,
+        settings,
         place: Place::new(2, 3).ok_or("a place")?,
         members: at_ports(alloc, &[7001, 1, 65_535])?,
         key: "key",
         turns: 4_294_967_295,
     };
     let text =
-        "serve db users --look-ahead 5 --skew 2 --range 9 --turns 4294967295 --key key --node 2 \
+        "serve db users --look-ahead 5 --skew 2 --drift 10 --range 9 --turns 4294967295 --key key --node 2 \
         --members 127.0.0.1:7001,127.0.0.1:1,127.0.0.1:65535";
     assert!(rt; asks_for_action(alloc, text, wanted)?);
     Ok(())
@@ -215,6 +226,8 @@ fn refuses_words(rt: HostRuntime) -> Result<(), Fail> {
         ("oathd lines --skew 11", 2),
         ("oathd lines --skew 1 --skew 1", 2),
         ("oathd lines --range 1001", 2),
+        ("oathd lines --drift 11", 2),
+        ("oathd lines --drift -1", 2),
         ("oathd lines --range -1", 2),
         ("oathd lines --moment 1099511627776", 2),
         ("oathd lines --moment +0", 2),
@@ -241,6 +254,7 @@ fn refuses_words(rt: HostRuntime) -> Result<(), Fail> {
         ("oathd init db users --node 1 --moment 1099511627776", 2),
         ("oathd init db users --node 1 --moment +1", 2),
         ("oathd init db users --node 1 --range 1", 2),
+        ("oathd init db users --node 1 --drift 1", 2),
         ("oathd serve db users --node 1 --members 127.0.0.1:1", 2),
         ("oathd serve db users --node 1 --key k", 2),
         ("oathd serve db users --members 127.0.0.1:1 --key k", 2),
@@ -268,6 +282,9 @@ fn refuses_words(rt: HostRuntime) -> Result<(), Fail> {
         ("oathd export db users --node 1", 2),
         ("oathd audit db users", 2),
         ("oathd audit db users --node 10", 2),
+        ("oathd migrate db users", 2),
+        ("oathd migrate db users --node 0", 2),
+        ("oathd migrate db users --node 1 --moment 0", 2),
         ("oathd secret", 2),
         ("oathd secret 00 00", 2),
         ("oathd secret -1", 2),
@@ -282,6 +299,7 @@ fn refuses_words(rt: HostRuntime) -> Result<(), Fail> {
         ("oathd serve --help", 0),
         ("oathd export --help", 0),
         ("oathd audit --help", 0),
+        ("oathd migrate --help", 0),
         ("oathd secret --help", 0),
     ] {
         let words = words_of(alloc, text)?;
@@ -315,6 +333,7 @@ fn names_the_wrong_number(rt: HostRuntime) -> Result<(), Fail> {
         ),
         ("--skew +5", "skew <STEPS>", "+5", "STEPS is 0 to 10"),
         ("--range +5", "range <COUNT>", "+5", "COUNT is 0 to 1000"),
+        ("--drift 11", "drift <STEPS>", "11", "STEPS is 0 to 10"),
         (
             "--range= --skew 11",
             "skew <STEPS>",
@@ -356,6 +375,7 @@ fn help_is_narrow(rt: HostRuntime) -> Result<(), Fail> {
         "oathd serve --help",
         "oathd export --help",
         "oathd audit --help",
+        "oathd migrate --help",
         "oathd secret --help",
     ] {
         let help = told(alloc, text)?;

@@ -8,8 +8,8 @@ ghost use Rattle.oathd.specs.Words.{AsksFor, AsksForNothing, AsksForNodes, Gives
 ghost use Rattle.oathd.specs.declared.store_words.Action.{Action as AnyAction};
 
 use crate::store_words::{
-    Action, audit_command, export_command, init_command, init_error, read_action, serve_command,
-    serve_error,
+    Action, audit_command, export_command, init_command, init_error, migrate_command, read_action,
+    serve_command, serve_error,
 };
 use clap::error::ErrorKind;
 use clap::{Arg, ArgAction, ArgMatches, Command, Error};
@@ -203,6 +203,17 @@ pub(crate) const RANGE: NumberOption = NumberOption {
     help: "How far past the first free factor a resynchronization looks,\n0 to 1000",
 };
 
+/// How far the window of a time token moves with its clock.
+pub(crate) const DRIFT: NumberOption = NumberOption {
+    name: "drift",
+    short: None,
+    value_name: "STEPS",
+    most: 10,
+    default: "0",
+    help: "How many time steps the window of a time token may move to follow its\n\
+        clock, 0 to 10",
+};
+
 /// The moment at which the users are imported.
 pub(crate) const MOMENT: NumberOption = NumberOption {
     name: "moment",
@@ -215,7 +226,7 @@ pub(crate) const MOMENT: NumberOption = NumberOption {
 };
 
 /// The options of the command `lines`, which all take a number.
-const NUMBERS: [NumberOption; 4] = [LOOK_AHEAD, SKEW, RANGE, MOMENT];
+const NUMBERS: [NumberOption; 5] = [LOOK_AHEAD, SKEW, RANGE, DRIFT, MOMENT];
 
 /// The command `lines`.
 fn lines_command<'a>(alloc: Global) -> Result<Command<'a>, AllocError> {
@@ -226,6 +237,7 @@ fn lines_command<'a>(alloc: Global) -> Result<Command<'a>, AllocError> {
         .arg(LOOK_AHEAD.arg(alloc))?
         .arg(SKEW.arg(alloc))?
         .arg(RANGE.arg(alloc))?
+        .arg(DRIFT.arg(alloc))?
         .arg(MOMENT.arg(alloc))
 }
 
@@ -247,6 +259,7 @@ fn with_nodes<'a>(alloc: Global, command: Command<'a>) -> Result<Command<'a>, Al
         .arg(LOOK_AHEAD.arg(alloc))?
         .arg(SKEW.arg(alloc))?
         .arg(RANGE.arg(alloc))?
+        .arg(DRIFT.arg(alloc))?
         .arg(MOMENT.arg(alloc))?
         .arg(
             Arg::new(alloc, "key")
@@ -309,6 +322,7 @@ pub(crate) fn command<'a>(alloc: Global) -> Result<Command<'a>, AllocError> {
         .subcommand(serve_command(alloc)?)?
         .subcommand(export_command(alloc)?)?
         .subcommand(audit_command(alloc)?)?
+        .subcommand(migrate_command(alloc)?)?
         .subcommand(secret_command(alloc)?)
 }
 
@@ -320,7 +334,8 @@ pub(crate) fn settings_of(matches: &ArgMatches<'_>) -> Option<Settings>
     let look_ahead = number_of(matches, "look-ahead")?;
     let skew = number_of(matches, "skew")?;
     let range = number_of(matches, "range")?;
-    Settings::new(look_ahead, skew, range)
+    let drift = number_of(matches, "drift")?;
+    Settings::new(look_ahead, skew, range)?.with_drift(drift)
 }
 
 /// The limits and the moment that the options give, or `None` where a number is out of its range or written with

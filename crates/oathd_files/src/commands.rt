@@ -5,10 +5,11 @@ ghost use Rattle.otp_core.specs.Limits.{default_limits};
 ghost use Rattle.otp_core.specs.Range.{IsMoment};
 ghost use Rattle.floor_sql.specs.Held.{SqlHeld};
 ghost use Rattle.floor_sql.specs.Usable.{IsNode};
-ghost use Rattle.oathd_store.specs.Commands.{HasMade, IsRefused};
+ghost use Rattle.oathd_store.specs.Commands.{HasMade, HasMigrated, IsRefused};
+ghost use Rattle.sqlite.specs.Held.{Held};
 ghost use Rattle.oathd_files.specs.Commands.{EndsOutput, HasAudited, HasExported};
 
-use oathd_store::{Database, Fault, audit, export, init, open};
+use oathd_store::{Database, Fault, audit, export, init, migrate, open};
 use otp_core::Settings;
 use sqlite::Alter;
 use std::alloc::Global;
@@ -74,4 +75,23 @@ pub fn audit_store<R: Read + Drop, S: Alter + Drop, D: Database<S>, W: Write>(
 {
     let (_users, mut store) = open(alloc, users, Settings::default(), Some(node), database)?;
     audit(alloc, &mut store, writer)
+}
+
+/// Makes the store of version 1 of a node, which has the tokens of the users file, one of version 2, in which no token has
+/// a drift yet.
+///
+/// # Errors
+/// Those of [`migrate`].
+pub fn migrate_store<R: Read + Drop, S: Alter + Drop, D: Database<S>>(
+    alloc: Global,
+    users: R,
+    node: u8,
+    database: D,
+) -> Result<(), Fault>
+    ensures migrated { IfOk result (λ _. (conn : Held S)
+        × IfSome (R.remaining users) (HasMigrated S.Store default_limits 0 16777216 node conn)) }
+    ensures fault { IfErr result (λ fault. IfSome (R.remaining users) (IsRefused default_limits 0 16777216 fault)) }
+{
+    migrate(alloc, users, node, database)?;
+    Ok(())
 }

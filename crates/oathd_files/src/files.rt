@@ -7,7 +7,7 @@ ghost use Rattle.floor_sql.specs.Usable.{IsNode};
 ghost use Rattle.oathd_store.specs.Commands.{HasImport, IsRefused};
 ghost use Rattle.oathd_files.specs.Commands.{EndsOutput, EndsServing};
 
-use crate::commands::{audit_store, export_store, init_store};
+use crate::commands::{audit_store, export_store, init_store, migrate_store};
 use crate::database::DatabaseFile;
 use crate::serving::serve_store;
 use crate::setup::Serving;
@@ -72,6 +72,23 @@ pub fn audit_file<R: Read + Drop, W: Write>(
     ensures fault { IfErr result (λ fault. IfSome (R.remaining users) (EndsOutput default_limits 0 16777216 fault)) }
 {
     audit_store(alloc, users, node, DatabaseFile::found(rt, path), writer)
+}
+
+/// Makes the store of version 1 of a node in the file with this path one of version 2, as [`migrate_store`] does.
+///
+/// # Errors
+/// Those of [`migrate_store`]; `Store(Disk)` where the file isn't there.
+pub fn migrate_file<R: Read + Drop>(
+    alloc: Global,
+    rt: &HostRuntime,
+    path: &str,
+    users: R,
+    node: u8,
+) -> Result<(), Fault>
+    ensures import { IfOk result (λ _. IfSome (R.remaining users) (HasImport default_limits 0 16777216)) }
+    ensures fault { IfErr result (λ fault. IfSome (R.remaining users) (IsRefused default_limits 0 16777216 fault)) }
+{
+    migrate_store(alloc, users, node, DatabaseFile::found(rt, path))
 }
 
 /// Serves a node over the store in the file with this path, as [`serve_store`] does.

@@ -10,7 +10,7 @@ mod setup;
 #[cfg(test)]
 mod tests;
 
-pub use commands::{audit_store, export_store, init_store};
-pub use files::{audit_file, export_file, init_file, serve_file};
+pub use commands::{audit_store, export_store, init_store, migrate_store};
+pub use files::{audit_file, export_file, init_file, migrate_file, serve_file};
 pub use serving::serve_store;
 pub use setup::Serving;

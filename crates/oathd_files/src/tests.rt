@@ -53,6 +53,33 @@ fn made_databases(rt: HostRuntime) -> Result<(), Fail> {
     assert!(rt; end == Err(Fault::Store(StoreFault::Unusable)));
     let end = init_store(alloc, SILVER, Settings::default(), 0, 1, made(alloc)?);
     assert!(rt; end == Err(Fault::Store(StoreFault::AlreadyThere)));
+    let end = migrate_store(alloc, SILVER, 1, made(alloc)?);
+    assert!(rt; end == Err(Fault::Store(StoreFault::AlreadyThere)));
+    Ok(())
+}
+
+/// What the database of node 1 was in version 1, once the first code of its one token was accepted.
+const VERSION_1: &str =
+    "CREATE TABLE self (id INTEGER PRIMARY KEY CHECK (id = 1), version INTEGER NOT NULL, \
+        node INTEGER NOT NULL, tokens INTEGER NOT NULL, boot INTEGER NOT NULL) STRICT; \
+    CREATE TABLE floor (token INTEGER PRIMARY KEY, next INTEGER NOT NULL, \
+        g_node INTEGER, g_boot INTEGER, g_seq INTEGER, g_lo INTEGER, g_hi INTEGER, \
+        fails INTEGER NOT NULL, until INTEGER NOT NULL) STRICT; \
+    CREATE TABLE pass (number INTEGER PRIMARY KEY, token INTEGER NOT NULL, \
+        lo INTEGER NOT NULL, hi INTEGER NOT NULL, boot INTEGER NOT NULL, seq INTEGER NOT NULL) STRICT; \
+    INSERT INTO self VALUES (1, 1, 1, 1, 1); \
+    INSERT INTO floor VALUES (0, 1, 1, 1, 0, 0, 0, 0, 0); \
+    INSERT INTO pass VALUES (1, 0, 0, 0, 1, 0)";
+
+/// A database of version 1 is migrated for its node and its tokens.
+#[test]
+fn migrated_databases(rt: HostRuntime) -> Result<(), Fail> {
+    let alloc = rt.alloc();
+    for (node, want) in [(1, Ok(())), (2, Err(Fault::Store(StoreFault::Unusable)))] {
+        let mut conn = Connection::open_in_memory(alloc)?;
+        conn.execute_batch(VERSION_1)?;
+        assert!(rt; migrate_store(alloc, SILVER, node, InMemory(Some(conn))) == want);
+    }
     Ok(())
 }
 
@@ -121,6 +148,8 @@ fn blank_databases(rt: HostRuntime) -> Result<(), Fail> {
     let end = audit_store(alloc, SILVER, 1, blank(alloc)?, &mut written);
     assert!(rt; end == Err(Fault::Store(StoreFault::Unusable)));
     assert!(rt; written.is_empty());
+    let end = migrate_store(alloc, SILVER, 1, blank(alloc)?);
+    assert!(rt; end == Err(Fault::Store(StoreFault::Unusable)));
     Ok(())
 }
 
@@ -133,5 +162,6 @@ fn closed_databases(rt: HostRuntime) -> Result<(), Fail> {
     let mut written = Vec::new(alloc);
     assert!(rt; export_store(alloc, SILVER, InMemory(None), &mut written) == disk);
     assert!(rt; audit_store(alloc, SILVER, 1, InMemory(None), &mut written) == disk);
+    assert!(rt; migrate_store(alloc, SILVER, 1, InMemory(None)) == disk);
     Ok(())
 }

@@ -1,5 +1,5 @@
 -- A users file is read, or is not.
-use Rattle.std.proofs.Common.{◌≡◌, ℕ, List, Option, Some, None, IfSome, IfOk, refl, sym, subst}
+use Rattle.std.proofs.Common.{◌≡◌, ℕ, List, length, Option, Some, None, IfSome, IfOk, IfErr, refl, sym, subst}
 use Rattle.std.specs.Prelude.{Result, Ok, Err, IsTrue}
 use Rattle.sqlite.specs.Store.{Ghosts}
 use Rattle.sqlite.specs.Held as sql
@@ -12,7 +12,8 @@ use Rattle.token_file.specs.Source.{OfText}
 use Rattle.token_file.specs.UsersFile.{IsCutOff, book_of, import_of, instant_of, is_of_text}
 use Rattle.token_file.specs.declared.fault.FileFault.{FileFault}
 use Rattle.token_file.specs.declared.fault.LineFault.TheVariants.{Read}
-use Rattle.oathd_store.specs.Commands.{HasImport, HasMade, HasOpened, IsRefused}
+use Rattle.floor_sql.specs.Migrate.{IsMigrated}
+use Rattle.oathd_store.specs.Commands.{HasImport, HasMade, HasMigrated, HasOpened, IsRefused}
 use Rattle.oathd_store.specs.Fault.{IsStoreFault}
 use Rattle.oathd_store.specs.Users.{IsImported, IsUnread}
 use Rattle.oathd_store.specs.declared.fault.Fault.{Fault}
@@ -85,6 +86,25 @@ module _ (limits : Limits) (moment longest : ℕ) where
     conn = conn;
     made = subst (λ (fs : List ℕ). IsMade g conn node fs store) same is;
   }
+
+  -- the store is migrated
+  pub migrated : {S : Type 0} (g : Ghosts S) (node : ℕ) (a : Option (List ℕ)) (old : sql.Held S) (result : Result (sql.Held S) Fault)
+      (book : List Credential) (floors : List ℕ) → IfSome a (IsImported limits moment longest book floors)
+      → IfOk result (IsMigrated g node (length book) old) → IfOk result (λ conn. IfSome a (HasMigrated g limits moment longest node conn))
+  migrated g node a old (Err fault) book floors h is = tt
+  migrated g node None old (Ok conn) book floors h is = tt
+  migrated g node (Some text) old (Ok conn) book floors h is = record {
+    import = record { book = book; floors = floors; imported = h };
+    old = old;
+    migrated = is;
+  }
+
+  -- what the store refuses with is a fault of a store
+  pub refused_late : {T : Type 0} (a : Option (List ℕ)) (result : Result T Fault) (book : List Credential) (floors : List ℕ)
+      → IfSome a (IsImported limits moment longest book floors) → IfErr result IsStoreFault
+      → IfErr result (λ fault. IfSome a (IsRefused limits moment longest fault))
+  refused_late a (Ok one) book floors h is = tt
+  refused_late a (Err fault) book floors h is = refused_so a fault book floors h is
 
 module _ {S : Type 0} (g : Ghosts S) (conn : sql.Held S) (node tokens : ℕ) where
   -- the store of the node that is given is opened

@@ -1,11 +1,12 @@
 -- What the commands over a users file and a database come to.
-use Rattle.std.specs.Prelude.{◌≡◌, ℕ, List, Option, IfSome}
+use Rattle.std.specs.Prelude.{◌≡◌, ℕ, List, Option, IfSome, length}
 use Rattle.sqlite.specs.Store.{Ghosts}
 use Rattle.sqlite.specs.Held as sql
 use Rattle.otp_core.specs.Limits.{Limits}
 use Rattle.token_file.specs.Credential.{Credential}
 use Rattle.floor_sql.specs.Calls.{IsMade, IsOpened}
 use Rattle.floor_sql.specs.Held.{SqlHeld}
+use Rattle.floor_sql.specs.Migrate.{IsMigrated}
 use Rattle.oathd_store.specs.Users.{IsImported, IsUnread}
 use Rattle.oathd_store.specs.declared.fault.Fault.{Fault}
 use Rattle.oathd_store.specs.declared.fault.Fault.TheVariants.{Memory, CannotWrite, NoClock, Users, Store, Socket}
@@ -31,7 +32,14 @@ module _ {S : Type 0} (g : Ghosts S) where
     pub is_given : IfSome given (λ n. node ≡ n)
     pub opened : IsOpened g conn node tokens store
 
--- No store is made or opened: the users file is not imported, or it is and the store refuses.
+  -- The tables of a connection were those of a store of version 1 of this node, with the tokens of a users file, and
+  -- were migrated in one commit.
+  pub record HasMigrated (limits : Limits) (moment longest node : ℕ) (new : sql.Held S) (text : List ℕ) : Type 0 where
+    pub import : HasImport limits moment longest text
+    pub old : sql.Held S
+    pub migrated : IsMigrated g node (length import.book) old new
+
+-- No store is made, opened or migrated: the users file is not imported, or it is and the store refuses.
 abbrev pub IsRefused : Limits → ℕ → ℕ → Fault → List ℕ → Type 0
 IsRefused limits moment longest Memory text = Unit {0}
 IsRefused limits moment longest CannotWrite text = ⊥

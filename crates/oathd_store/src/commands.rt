@@ -3,8 +3,10 @@
 ghost use Rattle.std.specs.Prelude.{◌≡◌, false, length, IfErr, IfOk, IfSome};
 ghost use Rattle.otp_core.specs.Range.{IsMoment};
 ghost use Rattle.floor_sql.specs.Calls.{IsOpened};
+ghost use Rattle.floor_sql.specs.Migrate.{IsMigrated};
 ghost use Rattle.floor_sql.specs.Usable.{IsNode};
-ghost use Rattle.oathd_store.specs.Commands.{HasMade, HasOpened, IsRefused};
+ghost use Rattle.otp_core.specs.Limits.{default_limits};
+ghost use Rattle.oathd_store.specs.Commands.{HasMade, HasMigrated, HasOpened, IsRefused};
 ghost use Rattle.oathd_store.specs.Fault.{IsStoreFault};
 ghost use Rattle.oathd_store.specs.Users.{IsImported};
 
@@ -116,4 +118,41 @@ pub fn open<R: Read + Drop, S: Alter + Drop, D: Database<S>>(
     let conn = database.connect()?;
     let store = open_named(alloc, conn, node, &users)?;
     Ok((users, store))
+}
+
+/// Makes the store of version 1 of a node that a connection holds, with the tokens of the users file, one of version 2.
+fn migrate_tables<S: Alter + Drop>(
+    conn: Connection<S>,
+    node: u8,
+    users: &Users,
+) -> Result<Connection<S>, Fault>
+    requires { conn.in_transaction ≡ false }
+    ensures migrated { IfOk result (IsMigrated S.Store node (length users.now.book) conn) }
+    ensures fault { IfErr result IsStoreFault }
+{
+    match SqlStore::migrate(conn, node, users.book.len() as u32) {
+        Ok(conn) => Ok(conn),
+        Err((_, fault)) => Err(Fault::Store(fault)),
+    }
+}
+
+/// Makes the store of version 1 of a node, which has the tokens of a users file, one of version 2, and gives the
+/// connection to it: no token has a drift, and all else is kept.
+///
+/// # Errors
+/// `Users` where the users file has a fault or can't be read; the database is not opened then. `Store`: `AlreadyThere`
+/// where the store is of version 2, `Unusable` where the tables are neither, `Disk` and `Memory`. `Memory`.
+pub fn migrate<R: Read + Drop, S: Alter + Drop, D: Database<S>>(
+    alloc: Global,
+    reader: R,
+    node: u8,
+    database: D,
+) -> Result<Connection<S>, Fault>
+    ensures migrated { IfOk result (λ conn. IfSome (R.remaining reader)
+        (HasMigrated S.Store default_limits 0 16777216 node conn)) }
+    ensures fault { IfErr result (λ fault. IfSome (R.remaining reader) (IsRefused default_limits 0 16777216 fault)) }
+{
+    let users = read_users(alloc, reader, Settings::default(), 0)?;
+    let conn = database.connect()?;
+    migrate_tables(conn, node, &users)
 }

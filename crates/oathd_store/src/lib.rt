@@ -13,7 +13,7 @@ mod users;
 #[cfg(test)]
 mod vote_tests;
 
-pub use commands::{init, open};
+pub use commands::{init, migrate, open};
 pub use database::Database;
 pub use fault::Fault;
 pub use passes::audit;

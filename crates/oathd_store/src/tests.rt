@@ -128,6 +128,49 @@ fn keeps_what_it_served(rt: HostRuntime) -> Result<(), Fail> {
     Ok(())
 }
 
+/// What the database of node 1 was in version 1, once the first code of its one token was accepted.
+const VERSION_1: &str =
+    "CREATE TABLE self (id INTEGER PRIMARY KEY CHECK (id = 1), version INTEGER NOT NULL, \
+        node INTEGER NOT NULL, tokens INTEGER NOT NULL, boot INTEGER NOT NULL) STRICT; \
+    CREATE TABLE floor (token INTEGER PRIMARY KEY, next INTEGER NOT NULL, \
+        g_node INTEGER, g_boot INTEGER, g_seq INTEGER, g_lo INTEGER, g_hi INTEGER, \
+        fails INTEGER NOT NULL, until INTEGER NOT NULL) STRICT; \
+    CREATE TABLE pass (number INTEGER PRIMARY KEY, token INTEGER NOT NULL, \
+        lo INTEGER NOT NULL, hi INTEGER NOT NULL, boot INTEGER NOT NULL, seq INTEGER NOT NULL) STRICT; \
+    INSERT INTO self VALUES (1, 1, 1, 1, 1); \
+    INSERT INTO floor VALUES (0, 1, 1, 1, 0, 0, 0, 0, 0); \
+    INSERT INTO pass VALUES (1, 0, 0, 0, 1, 0)";
+
+/// A database of version 1 in memory.
+fn of_version_1(alloc: Global) -> Result<InMemory, Fail> {
+    let mut conn = Connection::open_in_memory(alloc)?;
+    conn.execute_batch(VERSION_1)?;
+    Ok(InMemory(Some(conn)))
+}
+
+/// A database of version 1 is opened once it is migrated, with all that it holds, and is migrated once.
+#[test]
+fn migrates_once(rt: HostRuntime) -> Result<(), Fail> {
+    let alloc = rt.alloc();
+    let used = b"HOTP/E/6\tsilver\t-\t3132333435363738393031323334353637383930\t1\n".as_slice();
+    let opened = open(
+        alloc,
+        SILVER,
+        Settings::default(),
+        Some(1),
+        of_version_1(alloc)?,
+    );
+    let fault = opened.err().ok_or("opened")?;
+    assert!(rt; has_text(alloc, fault, "store: Unusable")?);
+    let migrated = migrate(alloc, SILVER, 1, of_version_1(alloc)?)?;
+    let database = InMemory(Some(migrated));
+    let database = audited(alloc, SILVER, database, b"pass 1 0 0 0 1 0\n")?;
+    let database = exported(alloc, SILVER, database, used)?;
+    let fault = migrate(alloc, SILVER, 1, database).err().ok_or("migrated")?;
+    assert!(rt; has_text(alloc, fault, "store: AlreadyThere")?);
+    Ok(())
+}
+
 /// Several tokens are written in order, a time token without a factor.
 #[test]
 fn exports_each_token(rt: HostRuntime) -> Result<(), Fail> {
