@@ -164,9 +164,9 @@ pub fn results_are_worked()
     ensures other_token { results_of config alone fresh_token 1 1 ≡ [] }
 {}
 
-/// A clock that falls behind, under settings that allow a drift of ten steps, of one and of none. The drift is kept where
-/// the line is accepted, and a stop that keeps the acceptance keeps it; at another node, or where it is lost, there is
-/// none.
+/// A clock that falls behind, under settings that allow a drift of ten steps, of one and of none. The drift is kept
+/// where the line is accepted, and a stop that keeps the acceptance keeps it; at another node, or where it is lost,
+/// there is none.
 pub fn drifts_are_worked()
     ensures ten { report_of (clock_config 10) clock_alone clock_lines
         ≡ report_with (acceptance 0 0 1 3 3 ∷ acceptance 1 1 1 4 4 ∷ acceptance 2 2 1 5 5 ∷ [])

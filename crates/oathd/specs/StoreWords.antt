@@ -48,7 +48,8 @@ pub record AsksToServe (found : Found) (limits : Limits) (place : PlaceRecord) (
 -- the command with this name, and these values, ask for this with a store
 abbrev pub AsksForAction : List ℕ → Found → Action → Type 0
 AsksForAction name found (Init node settings moment) =
-    (name ≡ codes "init") × GivesMember found (codes "node") node × GivesImport found settings × GivesMoment found moment
+    (name ≡ codes "init") × GivesMember found (codes "node") node × GivesImport found settings
+    × GivesMoment found moment
 AsksForAction name found (Serve settings place members key turns) =
     (name ≡ codes "serve") × AsksToServe found settings place members.items key.now turns
 AsksForAction name found Export = name ≡ codes "export"

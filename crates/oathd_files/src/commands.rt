@@ -77,8 +77,8 @@ pub fn audit_store<R: Read + Drop, S: Alter + Drop, D: Database<S>, W: Write>(
     audit(alloc, &mut store, writer)
 }
 
-/// Makes the store of version 1 of a node, which has the tokens of the users file, one of version 2, in which no token has
-/// a drift yet.
+/// Makes the store of version 1 of a node, which has the tokens of the users file, one of version 2, in which no token
+/// has a drift yet.
 ///
 /// # Errors
 /// Those of [`migrate`].
