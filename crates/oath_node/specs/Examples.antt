@@ -1,6 +1,6 @@
 -- Worked cases: what the rules make of lines, and what one server answers. The codes are those of RFC 4226,
 -- Appendix D.
-use Rattle.std.specs.Prelude.{ℕ, zero, suc, ℤ, pos, false, List, [], ◌∷◌, ◌++◌, map, None, codes}
+use Rattle.std.specs.Prelude.{ℕ, zero, suc, ℤ, pos, negsuc, ◌==◌, if◌then◌else◌, false, List, [], ◌∷◌, ◌++◌, map, None, codes}
 use Rattle.admit_core.specs.Throttle.{Result}
 use Rattle.hmac_core.specs.declared.hash.Hash.TheVariants.{Sha1}
 use Rattle.otp_core.specs.Limits.{Limits}
@@ -149,6 +149,15 @@ outcome_of_clock steps = (
   map (λ answer. answer.bytes) (report_of one_clock (drifting steps) (2 ∷ []) lines_of_a_clock).answers,
   (server_after one_clock (drifting steps) (server_at (2 ∷ [])) lines_of_a_clock).front.drifts,
 )
+
+-- What the rules make of a line in step 3, where nothing is used up: silver's clock is right, and gold's two steps
+-- behind.
+abbrev pub verdict_by_clock : List ℕ → Verdict
+verdict_by_clock text =
+    let gold = record (token_of (codes "gold") NoneAllowed) { kind = Time30 } in
+    let drift : ℕ → ℤ = λ token. if token == 0 then pos 0 else negsuc 1 in
+    let standing = record (standing_with 0 0) { next = λ token. 0; drift = drift } in
+    verdict (one_clock ++ gold ∷ []) (drifting 10) standing 90 text
 
 -- a pass of one factor
 abbrev pub pass_with : ℕ → ℕ → ℕ → LinePass

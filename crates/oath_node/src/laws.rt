@@ -20,7 +20,7 @@ ghost use Rattle.vote_core.specs.Rows.{row};
 ghost use Rattle.vote_core.specs.State.{IsPlace};
 ghost use Rattle.vote_core.specs.Voting.{fresh_voter};
 ghost use Rattle.vote_core.specs.declared.message.Message.TheVariants.{Ask, Floor, Grant};
-ghost use Rattle.oath_node.specs.Examples.{IsJustifiedByClock, IsJustifiedInRun, drift_of_passes, kept_in, lines_given_again, lines_of_a_run, outcome_of, outcome_of_clock, pass_with, server_of, silver_before, verdict_on};
+ghost use Rattle.oath_node.specs.Examples.{IsJustifiedByClock, IsJustifiedInRun, drift_of_passes, kept_in, lines_given_again, lines_of_a_run, outcome_of, outcome_of_clock, pass_with, server_of, silver_before, verdict_by_clock, verdict_on};
 ghost use Rattle.vote_wire.specs.declared.answer.Outcome.TheVariants.{Clock, Exhausted, Invalid, Password, Throttled, Unknown};
 ghost use Rattle.oath_node.specs.declared.rules.Verdict.TheVariants.{BadLine, Fails, Proposes, Refused};
 
@@ -116,6 +116,10 @@ pub fn drifts_are_worked()
         ≡ (codes "OK 1 3" ∷ codes "OK 2 4" ∷ codes "NO 3 INVALID" ∷ codes "OK 4 9" ∷ [], pos 0 ∷ []) }
     ensures none { outcome_of_clock 0
         ≡ (codes "OK 1 3" ∷ codes "NO 2 INVALID" ∷ codes "NO 3 INVALID" ∷ codes "OK 4 9" ∷ [], pos 0 ∷ []) }
+    ensures right { verdict_by_clock (codes "CHECK 1 silver 359152 -") ≡ Proposes (codes "1") 0 2 2 (negsuc 0) }
+    ensures behind { verdict_by_clock (codes "CHECK 1 gold 287082 -") ≡ Proposes (codes "1") 1 1 1 (negsuc 1) }
+    ensures two_codes { verdict_by_clock (codes "RESYNC 1 silver 359152 969429 -")
+        ≡ Proposes (codes "1") 0 2 3 (pos 0) }
     ensures restarted { (restarted_server (record {
       floors = 4 ∷ [];
       front = record { results = [] ∷ []; drifts = negsuc 2 ∷ []; answers = [] };

@@ -18,3 +18,15 @@ returns-clause-one c = refl
 pub returns-clause-none : goal.returns-clause-none
 unfolding code_at sha1_steps.first_words sha1_steps.schedule sha1_steps.rounds sha1_steps.compress sha1_steps.hash_after sha1_steps.digest_bytes sha1_steps.sha1 server_after report_from digits
 returns-clause-none c = refl
+
+pub returns-clause-right : goal.returns-clause-right
+unfolding code_at sha1_steps.first_words sha1_steps.schedule sha1_steps.rounds sha1_steps.compress sha1_steps.hash_after sha1_steps.digest_bytes sha1_steps.sha1 server_after report_from digits
+returns-clause-right c = refl
+
+pub returns-clause-behind : goal.returns-clause-behind
+unfolding code_at sha1_steps.first_words sha1_steps.schedule sha1_steps.rounds sha1_steps.compress sha1_steps.hash_after sha1_steps.digest_bytes sha1_steps.sha1 server_after report_from digits
+returns-clause-behind c = refl
+
+pub returns-clause-two_codes : goal.returns-clause-two_codes
+unfolding code_at sha1_steps.first_words sha1_steps.schedule sha1_steps.rounds sha1_steps.compress sha1_steps.hash_after sha1_steps.digest_bytes sha1_steps.sha1 server_after report_from digits
+returns-clause-two_codes c = refl
