@@ -4,9 +4,11 @@ use Rattle.std.specs.Prelude.{codes}
 use Rattle.std.specs.declared.net.socket_addr.SocketAddrV4.{SocketAddrV4}
 use Rattle.clap.specs.Matches.{first_value}
 use Rattle.clap.specs.declared.parser.matches.Found.{Found}
+use Rattle.otp_core.specs.Limits.{Limits}
 use Rattle.vote_core.specs.NodeSet.{PlaceRecord}
 use Rattle.oathd.specs.Members.{AreMembers, SayAddresses, parts_of}
-use Rattle.oathd.specs.StoreWords.{AsksForAction, GivesPlace}
+use Rattle.oathd.specs.Given.{GivesLimits}
+use Rattle.oathd.specs.StoreWords.{AsksForAction, GivesPlace, GivesTurns}
 use Rattle.oathd.specs.declared.store_words.Action.{Action}
 use Rattle.oathd.specs.declared.store_words.Action.TheVariants.{Init, Serve, Export, Audit, Migrate}
 use Rattle.oathd.proofs.MembersLemmas.{says_unique}
@@ -32,3 +34,21 @@ no_place found text members n given are count none (Serve settings place others 
 no_place found text members n given are count none Export asks = apart (codes "serve") _ _ asks refl (lit< tt)
 no_place found text members n given are count none (Audit node) asks = apart (codes "serve") _ _ asks.0 refl (lit< tt)
 no_place found text members n given are count none (Migrate node) asks = apart (codes "serve") _ _ asks.0 refl (lit< tt)
+
+module _ (found : Found) where
+  -- where the limits are none, nothing is asked for
+  pub no_limits : ((limits : Limits) → GivesLimits found limits → ⊥)
+      → (action : Action) → AsksForAction (codes "serve") found action → ⊥
+  no_limits none (Init node settings moment) asks = apart (codes "serve") _ _ asks.0 refl (lit< tt)
+  no_limits none (Serve settings place others key turns) asks = none settings asks.1.limits_given
+  no_limits none Export asks = apart (codes "serve") _ _ asks refl (lit< tt)
+  no_limits none (Audit node) asks = apart (codes "serve") _ _ asks.0 refl (lit< tt)
+  no_limits none (Migrate node) asks = apart (codes "serve") _ _ asks.0 refl (lit< tt)
+
+  -- where the turns are none
+  pub no_turns : ((turns : ℕ) → GivesTurns found turns → ⊥) → (action : Action) → AsksForAction (codes "serve") found action → ⊥
+  no_turns none (Init node settings moment) asks = apart (codes "serve") _ _ asks.0 refl (lit< tt)
+  no_turns none (Serve settings place others key turns) asks = none turns asks.1.turns_given
+  no_turns none Export asks = apart (codes "serve") _ _ asks refl (lit< tt)
+  no_turns none (Audit node) asks = apart (codes "serve") _ _ asks.0 refl (lit< tt)
+  no_turns none (Migrate node) asks = apart (codes "serve") _ _ asks.0 refl (lit< tt)

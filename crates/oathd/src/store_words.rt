@@ -337,7 +337,10 @@ fn serve_action<'a>(
     let Some(place) = place_of(matches, members.len() as u8) else {
         return Ok(None);
     };
-    let (Some(settings), Some(turns)) = (settings_of(matches), turns_of(matches)) else {
+    let Some(settings) = settings_of(matches) else {
+        return Ok(None);
+    };
+    let Some(turns) = turns_of(matches) else {
         return Ok(None);
     };
     Ok(Some(Action::Serve {
