@@ -2,6 +2,7 @@
 
 use crate::fixtures::{SILVER, book_of, memory_store, place, settings, zeros};
 use crate::outcome::Fail;
+use crate::ports;
 use floor_store::{FuseStore, MemStore, Proposal};
 use oath_node::{Event, Node, Scratch};
 use otp_core::{Factor, Next, Settings};
@@ -222,6 +223,7 @@ fn changed_bits(rt: &HostRuntime, alloc: Global) -> Result<bool, Fail> {
 pub fn run(rt: &HostRuntime, alloc: Global) -> Result<bool, Fail> {
     let mut is_good = names_of_any_bytes(rt, alloc)?;
     is_good &= changed_bits(rt, alloc)?;
+    is_good &= ports::run(rt, alloc)?;
     is_good &= longest_files(rt, alloc)?;
     Ok(is_good)
 }

@@ -1,4 +1,5 @@
-//! Runs over faults that no proof runs: allocations that are refused, disks that stop, and files that are hostile.
+//! Runs over faults that no proof runs: allocations that are refused, disks that stop, ports that fail, and input that
+//! is hostile.
 #![tactic(auto)]
 
 mod calls;
@@ -8,6 +9,7 @@ mod input;
 mod kept_calls;
 mod mixing;
 mod outcome;
+mod ports;
 mod refusals;
 mod sql_calls;
 mod walk;
