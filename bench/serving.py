@@ -32,13 +32,18 @@ def key_of(token):
 
 
 def free_ports(count):
-    """UDP ports of 127.0.0.1 that nobody has."""
-    sockets = [socket.socket(socket.AF_INET, socket.SOCK_DGRAM) for _ in range(count)]
-    for each in sockets:
-        each.bind(("127.0.0.1", 0))
-    ports = [each.getsockname()[1] for each in sockets]
-    for each in sockets:
-        each.close()
+    """UDP ports of 127.0.0.1 that nobody has. They are below those that the system gives to a socket that asks for any,
+    so no client gets one while its node is down."""
+    ports = []
+    while len(ports) < count:
+        port = random.randrange(20000, 32768)
+        with socket.socket(socket.AF_INET, socket.SOCK_DGRAM) as each:
+            try:
+                each.bind(("127.0.0.1", port))
+            except OSError:
+                continue
+        if port not in ports:
+            ports.append(port)
     return ports
 
 
