@@ -1,7 +1,10 @@
 //! Whole inputs over loopback sockets, with what each prints and how it ends.
 
 use super::*;
+use crate::line::NodeLine;
+use crate::rounds::{Cluster, ask};
 use command_line::ProgramFault;
+use node_turns::{Coming, ListPort, MAX_DATAGRAM_LEN, Sender};
 use otp_core::Settings;
 use std::alloc::{AllocError, Global};
 use std::io::{self, ErrorKind, Read, Write};
@@ -102,6 +105,52 @@ fn finds_the_first_bad_line(rt: HostRuntime) -> Result<(), Fail> {
             "{bad}"
         );
     }
+    Ok(())
+}
+
+/// What a line for node 1 is told where these datagrams come to the client, and where none of them is told.
+fn told<'b>(
+    alloc: Global,
+    comings: &[Coming<'_>],
+    buffer: &'b mut [u8; MAX_DATAGRAM_LEN],
+) -> Result<Option<&'b [u8]>, Fault> {
+    let mut cluster = Cluster {
+        members: Vec::new(alloc),
+        client: ListPort::new(alloc, comings),
+    };
+    let line = NodeLine {
+        node: 1,
+        moment: 1000,
+        text: b"CHECK 1 silver 755224 -",
+    };
+    match ask(&mut cluster, &line, buffer)? {
+        Some(len) => Ok(Some(&buffer[..len])),
+        None => Ok(None),
+    }
+}
+
+/// What another node or a stranger says is no reply of the node asked, whose own is the reply in the last round, and
+/// none behind it.
+#[test]
+fn takes_the_reply_of_the_node_asked(rt: HostRuntime) -> Result<(), Fail> {
+    let own = Coming::Datagram {
+        sender: Sender::Peer(1),
+        bytes: b"OK 1 0",
+    };
+    let mut comings = [Coming::Quiet; 65];
+    comings[0] = Coming::Datagram {
+        sender: Sender::Peer(2),
+        bytes: b"OK 1 1",
+    };
+    comings[1] = Coming::Datagram {
+        sender: Sender::Client(1),
+        bytes: b"OK 1 2",
+    };
+    let mut buffer = [0; MAX_DATAGRAM_LEN];
+    comings[64] = own;
+    assert!(rt; told(rt.alloc(), &comings, &mut buffer)?.is_none());
+    comings[63] = own;
+    assert!(rt; told(rt.alloc(), &comings, &mut buffer)? == Some(b"OK 1 0".as_slice()));
     Ok(())
 }
 
