@@ -2,14 +2,18 @@
 
 use super::*;
 use crate::line::NodeLine;
-use crate::rounds::{Cluster, ask};
+use crate::rounds::{Cluster, Member, ask};
 use command_line::ProgramFault;
-use node_turns::{Coming, ListPort, MAX_DATAGRAM_LEN, Sender};
+use floor_store::MemStore;
+use node_turns::{Coming, ListPort, MAX_DATAGRAM_LEN, PortEntry, Sender};
+use oath_node::{Node, Scratch};
 use otp_core::Settings;
 use std::alloc::{AllocError, Global};
 use std::io::{self, ErrorKind, Read, Write};
 use std::net::Net;
 use std::test::Fail;
+use token_file::{FromRead, MAX_TOKENS, read_book};
+use vote_core::Place;
 use vote_wire::ClusterKey;
 
 /// A users file of the token of RFC 4226, Appendix D.
@@ -151,6 +155,59 @@ fn takes_the_reply_of_the_node_asked(rt: HostRuntime) -> Result<(), Fail> {
     assert!(rt; told(rt.alloc(), &comings, &mut buffer)?.is_none());
     comings[63] = own;
     assert!(rt; told(rt.alloc(), &comings, &mut buffer)? == Some(b"OK 1 0".as_slice()));
+    Ok(())
+}
+
+/// Whether a port offered this to a client.
+fn has_offered(port: &ListPort<'_>, text: &[u8]) -> bool {
+    let Some(entries) = port.record() else {
+        return false;
+    };
+    entries.iter().any(|entry| match entry {
+        PortEntry::Offered {
+            to: Sender::Client(_),
+            bytes,
+        } => bytes.as_slice() == text,
+        _ => false,
+    })
+}
+
+/// Where nothing comes some time passes: a node of three that hears of no other one gives its vote up.
+#[test]
+fn time_passes_in_quiet_rounds(rt: HostRuntime) -> Result<(), Fail> {
+    let alloc = rt.alloc();
+    let settings = Settings::default();
+    let key = ClusterKey::new(&[0; 32]).ok_or("a key")?;
+    let place = Place::new(1, 3).ok_or("a place")?;
+    let (book, floors) = read_book(alloc, &mut FromRead::new(SILVER), settings, 0)?;
+    if floors.len() > MAX_TOKENS {
+        return Err("too many".into());
+    }
+    let store = MemStore::new(alloc, &floors)?;
+    let Ok(node) = Node::open(alloc, &book, settings, place, &key, store) else {
+        return Err("no node".into());
+    };
+    let comings = [Coming::Datagram {
+        sender: Sender::Client(7),
+        bytes: b"CHECK 1 silver 755224 -",
+    }];
+    let mut members = Vec::new(alloc);
+    members.push(Member {
+        node,
+        port: ListPort::new(alloc, &comings),
+        scratch: Scratch::new(),
+    })?;
+    let client = ListPort::new(alloc, &[]);
+    let mut cluster = Cluster { members, client };
+    let line = NodeLine {
+        node: 1,
+        moment: 1000,
+        text: b"",
+    };
+    let mut buffer = [0; MAX_DATAGRAM_LEN];
+    assert!(rt; ask(&mut cluster, &line, &mut buffer)?.is_none());
+    let member = cluster.members.pop().ok_or("no member")?;
+    assert!(rt; has_offered(&member.port, b"NO 1 TIMEOUT"));
     Ok(())
 }
 
