@@ -94,9 +94,16 @@ fn report_with(
     let settings = Settings::new(5, 1, 9).ok_or("settings")?;
     let settings = settings.with_drift(drift).ok_or("a drift")?;
     let key = ClusterKey::new(&[0; 32]).ok_or("a key")?;
-    let (book, floors) = read_book(alloc, &mut FromRead::new(users), settings, 0)?;
+    let mut source = FromRead::new(users);
+    let (book, floors) = match read_book(alloc, &mut source, settings, 0) {
+        Ok(read) => read,
+        Err(fault) => return Err(fault.into()),
+    };
     let lists = lists_of(alloc, &floors, n)?;
-    Ok(run_world(alloc, &book, settings, &key, &lists, events)?)
+    match run_world(alloc, &book, settings, &key, &lists, events) {
+        Ok(report) => Ok(report),
+        Err(fault) => Err(fault.into()),
+    }
 }
 
 /// What a script comes to at so many fresh nodes with the one token, and no drift.
@@ -130,9 +137,16 @@ fn rounds_at(
     }
     let settings = Settings::new(5, 1, 9).ok_or("settings")?;
     let key = ClusterKey::new(&[0; 32]).ok_or("a key")?;
-    let (book, floors) = read_book(alloc, &mut FromRead::new(SILVER), settings, 0)?;
+    let mut source = FromRead::new(SILVER);
+    let (book, floors) = match read_book(alloc, &mut source, settings, 0) {
+        Ok(read) => read,
+        Err(fault) => return Err(fault.into()),
+    };
     let lists = lists_of(alloc, &floors, n)?;
-    Ok(run_rounds(alloc, &book, settings, &key, &lists, before, live, lines)?)
+    match run_rounds(alloc, &book, settings, &key, &lists, before, live, lines) {
+        Ok(report) => Ok(report),
+        Err(fault) => Err(fault.into()),
+    }
 }
 
 /// Compares a whole report.
@@ -143,20 +157,17 @@ fn compare_report<R: Abort + AllocGlobal>(
     answers: &[Text],
     sent: u64,
 ) -> Result<(), Fail> {
-    assert_eq!(rt; report.passes().len(), passes.len());
+    assert!(rt; report.passes().len() == passes.len());
     for (pass, &(began, ended, node, lo, hi)) in report.passes().iter().zip(passes) {
-        assert_eq!(rt; (pass.began, pass.ended, pass.node), (began, ended, node));
-        assert_eq!(rt; (pass.token, pass.lo.value(), pass.hi.value()), (0, lo, hi));
+        assert!(rt; pass.began == began && pass.ended == ended && pass.node == node);
+        assert!(rt; pass.token == 0 && pass.lo.value() == lo && pass.hi.value() == hi);
     }
-    assert_eq!(rt; report.answers().len(), answers.len());
+    assert!(rt; report.answers().len() == answers.len());
     for (answer, &(event, node, client, text)) in report.answers().iter().zip(answers) {
-        assert_eq!(rt;
-            (answer.event, answer.node, answer.client),
-            (event, node, client)
-        );
-        assert_eq!(rt; answer.bytes.as_slice(), text);
+        assert!(rt; answer.event == event && answer.node == node && answer.client == client);
+        assert!(rt; answer.bytes.as_slice() == text);
     }
-    assert_eq!(rt; report.sent(), sent);
+    assert!(rt; report.sent() == sent);
     Ok(())
 }
 

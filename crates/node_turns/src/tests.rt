@@ -31,7 +31,12 @@ fn zeros() -> Result<ClusterKey, Fail> {
 }
 
 fn silver(alloc: Global) -> Result<(Book, Vec<Next>), Fail> {
-    Ok(read_book(alloc, &mut FromRead::new(SILVER), settings()?, 0)?)
+    let settings = settings()?;
+    let mut source = FromRead::new(SILVER);
+    match read_book(alloc, &mut source, settings, 0) {
+        Ok(read) => Ok(read),
+        Err(fault) => Err(fault.into()),
+    }
 }
 
 /// A node of so many, over a fresh store in memory.
