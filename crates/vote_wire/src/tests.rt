@@ -93,11 +93,8 @@ fn messages() -> Result<[(u8, u8, Message); 4], Fail> {
 fn datagrams_of_each_kind(rt: HostRuntime) -> Result<(), Fail> {
     let key = zeros()?;
     let [ask, grant, deny, floor] = messages()?;
-    assert_eq!(rt;
-        write_message(&key, ask.0, ask.1, &ask.2).as_slice(),
-        ASK.as_slice()
-    );
-    assert_eq!(rt; read_message(&key, &ASK), Some(ask));
+    assert!(rt; write_message(&key, ask.0, ask.1, &ask.2).as_slice() == ASK.as_slice());
+    assert!(rt; read_message(&key, &ASK) == Some(ask));
     for ((from, to, message), body, len) in [
         (ask, &ASK[..43], 59),
         (grant, &[], 59),
@@ -105,10 +102,10 @@ fn datagrams_of_each_kind(rt: HostRuntime) -> Result<(), Fail> {
         (floor, FLOOR.as_slice(), 34),
     ] {
         let bytes = write_message(&key, from, to, &message);
-        assert_eq!(rt; bytes.len(), len);
-        assert_eq!(rt; bytes.starts_with(body), true);
-        assert_eq!(rt; bytes.ends_with(&tag(&key, &bytes[..len - 16])), true);
-        assert_eq!(rt; read_message(&key, &bytes), Some((from, to, message)));
+        assert!(rt; bytes.len() == len);
+        assert!(rt; bytes.starts_with(body) == true);
+        assert!(rt; bytes.ends_with(&tag(&key, &bytes[..len - 16])) == true);
+        assert!(rt; read_message(&key, &bytes) == Some((from, to, message)));
     }
     Ok(())
 }
@@ -121,15 +118,14 @@ fn another_bit(rt: HostRuntime) -> Result<(), Fail> {
         for bit in [1, 2, 4, 8, 16, 32, 64, 128] {
             let mut changed = ASK;
             changed[place] ^= bit;
-            assert_eq!(rt;
-                read_message(&key, &changed),
-                None,
+            assert!(rt;
+                read_message(&key, &changed) == None,
                 "bit {bit} of byte {place}"
             );
         }
     }
     let other = ClusterKey::new(&[1; 32]).ok_or("a key")?;
-    assert_eq!(rt; read_message(&other, &ASK), None);
+    assert!(rt; read_message(&other, &ASK) == None);
     Ok(())
 }
 
@@ -140,13 +136,13 @@ fn cut_and_longer_datagrams(rt: HostRuntime) -> Result<(), Fail> {
     for (from, to, message) in messages()? {
         let bytes = write_message(&key, from, to, &message);
         for len in 0..bytes.len() {
-            assert_eq!(rt; read_message(&key, &bytes[..len]), None, "{len} bytes");
+            assert!(rt; read_message(&key, &bytes[..len]) == None, "{len} bytes");
         }
         let mut longer = ArrayVec::<u8, MAX_SENT_LEN>::new();
         let _ = longer.try_extend_from_slice(&bytes);
         let _ = longer.try_push(0);
-        assert_eq!(rt; longer.len(), bytes.len() + 1);
-        assert_eq!(rt; read_message(&key, &longer), None, "one byte more");
+        assert!(rt; longer.len() == bytes.len() + 1);
+        assert!(rt; read_message(&key, &longer) == None, "one byte more");
     }
     Ok(())
 }
@@ -183,9 +179,8 @@ fn changed_bodies(rt: HostRuntime) -> Result<(), Fail> {
         }
         let tag = tag(&key, &changed);
         let _ = changed.try_extend_from_slice(&tag);
-        assert_eq!(rt;
-            read_message(&key, &changed),
-            None,
+        assert!(rt;
+            read_message(&key, &changed) == None,
             "byte {byte} at {place}"
         );
     }
@@ -197,8 +192,8 @@ fn changed_bodies(rt: HostRuntime) -> Result<(), Fail> {
 fn keys(rt: HostRuntime) -> Result<(), Fail> {
     let text = [b'0'; 64];
     let key = ClusterKey::read(&text).map_err(|_| "a key")?;
-    assert_eq!(rt; key.as_slice(), zeros()?.as_slice());
-    assert_eq!(rt; read_message(&key, &ASK).is_some(), true);
+    assert!(rt; key.as_slice() == zeros()?.as_slice());
+    assert!(rt; read_message(&key, &ASK).is_some() == true);
     for (text, fault) in [
         (b"".as_slice(), SecretFault::Empty),
         (b"0", SecretFault::BadLength),
@@ -207,13 +202,12 @@ fn keys(rt: HostRuntime) -> Result<(), Fail> {
         (&[b'0'; 130], SecretFault::TooLong),
         (&[b'0'; 258], SecretFault::TooLong),
     ] {
-        assert_eq!(rt; ClusterKey::read(text).err(), Some(fault));
+        assert!(rt; ClusterKey::read(text).err() == Some(fault));
     }
     for (len, is_key) in [(15, false), (16, true), (64, true), (65, false)] {
         let bytes = [0x0b; 65];
-        assert_eq!(rt;
-            ClusterKey::new(&bytes[..len]).is_some(),
-            is_key,
+        assert!(rt;
+            ClusterKey::new(&bytes[..len]).is_some() == is_key,
             "{len} bytes"
         );
     }
@@ -237,36 +231,33 @@ fn bad_lines(rt: HostRuntime) {
         b"RESYNC 7 silver 755224 -",
         long.as_slice(),
     ] {
-        assert_eq!(rt; read_line(line).is_none(), true);
+        assert!(rt; read_line(line).is_none() == true);
     }
 }
 
 #[test]
 fn lines_of_both_kinds(rt: HostRuntime) -> Result<(), Fail> {
     let line = read_line(b"CHECK 12345678901234567890 silver 755224 -\n").ok_or("a line")?;
-    assert_eq!(rt; line.nonce(), b"12345678901234567890".as_slice());
-    assert_eq!(rt; line.to_nonce().as_slice(), line.nonce());
-    assert_eq!(rt; line.user(), b"silver".as_slice());
-    assert_eq!(rt; line.password(), None);
+    assert!(rt; line.nonce() == b"12345678901234567890".as_slice());
+    assert!(rt; line.to_nonce().as_slice() == line.nonce());
+    assert!(rt; line.user() == b"silver".as_slice());
+    assert!(rt; line.password() == None);
     let code = Code::new(b"755224").ok_or("a code")?;
-    assert_eq!(rt; line.codes() == &Codes::One(code), true);
+    assert!(rt; line.codes() == &Codes::One(code));
 
     let line = read_line(b"RESYNC a silver 287922 07081804 pw").ok_or("a line")?;
-    assert_eq!(rt; line.nonce(), b"a".as_slice());
-    assert_eq!(rt; line.password(), Some(b"pw".as_slice()));
+    assert!(rt; line.nonce() == b"a".as_slice());
+    assert!(rt; line.password() == Some(b"pw".as_slice()));
     let first = Code::new(b"287922").ok_or("a code")?;
     let second = Code::new(b"07081804").ok_or("a code")?;
-    assert_eq!(rt; line.codes() == &Codes::Two(first, second), true);
+    assert!(rt; line.codes() == &Codes::Two(first, second));
     Ok(())
 }
 
 /// Answers as text.
 #[test]
 fn answers(rt: HostRuntime) -> Result<(), Fail> {
-    assert_eq!(rt;
-        write_answer(&Answer::BadLine).as_slice(),
-        b"NO - BADLINE".as_slice()
-    );
+    assert!(rt; write_answer(&Answer::BadLine).as_slice() == b"NO - BADLINE".as_slice());
     let last = factor((1 << 62) - 1)?;
     for (outcome, text) in [
         (
@@ -278,7 +269,7 @@ fn answers(rt: HostRuntime) -> Result<(), Fail> {
     ] {
         let nonce = Nonce::new(b"n1").ok_or("a nonce")?;
         let answer = Answer::Reply(nonce, outcome);
-        assert_eq!(rt; write_answer(&answer).as_slice(), text);
+        assert!(rt; write_answer(&answer).as_slice() == text);
     }
     Ok(())
 }
