@@ -1,6 +1,6 @@
 //! The sockets of a cluster.
 
-ghost use Rattle.std.specs.Prelude.{◌≡◌, ◌≤◌, length, IfErr};
+ghost use Rattle.std.specs.Prelude.{◌≡◌, ◌≤◌, length, IfErr, IfOk};
 ghost use Rattle.oathd_cluster.specs.Rounds.{IsOfOpening};
 
 use crate::fault::Fault;
@@ -65,6 +65,50 @@ fn open_node<'b>(
     }
 }
 
+/// So many sockets, 1 to 9, each at an address of its own on this machine, and those addresses.
+fn bind_all<N: Net>(
+    alloc: Global,
+    net: &N,
+    nodes: u8,
+) -> Result<(Vec<UdpSocket>, Vec<SocketAddrV4>), Fault>
+    requires { nodes ≤ 9 }
+    ensures few { IfOk result (λ all. length all.1.items ≤ 9) }
+    ensures fault { IfErr result IsOfOpening }
+{
+    let mut sockets = Vec::new(alloc);
+    let mut addresses = Vec::new(alloc);
+    for _ in 0..nodes {
+        let (socket, address) = bind(net)?;
+        sockets.push(socket)?;
+        addresses.push(address)?;
+    }
+    Ok((sockets, addresses))
+}
+
+/// The member of a cluster at this place, over a fresh store in memory, with this socket among these addresses.
+fn open_member<'b>(
+    alloc: Global,
+    book: &'b Book,
+    settings: Settings,
+    key: &'b ClusterKey,
+    place: Place,
+    floors: &[Next],
+    socket: UdpSocket,
+    addresses: &[SocketAddrV4],
+) -> Result<Member<'b, UdpPort>, Fault>
+    requires few { length addresses.now ≤ 9 }
+    requires as_many { length floors.now ≡ length book.now }
+    ensures { IfErr result IsOfOpening }
+{
+    let port = UdpPort::new(socket, addresses.to_vec(alloc)?);
+    let node = open_node(alloc, book, settings, key, place, floors)?;
+    Ok(Member {
+        node,
+        port,
+        scratch: Scratch::new(),
+    })
+}
+
 /// A cluster of so many nodes, 1 to 9, each over a fresh store in memory and a socket of its own.
 pub(crate) fn open_cluster<'b, N: Net>(
     alloc: Global,
@@ -79,13 +123,7 @@ pub(crate) fn open_cluster<'b, N: Net>(
     requires as_many { length floors.now ≡ length book.now }
     ensures { IfErr result IsOfOpening }
 {
-    let mut sockets = Vec::new(alloc);
-    let mut addresses = Vec::new(alloc);
-    for _ in 0..nodes {
-        let (socket, address) = bind(net)?;
-        sockets.push(socket)?;
-        addresses.push(address)?;
-    }
+    let (mut sockets, addresses) = bind_all(alloc, net, nodes)?;
     // The first is taken off first.
     sockets.as_mut_slice().reverse();
     let mut members = Vec::new(alloc);
@@ -93,13 +131,9 @@ pub(crate) fn open_cluster<'b, N: Net>(
         let (Some(place), Some(socket)) = (Place::new(me, nodes), sockets.pop()) else {
             return Err(Fault::Socket);
         };
-        let node = open_node(alloc, book, settings, key, place, floors)?;
-        let port = UdpPort::new(socket, addresses.to_vec(alloc)?);
-        members.push(Member {
-            node,
-            port,
-            scratch: Scratch::new(),
-        })?;
+        members.push(open_member(
+            alloc, book, settings, key, place, floors, socket, &addresses,
+        )?)?;
     }
     let (socket, _) = bind(net)?;
     Ok(Cluster {

@@ -7,12 +7,12 @@ use command_line::ProgramFault;
 use floor_store::MemStore;
 use node_turns::{Coming, ListPort, MAX_DATAGRAM_LEN, PortEntry, Sender};
 use oath_node::{Node, Scratch};
-use otp_core::Settings;
+use otp_core::{Next, Settings};
 use std::alloc::{AllocError, Global};
 use std::io::{self, ErrorKind, Read, Write};
 use std::net::Net;
 use std::test::Fail;
-use token_file::{FromRead, MAX_TOKENS, read_book};
+use token_file::{Book, FromRead, MAX_TOKENS, read_book};
 use vote_core::Place;
 use vote_wire::ClusterKey;
 
@@ -172,42 +172,63 @@ fn has_offered(port: &ListPort<'_>, text: &[u8]) -> bool {
     })
 }
 
-/// Where nothing comes some time passes: a node of three that hears of no other one gives its vote up.
-#[test]
-fn time_passes_in_quiet_rounds(rt: HostRuntime) -> Result<(), Fail> {
-    let alloc = rt.alloc();
-    let settings = Settings::default();
-    let key = ClusterKey::new(&[0; 32]).ok_or("a key")?;
+/// Node 1 of three without the others, over a fresh store and a port to which these come.
+fn one_of_three<'b>(
+    alloc: Global,
+    book: &'b Book,
+    key: &'b ClusterKey,
+    floors: &[Next],
+    comings: &'b [Coming<'b>],
+) -> Result<Cluster<'b, ListPort<'b>>, Fail> {
     let place = Place::new(1, 3).ok_or("a place")?;
-    let (book, floors) = read_book(alloc, &mut FromRead::new(SILVER), settings, 0)?;
-    if floors.len() > MAX_TOKENS {
-        return Err("too many".into());
+    if floors.len() > MAX_TOKENS || floors.len() != book.len() {
+        return Err("another number of tokens".into());
     }
-    let store = MemStore::new(alloc, &floors)?;
-    let Ok(node) = Node::open(alloc, &book, settings, place, &key, store) else {
+    let store = MemStore::new(alloc, floors)?;
+    let Ok(node) = Node::open(alloc, book, Settings::default(), place, key, store) else {
         return Err("no node".into());
     };
-    let comings = [Coming::Datagram {
-        sender: Sender::Client(7),
-        bytes: b"CHECK 1 silver 755224 -",
-    }];
     let mut members = Vec::new(alloc);
     members.push(Member {
         node,
-        port: ListPort::new(alloc, &comings),
+        port: ListPort::new(alloc, comings),
         scratch: Scratch::new(),
     })?;
     let client = ListPort::new(alloc, &[]);
-    let mut cluster = Cluster { members, client };
+    Ok(Cluster { members, client })
+}
+
+/// Whether node 1 is asked in vain, and gives its vote up meanwhile.
+fn gives_its_vote_up(cluster: &mut Cluster<'_, ListPort<'_>>) -> Result<bool, Fail> {
     let line = NodeLine {
         node: 1,
         moment: 1000,
         text: b"",
     };
     let mut buffer = [0; MAX_DATAGRAM_LEN];
-    assert!(rt; ask(&mut cluster, &line, &mut buffer)?.is_none());
+    if ask(cluster, &line, &mut buffer)?.is_some() {
+        return Ok(false);
+    }
     let member = cluster.members.pop().ok_or("no member")?;
-    assert!(rt; has_offered(&member.port, b"NO 1 TIMEOUT"));
+    Ok(has_offered(&member.port, b"NO 1 TIMEOUT"))
+}
+
+/// Where nothing comes some time passes: a node of three that hears of no other one gives its vote up.
+#[test]
+fn time_passes_in_quiet_rounds(rt: HostRuntime) -> Result<(), Fail> {
+    let alloc = rt.alloc();
+    let key = ClusterKey::new(&[0; 32]).ok_or("a key")?;
+    let mut source = FromRead::new(SILVER);
+    let (book, floors) = match read_book(alloc, &mut source, Settings::default(), 0) {
+        Ok(read) => read,
+        Err(fault) => return Err(fault.into()),
+    };
+    let comings = [Coming::Datagram {
+        sender: Sender::Client(7),
+        bytes: b"CHECK 1 silver 755224 -",
+    }];
+    let mut cluster = one_of_three(alloc, &book, &key, &floors, &comings)?;
+    assert!(rt; gives_its_vote_up(&mut cluster)?);
     Ok(())
 }
 
