@@ -1,5 +1,6 @@
 pub mod Fault
 pub mod Given
 pub mod Members
+pub mod Nodes
 pub mod StoreWords
 pub mod Words

@@ -48,18 +48,6 @@ impl From<oathd_core::Fault> for Fault<'_> {
     }
 }
 
-impl From<oathd_sim::Fault> for Fault<'_> {
-    fn from(fault: oathd_sim::Fault) -> Self {
-        Fault::Sim(fault)
-    }
-}
-
-impl From<oathd_cluster::Fault> for Fault<'_> {
-    fn from(fault: oathd_cluster::Fault) -> Self {
-        Fault::Cluster(fault)
-    }
-}
-
 impl From<oathd_store::Fault> for Fault<'_> {
     fn from(fault: oathd_store::Fault) -> Self {
         Fault::Store(fault)

@@ -1,8 +1,9 @@
-ghost use Rattle.std.specs.Prelude.{◌≡◌, IfOk, Ok};
+ghost use Rattle.std.specs.Prelude.{◌≡◌, IfErr, IfOk, Ok, replicate};
 ghost use Rattle.std.specs.Result.{result_err};
 ghost use Rattle.hex.specs.Hex.{decode_of};
 ghost use Rattle.vote_wire.specs.Key.{key_refusal_of};
 ghost use Rattle.vote_wire.specs.Request.{without_lf};
+ghost use Rattle.oathd.specs.Nodes.{IsKeyOf, IsOfKey};
 
 use crate::fault::Fault;
 use secret_text::SecretFault;
@@ -24,12 +25,16 @@ pub(crate) fn key_of(text: &[u8]) -> Result<ClusterKey, SecretFault>
 }
 
 /// The key of 32 zeros, which is every cluster's that is given none.
-fn key_of_zeros() -> ClusterKey {
+fn key_of_zeros() -> ClusterKey
+    ensures { result ≡ replicate 32 0 }
+{
     ClusterKey::new(&[0; 32]).unwrap()
 }
 
 /// The text of a file, which has at most so many bytes.
-fn file_text<'a, F: Files>(alloc: Global, files: &F, path: &'a str) -> Result<Vec<u8>, Fault<'a>> {
+fn file_text<'a, F: Files>(alloc: Global, files: &F, path: &'a str) -> Result<Vec<u8>, Fault<'a>>
+    ensures fault { IfErr result IsOfKey }
+{
     let Ok(file) = fs::open(files, path) else {
         return Err(Fault::CannotReadFile(path));
     };
@@ -51,7 +56,10 @@ pub(crate) fn read_key<'a, F: Files>(
     alloc: Global,
     files: &F,
     path: Option<&'a str>,
-) -> Result<ClusterKey, Fault<'a>> {
+) -> Result<ClusterKey, Fault<'a>>
+    ensures key { IfOk result (λ key. IsKeyOf path.entry key) }
+    ensures fault { IfErr result IsOfKey }
+{
     let Some(path) = path else {
         return Ok(key_of_zeros());
     };

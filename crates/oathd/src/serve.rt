@@ -2,6 +2,7 @@ ghost use Rattle.std.specs.Prelude.{◌≡◌, ◌≤◌, ◌⊎◌, Err};
 ghost use Rattle.otp_core.specs.Range.{IsMoment};
 ghost use Rattle.oathd_core.specs.declared.fault.Fault.TheVariants.{CannotWrite};
 ghost use Rattle.oathd_core.specs.Request.{EndsAsAsked, HasMoment};
+ghost use Rattle.oathd.specs.Nodes.{ClusterEndsSo, SimEndsSo};
 
 use crate::fault::Fault;
 use crate::key::read_key;
@@ -50,9 +51,11 @@ fn simulate<'a, F: Files, R: Read, O: Write>(
     requires first { 1 ≤ nodes }
     requires last { nodes ≤ 9 }
     requires moment { IsMoment moment }
+    ensures ends { SimEndsSo nodes settings moment key.entry (R.remaining reader.old) result
+        (O.contents held.old) (O.contents held.new) }
 {
     let key = read_key(alloc, files, key)?;
-    run_sim(
+    let end = run_sim(
         alloc,
         nodes,
         settings,
@@ -61,8 +64,11 @@ fn simulate<'a, F: Files, R: Read, O: Write>(
         MAX_FILE_LEN,
         reader,
         held,
-    )?;
-    Ok(())
+    );
+    match end {
+        Ok(()) => Ok(()),
+        Err(fault) => Err(Fault::Sim(fault)),
+    }
 }
 
 /// Runs a cluster of so many nodes over the users file at this path, under the key of the file named, if any, and sends
@@ -81,12 +87,13 @@ fn run_nodes<'a, F: Files + Net, R: Read, O: Write>(
     requires first { 1 ≤ nodes }
     requires last { nodes ≤ 9 }
     requires moment { IsMoment moment }
+    ensures ends { ClusterEndsSo nodes (R.remaining reader.old) result (O.contents held.old) (O.contents held.new) }
 {
     let key = read_key(alloc, files, key)?;
     let Ok(file) = fs::open(files, users) else {
         return Err(Fault::CannotReadFile(users));
     };
-    run_cluster(
+    let end = run_cluster(
         alloc,
         files,
         nodes,
@@ -97,8 +104,11 @@ fn run_nodes<'a, F: Files + Net, R: Read, O: Write>(
         MAX_FILE_LEN,
         reader,
         held,
-    )?;
-    Ok(())
+    );
+    match end {
+        Ok(()) => Ok(()),
+        Err(fault) => Err(Fault::Cluster(fault)),
+    }
 }
 
 /// Does what the words ask for, or writes what clap has to say of them. Gives the exit status.

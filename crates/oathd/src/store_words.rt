@@ -9,7 +9,8 @@ ghost use Rattle.oathd.specs.declared.store_words.Action.{Action as AnyAction};
 
 use crate::members::read_members;
 use crate::words::{
-    DRIFT, LOOK_AHEAD, MOMENT, NODE_COUNTS, RANGE, SKEW, member_number, settings_of,
+    DRIFT, LOOK_AHEAD, MOMENT, NODE_COUNTS, RANGE, SKEW, member_number, settings_of, users_arg,
+    with_numbers,
 };
 use clap::error::ErrorKind;
 use clap::{Arg, ArgAction, ArgMatches, Command, Error};
@@ -140,22 +141,20 @@ const INIT_NUMBERS: [NumberOption; 2] = [SKEW, MOMENT];
 /// The options of the command `serve` that take a number.
 const SERVE_NUMBERS: [NumberOption; 5] = [LOOK_AHEAD, SKEW, RANGE, DRIFT, TURNS];
 
+/// The value that names the database.
+fn database_arg<'a>(alloc: Global) -> Arg<'a> {
+    Arg::new(alloc, "DB")
+        .required(true)
+        .action(ArgAction::Set)
+        .help("The path of the database")
+}
+
 /// A command with the paths that all commands over a database take.
 fn with_paths<'a>(alloc: Global, command: Command<'a>) -> Result<Command<'a>, AllocError> {
     command
         .next_line_help(true)
-        .arg(
-            Arg::new(alloc, "DB")
-                .required(true)
-                .action(ArgAction::Set)
-                .help("The path of the database"),
-        )?
-        .arg(
-            Arg::new(alloc, "USERS")
-                .required(true)
-                .action(ArgAction::Set)
-                .help("The path of the users file"),
-        )
+        .arg(database_arg(alloc))?
+        .arg(users_arg(alloc))
 }
 
 /// The option that says which node it is.
@@ -189,13 +188,9 @@ pub(crate) fn init_command<'a>(alloc: Global) -> Result<Command<'a>, AllocError>
         .arg(moment)
 }
 
-/// The command `serve`.
-pub(crate) fn serve_command<'a>(alloc: Global) -> Result<Command<'a>, AllocError> {
-    let command = Command::new(alloc, "serve")
-        .about("Serves a node over a UDP socket and a database")
-        .override_usage(SERVE_USAGE)
-        .after_help(SERVE_HELP);
-    let members = Arg::new(alloc, "members")
+/// The option that has the addresses of the members.
+fn members_arg<'a>(alloc: Global) -> Arg<'a> {
+    Arg::new(alloc, "members")
         .long("members")
         .value_name("A,B,..")
         .required(true)
@@ -203,22 +198,30 @@ pub(crate) fn serve_command<'a>(alloc: Global) -> Result<Command<'a>, AllocError
         .help(
             "The addresses of the members in order of their numbers, 1 to 9 of\n\
             the form 127.0.0.1:7001, each another",
-        );
-    let key = Arg::new(alloc, "key")
+        )
+}
+
+/// The option that names the file of the key, which has to be there.
+fn key_arg<'a>(alloc: Global) -> Arg<'a> {
+    Arg::new(alloc, "key")
         .long("key")
         .value_name("PATH")
         .required(true)
         .action(ArgAction::Set)
-        .help("A file of the cluster's key: 16 to 64 bytes in hexadecimal");
-    with_paths(alloc, command)?
+        .help("A file of the cluster's key: 16 to 64 bytes in hexadecimal")
+}
+
+/// The command `serve`.
+pub(crate) fn serve_command<'a>(alloc: Global) -> Result<Command<'a>, AllocError> {
+    let command = Command::new(alloc, "serve")
+        .about("Serves a node over a UDP socket and a database")
+        .override_usage(SERVE_USAGE)
+        .after_help(SERVE_HELP);
+    let command = with_paths(alloc, command)?
         .arg(node_arg(alloc))?
-        .arg(members)?
-        .arg(key)?
-        .arg(LOOK_AHEAD.arg(alloc))?
-        .arg(SKEW.arg(alloc))?
-        .arg(RANGE.arg(alloc))?
-        .arg(DRIFT.arg(alloc))?
-        .arg(TURNS.arg(alloc))
+        .arg(members_arg(alloc))?
+        .arg(key_arg(alloc))?;
+    with_numbers(alloc, command, &SERVE_NUMBERS)
 }
 
 /// The command `export`.

@@ -228,48 +228,55 @@ pub(crate) const MOMENT: NumberOption = NumberOption {
 /// The options of the command `lines`, which all take a number.
 const NUMBERS: [NumberOption; 5] = [LOOK_AHEAD, SKEW, RANGE, DRIFT, MOMENT];
 
+/// A command with these options.
+pub(crate) fn with_numbers<'a>(
+    alloc: Global,
+    mut command: Command<'a>,
+    options: &[NumberOption],
+) -> Result<Command<'a>, AllocError> {
+    for option in options {
+        command = command.arg(option.arg(alloc))?;
+    }
+    Ok(command)
+}
+
 /// The command `lines`.
 fn lines_command<'a>(alloc: Global) -> Result<Command<'a>, AllocError> {
-    Command::new(alloc, "lines")
+    let command = Command::new(alloc, "lines")
         .about("Answers lines of clients, behind a users file")
         .next_line_help(true)
-        .after_help(LINES_HELP)
-        .arg(LOOK_AHEAD.arg(alloc))?
-        .arg(SKEW.arg(alloc))?
-        .arg(RANGE.arg(alloc))?
-        .arg(DRIFT.arg(alloc))?
-        .arg(MOMENT.arg(alloc))
+        .after_help(LINES_HELP);
+    with_numbers(alloc, command, &NUMBERS)
 }
 
 /// The numbers of nodes that there may be.
 pub(crate) const NODE_COUNTS: [&str; 9] = ["1", "2", "3", "4", "5", "6", "7", "8", "9"];
 
+/// The value that says how many nodes there are.
+fn count_arg<'a>(alloc: Global) -> Arg<'a> {
+    Arg::new(alloc, "N")
+        .required(true)
+        .action(ArgAction::Set)
+        .hide_possible_values(true)
+        .value_parser(NODE_COUNTS.as_slice())
+        .help("How many nodes there are, 1 to 9")
+}
+
+/// The option that names the file of the key, which may be left out.
+fn key_arg<'a>(alloc: Global) -> Arg<'a> {
+    Arg::new(alloc, "key")
+        .long("key")
+        .value_name("PATH")
+        .action(ArgAction::Set)
+        .help(
+            "A file of the cluster's key: 16 to 64 bytes in hexadecimal.\nWithout it the key is 32 zeros",
+        )
+}
+
 /// A command with what all commands take that run nodes: how many, the limits, the moment and the key.
 fn with_nodes<'a>(alloc: Global, command: Command<'a>) -> Result<Command<'a>, AllocError> {
-    command
-        .next_line_help(true)
-        .arg(
-            Arg::new(alloc, "N")
-                .required(true)
-                .action(ArgAction::Set)
-                .hide_possible_values(true)
-                .value_parser(NODE_COUNTS.as_slice())
-                .help("How many nodes there are, 1 to 9"),
-        )?
-        .arg(LOOK_AHEAD.arg(alloc))?
-        .arg(SKEW.arg(alloc))?
-        .arg(RANGE.arg(alloc))?
-        .arg(DRIFT.arg(alloc))?
-        .arg(MOMENT.arg(alloc))?
-        .arg(
-            Arg::new(alloc, "key")
-                .long("key")
-                .value_name("PATH")
-                .action(ArgAction::Set)
-                .help(
-                    "A file of the cluster's key: 16 to 64 bytes in hexadecimal.\nWithout it the key is 32 zeros",
-                ),
-        )
+    let command = command.next_line_help(true).arg(count_arg(alloc))?;
+    with_numbers(alloc, command, &NUMBERS)?.arg(key_arg(alloc))
 }
 
 /// The command `sim`.
@@ -280,17 +287,20 @@ fn sim_command<'a>(alloc: Global) -> Result<Command<'a>, AllocError> {
     with_nodes(alloc, command)
 }
 
+/// The value that names the users file.
+pub(crate) fn users_arg<'a>(alloc: Global) -> Arg<'a> {
+    Arg::new(alloc, "USERS")
+        .required(true)
+        .action(ArgAction::Set)
+        .help("The path of the users file")
+}
+
 /// The command `cluster`.
 fn cluster_command<'a>(alloc: Global) -> Result<Command<'a>, AllocError> {
     let command = Command::new(alloc, "cluster")
         .about("Runs the nodes of a cluster over sockets, and sends them lines")
         .after_help(CLUSTER_HELP)
-        .arg(
-            Arg::new(alloc, "USERS")
-                .required(true)
-                .action(ArgAction::Set)
-                .help("The path of the users file"),
-        )?;
+        .arg(users_arg(alloc))?;
     with_nodes(alloc, command)
 }
 
@@ -307,23 +317,41 @@ fn secret_command<'a>(alloc: Global) -> Result<Command<'a>, AllocError> {
         )
 }
 
+/// The program with the commands that keep nothing but what they read.
+fn with_runs<'a>(alloc: Global, program: Command<'a>) -> Result<Command<'a>, AllocError> {
+    program
+        .subcommand(lines_command(alloc)?)?
+        .subcommand(sim_command(alloc)?)?
+        .subcommand(cluster_command(alloc)?)
+}
+
+/// The program with the commands that make a store and serve it.
+fn with_service<'a>(alloc: Global, program: Command<'a>) -> Result<Command<'a>, AllocError> {
+    program
+        .subcommand(init_command(alloc)?)?
+        .subcommand(serve_command(alloc)?)
+}
+
+/// The program with the commands that read a store or bring it to the present version.
+fn with_upkeep<'a>(alloc: Global, program: Command<'a>) -> Result<Command<'a>, AllocError> {
+    program
+        .subcommand(export_command(alloc)?)?
+        .subcommand(audit_command(alloc)?)?
+        .subcommand(migrate_command(alloc)?)
+}
+
 /// The whole command line.
 pub(crate) fn command<'a>(alloc: Global) -> Result<Command<'a>, AllocError> {
-    Command::new(alloc, "oathd")
+    let program = Command::new(alloc, "oathd")
         .version(VERSION)
         .about("Validates one-time passwords of OATH tokens:\nHOTP (RFC 4226) and TOTP (RFC 6238)")
         .after_help(PROGRAM_HELP)
         .disable_help_subcommand(true)
-        .subcommand_required(true)
-        .subcommand(lines_command(alloc)?)?
-        .subcommand(sim_command(alloc)?)?
-        .subcommand(cluster_command(alloc)?)?
-        .subcommand(init_command(alloc)?)?
-        .subcommand(serve_command(alloc)?)?
-        .subcommand(export_command(alloc)?)?
-        .subcommand(audit_command(alloc)?)?
-        .subcommand(migrate_command(alloc)?)?
-        .subcommand(secret_command(alloc)?)
+        .subcommand_required(true);
+    let program = with_runs(alloc, program)?;
+    let program = with_service(alloc, program)?;
+    let program = with_upkeep(alloc, program)?;
+    program.subcommand(secret_command(alloc)?)
 }
 
 /// The limits that the options give, or `None` where a number is out of its range or written with anything but digits.
@@ -475,6 +503,16 @@ fn value_error(alloc: Global, name: &str, matches: &ArgMatches<'_>) -> Result<Er
     number_error(alloc, &mut usage, matches, &NUMBERS)
 }
 
+/// What the values of the command with this name ask for, or the error that says why they ask for nothing.
+fn asked<'a>(alloc: Global, name: &str, values: &ArgMatches<'a>) -> Result<Task<'a>, Error>
+    ensures { IfOk result IsInRange }
+{
+    match task_of(alloc, name, values)? {
+        Some(task) => Ok(task),
+        None => Err(value_error(alloc, name, values)?),
+    }
+}
+
 /// What the words ask for. The first of them is the program's name. The error has clap's text, which
 /// goes to standard output where help or the version was asked for; a value that asks for nothing is named with the
 /// usage of the command.
@@ -486,8 +524,5 @@ pub(crate) fn read_words<'a>(alloc: Global, words: &'a [String]) -> Result<Task<
     let Some((name, values)) = matches.subcommand() else {
         return Err(command.error(ErrorKind::MissingSubcommand, "a command is missing")?);
     };
-    match task_of(alloc, name, values)? {
-        Some(task) => Ok(task),
-        None => Err(value_error(alloc, name, values)?),
-    }
+    asked(alloc, name, values)
 }

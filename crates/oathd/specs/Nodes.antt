@@ -1,0 +1,49 @@
+-- How the commands end that run nodes in this process.
+use Rattle.std.specs.Prelude.{◌≡◌, ℕ, ◌+◌, List, replicate, take, Option, Result, Ok, Err, IfNone, IfSome}
+use Rattle.otp_core.specs.Limits.{Limits}
+use Rattle.oathd_cluster.specs.Run as cluster
+use Rattle.oathd_cluster.specs.Line.{LinesRead, node_lines}
+use Rattle.oathd_sim.specs.Sim as sim
+use Rattle.users_input.specs.Input.{lines_of}
+use Rattle.oathd.specs.declared.fault.Fault.{Fault}
+use Rattle.oathd.specs.declared.fault.Fault.TheVariants.{Run, Sim, Cluster, Store, CannotReadFile}
+
+-- A key is that of the file that is named, of which nothing is said; where none is named it is 32 zeros.
+abbrev pub IsKeyOf : {A : Type 0} → Option A → List ℕ → Type 0
+IsKeyOf path key = IfNone path (key ≡ replicate 32 0)
+
+-- a fault is one of a key: its file can't be read, or has none, or the memory fails
+abbrev pub IsOfKey : Fault → Type 0
+IsOfKey (Run fault) = Unit {0}
+IsOfKey (CannotReadFile path) = Unit {0}
+IsOfKey fault = ⊥
+
+-- what the command `sim` simulates over an input
+abbrev pub simulation_of : ℕ → Limits → ℕ → List ℕ → List ℕ → sim.Sim
+simulation_of nodes limits moment key text = sim.sim_of
+    (record { nodes = nodes; limits = limits; moment = moment; key = key }) 16777216 16777216 text
+
+-- The command `sim` ends so over its input, where that is known, and its output: as the simulation of so many nodes
+-- does, under the key of the file that is named, if any. Where no key could be had, nothing is written.
+abbrev pub SimEndsSo : {A : Type 0} → ℕ → Limits → ℕ → Option A → Option (List ℕ)
+    → Result Unit Fault → Option (List ℕ) → Option (List ℕ) → Type 0
+SimEndsSo nodes limits moment path input (Ok done) old new =
+    (key : List ℕ) × IsKeyOf path key × IfSome input (λ text.
+    sim.EndsSo (simulation_of nodes limits moment key text) (Ok tt) old new)
+SimEndsSo nodes limits moment path input (Err (Sim fault)) old new =
+    (key : List ℕ) × IsKeyOf path key × IfSome input (λ text.
+    sim.EndsSo (simulation_of nodes limits moment key text) (Err fault) old new)
+SimEndsSo nodes limits moment path input (Err fault) old new = new ≡ old
+
+-- the lines that the command `cluster` reads of an input
+abbrev pub lines_read : ℕ → List ℕ → LinesRead
+lines_read nodes text = node_lines nodes 1 (lines_of 16777216 (take (16777216 + 1) text))
+
+-- The command `cluster` ends so over its input, where that is known, and its output: with a line for each of the
+-- input's. Where no key or no users file could be had, nothing is written.
+abbrev pub ClusterEndsSo : ℕ → Option (List ℕ) → Result Unit Fault → Option (List ℕ) → Option (List ℕ) → Type 0
+ClusterEndsSo nodes input (Ok done) old new =
+    IfSome input (λ text. cluster.EndsSo (lines_read nodes text) (Ok tt) old new)
+ClusterEndsSo nodes input (Err (Cluster fault)) old new =
+    IfSome input (λ text. cluster.EndsSo (lines_read nodes text) (Err fault) old new)
+ClusterEndsSo nodes input (Err fault) old new = new ≡ old
