@@ -95,43 +95,76 @@ fn asked(node: &mut Node<'_, MemStore>, client: u64, line: &[u8]) -> Result<Sent
     Err("no Ask".into())
 }
 
-/// Whether the Grant of node 3 has client 7 told that its code is taken.
-fn tells_ok(node: &mut Node<'_, MemStore>, grant: &[u8]) -> Result<bool, Fail> {
+/// What a node replies to the client for bytes of node 3; nothing where it has no reply.
+fn reply_for(node: &mut Node<'_, MemStore>, client: u64, bytes: &[u8]) -> Result<Sent, Fail> {
     let mut scratch = Scratch::new();
-    let event = Event::Peer {
-        from: 3,
-        bytes: grant,
-    };
-    let outputs = node.handle(event, &mut scratch)?;
-    let mut items = outputs.items();
-    Ok(match items.next() {
-        Some(Item::Reply { client: 7, bytes }) => bytes.as_slice() == b"OK a 0".as_slice(),
-        _ => false,
-    })
+    let outputs = node.handle(Event::Peer { from: 3, bytes }, &mut scratch)?;
+    let mut text = ArrayVec::new();
+    for item in outputs.items() {
+        match item {
+            Item::Reply { client: to, bytes } if to == client => text = bytes,
+            _ => return Err("another item".into()),
+        }
+    }
+    Ok(text)
+}
+
+/// The Ask for node 3 with which a fresh node of three puts the line of a client to the vote, and what it replies to
+/// that client for a vote of node 3.
+fn asks_and_is_told(
+    alloc: Global,
+    me: u8,
+    client: u64,
+    line: &[u8],
+    vote: &[u8],
+) -> Result<(Sent, Sent), Fail> {
+    let (book, floors) = book_of(alloc, SILVER)?;
+    let key = zeros()?;
+    let mut node = opened(alloc, &book, &key, &floors, me, 3)?;
+    let ask = asked(&mut node, client, line)?;
+    Ok((ask, reply_for(&mut node, client, vote)?))
+}
+
+/// What node 3 sends back for an Ask of node 1, twice, and for another one of node 2, where its write behind so many
+/// fails; whether one failed, and its boot at the end.
+fn votes_of(
+    alloc: Global,
+    writes: u64,
+    after: bool,
+    ask: &[u8],
+    other: &[u8],
+) -> Result<(Sent, Sent, bool, u64), Fail> {
+    let (book, floors) = book_of(alloc, SILVER)?;
+    let key = zeros()?;
+    let (node, at_open) = opened_third(alloc, &book, &key, &floors, writes, after)?;
+    let (node, grant, at_ask) = heard(alloc, &book, &key, node, 1, ask)?;
+    let (node, again, later) = heard(alloc, &book, &key, node, 1, ask)?;
+    if again != grant {
+        return Err("another Grant".into());
+    }
+    let (node, deny, last) = heard(alloc, &book, &key, node, 2, other)?;
+    let failed = at_open || at_ask || later || last;
+    Ok((grant, deny, failed, node.close().boot()?))
 }
 
 /// Two clients send one code to nodes 1 and 2 of three, and node 3 grants it to node 1 alone, whichever of its writes
-/// fails. Gives whether one failed, and the boot of node 3 at the end.
+/// fails. Gives whether one failed, and the boot of node 3 at the end. What nodes 1 and 2 do with the votes is seen in
+/// nodes that are asked the same again.
 fn run_of_two_clients<R: Abort + AllocGlobal>(
     rt: &R,
     writes: u64,
     after: bool,
 ) -> Result<(bool, u64), Fail> {
     let alloc = rt.alloc();
-    let (book, floors) = book_of(alloc, SILVER)?;
-    let key = zeros()?;
-    let mut first = opened(alloc, &book, &key, &floors, 1, 3)?;
-    let mut second = opened(alloc, &book, &key, &floors, 2, 3)?;
-    let (third, at_open) = opened_third(alloc, &book, &key, &floors, writes, after)?;
-    let ask = asked(&mut first, 7, b"CHECK a silver 755224 -")?;
-    let (third, grant, at_ask) = heard(alloc, &book, &key, third, 1, &ask)?;
-    let (third, again, later) = heard(alloc, &book, &key, third, 1, &ask)?;
-    assert!(rt; again == grant);
-    let other = asked(&mut second, 8, b"CHECK b silver 755224 -")?;
-    let (third, deny, last) = heard(alloc, &book, &key, third, 2, &other)?;
-    assert!(rt; tells_ok(&mut first, &grant)?);
-    assert!(rt; datagram_to(&mut second, 3, &deny)?.is_empty());
-    Ok((at_open || at_ask || later || last, third.close().boot()?))
+    let (first, second) = (b"CHECK a silver 755224 -", b"CHECK b silver 755224 -");
+    let (ask, _) = asks_and_is_told(alloc, 1, 7, first, b"")?;
+    let (other, _) = asks_and_is_told(alloc, 2, 8, second, b"")?;
+    let (grant, deny, failed, boot) = votes_of(alloc, writes, after, &ask, &other)?;
+    let (_, told) = asks_and_is_told(alloc, 1, 7, first, &grant)?;
+    assert!(rt; told.as_slice() == b"OK a 0".as_slice());
+    let (_, told) = asks_and_is_told(alloc, 2, 8, second, &deny)?;
+    assert!(rt; told.is_empty());
+    Ok((failed, boot))
 }
 
 /// How many writes of node 3 come before the first run in which none fails. Its boot is the second where one fails.

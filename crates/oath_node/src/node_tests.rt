@@ -38,7 +38,12 @@ pub(crate) fn zeros() -> Result<ClusterKey, Fail> {
 }
 
 pub(crate) fn book_of(alloc: Global, users: &[u8]) -> Result<(Book, Vec<Next>), Fail> {
-    Ok(read_book(alloc, &mut FromRead::new(users), settings()?, 0)?)
+    let settings = settings()?;
+    let mut source = FromRead::new(users);
+    match read_book(alloc, &mut source, settings, 0) {
+        Ok(read) => Ok(read),
+        Err(fault) => Err(fault.into()),
+    }
 }
 
 /// A node over a store, with these settings.
@@ -167,6 +172,23 @@ pub(crate) fn datagram_to<S: FloorStore>(
     )
 }
 
+/// How many items a node makes of bytes of a member.
+fn items_of<S: FloorStore>(node: &mut Node<'_, S>, from: u8, bytes: &[u8]) -> Result<u32, Fail> {
+    let mut scratch = Scratch::new();
+    let outputs = node.handle(Event::Peer { from, bytes }, &mut scratch)?;
+    let mut count = 0u32;
+    for _item in outputs.items() {
+        count = count.saturating_add(1);
+    }
+    Ok(count)
+}
+
+/// The fault with which a node answers an event, if any.
+fn fault_of<S: FloorStore>(node: &mut Node<'_, S>, event: Event<'_>) -> Option<NodeFault> {
+    let mut scratch = Scratch::new();
+    node.handle(event, &mut scratch).err()
+}
+
 /// A fresh token: one acceptance, kept answers given again to the same client alone, the throttle, and
 /// what is refused without an examination.
 #[test]
@@ -193,32 +215,33 @@ fn fresh_token(rt: HostRuntime) -> Result<(), Fail> {
     ];
     for (client, moment, line, want) in rows {
         let text = reply_to(&mut node, client, moment, line)?;
-        assert_eq!(rt; text.as_slice(), want, "to {line:?}");
+        assert!(rt; text.as_slice() == want, "to {line:?}");
     }
     Ok(())
 }
 
 /// An Ask is granted; cut short, or with a byte more, or from another, it is dropped.
+fn grants_the_ask_alone<R: Abort + AllocGlobal>(
+    rt: &R,
+    node: &mut Node<'_, MemStore>,
+) -> Result<(), Fail> {
+    let mut longer = ArrayVec::<u8, 60>::new();
+    let _ = longer.try_extend_from_slice(&ASK);
+    let _ = longer.try_push(0);
+    assert!(rt; datagram_to(node, 1, &ASK[..58])?.is_empty());
+    assert!(rt; datagram_to(node, 1, &longer)?.is_empty());
+    assert!(rt; datagram_to(node, 3, &ASK)?.is_empty());
+    assert!(rt; datagram_to(node, 1, &ASK)?.as_slice() == GRANT.as_slice());
+    assert!(rt; datagram_to(node, 1, &ASK)?.as_slice() == GRANT.as_slice());
+    Ok(())
+}
+
 #[test]
 fn ask_bytes(rt: HostRuntime) -> Result<(), Fail> {
     let (book, floors) = book_of(rt.alloc(), SILVER)?;
     let key = zeros()?;
     let mut node = opened(rt.alloc(), &book, &key, &floors, 2, 3)?;
-    let mut longer = ArrayVec::<u8, 60>::new();
-    let _ = longer.try_extend_from_slice(&ASK);
-    let _ = longer.try_push(0);
-    assert_eq!(rt; datagram_to(&mut node, 1, &ASK[..58])?.len(), 0);
-    assert_eq!(rt; datagram_to(&mut node, 1, &longer)?.len(), 0);
-    assert_eq!(rt; datagram_to(&mut node, 3, &ASK)?.len(), 0);
-    assert_eq!(rt;
-        datagram_to(&mut node, 1, &ASK)?.as_slice(),
-        GRANT.as_slice()
-    );
-    assert_eq!(rt;
-        datagram_to(&mut node, 1, &ASK)?.as_slice(),
-        GRANT.as_slice()
-    );
-    Ok(())
+    grants_the_ask_alone(&rt, &mut node)
 }
 
 /// The datagram with the tag that it should have.
@@ -243,13 +266,12 @@ fn changed(key: &ClusterKey, datagram: &[u8; 59], changes: &[(usize, u8)]) -> [u
     tagged(key, bytes)
 }
 
-/// An Ask that is none, or that isn't for node 2 of three from node 1 about the one token, changes nothing.
-#[test]
-fn changed_asks(rt: HostRuntime) -> Result<(), Fail> {
-    let (book, floors) = book_of(rt.alloc(), SILVER)?;
-    let key = zeros()?;
-    let store = FuseStore::new(memory(rt.alloc(), &floors)?, 100, false);
-    let mut node = node_over(rt.alloc(), &book, &key, store, 2, 3)?;
+/// An Ask that is none, or that isn't for node 2 of three from node 1 about the one token, is dropped.
+fn drops_changed_asks<R: Abort + AllocGlobal>(
+    rt: &R,
+    key: &ClusterKey,
+    node: &mut Node<'_, FuseStore<MemStore>>,
+) -> Result<(), Fail> {
     let rows: [&[(usize, u8)]; 9] = [
         &[(3, 5)],
         &[(2, 1)],
@@ -262,71 +284,93 @@ fn changed_asks(rt: HostRuntime) -> Result<(), Fail> {
         &[(9, 1)],
     ];
     for changes in rows {
-        let bytes = changed(&key, &ASK, changes);
-        assert_eq!(rt; datagram_to(&mut node, 1, &bytes)?.len(), 0, "{changes:?}");
+        let bytes = changed(key, &ASK, changes);
+        assert!(rt; datagram_to(node, 1, &bytes)?.is_empty(), "{changes:?}");
     }
-    // The opening alone is written.
-    assert_eq!(rt; node.close().passed(), 1);
     Ok(())
 }
 
-/// A submission waits, is accepted by the second vote of three, and its answer is kept.
 #[test]
-fn second_vote(rt: HostRuntime) -> Result<(), Fail> {
+fn changed_asks(rt: HostRuntime) -> Result<(), Fail> {
     let (book, floors) = book_of(rt.alloc(), SILVER)?;
     let key = zeros()?;
-    let mut node = opened(rt.alloc(), &book, &key, &floors, 1, 3)?;
-    let line = b"CHECK a silver 755224 -".as_slice();
+    let store = FuseStore::new(memory(rt.alloc(), &floors)?, 100, false);
+    let mut node = node_over(rt.alloc(), &book, &key, store, 2, 3)?;
+    drops_changed_asks(&rt, &key, &mut node)?;
+    // The opening alone is written.
+    assert!(rt; node.close().passed() == 1);
+    Ok(())
+}
+
+/// How many items a line of client 7 makes, with which a proposal begins. That to node 2 is the Ask.
+fn asks_of(node: &mut Node<'_, MemStore>, line: &[u8]) -> Result<u32, Fail> {
     let mut scratch = Scratch::new();
-    let outputs = node.handle(
-        Event::Client {
-            client: 7,
-            moment: 1000,
-            line,
-        },
-        &mut scratch,
-    )?;
+    let event = Event::Client {
+        client: 7,
+        moment: 1000,
+        line,
+    };
+    let outputs = node.handle(event, &mut scratch)?;
+    if outputs.begun().is_none() {
+        return Err("nothing began".into());
+    }
     let mut sent = 0u32;
     for item in outputs.items() {
-        if let Item::Datagram { to: 2, bytes } = item {
-            assert_eq!(rt; bytes.as_slice(), ASK.as_slice());
+        if let Item::Datagram { to: 2, bytes } = item
+            && bytes.as_slice() != ASK.as_slice()
+        {
+            return Err("another Ask".into());
         }
         sent = sent.saturating_add(1);
     }
-    assert_eq!(rt; sent, 2);
-    assert_eq!(rt; outputs.begun().is_some(), true);
-    assert_eq!(rt; reply_to(&mut node, 7, 1000, line)?.len(), 0);
-    let outputs = node.handle(
-        Event::Peer {
-            from: 2,
-            bytes: &GRANT,
-        },
-        &mut scratch,
-    )?;
-    assert_eq!(rt; outputs.pass().is_some(), true);
+    Ok(sent)
+}
+
+/// Whether the Grant of node 2 has a node accept, and tell client 7 so.
+fn accepts(node: &mut Node<'_, MemStore>) -> Result<bool, Fail> {
+    let mut scratch = Scratch::new();
+    let event = Event::Peer {
+        from: 2,
+        bytes: &GRANT,
+    };
+    let outputs = node.handle(event, &mut scratch)?;
     let mut told = false;
     for item in outputs.items() {
         if let Item::Reply { client: 7, bytes } = item {
             told = bytes.as_slice() == b"OK a 0".as_slice();
         }
     }
-    assert_eq!(rt; told, true);
-    assert_eq!(rt;
-        reply_to(&mut node, 7, 1001, line)?.as_slice(),
-        b"OK a 0".as_slice()
-    );
+    Ok(told && outputs.pass().is_some())
+}
+
+/// A submission waits, is accepted by the second vote of three, and its answer is kept.
+fn waits_for_a_vote<R: Abort + AllocGlobal>(
+    rt: &R,
+    node: &mut Node<'_, MemStore>,
+) -> Result<(), Fail> {
+    let line = b"CHECK a silver 755224 -".as_slice();
+    assert!(rt; asks_of(node, line)? == 2);
+    assert!(rt; reply_to(node, 7, 1000, line)?.is_empty());
+    assert!(rt; accepts(node)?);
+    assert!(rt; reply_to(node, 7, 1001, line)?.as_slice() == b"OK a 0".as_slice());
     Ok(())
 }
 
-/// A Grant of other factors, of another token, boot or number, or of a number that is decided, changes nothing.
 #[test]
-fn other_grants(rt: HostRuntime) -> Result<(), Fail> {
+fn second_vote(rt: HostRuntime) -> Result<(), Fail> {
     let (book, floors) = book_of(rt.alloc(), SILVER)?;
     let key = zeros()?;
-    let store = FuseStore::new(memory(rt.alloc(), &floors)?, 100, false);
-    let mut node = node_over(rt.alloc(), &book, &key, store, 1, 3)?;
-    let line = b"CHECK a silver 755224 -".as_slice();
-    reply_to(&mut node, 7, 1000, line)?;
+    let mut node = opened(rt.alloc(), &book, &key, &floors, 1, 3)?;
+    waits_for_a_vote(&rt, &mut node)
+}
+
+/// A Grant of other factors, of another token, boot or number, or of a number that is decided, does nothing.
+fn counts_one_grant_alone<R: Abort + AllocGlobal>(
+    rt: &R,
+    key: &ClusterKey,
+    node: &mut Node<'_, FuseStore<MemStore>>,
+) -> Result<(), Fail> {
+    reply_to(node, 7, 1000, b"CHECK a silver 755224 -")?;
     let rows: [&[(usize, u8)]; 5] = [
         &[(34, 1), (42, 1)],
         &[(42, 1)],
@@ -335,79 +379,103 @@ fn other_grants(rt: HostRuntime) -> Result<(), Fail> {
         &[(26, 1)],
     ];
     for changes in rows {
-        let bytes = changed(&key, &GRANT, changes);
-        let event = Event::Peer {
-            from: 2,
-            bytes: &bytes,
-        };
-        assert_eq!(rt;
-            node.handle(event, &mut Scratch::new())?.items().count(),
-            0,
-            "{changes:?}"
-        );
+        let bytes = changed(key, &GRANT, changes);
+        assert!(rt; items_of(node, 2, &bytes)? == 0, "{changes:?}");
     }
-    let event = Event::Peer {
-        from: 2,
-        bytes: &GRANT,
-    };
-    assert_eq!(rt; node.handle(event, &mut Scratch::new())?.items().count(), 1);
-    let event = Event::Peer {
-        from: 3,
-        bytes: &changed(&key, &GRANT, &[(4, 3)]),
-    };
-    assert_eq!(rt; node.handle(event, &mut Scratch::new())?.items().count(), 0);
-    // The opening, the proposal and the acceptance are written.
-    assert_eq!(rt; node.close().passed(), 3);
+    assert!(rt; items_of(node, 2, &GRANT)? == 1);
+    assert!(rt; items_of(node, 3, &changed(key, &GRANT, &[(4, 3)]))? == 0);
     Ok(())
 }
 
+#[test]
+fn other_grants(rt: HostRuntime) -> Result<(), Fail> {
+    let (book, floors) = book_of(rt.alloc(), SILVER)?;
+    let key = zeros()?;
+    let store = FuseStore::new(memory(rt.alloc(), &floors)?, 100, false);
+    let mut node = node_over(rt.alloc(), &book, &key, store, 1, 3)?;
+    counts_one_grant_alone(&rt, &key, &mut node)?;
+    // The opening, the proposal and the acceptance are written.
+    assert!(rt; node.close().passed() == 3);
+    Ok(())
+}
+
+/// A Deny of node 2 to node 1 that leaves no factor.
+fn last_deny(key: &ClusterKey) -> [u8; 51] {
+    let mut bytes = [0; 51];
+    bytes[..27].copy_from_slice(&GRANT[..27]);
+    bytes[3] = 3;
+    bytes[27] = 0x40;
+    let tag = tag(key, &bytes[..35]);
+    bytes[35..].copy_from_slice(&tag);
+    bytes
+}
+
 /// A Deny with no factor left leaves none.
+fn is_left_nothing<R: Abort + AllocGlobal>(
+    rt: &R,
+    deny: &[u8],
+    node: &mut Node<'_, MemStore>,
+) -> Result<(), Fail> {
+    reply_to(node, 7, 1000, b"CHECK a silver 755224 -")?;
+    assert!(rt; items_of(node, 2, deny)? == 0);
+    let text = reply_to(node, 7, 1000, b"CHECK b silver 287082 -")?;
+    assert!(rt; text.as_slice() == b"NO b EXHAUSTED".as_slice());
+    Ok(())
+}
+
 #[test]
 fn denied_for_good(rt: HostRuntime) -> Result<(), Fail> {
     let (book, floors) = book_of(rt.alloc(), SILVER)?;
     let key = zeros()?;
     let mut node = opened(rt.alloc(), &book, &key, &floors, 1, 3)?;
-    reply_to(&mut node, 7, 1000, b"CHECK a silver 755224 -")?;
-    let mut bytes = [0; 51];
-    bytes[..27].copy_from_slice(&GRANT[..27]);
-    bytes[3] = 3;
-    bytes[27] = 0x40;
-    let tag = tag(&key, &bytes[..35]);
-    bytes[35..].copy_from_slice(&tag);
-    let event = Event::Peer {
-        from: 2,
-        bytes: &bytes,
-    };
-    assert_eq!(rt; node.handle(event, &mut Scratch::new())?.items().count(), 0);
-    let text = reply_to(&mut node, 7, 1000, b"CHECK b silver 287082 -")?;
-    assert_eq!(rt; text.as_slice(), b"NO b EXHAUSTED".as_slice());
-    Ok(())
+    is_left_nothing(&rt, &last_deny(&key), &mut node)
+}
+
+/// How many datagrams a tick sends, and whether it tells that a line is given up.
+fn tick_of(node: &mut Node<'_, MemStore>) -> Result<(u32, bool), Fail> {
+    let mut scratch = Scratch::new();
+    let outputs = node.handle(Event::Tick, &mut scratch)?;
+    let mut sent = 0u32;
+    let mut told = false;
+    for item in outputs.items() {
+        match item {
+            Item::Datagram { .. } => sent = sent.saturating_add(1),
+            Item::Reply { client: _, bytes } => {
+                told = bytes.as_slice() == b"NO a TIMEOUT".as_slice();
+            }
+        }
+    }
+    Ok((sent, told))
 }
 
 /// A submission that nobody answers is asked for again at each of seven ticks, and given up at the eighth.
+fn gives_up<R: Abort + AllocGlobal>(rt: &R, node: &mut Node<'_, MemStore>) -> Result<(), Fail> {
+    reply_to(node, 7, 1000, b"CHECK a silver 755224 -")?;
+    for _ in 0..7 {
+        assert!(rt; tick_of(node)? == (4, false));
+    }
+    assert!(rt; tick_of(node)? == (2, true));
+    Ok(())
+}
+
 #[test]
 fn timeout_after_eight_ticks(rt: HostRuntime) -> Result<(), Fail> {
     let (book, floors) = book_of(rt.alloc(), SILVER)?;
     let key = zeros()?;
     let mut node = opened(rt.alloc(), &book, &key, &floors, 1, 3)?;
-    let line = b"CHECK a silver 755224 -".as_slice();
-    reply_to(&mut node, 7, 1000, line)?;
-    let mut sent = 0u32;
-    let mut told = false;
-    let mut scratch = Scratch::new();
-    for _ in 0..8 {
-        let outputs = node.handle(Event::Tick, &mut scratch)?;
-        for item in outputs.items() {
-            match item {
-                Item::Datagram { .. } => sent = sent.saturating_add(1),
-                Item::Reply { client: _, bytes } => {
-                    told = bytes.as_slice() == b"NO a TIMEOUT".as_slice();
-                }
-            }
-        }
+    gives_up(&rt, &mut node)
+}
+
+/// Compares the replies to lines of client 7.
+fn compare_replies<R: Abort + AllocGlobal>(
+    rt: &R,
+    node: &mut Node<'_, MemStore>,
+    rows: &[(u64, &[u8], &[u8])],
+) -> Result<(), Fail> {
+    for &(moment, line, want) in rows {
+        let text = reply_to(node, 7, moment, line)?;
+        assert!(rt; text.as_slice() == want, "to {line:?}");
     }
-    assert_eq!(rt; sent, 30);
-    assert_eq!(rt; told, true);
     Ok(())
 }
 
@@ -417,14 +485,14 @@ fn gate_survives_restart(rt: HostRuntime) -> Result<(), Fail> {
     let (book, floors) = book_of(rt.alloc(), SILVER)?;
     let key = zeros()?;
     let mut node = opened(rt.alloc(), &book, &key, &floors, 1, 1)?;
-    let text = reply_to(&mut node, 7, 100, b"CHECK 1 silver 000000 -")?;
-    assert_eq!(rt; text.as_slice(), b"NO 1 INVALID".as_slice());
+    let before: [(u64, &[u8], &[u8]); 1] = [(100, b"CHECK 1 silver 000000 -", b"NO 1 INVALID")];
+    compare_replies(&rt, &mut node, &before)?;
     node.restart()?;
-    let text = reply_to(&mut node, 7, 104, b"CHECK 1 silver 755224 -")?;
-    assert_eq!(rt; text.as_slice(), b"NO 1 THROTTLED 1".as_slice());
-    let text = reply_to(&mut node, 7, 105, b"CHECK 2 silver 755224 -")?;
-    assert_eq!(rt; text.as_slice(), b"OK 2 0".as_slice());
-    Ok(())
+    let after: [(u64, &[u8], &[u8]); 2] = [
+        (104, b"CHECK 1 silver 755224 -", b"NO 1 THROTTLED 1"),
+        (105, b"CHECK 2 silver 755224 -", b"OK 2 0"),
+    ];
+    compare_replies(&rt, &mut node, &after)
 }
 
 /// The row of a users file, or a line, of a number.
@@ -440,9 +508,22 @@ fn numbered(alloc: Global, front: &[u8], number: u32, back: &[u8]) -> Result<Vec
 }
 
 /// Thirty-two submissions wait, and the next one is told that the node is busy.
-#[test]
-fn thirty_three_submissions(rt: HostRuntime) -> Result<(), Fail> {
-    let alloc = rt.alloc();
+fn gets_busy<R: Abort + AllocGlobal>(rt: &R, node: &mut Node<'_, MemStore>) -> Result<(), Fail> {
+    for number in 0..33 {
+        let line = numbered(rt.alloc(), b"CHECK 33 u", number, b" 755224 -")?;
+        let text = reply_to(node, 7, 1000, &line)?;
+        let want = if number < 32 {
+            b"".as_slice()
+        } else {
+            b"NO 33 BUSY"
+        };
+        assert!(rt; text.as_slice() == want, "{number}");
+    }
+    Ok(())
+}
+
+/// A users file of 33 rows.
+fn many_users(alloc: Global) -> Result<Vec<u8>, Fail> {
     let mut users = Vec::new(alloc);
     for number in 0..33 {
         let row = numbered(
@@ -453,18 +534,24 @@ fn thirty_three_submissions(rt: HostRuntime) -> Result<(), Fail> {
         )?;
         users.extend_from_slice(&row)?;
     }
-    let (book, floors) = book_of(alloc, &users)?;
+    Ok(users)
+}
+
+#[test]
+fn thirty_three_submissions(rt: HostRuntime) -> Result<(), Fail> {
+    let (book, floors) = book_of(rt.alloc(), &many_users(rt.alloc())?)?;
     let key = zeros()?;
-    let mut node = opened(alloc, &book, &key, &floors, 1, 3)?;
-    for number in 0..33 {
-        let line = numbered(alloc, b"CHECK 33 u", number, b" 755224 -")?;
-        let text = reply_to(&mut node, 7, 1000, &line)?;
-        let want = if number < 32 {
-            b"".as_slice()
-        } else {
-            b"NO 33 BUSY"
-        };
-        assert_eq!(rt; text.as_slice(), want, "{number}");
+    let mut node = opened(rt.alloc(), &book, &key, &floors, 1, 3)?;
+    gets_busy(&rt, &mut node)
+}
+
+/// Gives a node so many lines of a user that is unknown.
+fn answers_strangers(alloc: Global, node: &mut Node<'_, MemStore>, lines: u32) -> Result<(), Fail> {
+    for number in 0..lines {
+        let line = numbered(alloc, b"CHECK n", number, b" nobody 755224 -")?;
+        if !reply_to(node, 7, 100, &line)?.ends_with(b" UNKNOWN") {
+            return Err("another answer".into());
+        }
     }
     Ok(())
 }
@@ -476,17 +563,9 @@ fn after_lines<R: Abort + AllocGlobal>(rt: &R, lines: u32, want: &[u8]) -> Resul
     let key = zeros()?;
     let mut node = opened(alloc, &book, &key, &floors, 1, 1)?;
     let line = b"CHECK 1 silver 755224 -".as_slice();
-    assert_eq!(rt;
-        reply_to(&mut node, 7, 100, line)?.as_slice(),
-        b"OK 1 0".as_slice()
-    );
-    for number in 0..lines {
-        let other = numbered(alloc, b"CHECK n", number, b" nobody 755224 -")?;
-        let text = reply_to(&mut node, 7, 100, &other)?;
-        assert_eq!(rt; text.ends_with(b" UNKNOWN"), true);
-    }
-    assert_eq!(rt; reply_to(&mut node, 7, 100, line)?.as_slice(), want);
-    Ok(())
+    compare_replies(rt, &mut node, &[(100, line, b"OK 1 0")])?;
+    answers_strangers(alloc, &mut node, lines)?;
+    compare_replies(rt, &mut node, &[(100, line, want)])
 }
 
 #[test]
@@ -499,7 +578,36 @@ fn after_1024_lines(rt: HostRuntime) -> Result<(), Fail> {
     after_lines(&rt, 1024, b"NO 1 INVALID")
 }
 
-/// A store that fails stops the node until it is restarted.
+/// A store that fails stops the node.
+fn is_stopped<R: Abort + AllocGlobal>(
+    rt: &R,
+    node: &mut Node<'_, FuseStore<MemStore>>,
+    line: &[u8],
+) -> Result<(), Fail> {
+    let event = Event::Client {
+        client: 7,
+        moment: 100,
+        line,
+    };
+    assert!(rt; fault_of(node, event) == Some(NodeFault::Store(StoreFault::Disk)));
+    assert!(rt; !node.is_running());
+    assert!(rt; fault_of(node, Event::Tick) == Some(NodeFault::Stopped));
+    assert!(rt; node.restart() == Err(NodeFault::Store(StoreFault::Disk)));
+    Ok(())
+}
+
+/// A node over the mended store takes the line.
+fn goes_on<R: Abort + AllocGlobal>(
+    rt: &R,
+    book: &Book,
+    key: &ClusterKey,
+    store: MemStore,
+    line: &[u8],
+) -> Result<(), Fail> {
+    let mut node = node_over(rt.alloc(), book, key, store, 1, 1)?;
+    compare_replies(rt, &mut node, &[(100, line, b"OK 1 0")])
+}
+
 #[test]
 fn stopped_by_its_store(rt: HostRuntime) -> Result<(), Fail> {
     let alloc = rt.alloc();
@@ -508,31 +616,26 @@ fn stopped_by_its_store(rt: HostRuntime) -> Result<(), Fail> {
     let store = FuseStore::new(memory(alloc, &floors)?, 1, false);
     let mut node = node_over(alloc, &book, &key, store, 1, 1)?;
     let line = b"CHECK 1 silver 755224 -".as_slice();
-    let event = Event::Client {
-        client: 7,
-        moment: 100,
-        line,
-    };
-    assert_eq!(rt;
-        node.handle(event, &mut Scratch::new()).err(),
-        Some(NodeFault::Store(StoreFault::Disk))
-    );
-    assert_eq!(rt; node.is_running(), false);
-    assert_eq!(rt;
-        node.handle(Event::Tick, &mut Scratch::new()).err(),
-        Some(NodeFault::Stopped)
-    );
-    assert_eq!(rt; node.restart(), Err(NodeFault::Store(StoreFault::Disk)));
-    let store = node.close().mend();
-    let mut node = node_over(alloc, &book, &key, store, 1, 1)?;
-    assert_eq!(rt;
-        reply_to(&mut node, 7, 100, line)?.as_slice(),
-        b"OK 1 0".as_slice()
-    );
-    Ok(())
+    is_stopped(&rt, &mut node, line)?;
+    goes_on(&rt, &book, &key, node.close().mend(), line)
 }
 
 /// The drift of a token moves its window, and a restart keeps it.
+fn follows_its_clock<R: Abort + AllocGlobal>(
+    rt: &R,
+    node: &mut Node<'_, MemStore>,
+) -> Result<(), Fail> {
+    let rows: [(u64, &[u8], &[u8]); 2] = [
+        (120, b"CHECK 1 silver 969429 -", b"OK 1 3"),
+        (180, b"CHECK 2 silver 338314 -", b"OK 2 4"),
+    ];
+    for row in rows {
+        compare_replies(rt, node, &[row])?;
+        node.restart()?;
+    }
+    Ok(())
+}
+
 #[test]
 fn drift_survives_restart(rt: HostRuntime) -> Result<(), Fail> {
     let users = b"HOTP/T30 silver - 3132333435363738393031323334353637383930";
@@ -541,18 +644,11 @@ fn drift_survives_restart(rt: HostRuntime) -> Result<(), Fail> {
     let floors = [Next::new(0).ok_or("a first free factor")?];
     let key = zeros()?;
     let mut node = opened_alone(rt.alloc(), &book, settings, &key, &floors)?;
-    let rows: [(u64, &[u8], &[u8]); 2] = [
-        (120, b"CHECK 1 silver 969429 -", b"OK 1 3"),
-        (180, b"CHECK 2 silver 338314 -", b"OK 2 4"),
-    ];
-    for (moment, line, want) in rows {
-        assert_eq!(rt; reply_to(&mut node, 7, moment, line)?.as_slice(), want);
-        node.restart()?;
-    }
+    follows_its_clock(&rt, &mut node)?;
     let store = node.close();
     if store.tokens() == 0 {
         return Err("no token".into());
     }
-    assert_eq!(rt; store.row(0)?.drift().steps(), -2);
+    assert!(rt; store.row(0)?.drift().steps() == -2);
     Ok(())
 }
