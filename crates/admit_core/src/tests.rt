@@ -51,13 +51,9 @@ fn windows(rt: HostRuntime) -> Result<(), Fail> {
     for (kind, next, moment, check, resync) in rows {
         let token = token(SECRET, kind, Password::NoneAllowed).ok_or("a token")?;
         let next = Next::new(next).ok_or("a first free factor")?;
-        assert_eq!(rt;
-            numbers(window(&token, next, Drift::default(), moment, &settings)),
-            check
-        );
-        assert_eq!(rt;
-            numbers(resync_window(&token, next, Drift::default(), moment, &settings)),
-            resync
+        assert!(rt; numbers(window(&token, next, Drift::default(), moment, &settings)) == check);
+        assert!(rt;
+            numbers(resync_window(&token, next, Drift::default(), moment, &settings)) == resync
         );
     }
     Ok(())
@@ -91,8 +87,10 @@ fn drifted_windows(rt: HostRuntime) -> Result<(), Fail> {
         }
         let check = window(&token, next, drift, moment, &settings);
         let resync = resync_window(&token, next, drift, moment, &settings);
-        assert_eq!(rt; numbers(check), want, "at {moment}");
-        assert_eq!(rt; numbers(resync), want, "at {moment}");
+        assert!(rt;
+            numbers(check) == want && numbers(resync) == want,
+            "at {moment}"
+        );
     }
     Ok(())
 }
@@ -147,7 +145,7 @@ fn slow_clock(rt: HostRuntime) -> Result<(), Fail> {
         let given = Code::new(given).ok_or("a code")?;
         let accepted = accept(&token, Kept { next, drift }, moment, &settings, &given);
         let seen = accepted.map(|found| (found.0.value(), found.1.drift.steps()));
-        assert_eq!(rt; seen, want, "at {moment}, drift {allowed}");
+        assert!(rt; seen == want, "at {moment}, drift {allowed}");
     }
     Ok(())
 }
@@ -168,7 +166,7 @@ fn kept_drifts(rt: HostRuntime) -> Result<(), Fail> {
         let settings = Settings::default().with_drift(allowed).ok_or("settings")?;
         let hi = Factor::new(hi).ok_or("a factor")?;
         let kept = drift_after(&token, hi, moment, &settings);
-        assert_eq!(rt; kept.steps(), want, "at {moment}");
+        assert!(rt; kept.steps() == want, "at {moment}");
     }
     Ok(())
 }
@@ -190,7 +188,7 @@ fn checks(rt: HostRuntime) -> Result<(), Fail> {
         let last = Factor::new(last).ok_or("a factor")?;
         let given = Code::new(given).ok_or("a code")?;
         let found = find_check(&token, (first, last), &given);
-        assert_eq!(rt; found.map(Factor::value), want);
+        assert!(rt; found.map(Factor::value) == want);
     }
     Ok(())
 }
@@ -216,7 +214,7 @@ fn resynchronization(rt: HostRuntime) -> Result<(), Fail> {
         let given = Code::new(given).ok_or("a code")?;
         let given_next = Code::new(given_next).ok_or("a code")?;
         let found = find_resync(&token, (first, last), &given, &given_next);
-        assert_eq!(rt; found.map(Factor::value), want);
+        assert!(rt; found.map(Factor::value) == want);
     }
     Ok(())
 }
@@ -230,13 +228,13 @@ fn passwords(rt: HostRuntime) -> Result<(), Fail> {
     let none = token(SECRET, Kind::Event, Password::NoneAllowed).ok_or("a token")?;
     let any = token(SECRET, Kind::Event, Password::NotChecked).ok_or("a token")?;
     let one = token(SECRET, Kind::Event, Password::Equal(equal)).ok_or("a token")?;
-    assert_eq!(rt; password_fits(&none, None), true);
-    assert_eq!(rt; password_fits(&none, Some(right)), false);
-    assert_eq!(rt; password_fits(&any, None), true);
-    assert_eq!(rt; password_fits(&any, Some(wrong)), true);
-    assert_eq!(rt; password_fits(&one, None), false);
-    assert_eq!(rt; password_fits(&one, Some(right)), true);
-    assert_eq!(rt; password_fits(&one, Some(wrong)), false);
+    assert!(rt; password_fits(&none, None));
+    assert!(rt; !password_fits(&none, Some(right)));
+    assert!(rt; password_fits(&any, None));
+    assert!(rt; password_fits(&any, Some(wrong)));
+    assert!(rt; !password_fits(&one, None));
+    assert!(rt; password_fits(&one, Some(right)));
+    assert!(rt; !password_fits(&one, Some(wrong)));
     Ok(())
 }
 
@@ -262,8 +260,10 @@ fn throttle(rt: HostRuntime) {
     ];
     let mut gate = Gate::default();
     for (moment, line, wait) in lines {
-        assert_eq!(rt; gate.wait(moment), wait, "at {moment}");
-        assert_eq!(rt; gate.is_open(moment), wait == 0, "at {moment}");
+        assert!(rt;
+            gate.wait(moment) == wait && gate.is_open(moment) == (wait == 0),
+            "at {moment}"
+        );
         if gate.is_open(moment) {
             match line {
                 Line::Bad => gate.fail(moment),
@@ -271,7 +271,7 @@ fn throttle(rt: HostRuntime) {
             }
         }
     }
-    assert_eq!(rt; gate, Gate::default());
+    assert!(rt; gate == Gate::default());
 }
 
 /// Failures as fast as the gate lets them: so many, and then no more count. Then the ends of its ranges.
@@ -283,14 +283,11 @@ fn ten_thousand_failures(rt: HostRuntime) -> Result<(), Fail> {
         gate.fail(moment);
     }
     // the last failure came 5 * 10,000 * 9,999 / 2 seconds after the first
-    assert_eq!(rt;
-        (gate.fails(), gate.until()),
-        (10_000, 249_975_000 + 50_000)
-    );
+    assert!(rt; (gate.fails(), gate.until()) == (10_000, 249_975_000 + 50_000));
     gate.fail((1 << 40) - 1);
-    assert_eq!(rt; (gate.fails(), gate.until()), (10_000, (1 << 40) + 49_999));
-    assert_eq!(rt; Gate::new(10_000, (1 << 40) + 50_000).is_some(), true);
-    assert_eq!(rt; Gate::new(10_001, 0), None);
-    assert_eq!(rt; Gate::new(0, (1 << 40) + 50_001), None);
+    assert!(rt; (gate.fails(), gate.until()) == (10_000, (1 << 40) + 49_999));
+    assert!(rt; Gate::new(10_000, (1 << 40) + 50_000).is_some());
+    assert!(rt; Gate::new(10_001, 0).is_none());
+    assert!(rt; Gate::new(0, (1 << 40) + 50_001).is_none());
     Ok(())
 }

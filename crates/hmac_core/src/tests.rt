@@ -94,13 +94,17 @@ fn macs_of_the_standards(rt: HostRuntime) -> Result<(), Fail> {
     for (hash, key, msg, want) in CASES {
         let mac = hmac(hash, key, msg);
         let text = text(rt.alloc(), &mac)?;
-        assert_eq!(rt; text.as_str(), want, "{hash:?}, key of {} bytes", key.len());
-        assert_eq!(rt; Mac::new(mac.as_slice()), Some(mac));
+        assert!(rt;
+            text.as_str() == want,
+            "{hash:?}, key of {} bytes",
+            key.len()
+        );
+        assert!(rt; Mac::new(mac.as_slice()) == Some(mac));
 
         // one key for two messages
         let keyed = Keyed::new(hash, key);
-        assert_eq!(rt; keyed.mac(b"") == mac, false);
-        assert_eq!(rt; keyed.mac(msg), mac);
+        assert!(rt; keyed.mac(b"") != mac);
+        assert!(rt; keyed.mac(msg) == mac);
     }
     Ok(())
 }

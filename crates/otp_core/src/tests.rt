@@ -16,8 +16,8 @@ fn hotp_table(rt: HostRuntime) -> Result<(), Fail> {
     for (counter, want) in (0..10).zip(codes) {
         let factor = Factor::new(counter).ok_or("a factor")?;
         let code = code(Hash::Sha1, &SECRET[..20], factor, Digits::Six);
-        assert_eq!(rt; keyed.at(factor), code, "at counter {counter}");
-        assert_eq!(rt; Some(code), Code::new(want), "at counter {counter}");
+        assert!(rt; keyed.at(factor) == code, "at counter {counter}");
+        assert!(rt; Some(code) == Code::new(want), "at counter {counter}");
     }
     Ok(())
 }
@@ -42,10 +42,10 @@ fn totp_table(rt: HostRuntime) -> Result<(), Fail> {
         ];
         for (hash, len, want) in hashes {
             let code = code(hash, &SECRET[..len], factor, Digits::Eight);
-            assert_eq!(rt; Some(code), Code::new(want), "{hash:?} at {moment}");
+            assert!(rt; Some(code) == Code::new(want), "{hash:?} at {moment}");
         }
     }
-    assert_eq!(rt; step(59, 60, 30), None);
+    assert!(rt; step(59, 60, 30).is_none());
     Ok(())
 }
 
@@ -57,34 +57,28 @@ fn truncation(rt: HostRuntime) -> Result<(), Fail> {
         0x8e, 0x94, 0x5b, 0x55, 0x5a,
     ];
     let mac = Mac::new(&digest).ok_or("20 bytes")?;
-    assert_eq!(rt; truncate(&mac), 1357872921);
+    assert!(rt; truncate(&mac) == 1357872921);
     let six = Code::of_number(truncate(&mac), Digits::Six);
-    assert_eq!(rt; six.as_slice(), b"872921".as_slice());
+    assert!(rt; six.as_slice() == b"872921".as_slice());
     Ok(())
 }
 
 /// Each type's `new` at the ends of its range.
 #[test]
 fn ranges(rt: HostRuntime) {
-    assert_eq!(rt; Digits::new(6), Some(Digits::Six));
-    assert_eq!(rt; Digits::new(9), None);
-    assert_eq!(rt;
-        Factor::new((1 << 62) - 1).map(Factor::value),
-        Some((1 << 62) - 1)
-    );
-    assert_eq!(rt; Factor::new(1 << 62), None);
-    assert_eq!(rt; Next::new(1 << 62).map(Next::value), Some(1 << 62));
-    assert_eq!(rt; Next::new((1 << 62) + 1), None);
-    assert_eq!(rt; Secret::new(&[7; 128]).is_some(), true);
-    assert_eq!(rt; Secret::new(&[7; 129]), None);
+    assert!(rt; Digits::new(6) == Some(Digits::Six));
+    assert!(rt; Digits::new(9).is_none());
+    assert!(rt; Factor::new((1 << 62) - 1).map(Factor::value) == Some((1 << 62) - 1));
+    assert!(rt; Factor::new(1 << 62).is_none());
+    assert!(rt; Next::new(1 << 62).map(Next::value) == Some(1 << 62));
+    assert!(rt; Next::new((1 << 62) + 1).is_none());
+    assert!(rt; Secret::new(&[7; 128]).is_some());
+    assert!(rt; Secret::new(&[7; 129]).is_none());
     let settings = Settings::default();
-    assert_eq!(rt; Settings::new(10, 1, 100), Some(settings));
-    assert_eq!(rt;
-        (settings.look_ahead(), settings.skew(), settings.range()),
-        (10, 1, 100)
-    );
-    assert_eq!(rt; settings.drift(), 0);
-    assert_eq!(rt; Settings::new(10, 11, 100), None);
+    assert!(rt; Settings::new(10, 1, 100) == Some(settings));
+    assert!(rt; (settings.look_ahead(), settings.skew(), settings.range()) == (10, 1, 100));
+    assert!(rt; settings.drift() == 0);
+    assert!(rt; Settings::new(10, 11, 100).is_none());
 }
 
 /// Drifts at the ends of their range, and brought into that of the settings.
@@ -92,17 +86,17 @@ fn ranges(rt: HostRuntime) {
 fn drifts(rt: HostRuntime) -> Result<(), Fail> {
     let none = Settings::default();
     let three = none.with_drift(3).ok_or("settings")?;
-    assert_eq!(rt; none.with_drift(10).map(Settings::drift), Some(10));
-    assert_eq!(rt; none.with_drift(11), None);
-    assert_eq!(rt; three.with_drift(0), Some(none));
-    assert_eq!(rt; Drift::new(-10).map(Drift::steps), Some(-10));
-    assert_eq!(rt; Drift::new(10).map(Drift::steps), Some(10));
-    assert_eq!(rt; Drift::new(-11), None);
-    assert_eq!(rt; Drift::new(11), None);
-    assert_eq!(rt; Drift::default().steps(), 0);
+    assert!(rt; none.with_drift(10).map(Settings::drift) == Some(10));
+    assert!(rt; none.with_drift(11).is_none());
+    assert!(rt; three.with_drift(0) == Some(none));
+    assert!(rt; Drift::new(-10).map(Drift::steps) == Some(-10));
+    assert!(rt; Drift::new(10).map(Drift::steps) == Some(10));
+    assert!(rt; Drift::new(-11).is_none());
+    assert!(rt; Drift::new(11).is_none());
+    assert!(rt; Drift::default().steps() == 0);
     for (steps, want) in [(-4, -3), (-3, -3), (2, 2), (1 << 62, 3)] {
-        assert_eq!(rt; Drift::allowed(steps, three).steps(), want, "{steps}");
-        assert_eq!(rt; Drift::allowed(steps, none), Drift::default(), "{steps}");
+        assert!(rt; Drift::allowed(steps, three).steps() == want, "{steps}");
+        assert!(rt; Drift::allowed(steps, none) == Drift::default(), "{steps}");
     }
     Ok(())
 }

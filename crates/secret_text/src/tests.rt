@@ -27,12 +27,9 @@ fn base32_texts(rt: HostRuntime) -> Result<(), Fail> {
     ];
     for (bytes, text) in rows {
         let secret = Secret::new(bytes).ok_or("a secret")?;
-        assert_eq!(rt; write_base32(&secret).as_slice(), text);
-        assert_eq!(rt;
-            read_base32(text),
-            Ok(Secret::new(bytes).ok_or("a secret")?)
-        );
-        assert_eq!(rt; written_and_read(&secret), Ok(secret));
+        assert!(rt; write_base32(&secret).as_slice() == text);
+        assert!(rt; read_base32(text) == Ok(Secret::new(bytes).ok_or("a secret")?));
+        assert!(rt; written_and_read(&secret) == Ok(secret));
     }
     Ok(())
 }
@@ -53,15 +50,12 @@ fn lenient_base32(rt: HostRuntime) -> Result<(), Fail> {
         (&[b'7'; 205], &[255; 128]),
     ];
     for (text, bytes) in rows {
-        assert_eq!(rt;
-            read_base32(text),
-            Ok(Secret::new(bytes).ok_or("a secret")?)
-        );
+        assert!(rt; read_base32(text) == Ok(Secret::new(bytes).ok_or("a secret")?));
     }
     let longest = Secret::new(&[0; 128]).ok_or("a secret")?;
     let mut text = [b'A'; 208];
     text[205..].fill(b'=');
-    assert_eq!(rt; write_base32(&longest).as_slice(), text.as_slice());
+    assert!(rt; write_base32(&longest).as_slice() == text.as_slice());
     Ok(())
 }
 
@@ -90,7 +84,7 @@ fn refused_base32(rt: HostRuntime) -> Result<(), Fail> {
         (&[b'A'; 206], SecretFault::BadLength),
     ];
     for (text, fault) in rows {
-        assert_eq!(rt; read_base32(text), Err(fault));
+        assert!(rt; read_base32(text) == Err(fault));
     }
     Ok(())
 }
@@ -108,7 +102,7 @@ fn hexadecimal_texts(rt: HostRuntime) -> Result<(), Fail> {
         (&[b'f'; 256], &[255; 128]),
     ];
     for (text, bytes) in rows {
-        assert_eq!(rt; read_hex(text), Ok(Secret::new(bytes).ok_or("a secret")?));
+        assert!(rt; read_hex(text) == Ok(Secret::new(bytes).ok_or("a secret")?));
     }
     let rows: [(&[u8], SecretFault); 8] = [
         (b"", SecretFault::Empty),
@@ -121,7 +115,7 @@ fn hexadecimal_texts(rt: HostRuntime) -> Result<(), Fail> {
         (&[b'x'; 258], SecretFault::TooLong),
     ];
     for (text, fault) in rows {
-        assert_eq!(rt; read_hex(text), Err(fault));
+        assert!(rt; read_hex(text) == Err(fault));
     }
     Ok(())
 }
