@@ -74,15 +74,19 @@ fn flag<'a>(alloc: Global, name: &'a str, help: &'a str) -> Arg<'a> {
         .help(help)
 }
 
-/// Adds the options that say which kind of code.
-fn with_modes<'a>(alloc: Global, command: Command<'a>) -> Result<Command<'a>, AllocError> {
-    let hotp = flag(
+/// The option of codes based on a counter.
+fn hotp_arg<'a>(alloc: Global) -> Result<Arg<'a>, AllocError> {
+    flag(
         alloc,
         "hotp",
         "Codes based on a counter (HOTP, RFC 4226), with SHA-1. This is the\ndefault",
     )
-    .conflicts_with("totp")?;
-    let totp = Arg::new(alloc, "totp")
+    .conflicts_with("totp")
+}
+
+/// The option of codes based on time, which may name their hash.
+fn totp_arg<'a>(alloc: Global) -> Arg<'a> {
+    Arg::new(alloc, "totp")
         .long("totp")
         .value_name("MODE")
         .action(ArgAction::Set)
@@ -93,64 +97,99 @@ fn with_modes<'a>(alloc: Global, command: Command<'a>) -> Result<Command<'a>, Al
         .ignore_case(true)
         .help(
             "Codes based on time (TOTP, RFC 6238), with this hash, in any case.\nSHA1 where none is named",
-        );
-    command.arg(hotp)?.arg(totp)
+        )
+}
+
+/// Adds the options that say which kind of code.
+fn with_modes<'a>(alloc: Global, command: Command<'a>) -> Result<Command<'a>, AllocError> {
+    command.arg(hotp_arg(alloc)?)?.arg(totp_arg(alloc))
+}
+
+/// The option that says how many digits a code has.
+fn digits_arg<'a>(alloc: Global) -> Arg<'a> {
+    text(alloc, "digits", 'd', "DIGITS", "How many digits a code has")
+        .value_parser(DIGIT_COUNTS.as_slice())
+        .default_value("6")
 }
 
 /// Adds the options that take a number.
 fn with_numbers<'a>(alloc: Global, command: Command<'a>) -> Result<Command<'a>, AllocError> {
-    let digits = text(alloc, "digits", 'd', "DIGITS", "How many digits a code has")
-        .value_parser(DIGIT_COUNTS.as_slice())
-        .default_value("6");
     command
         .arg(COUNTER.arg(alloc))?
-        .arg(digits)?
+        .arg(digits_arg(alloc))?
         .arg(WINDOW.arg(alloc))
 }
 
-/// Adds the options of time-based codes.
-fn with_times<'a>(alloc: Global, command: Command<'a>) -> Result<Command<'a>, AllocError> {
-    let step_size = text(
+/// The option that says how long a time step is.
+fn step_size_arg<'a>(alloc: Global) -> Arg<'a> {
+    text(
         alloc,
         "time-step-size",
         's',
         "SECONDS",
         "How long a time step is, 1 to 1000000 seconds, with or without a\nfinal s (TOTP)",
     )
-    .default_value("30s");
-    let start = text(
+    .default_value("30s")
+}
+
+/// The option that says from when on time steps are counted.
+fn start_arg<'a>(alloc: Global) -> Arg<'a> {
+    text(
         alloc,
         "start-time",
         'S',
         "TIME",
         "The time from which time steps are counted, @SECONDS or\n'YYYY-MM-DD hh:mm:ss UTC' (TOTP)",
     )
-    .default_value("1970-01-01 00:00:00 UTC");
-    let now = text(
+    .default_value("1970-01-01 00:00:00 UTC")
+}
+
+/// The option that says of which time the codes are.
+fn now_arg<'a>(alloc: Global) -> Arg<'a> {
+    text(
         alloc,
         "now",
         'N',
         "TIME",
         "The time of the codes, in the same two forms (TOTP)\n[default: the clock]",
-    );
-    command.arg(step_size)?.arg(start)?.arg(now)
+    )
 }
 
-/// The whole command line.
-fn command<'a>(alloc: Global) -> Result<Command<'a>, AllocError> {
-    let base32 = flag(
+/// Adds the options of time-based codes.
+fn with_times<'a>(alloc: Global, command: Command<'a>) -> Result<Command<'a>, AllocError> {
+    command
+        .arg(step_size_arg(alloc))?
+        .arg(start_arg(alloc))?
+        .arg(now_arg(alloc))
+}
+
+/// The option that says in which text the key is.
+fn base32_arg<'a>(alloc: Global) -> Arg<'a> {
+    flag(
         alloc,
         "base32",
         "KEY is in base32, in any case, with or without spaces and a final\npadding, and not in hexadecimal",
     )
-    .short('b');
-    let key = Arg::new(alloc, "KEY")
+    .short('b')
+}
+
+/// The value that is the key.
+fn key_arg<'a>(alloc: Global) -> Arg<'a> {
+    Arg::new(alloc, "KEY")
         .required(true)
         .action(ArgAction::Set)
-        .help("The secret, 1 to 128 bytes in hexadecimal, or in base32 with -b");
-    let otp = Arg::new(alloc, "OTP").action(ArgAction::Set).help(
+        .help("The secret, 1 to 128 bytes in hexadecimal, or in base32 with -b")
+}
+
+/// The value that is a code, which may be left out.
+fn otp_arg<'a>(alloc: Global) -> Arg<'a> {
+    Arg::new(alloc, "OTP").action(ArgAction::Set).help(
         "A code to look for. Its offset is printed: from the counter on, or the\nnearest to the time step, -w to w",
-    );
+    )
+}
+
+/// The whole command line.
+fn command<'a>(alloc: Global) -> Result<Command<'a>, AllocError> {
     let command = Command::new(alloc, "oathtool")
         .version(VERSION)
         .about(
@@ -159,9 +198,10 @@ fn command<'a>(alloc: Global) -> Result<Command<'a>, AllocError> {
         )
         .next_line_help(true)
         .after_help(PROGRAM_HELP);
-    let command = with_modes(alloc, command)?.arg(base32)?;
-    let command = with_times(alloc, with_numbers(alloc, command)?)?;
-    command.arg(key)?.arg(otp)
+    let command = with_modes(alloc, command)?.arg(base32_arg(alloc))?;
+    let command = with_numbers(alloc, command)?;
+    let command = with_times(alloc, command)?;
+    command.arg(key_arg(alloc))?.arg(otp_arg(alloc))
 }
 
 /// The hash with this name, in any case.
