@@ -25,7 +25,6 @@ mod Opening
 mod Played
 mod Floors
 mod Reporting
-mod CopyLemmas
 mod Sound
 mod Waves
 mod Sweeps

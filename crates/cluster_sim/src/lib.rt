@@ -35,8 +35,6 @@ mod rounds;
 mod run;
 mod script;
 mod simulation;
-#[cfg(test)]
-mod tests;
 
 pub use fault::SimFault;
 pub use laws::{

@@ -39,23 +39,17 @@
 mod client_line;
 mod event;
 mod fault;
-#[cfg(test)]
-mod fuse_tests;
 mod handling;
 mod item;
 mod items;
 mod laws;
 mod node;
-#[cfg(test)]
-mod node_tests;
 mod outputs;
 mod owner;
 mod parts;
 mod rules;
 mod server;
 mod settling;
-#[cfg(test)]
-mod tests;
 
 pub use client_line::ClientLine;
 pub use event::Event;

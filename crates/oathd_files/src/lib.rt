@@ -7,8 +7,6 @@ mod database;
 mod files;
 mod serving;
 mod setup;
-#[cfg(test)]
-mod tests;
 
 pub use commands::{audit_store, export_store, init_store, migrate_store};
 pub use files::{audit_file, export_file, init_file, migrate_file, serve_file};

@@ -7,11 +7,7 @@ mod fault;
 mod passes;
 mod rows;
 mod serving;
-#[cfg(test)]
-mod tests;
 mod users;
-#[cfg(test)]
-mod vote_tests;
 
 pub use commands::{init, migrate, open};
 pub use database::Database;

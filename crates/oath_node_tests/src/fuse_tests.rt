@@ -3,9 +3,9 @@
 use crate::node_tests::{
     SILVER, book_of, datagram_to, memory, node_over, opened, sent_to, settings, zeros,
 };
-use crate::{Event, Item, Node, NodeFault, OpenFault, Scratch};
 use arrayvec::ArrayVec;
 use floor_store::{FloorStore, FuseStore, MemStore, StoreFault};
+use oath_node::{Event, Item, Node, NodeFault, OpenFault, Scratch};
 use otp_core::Next;
 use std::alloc::Global;
 use std::process::Abort;
@@ -109,8 +109,19 @@ fn reply_for(node: &mut Node<'_, MemStore>, client: u64, bytes: &[u8]) -> Result
     Ok(text)
 }
 
-/// The Ask for node 3 with which a fresh node of three puts the line of a client to the vote, and what it replies to
-/// that client for a vote of node 3.
+/// The Ask for node 3 with which a node puts the line of a client to the vote, and what it replies to that client for a
+/// vote of node 3.
+fn asked_and_told(
+    node: &mut Node<'_, MemStore>,
+    client: u64,
+    line: &[u8],
+    vote: &[u8],
+) -> Result<(Sent, Sent), Fail> {
+    let ask = asked(node, client, line)?;
+    Ok((ask, reply_for(node, client, vote)?))
+}
+
+/// The same of a fresh node of three.
 fn asks_and_is_told(
     alloc: Global,
     me: u8,
@@ -121,12 +132,29 @@ fn asks_and_is_told(
     let (book, floors) = book_of(alloc, SILVER)?;
     let key = zeros()?;
     let mut node = opened(alloc, &book, &key, &floors, me, 3)?;
-    let ask = asked(&mut node, client, line)?;
-    Ok((ask, reply_for(&mut node, client, vote)?))
+    asked_and_told(&mut node, client, line, vote)
 }
 
-/// What node 3 sends back for an Ask of node 1, twice, and for another one of node 2, where its write behind so many
-/// fails; whether one failed, and its boot at the end.
+/// What node 3 sends back for an Ask of node 1, twice, and for another one of node 2; whether a write failed, and its
+/// boot at the end.
+fn votes_of_third<'b>(
+    alloc: Global,
+    book: &'b Book,
+    key: &'b ClusterKey,
+    node: Fused<'b>,
+    ask: &[u8],
+    other: &[u8],
+) -> Result<(Sent, Sent, bool, u64), Fail> {
+    let (node, grant, at_ask) = heard(alloc, book, key, node, 1, ask)?;
+    let (node, again, later) = heard(alloc, book, key, node, 1, ask)?;
+    if again != grant {
+        return Err("another Grant".into());
+    }
+    let (node, deny, last) = heard(alloc, book, key, node, 2, other)?;
+    Ok((grant, deny, at_ask || later || last, node.close().boot()?))
+}
+
+/// The same, where its write behind so many fails, which may be that of its opening.
 fn votes_of(
     alloc: Global,
     writes: u64,
@@ -137,14 +165,8 @@ fn votes_of(
     let (book, floors) = book_of(alloc, SILVER)?;
     let key = zeros()?;
     let (node, at_open) = opened_third(alloc, &book, &key, &floors, writes, after)?;
-    let (node, grant, at_ask) = heard(alloc, &book, &key, node, 1, ask)?;
-    let (node, again, later) = heard(alloc, &book, &key, node, 1, ask)?;
-    if again != grant {
-        return Err("another Grant".into());
-    }
-    let (node, deny, last) = heard(alloc, &book, &key, node, 2, other)?;
-    let failed = at_open || at_ask || later || last;
-    Ok((grant, deny, failed, node.close().boot()?))
+    let (grant, deny, failed, boot) = votes_of_third(alloc, &book, &key, node, ask, other)?;
+    Ok((grant, deny, at_open || failed, boot))
 }
 
 /// Two clients send one code to nodes 1 and 2 of three, and node 3 grants it to node 1 alone, whichever of its writes

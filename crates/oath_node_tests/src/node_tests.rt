@@ -1,8 +1,8 @@
 //! A node by its calls, from the bytes of datagrams to the bytes of datagrams.
 
-use crate::{Event, Item, Node, NodeFault, Outputs, Scratch};
 use arrayvec::ArrayVec;
 use floor_store::{FloorStore, FuseStore, MemStore, StoreFault};
+use oath_node::{Event, Item, Node, NodeFault, Outputs, Scratch};
 use otp_core::{Next, Settings};
 use std::alloc::Global;
 use std::process::Abort;

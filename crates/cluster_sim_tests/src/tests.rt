@@ -3,7 +3,7 @@
 ghost use Rattle.std.specs.Prelude.{◌≡◌, ℕ, IfOk, Some, length, slice_get};
 ghost use Rattle.std.specs.Global.{Vec};
 
-use super::*;
+use cluster_sim::*;
 use otp_core::{Next, Settings};
 use std::alloc::Global;
 use std::process::Abort;

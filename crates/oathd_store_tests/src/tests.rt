@@ -1,9 +1,9 @@
 //! The commands over a database in memory: a store is made, exported, served, audited and exported again.
 
-use super::*;
 use floor_sql::SqlStore;
 use floor_store::StoreFault;
 use node_turns::{Coming, ListClock, ListPort, PortEntry, Sender, Served};
+use oathd_store::*;
 use otp_core::Settings;
 use sqlite::{Connection, MemStore};
 use std::alloc::{AllocError, Global};

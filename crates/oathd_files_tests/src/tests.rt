@@ -1,8 +1,8 @@
 //! The commands over a database in memory.
 
-use super::*;
 use floor_store::StoreFault;
 use node_turns::Served;
+use oathd_files::*;
 use oathd_store::{Database, Fault};
 use otp_core::Settings;
 use sqlite::{Connection, MemStore};

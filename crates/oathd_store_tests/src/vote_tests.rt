@@ -1,11 +1,11 @@
 //! A node of three over a database in memory that stops in the midst of a vote.
 
 use crate::tests::{InMemory, SILVER};
-use crate::{Users, init, open, open_node, read_users};
 use arrayvec::ArrayVec;
 use floor_sql::SqlStore;
 use floor_store::Proposal;
 use oath_node::{Event, Item, Node, Scratch};
+use oathd_store::{Users, init, open, open_node, read_users};
 use otp_core::{Factor, Next, Settings};
 use sqlite::{Connection, MemStore};
 use std::alloc::Global;
@@ -87,23 +87,38 @@ fn datagrams(key: &ClusterKey, node: u8) -> Result<(Sent, Sent, Sent), Fail> {
     Ok((ask, grant, deny))
 }
 
+/// Whether it sends these bytes back to the member from which those come.
+fn answers(
+    node: &mut Node<'_, SqlStore<MemStore>>,
+    from: u8,
+    bytes: &[u8],
+    want: &[u8],
+) -> Result<bool, Fail> {
+    Ok(answered(node, from, bytes)?.as_slice() == want)
+}
+
 /// Nodes 1 and 2 ask for one factor, and node 3 stops when it has heard node 1, once its Grant is committed or before.
-/// It grants the factor to node 1 alone, by that very Grant.
+/// Says whether it grants the factor to node 1 alone, by that very Grant.
+fn grants_once(
+    node: &mut Node<'_, SqlStore<MemStore>>,
+    key: &ClusterKey,
+    kept: bool,
+) -> Result<bool, Fail> {
+    let (ask, grant, _) = datagrams(key, 1)?;
+    let (other, _, deny) = datagrams(key, 2)?;
+    if kept && !answers(node, 1, &ask, &grant)? {
+        return Ok(false);
+    }
+    node.restart()?;
+    Ok(answers(node, 1, &ask, &grant)? && answers(node, 2, &other, &deny)?)
+}
+
+/// The same of node 3 of three, over a new database.
 fn vote<R: Abort + AllocGlobal>(rt: &R, kept: bool) -> Result<(), Fail> {
     let users = read_users(rt.alloc(), SILVER, Settings::default(), 0)?;
     let key = ClusterKey::new(&[0; 32]).ok_or("a key")?;
     let mut node = opened(rt.alloc(), &users, &key)?;
-    let (ask, grant, _) = datagrams(&key, 1)?;
-    let (other, _, deny) = datagrams(&key, 2)?;
-    if kept {
-        let lost = answered(&mut node, 1, &ask)?;
-        assert!(rt; lost == grant);
-    }
-    node.restart()?;
-    let sent = answered(&mut node, 1, &ask)?;
-    assert!(rt; sent == grant);
-    let sent = answered(&mut node, 2, &other)?;
-    assert!(rt; sent == deny);
+    assert!(rt; grants_once(&mut node, &key, kept)?);
     Ok(())
 }
 

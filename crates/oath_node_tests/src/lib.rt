@@ -1,0 +1,10 @@
+//! The tests of `oath_node`: nodes, by its public calls alone. They stand apart, since a crate is proved anew with its
+//! tests.
+#![tactic(auto)]
+
+#[cfg(test)]
+mod fuse_tests;
+#[cfg(test)]
+mod node_tests;
+#[cfg(test)]
+mod tests;

@@ -1,0 +1,6 @@
+//! The tests of `vote_core`: votes, by its public calls alone. They stand apart, since a crate is proved anew with its
+//! tests.
+#![tactic(auto)]
+
+#[cfg(test)]
+mod tests;
