@@ -1,4 +1,1 @@
 pub mod FlushLemmas
-mod MembersLemmas
-mod ServeLemmas
-mod WordsLemmas

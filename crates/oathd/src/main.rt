@@ -3,13 +3,10 @@
 
 mod fault;
 mod key;
-mod members;
 mod serve;
 mod store;
-mod store_words;
 #[cfg(test)]
 mod tests;
-mod words;
 
 use command_line::process_words;
 use serve::serve;

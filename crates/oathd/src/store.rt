@@ -2,13 +2,13 @@
 
 ghost use Rattle.std.specs.Prelude.{IfOk};
 ghost use Rattle.otp_core.specs.Range.{IsMoment};
-ghost use Rattle.oathd.specs.StoreWords.{IsActionInRange};
+ghost use Rattle.oathd_words.specs.StoreWords.{IsActionInRange};
 
 use crate::fault::Fault;
 use crate::key::read_key;
-use crate::store_words::Action;
 use node_turns::Clock;
 use oathd_files::{Serving, audit_file, export_file, init_file, migrate_file, serve_file};
+use oathd_words::Action;
 use otp_core::MOMENTS_END;
 use std::alloc::Global;
 use std::fs;

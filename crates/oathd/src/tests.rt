@@ -1,10 +1,8 @@
 use crate::key::key_of;
-use crate::members::read_members;
 use crate::serve::serve;
-use crate::store_words::Action;
-use crate::words::{Task, command, read_words};
 use command_line::OutsideFault;
 use oathd_core::Request;
+use oathd_words::{Action, Task, command, read_members, read_words};
 use otp_core::Settings;
 use secret_text::SecretFault;
 use std::alloc::{AllocError, Global};

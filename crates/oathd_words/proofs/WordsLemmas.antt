@@ -5,12 +5,12 @@ use Rattle.clap.specs.Matches.{first_value}
 use Rattle.clap.specs.declared.parser.matches.Found.{Found}
 use Rattle.otp_core.specs.Limits.{Limits}
 use Rattle.oathd_core.specs.declared.request.Request.TheVariants.{Lines, Secret}
-use Rattle.oathd.specs.StoreWords.{AsksForAction, AsksForStore}
-use Rattle.oathd.specs.Words.{AsksFor, AsksForNothing, AsksForNodes, GivesNumbers}
-use Rattle.oathd.specs.declared.store_words.Action.{Action}
-use Rattle.oathd.specs.declared.store_words.Action.TheVariants.{Init, Serve, Export, Audit, Migrate}
-use Rattle.oathd.specs.declared.words.Task.{Task}
-use Rattle.oathd.specs.declared.words.Task.TheVariants.{Run, Sim, Cluster, Store}
+use Rattle.oathd_words.specs.StoreWords.{AsksForAction, AsksForStore}
+use Rattle.oathd_words.specs.Words.{AsksFor, AsksForNothing, AsksForNodes, GivesNumbers}
+use Rattle.oathd_words.specs.declared.store_words.Action.{Action}
+use Rattle.oathd_words.specs.declared.store_words.Action.TheVariants.{Init, Serve, Export, Audit, Migrate}
+use Rattle.oathd_words.specs.declared.words.Task.{Task}
+use Rattle.oathd_words.specs.declared.words.Task.TheVariants.{Run, Sim, Cluster, Store}
 
 -- a number that tells the names of the commands apart
 abbrev mark : List ℕ → ℕ

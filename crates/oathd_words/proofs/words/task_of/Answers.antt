@@ -1,5 +1,5 @@
-use Rattle.oathd.proofs.WordsLemmas.{none_then, not_for_cluster, not_for_lines, not_for_secret, not_for_sim}
-use Rattle.oathd.proofs.words.task_of.Goals as goal
+use Rattle.oathd_words.proofs.WordsLemmas.{none_then, not_for_cluster, not_for_lines, not_for_secret, not_for_sim}
+use Rattle.oathd_words.proofs.words.task_of.Goals as goal
 
 pub returns-in-lines-clause-none : goal.returns-in-lines-clause-none
 returns-in-lines-clause-none c =

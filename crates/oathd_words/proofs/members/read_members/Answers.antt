@@ -1,8 +1,8 @@
 use Rattle.std.proofs.Common.{sym, ap, ◌∙◌}
-use Rattle.oathd.specs.Members.{are_different, parts_of}
-use Rattle.oathd.proofs.MembersLemmas.{none_at, says_unique, some_at}
-use Rattle.oathd.proofs.members.read_members.Goals as goal
-use Rattle.oathd.proofs.members.read_members.Goals.{in_default-via-in-Some+else-are_different, in_default-via-in_default}
+use Rattle.oathd_words.specs.Members.{are_different, parts_of}
+use Rattle.oathd_words.proofs.MembersLemmas.{none_at, says_unique, some_at}
+use Rattle.oathd_words.proofs.members.read_members.Goals as goal
+use Rattle.oathd_words.proofs.members.read_members.Goals.{in_default-via-in-Some+else-are_different, in_default-via-in_default}
 
 pub returns-in_default-clause-none : goal.returns-in_default-clause-none
 returns-in_default-clause-none c members are =

@@ -8,10 +8,10 @@ use Rattle.otp_core.specs.Limits.{Limits}
 use Rattle.otp_core.specs.Range.{IsMoment}
 use Rattle.oathd_core.specs.Request.{HasMoment}
 use Rattle.oathd_core.specs.declared.request.Request.TheVariants.{Lines, Secret}
-use Rattle.oathd.specs.Given.{GivesLimits, GivesMember}
-use Rattle.oathd.specs.StoreWords.{AsksForStore, IsActionInRange}
-use Rattle.oathd.specs.declared.words.Task.{Task}
-use Rattle.oathd.specs.declared.words.Task.TheVariants.{Run, Sim, Cluster, Store}
+use Rattle.oathd_words.specs.Given.{GivesLimits, GivesMember}
+use Rattle.oathd_words.specs.StoreWords.{AsksForStore, IsActionInRange}
+use Rattle.oathd_words.specs.declared.words.Task.{Task}
+use Rattle.oathd_words.specs.declared.words.Task.TheVariants.{Run, Sim, Cluster, Store}
 
 -- these numbers are given, and in their ranges
 pub record GivesNumbers (found : Found) (limits : Limits) (moment : ℕ) : Type 0 where

@@ -2,10 +2,10 @@ ghost use Rattle.std.specs.Prelude.{◌≡◌, ◌≤◌, ℕ, List, Option, Som
 ghost use Rattle.clap.specs.Matches.{first_value, found_of};
 ghost use Rattle.command_line.specs.Number.{number_at};
 ghost use Rattle.otp_core.specs.Limits.{Limits};
-ghost use Rattle.oathd.specs.StoreWords.{AsksForStore};
-ghost use Rattle.oathd.specs.Given.{GivesLimits, GivesMember};
-ghost use Rattle.oathd.specs.Words.{AsksFor, AsksForNothing, AsksForNodes, GivesNumbers, IsInRange};
-ghost use Rattle.oathd.specs.declared.store_words.Action.{Action as AnyAction};
+ghost use Rattle.oathd_words.specs.StoreWords.{AsksForStore};
+ghost use Rattle.oathd_words.specs.Given.{GivesLimits, GivesMember};
+ghost use Rattle.oathd_words.specs.Words.{AsksFor, AsksForNothing, AsksForNodes, GivesNumbers, IsInRange};
+ghost use Rattle.oathd_words.specs.declared.store_words.Action.{Action as AnyAction};
 
 use crate::store_words::{
     Action, audit_command, export_command, init_command, init_error, migrate_command, read_action,
@@ -20,7 +20,7 @@ use std::alloc::{AllocError, Global};
 
 /// What the words ask for. It has no Debug, which would show a secret.
 #[derive(Drop, PartialEq, Eq)]
-pub(crate) enum Task<'a> {
+pub enum Task<'a> {
     /// To do what is asked of a run over the input and the output.
     Run(Request<'a>),
     /// To run the script of the input over a cluster.
@@ -317,31 +317,36 @@ fn secret_command<'a>(alloc: Global) -> Result<Command<'a>, AllocError> {
         )
 }
 
+/// The program with one command more.
+fn with_command<'a>(
+    program: Command<'a>,
+    command: Result<Command<'a>, AllocError>,
+) -> Result<Command<'a>, AllocError> {
+    program.subcommand(command?)
+}
+
 /// The program with the commands that keep nothing but what they read.
 fn with_runs<'a>(alloc: Global, program: Command<'a>) -> Result<Command<'a>, AllocError> {
-    program
-        .subcommand(lines_command(alloc)?)?
-        .subcommand(sim_command(alloc)?)?
-        .subcommand(cluster_command(alloc)?)
+    let program = with_command(program, lines_command(alloc))?;
+    let program = with_command(program, sim_command(alloc))?;
+    with_command(program, cluster_command(alloc))
 }
 
 /// The program with the commands that make a store and serve it.
 fn with_service<'a>(alloc: Global, program: Command<'a>) -> Result<Command<'a>, AllocError> {
-    program
-        .subcommand(init_command(alloc)?)?
-        .subcommand(serve_command(alloc)?)
+    let program = with_command(program, init_command(alloc))?;
+    with_command(program, serve_command(alloc))
 }
 
 /// The program with the commands that read a store or bring it to the present version.
 fn with_upkeep<'a>(alloc: Global, program: Command<'a>) -> Result<Command<'a>, AllocError> {
-    program
-        .subcommand(export_command(alloc)?)?
-        .subcommand(audit_command(alloc)?)?
-        .subcommand(migrate_command(alloc)?)
+    let program = with_command(program, export_command(alloc))?;
+    let program = with_command(program, audit_command(alloc))?;
+    with_command(program, migrate_command(alloc))
 }
 
 /// The whole command line.
-pub(crate) fn command<'a>(alloc: Global) -> Result<Command<'a>, AllocError> {
+pub fn command<'a>(alloc: Global) -> Result<Command<'a>, AllocError> {
     let program = Command::new(alloc, "oathd")
         .version(VERSION)
         .about("Validates one-time passwords of OATH tokens:\nHOTP (RFC 4226) and TOTP (RFC 6238)")
@@ -351,7 +356,7 @@ pub(crate) fn command<'a>(alloc: Global) -> Result<Command<'a>, AllocError> {
     let program = with_runs(alloc, program)?;
     let program = with_service(alloc, program)?;
     let program = with_upkeep(alloc, program)?;
-    program.subcommand(secret_command(alloc)?)
+    with_command(program, secret_command(alloc))
 }
 
 /// The limits that the options give, or `None` where a number is out of its range or written with anything but digits.
@@ -516,7 +521,7 @@ fn asked<'a>(alloc: Global, name: &str, values: &ArgMatches<'a>) -> Result<Task<
 /// What the words ask for. The first of them is the program's name. The error has clap's text, which
 /// goes to standard output where help or the version was asked for; a value that asks for nothing is named with the
 /// usage of the command.
-pub(crate) fn read_words<'a>(alloc: Global, words: &'a [String]) -> Result<Task<'a>, Error>
+pub fn read_words<'a>(alloc: Global, words: &'a [String]) -> Result<Task<'a>, Error>
     ensures { IfOk result IsInRange }
 {
     let mut command = command(alloc)?;

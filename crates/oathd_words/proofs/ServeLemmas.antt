@@ -6,13 +6,13 @@ use Rattle.clap.specs.Matches.{first_value}
 use Rattle.clap.specs.declared.parser.matches.Found.{Found}
 use Rattle.otp_core.specs.Limits.{Limits}
 use Rattle.vote_core.specs.NodeSet.{PlaceRecord}
-use Rattle.oathd.specs.Members.{AreMembers, SayAddresses, parts_of}
-use Rattle.oathd.specs.Given.{GivesLimits}
-use Rattle.oathd.specs.StoreWords.{AsksForAction, GivesPlace, GivesTurns}
-use Rattle.oathd.specs.declared.store_words.Action.{Action}
-use Rattle.oathd.specs.declared.store_words.Action.TheVariants.{Init, Serve, Export, Audit, Migrate}
-use Rattle.oathd.proofs.MembersLemmas.{says_unique}
-use Rattle.oathd.proofs.WordsLemmas.{apart}
+use Rattle.oathd_words.specs.Members.{AreMembers, SayAddresses, parts_of}
+use Rattle.oathd_words.specs.Given.{GivesLimits}
+use Rattle.oathd_words.specs.StoreWords.{AsksForAction, GivesPlace, GivesTurns}
+use Rattle.oathd_words.specs.declared.store_words.Action.{Action}
+use Rattle.oathd_words.specs.declared.store_words.Action.TheVariants.{Init, Serve, Export, Audit, Migrate}
+use Rattle.oathd_words.proofs.MembersLemmas.{says_unique}
+use Rattle.oathd_words.proofs.WordsLemmas.{apart}
 
 -- a text that is there
 abbrev text_in : Option (List ℕ) → List ℕ

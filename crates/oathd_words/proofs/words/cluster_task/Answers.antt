@@ -2,9 +2,9 @@ use Rattle.std.proofs.Common.{◌≡◌, ℕ, List, Option, Some}
 use Rattle.std.specs.Prelude.{codes}
 use Rattle.clap.specs.Matches.{first_value, found_of}
 use Rattle.otp_core.specs.Limits.{Limits}
-use Rattle.oathd.specs.Words.{AsksForNodes}
-use Rattle.oathd.proofs.WordsLemmas.{where_none}
-use Rattle.oathd.proofs.words.cluster_task.Goals as goal
+use Rattle.oathd_words.specs.Words.{AsksForNodes}
+use Rattle.oathd_words.proofs.WordsLemmas.{where_none}
+use Rattle.oathd_words.proofs.words.cluster_task.Goals as goal
 
 pub returns-in_err-settings-clause-none : goal.returns-in_err-settings-clause-none
 returns-in_err-settings-clause-none c =

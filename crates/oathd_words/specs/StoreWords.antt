@@ -8,10 +8,10 @@ use Rattle.otp_core.specs.Range.{IsMoment}
 use Rattle.std.specs.declared.net.socket_addr.SocketAddrV4.{SocketAddrV4}
 use Rattle.vote_core.specs.NodeSet.{PlaceRecord}
 use Rattle.vote_core.specs.State.{IsPlace}
-use Rattle.oathd.specs.Given.{GivesLimits, GivesMember}
-use Rattle.oathd.specs.Members.{AreMembers}
-use Rattle.oathd.specs.declared.store_words.Action.{Action}
-use Rattle.oathd.specs.declared.store_words.Action.TheVariants.{Init, Serve, Export, Audit, Migrate}
+use Rattle.oathd_words.specs.Given.{GivesLimits, GivesMember}
+use Rattle.oathd_words.specs.Members.{AreMembers}
+use Rattle.oathd_words.specs.declared.store_words.Action.{Action}
+use Rattle.oathd_words.specs.declared.store_words.Action.TheVariants.{Init, Serve, Export, Audit, Migrate}
 
 -- a moment in its range is given, or none is
 abbrev pub GivesMoment : Found → Option ℕ → Type 0

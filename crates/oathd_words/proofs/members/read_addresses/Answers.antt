@@ -1,7 +1,7 @@
 use Rattle.std.proofs.Common.{[], arith}
-use Rattle.oathd.specs.Members.{parts_of}
-use Rattle.oathd.proofs.MembersLemmas.{front_full, front_last, front_next, front_refused, none_at, none_so, one_longer, some_at, some_then}
-use Rattle.oathd.proofs.members.read_addresses.Goals as goal
+use Rattle.oathd_words.specs.Members.{parts_of}
+use Rattle.oathd_words.proofs.MembersLemmas.{front_full, front_last, front_next, front_refused, none_at, none_so, one_longer, some_at, some_then}
+use Rattle.oathd_words.proofs.members.read_addresses.Goals as goal
 
 pub returns-in_default-clause-some : goal.returns-in_default-clause-some
 returns-in_default-clause-some c =

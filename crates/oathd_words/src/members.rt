@@ -3,7 +3,7 @@
 ghost use Rattle.std.specs.Prelude.{◌≡◌, ◌≤◌, ◌∷◌, ◌++◌, [], List, IfNone, IfOk, IfSome, length};
 ghost use Rattle.std.specs.Net.Grammar.{IsSocketV4Text};
 ghost use Rattle.std.specs.declared.net.socket_addr.SocketAddrV4.{SocketAddrV4 as AnyAddress};
-ghost use Rattle.oathd.specs.Members.{AreMembers, SayAddresses, are_different, is_among, parts_of};
+ghost use Rattle.oathd_words.specs.Members.{AreMembers, SayAddresses, are_different, is_among, parts_of};
 
 use field_text::cut_at;
 use std::alloc::{AllocError, Global};
@@ -69,10 +69,7 @@ fn are_different(addresses: &[SocketAddrV4]) -> bool
 
 /// The addresses of members that a text says: 1 to 9 IPv4 addresses with ports, with a comma between two, or `None`
 /// where it doesn't, or one stands twice.
-pub(crate) fn read_members(
-    alloc: Global,
-    text: &[u8],
-) -> Result<Option<Vec<SocketAddrV4>>, AllocError>
+pub fn read_members(alloc: Global, text: &[u8]) -> Result<Option<Vec<SocketAddrV4>>, AllocError>
     ensures some { IfOk result (λ read. IfSome read (λ members. AreMembers text.now members.items)) }
     ensures none { IfOk result (λ read. IfNone read ((members : List AnyAddress)
         → AreMembers text.now members → ⊥)) }

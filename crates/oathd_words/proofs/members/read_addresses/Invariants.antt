@@ -1,6 +1,6 @@
 use Rattle.std.proofs.Common.{◌≡◌, length}
-use Rattle.oathd.proofs.MembersLemmas.{SaysFront}
-use Rattle.oathd.proofs.members.read_addresses.Given as goal
+use Rattle.oathd_words.proofs.MembersLemmas.{SaysFront}
+use Rattle.oathd_words.proofs.members.read_addresses.Given as goal
 
 -- the addresses so far are those of the text's first parts
 abbrev pub invariant-loop : goal.invariant-loop

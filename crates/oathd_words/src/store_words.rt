@@ -4,8 +4,8 @@ ghost use Rattle.std.specs.Prelude.{◌≡◌, ◌≤◌, ℕ, Option, codes, If
 ghost use Rattle.clap.specs.Matches.{found_of};
 ghost use Rattle.otp_core.specs.Limits.{Limits};
 ghost use Rattle.vote_core.specs.NodeSet.{PlaceRecord};
-ghost use Rattle.oathd.specs.StoreWords.{AsksForAction, GivesImport, GivesMoment, GivesPlace, GivesTurns};
-ghost use Rattle.oathd.specs.declared.store_words.Action.{Action as AnyAction};
+ghost use Rattle.oathd_words.specs.StoreWords.{AsksForAction, GivesImport, GivesMoment, GivesPlace, GivesTurns};
+ghost use Rattle.oathd_words.specs.declared.store_words.Action.{Action as AnyAction};
 
 use crate::members::read_members;
 use crate::words::{
@@ -22,7 +22,7 @@ use vote_core::Place;
 
 /// What is done with the store of a node.
 #[derive(Drop, PartialEq, Eq)]
-pub(crate) enum Action<'a> {
+pub enum Action<'a> {
     /// To make it.
     Init {
         /// The number of the node: 1 to 9.
@@ -169,23 +169,27 @@ fn node_arg<'a>(alloc: Global) -> Arg<'a> {
         .help("The number of the node, 1 to 9")
 }
 
-/// The command `init`.
-pub(crate) fn init_command<'a>(alloc: Global) -> Result<Command<'a>, AllocError> {
-    let command = Command::new(alloc, "init")
-        .about("Makes the store of a node in a database")
-        .after_help(INIT_HELP);
-    let moment = Arg::new(alloc, "moment")
+/// The option that says at which moment the users are imported.
+fn moment_arg<'a>(alloc: Global) -> Arg<'a> {
+    Arg::new(alloc, "moment")
         .long("moment")
         .value_name("SECONDS")
         .action(ArgAction::Set)
         .help(
             "The moment at which the users are imported, in seconds since\n\
             1970-01-01 00:00:00 UTC, 0 to 1099511627775 [default: the clock]",
-        );
+        )
+}
+
+/// The command `init`.
+pub(crate) fn init_command<'a>(alloc: Global) -> Result<Command<'a>, AllocError> {
+    let command = Command::new(alloc, "init")
+        .about("Makes the store of a node in a database")
+        .after_help(INIT_HELP);
     with_paths(alloc, command)?
         .arg(node_arg(alloc))?
         .arg(SKEW.arg(alloc))?
-        .arg(moment)
+        .arg(moment_arg(alloc))
 }
 
 /// The option that has the addresses of the members.

@@ -7,7 +7,7 @@ use Rattle.std.specs.declared.net.socket_addr.SocketAddrV4.{SocketAddrV4}
 use Rattle.std.proofs.NetLemmas.Theorems.{IsSocketV4Text_unique}
 use Rattle.std.proofs.lemmas.List.{length-append}
 use Rattle.std.proofs.lemmas.List.Splits.{length-slice_split}
-use Rattle.oathd.specs.Members.{SayAddresses, parts_of}
+use Rattle.oathd_words.specs.Members.{SayAddresses, parts_of}
 
 -- The first parts of a text are these addresses, and the rest of it has the other parts.
 pub record SaysFront (text rest : List ℕ) (addresses : List SocketAddrV4) : Type 0 where

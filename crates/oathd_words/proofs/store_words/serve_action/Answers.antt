@@ -1,8 +1,8 @@
 use Rattle.std.proofs.Common.{subst, arith}
-use Rattle.oathd.specs.Members.{AreMembers}
-use Rattle.oathd.proofs.MembersLemmas.{some_at}
-use Rattle.oathd.proofs.ServeLemmas.{no_limits, no_place, no_turns}
-use Rattle.oathd.proofs.store_words.serve_action.Goals as goal
+use Rattle.oathd_words.specs.Members.{AreMembers}
+use Rattle.oathd_words.proofs.MembersLemmas.{some_at}
+use Rattle.oathd_words.proofs.ServeLemmas.{no_limits, no_place, no_turns}
+use Rattle.oathd_words.proofs.store_words.serve_action.Goals as goal
 
 pub returns-in_default-place_of-clause-none : goal.returns-in_default-place_of-clause-none
 returns-in_default-place_of-clause-none c =

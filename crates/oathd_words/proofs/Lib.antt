@@ -1,0 +1,3 @@
+mod MembersLemmas
+mod ServeLemmas
+mod WordsLemmas

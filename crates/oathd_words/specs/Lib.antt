@@ -1,0 +1,4 @@
+pub mod Given
+pub mod Members
+pub mod StoreWords
+pub mod Words

@@ -1,0 +1,11 @@
+//! What the words of `oathd` ask for: its commands as clap knows them, and the values that clap finds, read as a
+//! [`Task`].
+#![tactic(auto)]
+
+mod members;
+mod store_words;
+mod words;
+
+pub use members::read_members;
+pub use store_words::Action;
+pub use words::{Task, command, read_words};
