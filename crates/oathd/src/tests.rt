@@ -2,7 +2,7 @@ use crate::key::key_of;
 use crate::serve::serve;
 use command_line::OutsideFault;
 use oathd_core::Request;
-use oathd_words::{Action, Task, command, read_members, read_words};
+use oathd_words::{Action, Task, read_members, read_words};
 use otp_core::Settings;
 use secret_text::SecretFault;
 use std::alloc::{AllocError, Global};
@@ -380,8 +380,6 @@ fn help_is_narrow(rt: HostRuntime) -> Result<(), Fail> {
         assert!(rt; is_narrow(help.as_str()), "{help}");
         assert!(rt; help.contains("Usage: oathd"), "{help}");
     }
-    let mut command = command(alloc)?;
-    assert!(rt; is_narrow(command.render_long_help()?.as_str()));
     Ok(())
 }
 

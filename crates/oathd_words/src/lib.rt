@@ -8,4 +8,4 @@ mod words;
 
 pub use members::read_members;
 pub use store_words::Action;
-pub use words::{Task, command, read_words};
+pub use words::{Task, read_words};

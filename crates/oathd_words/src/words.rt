@@ -346,7 +346,7 @@ fn with_upkeep<'a>(alloc: Global, program: Command<'a>) -> Result<Command<'a>, A
 }
 
 /// The whole command line.
-pub fn command<'a>(alloc: Global) -> Result<Command<'a>, AllocError> {
+fn command<'a>(alloc: Global) -> Result<Command<'a>, AllocError> {
     let program = Command::new(alloc, "oathd")
         .version(VERSION)
         .about("Validates one-time passwords of OATH tokens:\nHOTP (RFC 4226) and TOTP (RFC 6238)")
