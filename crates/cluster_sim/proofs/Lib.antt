@@ -20,7 +20,7 @@ mod Hosts
 mod Records
 mod HostLemmas
 mod Delivered
-mod Spelled
+pub mod Spelled
 mod Opening
 mod Played
 mod Floors

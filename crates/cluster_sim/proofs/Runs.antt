@@ -4,7 +4,7 @@ use mathlib.Core.Path.{fun_ext}
 use Rattle.otp_core.specs.Acceptance.{HaveSingleUse, KeepRealTimeOrder}
 use Rattle.vote_core.specs.Rows.{row}
 use Rattle.vote_core.specs.Safety.{AreProposed, HaveMajority}
-use Rattle.vote_core.specs.Schedule.{Cluster, Event, run as vote_run, start as vote_start, floor_before as vote_floor, acceptances}
+use Rattle.vote_core.specs.Schedule.{Cluster, Event, run as vote_run, start as vote_start, floor_before as vote_floor, acceptances, first_opening}
 use Rattle.vote_core.proofs.Basics.{opening_size}
 use Rattle.oath_node.specs.Machine.{Config}
 use Rattle.cluster_sim.specs.World.{World, WorldEvent, world_after_event, world_after_events, opening_world, floor_at, floor_before, passes_of}
@@ -39,16 +39,16 @@ pub start_sized : (config : Config) (floors : List (List ℕ)) → Sized (length
 start_sized config floors i = opening_size (length config.book) (floor_at floors i)
 
 pub runs_same : GroundLaw → (config : Config) (floors : List (List ℕ)) (events : List WorldEvent)
-    → cluster_of (world_after_events config 0 events (opening_world config floors)) ≡ vote_run 0 (votes_of config floors events) (vote_start (length floors) (length config.book) (floor_at floors))
+    → cluster_of (world_after_events config 0 events (opening_world config floors)) ≡ vote_run 0 (votes_of config floors events) (vote_start (length floors) (length config.book) (first_opening (floor_at floors)))
 runs_same law config floors events = run_same law config 0 events (opening_world config floors) (start_sized config floors)
 
-pub passes_same : GroundLaw → (config : Config) (floors : List (List ℕ)) (events : List WorldEvent) → acceptances (length floors) (length config.book) (floor_at floors) (votes_of config floors events) ≡ passes_of config floors events
+pub passes_same : GroundLaw → (config : Config) (floors : List (List ℕ)) (events : List WorldEvent) → acceptances (length floors) (length config.book) (first_opening (floor_at floors)) (votes_of config floors events) ≡ passes_of config floors events
 passes_same law config floors events = ap (λ (v : Cluster). v.accepted) (sym (runs_same law config floors events))
 
-pub floors_same : GroundLaw → (config : Config) (floors : List (List ℕ)) (events : List WorldEvent) → vote_floor (length floors) (length config.book) (floor_at floors) (votes_of config floors events) ≡ floor_before config floors events
+pub floors_same : GroundLaw → (config : Config) (floors : List (List ℕ)) (events : List WorldEvent) → vote_floor (length floors) (length config.book) (first_opening (floor_at floors)) (votes_of config floors events) ≡ floor_before config floors events
 floors_same law config floors events =
     fun_ext (λ i. fun_ext (λ t. fun_ext (λ e.
-    ap (λ l. (row ((vote_run 0 l (vote_start (length floors) (length config.book) (floor_at floors))).nodes i).content t).next) (sym (votes_taken config e 0 events (opening_world config floors)))
+    ap (λ l. (row ((vote_run 0 l (vote_start (length floors) (length config.book) (first_opening (floor_at floors)))).nodes i).content t).next) (sym (votes_taken config e 0 events (opening_world config floors)))
     ∙ ap (λ (v : Cluster). (row (v.nodes i).content t).next) (sym (runs_same law config floors (take e events))))))
 
 -- ---- the law of votes, carried over
@@ -64,7 +64,7 @@ in_order law votes config floors events =
 pub majority : GroundLaw → VoteLaw → (config : Config) (floors : List (List ℕ)) (events : List WorldEvent) → HaveMajority (length floors) (floor_before config floors events) (passes_of config floors events)
 majority law votes config floors events =
     subst (λ ps. HaveMajority (length floors) (floor_before config floors events) ps) (passes_same law config floors events)
-    (subst (λ f. HaveMajority (length floors) f (acceptances (length floors) (length config.book) (floor_at floors) (votes_of config floors events))) (floors_same law config floors events)
+    (subst (λ f. HaveMajority (length floors) f (acceptances (length floors) (length config.book) (first_opening (floor_at floors)) (votes_of config floors events))) (floors_same law config floors events)
     (votes.majority (length floors) (length config.book) (floor_at floors) (votes_of config floors events)))
 
 pub proposed : GroundLaw → VoteLaw → (config : Config) (floors : List (List ℕ)) (events : List WorldEvent) → AreProposed (votes_of config floors events) (passes_of config floors events)

@@ -23,7 +23,7 @@ seen_set i x nodes = fun_ext (λ j. push member_of (eqb j i) x (nodes j))
 
 -- a world of votes with another book
 abbrev pub with_book : (ProposalRecord → Option Begun) → Cluster → Cluster
-with_book B w = record { n = w.n; nodes = w.nodes; sent = w.sent; begun = B; accepted = w.accepted }
+with_book B w = record w { begun = B }
 
 -- what the voter did
 abbrev pub step_in : Made → Voted
@@ -34,7 +34,7 @@ passed_same w e i None = refl
 passed_same w e i (Some p) = refl
 
 abbrev pub of_parts : ℕ → List Envelope → (ProposalRecord → Option Begun) → (ℕ → Member) → List Acceptance → Cluster
-of_parts n sent begun nodes passes = record { n = n; nodes = nodes; sent = sent; begun = begun; accepted = passes }
+of_parts n sent begun nodes passes = record { n = n; nodes = nodes; lost = λ node. false; least = λ token. 0; sent = sent; begun = begun; accepted = passes }
 
 pub made_after : (e i : ℕ) (o : Made) (w : World) → o.state.running ≡ true
     → cluster_of (world_with_made e i o w) ≡ cluster_after e i (step_in o) (with_book (begun_with e o.began (begun_in w.history)) (cluster_of w))

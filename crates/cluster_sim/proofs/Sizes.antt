@@ -8,8 +8,8 @@ use Rattle.otp_core.specs.Acceptance.{size, majority_of}
 use Rattle.vote_core.specs.NodeSet.{PlaceRecord, with_node}
 use Rattle.vote_core.specs.Rows.{row, granted_row, row_with_next}
 use Rattle.vote_core.specs.Voting.{VoterState, Voted, Ballot, with_pending, replace, with_granting, accept, granted_one, of_this_boot, denied_one, propose_alone, propose_among, propose, is_grant, reply_step, on_ask, count_grant, on_grant, raise, count_deny, on_deny, on_floor, on_message, tick, quiet_step}
-use Rattle.vote_core.specs.Schedule.{Member, Envelope, Cluster, Act, Begin, Deliver, Tick, Throttle, Idle, Event, Happens, Cut, Restart, is_member, is_running, place_of, set_node, cluster_after, with_proposal_begun, with_member, stopped_member, may_begin, after_proposal, after_delivery, content_with_gate, after_act, node_of, restarted_member, last_boot, after_restart, with_sent_of, after_event}
-use Rattle.vote_core.proofs.Basics.{put_size}
+use Rattle.vote_core.specs.Schedule.{Member, Envelope, Cluster, Act, Begin, Deliver, Tick, Throttle, Idle, Event, Happens, Cut, Restart, Lost, Replaced, Opening, opening_member, may_replace, after_loss, after_replacement, lost_member, is_member, has_store, is_running, place_of, set_node, cluster_after, with_proposal_begun, with_member, stopped_member, may_begin, after_proposal, after_delivery, content_with_gate, after_act, node_of, restarted_member, last_boot, after_restart, with_sent_of, after_event}
+use Rattle.vote_core.proofs.Basics.{put_size, opening_size}
 use Rattle.vote_core.specs.declared.message.Message.{Message}
 use Rattle.vote_core.specs.declared.message.Message.TheVariants.{Ask, Grant, Deny, Floor}
 
@@ -114,7 +114,17 @@ restart_sized : (k : ℕ) (o : Option ℕ) (w : Cluster) → Sized k w → Sized
 unfolding after_restart
 restart_sized k None w h = h
 restart_sized k (Some i) w h =
-    cond_both (is_member w.n i) (with_member i (restarted_member (w.nodes i)) w) w (λ x. Sized k x) (λ _. set_sized k w i (restarted_member (w.nodes i)) h (restarted_size (w.nodes i))) (λ _. h)
+    cond_both (has_store w i) (with_member i (restarted_member (w.nodes i)) w) w (λ x. Sized k x) (λ _. set_sized k w i (restarted_member (w.nodes i)) h (restarted_size (w.nodes i))) (λ _. h)
+
+loss_sized : (k i : ℕ) (w : Cluster) → Sized k w → Sized k (after_loss i w)
+unfolding after_loss
+loss_sized k i w h = cond_both (has_store w i) _ w (λ x. Sized k x) (λ _. set_sized k w i (lost_member (w.nodes i)) h refl) (λ _. h)
+
+replacement_sized : (k i boot : ℕ) (floor : ℕ → ℕ) (w : Cluster) → Sized k w → Sized k (after_replacement i boot floor w)
+unfolding after_replacement
+replacement_sized k i boot floor w h =
+    let count = length (w.nodes i).content.rows in
+    cond_both (may_replace w i boot floor) _ w (λ x. Sized k x) (λ _. set_sized k w i (opening_member boot count floor) h (opening_size count floor)) (λ _. h)
 
 pub happens_sized : (k e : ℕ) (x : Event) (w : Cluster) → Sized k w → Sized k (after_event e x w)
 unfolding after_event
@@ -122,3 +132,5 @@ happens_sized k e (Happens a) w h = act_sized k e a w h
 happens_sized k e (Cut true a) w h = restart_sized k (node_of a w) (with_sent_of w (after_act e a w)) (act_sized k e a w h)
 happens_sized k e (Cut false a) w h = restart_sized k (node_of a w) w h
 happens_sized k e (Restart i) w h = restart_sized k (Some i) w h
+happens_sized k e (Lost i) w h = loss_sized k i w h
+happens_sized k e (Replaced i boot floor) w h = replacement_sized k i boot floor w h

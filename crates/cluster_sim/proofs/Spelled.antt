@@ -388,7 +388,7 @@ opening_fine : (k : ℕ) (floor : ℕ → ℕ) → ((t : ℕ) → floor t ≤ 2 
 opening_fine zero floor h = tt
 opening_fine (suc k) floor h = each_append HasNext (opening_rows k floor) _ (opening_fine k floor h) (h k, tt)
 
-start_fine : (config : Config) (floors : List (List ℕ)) → length config.book ≤ 10000 → length floors ≤ 9 → ((i t : ℕ) → floor_at floors i t ≤ 2 ^ 62) → IsFineWorld (opening_world config floors)
+pub start_fine : (config : Config) (floors : List (List ℕ)) → length config.book ≤ 10000 → length floors ≤ 9 → ((i t : ℕ) → floor_at floors i t ≤ 2 ^ 62) → IsFineWorld (opening_world config floors)
 start_fine config floors few n h = record {
   few = n;
   nodes = λ i. record {

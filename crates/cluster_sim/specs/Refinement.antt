@@ -1,5 +1,5 @@
 -- The world of nodes as a cluster of voters: which voting event each event is.
-use Rattle.std.specs.Prelude.{ℕ, suc, if◌then◌else◌, List, [], ◌∷◌, Option, Some, None, slice_get}
+use Rattle.std.specs.Prelude.{ℕ, suc, false, if◌then◌else◌, List, [], ◌∷◌, Option, Some, None, slice_get}
 use Rattle.vote_core.specs.Schedule.{Member, Envelope, Cluster, Act as Vote, Begin, Deliver as Passes, Tick, Throttle, Idle, Event, Happens as Done, Cut as Stopped, Restart as Reopened}
 use Rattle.oath_node.specs.Machine.{Config, NodeState, gate_with_failure, is_heard, ruling_at}
 use Rattle.oath_node.specs.Rules.{Ruling, Outside, Again, Waiting, Denied, Wrong, Fitting}
@@ -14,6 +14,8 @@ abbrev pub cluster_of : World → Cluster
 cluster_of world = record {
   n = world.n;
   nodes = λ node. member_of (world.nodes node);
+  lost = λ node. false;
+  least = λ token. 0;
   sent = world.sent;
   begun = begun_in world.history;
   accepted = passes_in world.history;

@@ -9,8 +9,8 @@ use Rattle.otp_core.specs.Acceptance.{size, majority_of}
 use Rattle.vote_core.specs.Calls.{IsOther, FitsVoter}
 use Rattle.vote_core.specs.NodeSet.{PlaceRecord, with_node, members, others}
 use Rattle.vote_core.specs.Rows.{row, granted_row, row_with_next}
-use Rattle.vote_core.specs.Safety.{IsDeliverable, AreDeliverable}
-use Rattle.vote_core.specs.Schedule.{Member, Envelope, Cluster, Act, Begin, Deliver, Tick, Throttle, Idle, Event, Happens, Cut, Restart, is_member, is_running, place_of, envelope_from, cluster_after, with_proposal_begun, with_member, stopped_member, may_begin, after_proposal, after_delivery, content_with_gate, after_act, node_of, restarted_member, last_boot, after_restart, with_sent_of, after_event, run, start, envelopes}
+use Rattle.vote_core.specs.Safety.{IsDeliverable, AreDeliverable, MayOpen}
+use Rattle.vote_core.specs.Schedule.{Member, Envelope, Cluster, Act, Begin, Deliver, Tick, Throttle, Idle, Event, Happens, Cut, Restart, Lost, Replaced, Opening, is_member, has_store, is_running, place_of, envelope_from, cluster_after, with_proposal_begun, with_member, stopped_member, may_begin, after_proposal, after_delivery, content_with_gate, after_act, node_of, restarted_member, last_boot, after_restart, lost_member, after_loss, opening_member, may_replace, after_replacement, with_sent_of, after_event, run, start, envelopes}
 use Rattle.vote_core.specs.Voting.{Ballot, VoterState, Voted, quiet_step, reply_step, to_each, remove, replace, with_pending, propose, propose_alone, propose_among, is_grant, on_ask, granted_one, of_this_boot, with_granting, accept, count_grant, on_grant, raise, denied_one, with_denying, count_deny, on_deny, on_floor, on_message, older_ballot, older_ballots, is_young, young_ballots, asks_again, floor_sends, tick}
 use Rattle.vote_core.specs.declared.message.Message.{Message}
 use Rattle.vote_core.specs.declared.message.Message.TheVariants.{Ask, Grant, Deny, Floor}
@@ -213,7 +213,8 @@ step_posts tokens event i s w k h = record {
 
 runs_member : (w : Cluster) (i : ℕ) → is_running w i ≡ true → IsMember (place_of w i)
 runs_member w i q =
-    let member = and_parts (leb 1 i) (leb i w.n) (and_parts (is_member w.n i) (w.nodes i).running q).0 in
+    let store = and_parts (not (w.lost i)) (is_member w.n i) (and_parts (has_store w i) (w.nodes i).running q).0 in
+    let member = and_parts (leb 1 i) (leb i w.n) store.1 in
     record { first = leb-true 1 i member.0; last = leb-true i w.n member.1 }
 
 delivery_posts : (tokens event : ℕ) (o : Option Envelope) (w : Cluster) → Posts tokens w → ((l : Envelope) → o ≡ Some l → IsDeliverable w.n tokens l) → Posts tokens (after_delivery event o w)
@@ -282,7 +283,7 @@ restart_posts : (tokens : ℕ) (o : Option ℕ) (w : Cluster) → Posts tokens w
 unfolding after_restart
 restart_posts tokens None w k = k
 restart_posts tokens (Some i) w k =
-    cond_both (is_member w.n i) (with_member i (restarted_member (w.nodes i)) w) w (λ x. Posts tokens x)
+    cond_both (has_store w i) (with_member i (restarted_member (w.nodes i)) w) w (λ x. Posts tokens x)
     (λ _. cond_both (ltb (w.nodes i).content.boot last_boot) _ (stopped_member (w.nodes i)) (λ y. Posts tokens (with_member i y w))
     (λ _. swap_posts tokens i _ w k (record { rows = (k.nodes i).rows; pending = tt })) (λ _. swap_posts tokens i (stopped_member (w.nodes i)) w k (k.nodes i)))
     (λ _. k)
@@ -291,20 +292,42 @@ restart_posts tokens (Some i) w k =
 same_n : (tokens event : ℕ) (a : Act) (w : Cluster) → Posts tokens w → Posts tokens (after_act event a w) → Posts tokens (with_sent_of w (after_act event a w))
 same_n tokens event a w k new = record { nodes = new.nodes; sent = subst (λ n. Each (IsDeliverable n tokens) w.sent) (sym (act_n event a w)) k.sent }
 
+loss_posts : (tokens i : ℕ) (w : Cluster) → Posts tokens w → Posts tokens (after_loss i w)
+unfolding after_loss
+loss_posts tokens i w k =
+    let new = swap_posts tokens i (lost_member (w.nodes i)) w k (record { rows = (k.nodes i).rows; pending = tt }) in
+    cond_both (has_store w i) _ w (λ x. Posts tokens x) (λ _. record { nodes = new.nodes; sent = k.sent }) (λ _. k)
+
+replacement_posts : (tokens i boot : ℕ) (floor : ℕ → ℕ) (w : Cluster) → Posts tokens w → Posts tokens (after_replacement i boot floor w)
+unfolding after_replacement
+replacement_posts tokens i boot floor w k =
+    let size = length (w.nodes i).content.rows in
+    let new = swap_posts tokens i (opening_member boot size floor) w k (record { rows = opening_size size floor ∙ (k.nodes i).rows; pending = tt }) in
+    cond_both (may_replace w i boot floor) _ w (λ x. Posts tokens x) (λ _. record { nodes = new.nodes; sent = k.sent }) (λ _. k)
+
+all_deliverable : (n tokens : ℕ) (ls : List Envelope) → ((i : ℕ) (l : Envelope) → slice_get ls i ≡ Some l → IsDeliverable n tokens l) → Each (IsDeliverable n tokens) ls
+all_deliverable n tokens [] h = tt
+all_deliverable n tokens (l ∷ ls) h = (h 0 l refl, all_deliverable n tokens ls (λ i m at. h (suc i) m at))
+
 event_posts : (tokens event : ℕ) (x : Event) (w : Cluster) → Posts tokens w → Posts tokens (after_event event x w)
 unfolding after_event
 event_posts tokens event (Happens a) w k = act_posts tokens event a w k
 event_posts tokens event (Cut true a) w k = restart_posts tokens (node_of a w) (with_sent_of w (after_act event a w)) (same_n tokens event a w k (act_posts tokens event a w k))
 event_posts tokens event (Cut false a) w k = restart_posts tokens (node_of a w) w k
 event_posts tokens event (Restart i) w k = restart_posts tokens (Some i) w k
+event_posts tokens event (Lost i) w k = loss_posts tokens i w k
+event_posts tokens event (Replaced i boot floor) w k = replacement_posts tokens i boot floor w k
 
 run_posts : (tokens : ℕ) (events : List Event) (first : ℕ) (w : Cluster) → Posts tokens w → Posts tokens (run first events w)
 unfolding run
 run_posts tokens [] first w k = k
 run_posts tokens (x ∷ xs) first w k = run_posts tokens xs (suc first) (after_event first x w) (event_posts tokens first x w k)
 
-pub envelopes_hold : (n tokens : ℕ) (floors : ℕ → ℕ → ℕ) (events : List Event) → AreDeliverable n tokens (envelopes n tokens floors events)
-envelopes_hold n tokens floors events i l at =
-    let w = run 0 events (start n tokens floors) in
-    let k = run_posts tokens events 0 (start n tokens floors) (record { nodes = λ node. record { rows = opening_size tokens (floors node); pending = tt }; sent = tt }) in
-    subst (λ m. IsDeliverable m tokens l) (all_members n tokens floors events) (each_get (IsDeliverable w.n tokens) w.sent i l k.sent at)
+pub envelopes_hold : (n tokens : ℕ) (opening : Opening) (events : List Event) → MayOpen n tokens opening → AreDeliverable n tokens (envelopes n tokens opening events)
+envelopes_hold n tokens opening events may i l at =
+    let w = run 0 events (start n tokens opening) in
+    let k = run_posts tokens events 0 (start n tokens opening) (record {
+      nodes = λ node. record { rows = opening_size tokens (opening.floor node); pending = tt };
+      sent = all_deliverable n tokens opening.old (λ j m is. (may j m is).0);
+    }) in
+    subst (λ m. IsDeliverable m tokens l) (all_members n tokens opening events) (each_get (IsDeliverable w.n tokens) w.sent i l k.sent at)

@@ -266,6 +266,8 @@ abbrev pub cluster_seen : ClusterView → Cluster
 cluster_seen view = record {
   n = view.n;
   nodes = λ node. slice_index_or (map member_seen view.nodes) node (member_seen outsider);
+  lost = λ node. false;
+  least = λ token. 0;
   sent = view.sent;
   begun = begun_of view.begun;
   accepted = view.accepted;
