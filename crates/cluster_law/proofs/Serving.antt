@@ -1,0 +1,233 @@
+-- A process among all that happens, by itself: its site, and what its turns come to.
+use Rattle.std.proofs.Common.{◌≡◌, ℕ, suc, ⊎_elim, Bool, true, false, cond, List, [], ◌∷◌, ◌++◌, map, Option, Some, None, refl, sym, ap, ◌∙◌, subst, eqb}
+use Rattle.std.proofs.lemmas.Bool.{cond_both, cond-true, cond-false, cases_Bool, eqb-true}
+use Rattle.std.proofs.lemmas.List.{append-nil, append_assoc, map-append}
+use Rattle.vote_core.specs.Schedule.{is_member}
+use Rattle.oath_node.specs.Machine.{Made, NodeState}
+use Rattle.floor_store.specs.Held.{Held}
+use Rattle.oath_node.specs.Hosted.{Hosted, state_of}
+use Rattle.oath_node.specs.Outputs.{outputs_of}
+use Rattle.node_turns.specs.Serving.{Serves, Stands}
+use Rattle.node_turns.specs.declared.turns.Served.{Served}
+use Rattle.std.proofs.lemmas.Option.{same_Some}
+use Rattle.std.specs.Prelude.{Ok}
+use Rattle.node_turns.specs.Port.{PortEvent}
+use Rattle.node_turns.specs.Turns.{Member, Receipt, Run, entry_of, member_of, offer_of, receives_in, run_at, offers_in, run_with_event, run_with_events, run_with_turns}
+use Rattle.cluster_law.specs.Lives.{Deed, Opens, FailsToOpen, Takes, Offers, Stops, StopsIn, Handout, Input, Scene, Setting, Site, Up, event_of, handouts_of, made_by_input, node_of_deed, nodes_of, offers_by, own_offers, own_site, place_in, scene_after, scene_after_deed, scene_at, site_after}
+use Rattle.cluster_law.specs.Processes.{AreServing, IsEndedNode, IsMemberIn, IsServed, IsServedNode, IsServing, TakesTurns, events_of_turns, input_of, inputs_at, item_of, member_in, offer_of_handout, run_over}
+use Rattle.cluster_law.proofs.Calls.{put_out}
+use Rattle.cluster_law.proofs.Events.{Does, all_end, are_events}
+
+-- ---- a node's site is its own deeds'
+
+deed_at : (setting : Setting) (e node : ℕ) (d : Deed) (scene : Scene) → is_member (nodes_of setting) node ≡ true
+    → (scene_after_deed setting e d scene).sites node ≡ cond (eqb node (node_of_deed d)) (site_after setting e d (scene.sites node)) (scene.sites node)
+unfolding scene_after_deed
+deed_at setting e node d scene member =
+    ⊎_elim
+    (λ (q : eqb node (node_of_deed d) ≡ true).
+    let same : node ≡ node_of_deed d = eqb-true node (node_of_deed d) q in
+    let here : is_member (nodes_of setting) (node_of_deed d) ≡ true = subst (λ m. is_member (nodes_of setting) m ≡ true) same member in
+    ap (λ (z : Scene). z.sites node) (cond-true (is_member (nodes_of setting) (node_of_deed d)) (scene_at setting e d (scene.sites (node_of_deed d)) scene) scene here)
+    ∙ cond-true (eqb node (node_of_deed d)) (site_after setting e d (scene.sites (node_of_deed d))) (scene.sites node) q
+    ∙ ap (λ m. site_after setting e d (scene.sites m)) (sym same)
+    ∙ sym (cond-true (eqb node (node_of_deed d)) (site_after setting e d (scene.sites node)) (scene.sites node) q))
+    (λ (q : eqb node (node_of_deed d) ≡ false).
+    cond_both (is_member (nodes_of setting) (node_of_deed d)) (scene_at setting e d (scene.sites (node_of_deed d)) scene) scene
+    (λ (z : Scene). z.sites node ≡ cond (eqb node (node_of_deed d)) (site_after setting e d (scene.sites node)) (scene.sites node))
+    (λ _. cond-false (eqb node (node_of_deed d)) (site_after setting e d (scene.sites (node_of_deed d))) (scene.sites node) q ∙ sym (cond-false (eqb node (node_of_deed d)) (site_after setting e d (scene.sites node)) (scene.sites node) q))
+    (λ _. sym (cond-false (eqb node (node_of_deed d)) (site_after setting e d (scene.sites node)) (scene.sites node) q)))
+    (cases_Bool (eqb node (node_of_deed d)))
+
+pub site_is_own : (setting : Setting) (e node : ℕ) (ds : List Deed) (scene : Scene) → is_member (nodes_of setting) node ≡ true
+    → (scene_after setting e ds scene).sites node ≡ own_site setting node e ds (scene.sites node)
+unfolding scene_after own_site
+site_is_own setting e node [] scene member = refl
+site_is_own setting e node (d ∷ ds) scene member =
+    site_is_own setting (suc e) node ds (scene_after_deed setting e d scene) member
+    ∙ ap (λ s. own_site setting node (suc e) ds s) (deed_at setting e node d scene member)
+
+-- ---- a process that goes on
+
+-- from any run of which so much is offered, and the rest waits
+record GoesOn (setting : Setting) (node e : ℕ) (ds : List Deed) (s : NodeState) (waiting : List Handout) (done : List PortEvent) (r : Run) : Type 0 where
+  left : List Handout
+  site : own_site setting node e ds (Up s waiting) ≡ Up r.node left
+  entries : r.entries ≡ (done ++ map (offer_of_handout setting.key) (own_offers setting node e ds (Up s waiting))) ++ map (offer_of_handout setting.key) left
+
+offered_items : (key : List ℕ) (hs : List Handout) → map offer_of (map (item_of key) hs) ≡ map (offer_of_handout key) hs
+offered_items key [] = refl
+offered_items key (h ∷ hs) = ap (λ xs. offer_of_handout key h ∷ xs) (offered_items key hs)
+
+-- the run with one input more
+step_entries : (setting : Setting) (e i : ℕ) (made : Made) (waiting : List Handout) (done : List PortEvent) (entries : List PortEvent) → entries ≡ done ++ map (offer_of_handout setting.key) waiting
+    → entries ++ map offer_of (outputs_of setting.key (place_in setting i) made).items ≡ done ++ map (offer_of_handout setting.key) (waiting ++ handouts_of e i made)
+step_entries setting e i made waiting done entries is =
+    let f = offer_of_handout setting.key in
+    let hs = handouts_of e i made in
+    ap (λ xs. entries ++ map offer_of xs) (put_out setting e i made)
+    ∙ ap (λ xs. entries ++ xs) (offered_items setting.key hs)
+    ∙ ap (λ xs. xs ++ map f hs) is
+    ∙ append_assoc done (map f waiting) (map f hs)
+    ∙ ap (λ xs. done ++ xs) (sym (map-append f waiting hs))
+
+-- what is said of the rest after one deed, which left this site and offered this
+record GoesThen (setting : Setting) (node e : ℕ) (ds : List Deed) (a : Site) (out : List Handout) (done : List PortEvent) (r : Run) : Type 0 where
+  left : List Handout
+  site : own_site setting node (suc e) ds a ≡ Up r.node left
+  entries : r.entries ≡ (done ++ map (offer_of_handout setting.key) (out ++ own_offers setting node (suc e) ds a)) ++ map (offer_of_handout setting.key) left
+
+-- the run over what the node takes in the rest
+abbrev rest_of : Setting → ℕ → List Deed → Run → Run
+rest_of setting node ds r = run_with_events (member_in setting node) (map (event_of setting.key) (inputs_at node ds)) r
+
+-- the rest, from any state
+abbrev RestGoes : Setting → ℕ → ℕ → List Deed → Type 0
+RestGoes setting node e ds =
+    (s : NodeState) (waiting : List Handout) (done : List PortEvent) (r : Run) → r.node ≡ s → r.entries ≡ done ++ map (offer_of_handout setting.key) waiting
+    → GoesOn setting node (suc e) ds s waiting done (rest_of setting node ds r)
+
+same_rest : (setting : Setting) (node e : ℕ) (ds : List Deed) (s : NodeState) (waiting : List Handout) (done : List PortEvent) (r : Run) → GoesOn setting node (suc e) ds s waiting done r → GoesThen setting node e ds (Up s waiting) [] done r
+same_rest setting node e ds s waiting done r g = record { left = g.left; site = g.site; entries = g.entries }
+
+taken_then : (setting : Setting) (node e : ℕ) (input : Input) (ds : List Deed) (s : NodeState) (waiting : List Handout) (done : List PortEvent) (r : Run) → RestGoes setting node e ds → r.node ≡ s → r.entries ≡ done ++ map (offer_of_handout setting.key) waiting
+    → GoesThen setting node e ds (site_after setting e (Takes node input) (Up s waiting)) [] done (rest_of setting node ds (run_with_event (member_in setting node) (event_of setting.key input) r))
+taken_then setting node e input ds s waiting done r rest state entries =
+    let m = member_in setting node in
+    let made = made_by_input setting node input s in
+    let r1 = run_with_event m (event_of setting.key input) r in
+    let state1 : r1.node ≡ made.state = ap (λ (z : NodeState). (made_by_input setting node input z).state) state in
+    let entries1 : r1.entries ≡ done ++ map (offer_of_handout setting.key) (waiting ++ handouts_of e node made) =
+    ap (λ (z : NodeState). r.entries ++ map offer_of (outputs_of setting.key (place_in setting node) (made_by_input setting node input z)).items) state
+    ∙ step_entries setting e node made waiting done r.entries entries in
+    same_rest setting node e ds made.state (waiting ++ handouts_of e node made) done (rest_of setting node ds r1) (rest made.state (waiting ++ handouts_of e node made) done r1 state1 entries1)
+
+offered_then : (setting : Setting) (node e : ℕ) (ds : List Deed) (s : NodeState) (waiting : List Handout) (done : List PortEvent) (r : Run) → RestGoes setting node e ds → r.node ≡ s → r.entries ≡ done ++ map (offer_of_handout setting.key) waiting
+    → GoesThen setting node e ds (site_after setting e (Offers node) (Up s waiting)) (offers_by (Offers node) (Up s waiting)) done (rest_of setting node ds r)
+offered_then setting node e ds s [] done r rest state entries = same_rest setting node e ds s [] done (rest_of setting node ds r) (rest s [] done r state entries)
+offered_then setting node e ds s (h ∷ waiting) done r rest state entries =
+    let f = offer_of_handout setting.key in
+    let g = rest s waiting (done ++ f h ∷ []) r state (entries ∙ sym (append_assoc done (f h ∷ []) (map f waiting))) in
+    let own = map f (own_offers setting node (suc e) ds (Up s waiting)) in
+    record {
+      left = g.left;
+      site = g.site;
+      entries = g.entries ∙ ap (λ xs. xs ++ map f g.left) (append_assoc done (f h ∷ []) own);
+    }
+
+deed_then : (setting : Setting) (node e : ℕ) (d : Deed) (ds : List Deed) (s : NodeState) (waiting : List Handout) (done : List PortEvent) (r : Run) → node ≡ node_of_deed d → IsServing node d → RestGoes setting node e ds → r.node ≡ s → r.entries ≡ done ++ map (offer_of_handout setting.key) waiting
+    → GoesThen setting node e ds (site_after setting e d (Up s waiting)) (offers_by d (Up s waiting)) done (run_with_events (member_in setting node) (map (event_of setting.key) (input_of d ++ inputs_at node ds)) r)
+deed_then setting node e (Opens at) ds s waiting done r q g rest state entries = absurd (g q)
+deed_then setting node e (FailsToOpen at raised) ds s waiting done r q g rest state entries = absurd (g q)
+deed_then setting node e (Stops at) ds s waiting done r q g rest state entries = absurd (g q)
+deed_then setting node e (StopsIn at kept input) ds s waiting done r q g rest state entries = absurd (g q)
+deed_then setting node e (Takes at input) ds s waiting done r q g rest state entries =
+    let made_run = rest_of setting node ds (run_with_event (member_in setting node) (event_of setting.key input) r) in
+    subst (λ m. GoesThen setting node e ds (site_after setting e (Takes m input) (Up s waiting)) [] done made_run) q (taken_then setting node e input ds s waiting done r rest state entries)
+deed_then setting node e (Offers at) ds s waiting done r q g rest state entries = offered_then setting node e ds s waiting done r rest state entries
+
+either_then : (setting : Setting) (node e : ℕ) (d : Deed) (ds : List Deed) (s : NodeState) (waiting : List Handout) (done : List PortEvent) (r : Run) (b : Bool) → (b ≡ true → node ≡ node_of_deed d) → IsServing node d → RestGoes setting node e ds → r.node ≡ s → r.entries ≡ done ++ map (offer_of_handout setting.key) waiting
+    → GoesThen setting node e ds (cond b (site_after setting e d (Up s waiting)) (Up s waiting)) (cond b (offers_by d (Up s waiting)) []) done
+    (run_with_events (member_in setting node) (map (event_of setting.key) (cond b (input_of d) [] ++ inputs_at node ds)) r)
+either_then setting node e d ds s waiting done r true own g rest state entries = deed_then setting node e d ds s waiting done r (own refl) g rest state entries
+either_then setting node e d ds s waiting done r false own g rest state entries = same_rest setting node e ds s waiting done (rest_of setting node ds r) (rest s waiting done r state entries)
+
+goes_on : (setting : Setting) (node e : ℕ) (ds : List Deed) (s : NodeState) (waiting : List Handout) (done : List PortEvent) (r : Run) → AreServing node ds → r.node ≡ s → r.entries ≡ done ++ map (offer_of_handout setting.key) waiting
+    → GoesOn setting node e ds s waiting done (rest_of setting node ds r)
+unfolding own_site own_offers
+goes_on setting node e [] s waiting done r g state entries = record {
+  left = waiting;
+  site = ap (λ z. Up z waiting) (sym state);
+  entries = entries ∙ ap (λ xs. xs ++ map (offer_of_handout setting.key) waiting) (sym (append-nil done));
+}
+goes_on setting node e (d ∷ ds) s waiting done r g state entries =
+    let rest : RestGoes setting node e ds = λ s2 w2 done2 r2 h k. goes_on setting node (suc e) ds s2 w2 done2 r2 g.1 h k in
+    let t = either_then setting node e d ds s waiting done r (eqb node (node_of_deed d)) (eqb-true node (node_of_deed d)) g.0 rest state entries in
+    record { left = t.left; site = t.site; entries = t.entries }
+
+pub serves : (setting : Setting) (node e : ℕ) (ds : List Deed) (s : NodeState) → AreServing node ds
+    → IsServed setting node e ds s (run_over setting node ds s).node (run_over setting node ds s).entries
+serves setting node e ds s g =
+    let t = goes_on setting node e ds s [] [] (run_at s) g refl refl in
+    record { left = t.left; site = t.site; offered = t.entries }
+
+pub serves_turns : (setting : Setting) (node e : ℕ) (ds : List Deed) (s : NodeState) (receipts : List Receipt) → AreServing node ds → TakesTurns setting node ds receipts
+    → (run_with_turns (member_in setting node) receipts (run_at s)).end ≡ None
+    → IsServed setting node e ds s (run_with_turns (member_in setting node) receipts (run_at s)).node (offers_in (run_with_turns (member_in setting node) receipts (run_at s)).entries)
+serves_turns setting node e ds s receipts g takes end =
+    let t = serves setting node e ds s g in
+    let m = member_in setting node in
+    let are = are_events m receipts s end in
+    let same : run_over setting node ds s ≡ run_with_events m (events_of_turns setting.key 0 receipts) (run_at s) = ap (λ es. run_with_events m es (run_at s)) takes in
+    record {
+      left = t.left;
+      site = t.site ∙ ap (λ x. Up x t.left) (ap (λ (r : Run). r.node) same ∙ sym are.node);
+      offered = are.offers ∙ ap (λ (r : Run). r.entries) (sym same) ∙ t.offered;
+    }
+
+-- ---- a call of run_turns
+
+same_member : {S : Type 0} (setting : Setting) (node : ℕ) (process : Hosted S) → IsMemberIn setting node process → member_of process ≡ member_in setting node
+same_member setting node process m =
+    let c = m.config in let k = m.key in let p = m.place in
+    ap (λ x. record { config = x; key = process.key; place = process.voter.place }) c
+    ∙ ap (λ x. record { config = setting.config; key = x; place = process.voter.place }) k
+    ∙ ap (λ x. record { config = setting.config; key = setting.key; place = x }) p
+
+pub serves_node : {S : Type 0} (held : S → Held) (setting : Setting) (node e : ℕ) (ds : List Deed) (old new : Hosted S) (entries : List PortEvent) (asked told : Option (List (Option ℕ))) (turns : ℕ) (served : Served)
+    → IsMemberIn setting node old → Serves held old new (Some []) (Some entries) asked told turns (Ok served) → (held new.store).is_clean
+    → IsServedNode setting node e ds (state_of held old) (state_of held new) entries
+serves_node held setting node e ds old new entries asked told turns served m s clean =
+    let x = s.exact clean in
+    let state = state_of held old in
+    let run = run_with_turns (member_of old) s.receipts (run_at state) in
+    let all : run.entries ≡ entries = same_Some run.entries entries x.0.entries in
+    let same = same_member setting node old m in
+    record {
+      receipts = s.receipts;
+      received = same_Some (map entry_of s.receipts) (receives_in entries) s.receives;
+      served = λ serving takes.
+          let of_run : (n : Member) → n ≡ member_in setting node → (run_with_turns n s.receipts (run_at state)).end ≡ None
+          → IsServed setting node e ds state (run_with_turns n s.receipts (run_at state)).node (offers_in (run_with_turns n s.receipts (run_at state)).entries) =
+          λ n q end. subst (λ (z : Member). (run_with_turns z s.receipts (run_at state)).end ≡ None → IsServed setting node e ds state (run_with_turns z s.receipts (run_at state)).node (offers_in (run_with_turns z s.receipts (run_at state)).entries)) (sym q)
+          (λ end2. serves_turns setting node e ds state s.receipts serving takes end2) end in
+          subst (λ es. IsServed setting node e ds state (state_of held new) (offers_in es)) all
+          (subst (λ z. IsServed setting node e ds state z (offers_in run.entries)) (sym x.0.state) (of_run (member_of old) same x.1));
+    }
+
+-- a call that ended by the port or the clock
+ended_run : (setting : Setting) (node e : ℕ) (ds : List Deed) (s : NodeState) (receipts gone : List Receipt) → AreServing node ds → TakesTurns setting node ds gone
+    → Does (run_with_turns (member_in setting node) receipts (run_at s)) (run_with_events (member_in setting node) (events_of_turns setting.key 0 gone) (run_at s))
+    → IsServed setting node e ds s (run_with_turns (member_in setting node) receipts (run_at s)).node (offers_in (run_with_turns (member_in setting node) receipts (run_at s)).entries)
+ended_run setting node e ds s receipts gone g takes does =
+    let t = serves setting node e ds s g in
+    let m = member_in setting node in
+    let same : run_over setting node ds s ≡ run_with_events m (events_of_turns setting.key 0 gone) (run_at s) = ap (λ es. run_with_events m es (run_at s)) takes in
+    record {
+      left = t.left;
+      site = t.site ∙ ap (λ x. Up x t.left) (ap (λ (r : Run). r.node) same ∙ sym does.node);
+      offered = does.offers ∙ ap (λ (r : Run). r.entries) (sym same) ∙ t.offered;
+    }
+
+pub ends_node : {S : Type 0} (held : S → Held) (setting : Setting) (node e : ℕ) (ds : List Deed) (old new : Hosted S) (entries : List PortEvent) (receipts : List Receipt)
+    → IsMemberIn setting node old → map entry_of receipts ≡ receives_in entries → Stands held (Some []) new (Some entries) (run_with_turns (member_of old) receipts (run_at (state_of held old)))
+    → IsEndedNode setting node e ds (state_of held old) (state_of held new) entries
+ends_node held setting node e ds old new entries receipts m received stands =
+    let state = state_of held old in
+    let n = member_in setting node in
+    let same = same_member setting node old m in
+    let here : Stands held (Some []) new (Some entries) (run_with_turns n receipts (run_at state)) =
+    subst (λ (z : Member). Stands held (Some []) new (Some entries) (run_with_turns z receipts (run_at state))) same stands in
+    let run = run_with_turns n receipts (run_at state) in
+    let all : run.entries ≡ entries = same_Some run.entries entries here.entries in
+    let x = all_end n receipts state in
+    record {
+      receipts = receipts;
+      received = received;
+      gone = x.gone;
+      later = x.later;
+      split = x.split;
+      served = λ serving takes.
+          subst (λ es. IsServed setting node e ds state (state_of held new) (offers_in es)) all
+          (subst (λ z. IsServed setting node e ds state z (offers_in run.entries)) (sym here.state) (ended_run setting node e ds state receipts x.gone serving takes x.does));
+    }

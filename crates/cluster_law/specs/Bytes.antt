@@ -1,0 +1,49 @@
+-- What the network may do, byte for byte.
+use Rattle.std.specs.Prelude.{◌≡◌, ℕ, suc, ◌^◌, ◌≤◌, List, [], ◌∷◌, length, Some, slice_get}
+use Rattle.vote_core.specs.Schedule.{Envelope}
+use Rattle.vote_wire.specs.Datagram.{datagram_bytes}
+use Rattle.oath_node.specs.Hosted.{envelope_at}
+use Rattle.cluster_sim.specs.World.{floor_at}
+use Rattle.cluster_law.specs.Lives.{Deed, Opens, FailsToOpen, Takes, Offers, Stops, StopsIn, Handout, Post, Input, Line, Datagram, Time, Scene, Setting, first_scene, nodes_of, scene_after_deed}
+
+-- the ranges of a cluster
+pub record IsSized (setting : Setting) : Type 0 where
+  pub tokens : length setting.config.book ≤ 10000
+  pub nodes : nodes_of setting ≤ 9
+  pub floors : (node token : ℕ) → floor_at setting.floors node token ≤ 2 ^ 62
+
+-- the bytes are, byte for byte, a datagram that was offered before
+pub record WereOffered (key : List ℕ) (offered : List Handout) (bytes : List ℕ) : Type 0 where
+  pub place : ℕ
+  pub envelope : Envelope
+  pub is_there : slice_get offered place ≡ Some (Post envelope)
+  pub bytes_are : bytes ≡ datagram_bytes key envelope.sender envelope.receiver envelope.message
+
+-- A datagram from the address of a node that has a right tag and says that it is from this node was offered before,
+-- byte for byte.
+abbrev pub IsUnforged : List ℕ → List Handout → Input → Type 0
+IsUnforged key offered (Line client moment bytes) = Unit {0}
+IsUnforged key offered Time = Unit {0}
+IsUnforged key offered (Datagram from bytes) =
+    (envelope : Envelope) → envelope_at key bytes ≡ Some envelope → envelope.sender ≡ from
+    → WereOffered key offered bytes
+
+-- the deed takes, or begins to take, such a one
+abbrev pub IsUnforgedDeed : Setting → Scene → Deed → Type 0
+IsUnforgedDeed setting scene (Opens node) = Unit {0}
+IsUnforgedDeed setting scene (FailsToOpen node raised) = Unit {0}
+IsUnforgedDeed setting scene (Takes node input) = IsUnforged setting.key scene.offered input
+IsUnforgedDeed setting scene (Offers node) = Unit {0}
+IsUnforgedDeed setting scene (Stops node) = Unit {0}
+IsUnforgedDeed setting scene (StopsIn node kept input) = IsUnforged setting.key scene.offered input
+
+-- each of these deeds does, the first of which has this number
+unfoldable pub AreUnforged : Setting → ℕ → List Deed → Scene → Type 0
+AreUnforged setting first [] scene = Unit {0}
+AreUnforged setting first (deed ∷ deeds) scene =
+    IsUnforgedDeed setting scene deed
+    × AreUnforged setting (suc first) deeds (scene_after_deed setting first deed scene)
+
+-- a history in which no datagram is forged
+abbrev pub IsUnforgedHistory : Setting → List Deed → Type 0
+IsUnforgedHistory setting history = AreUnforged setting 0 history (first_scene setting)

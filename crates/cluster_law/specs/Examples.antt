@@ -1,0 +1,122 @@
+-- Histories to reckon with: one node, and three, with the one token of RFC 4226, Appendix D.
+use Rattle.std.specs.Prelude.{ℕ, Bool, true, false, List, [], ◌∷◌, replicate, None, codes}
+use Rattle.floor_store.specs.Content.{Content}
+use Rattle.floor_store.specs.Records.{ProposalRecord}
+use Rattle.vote_core.specs.Schedule.{Envelope}
+use Rattle.vote_core.specs.declared.message.Message.TheVariants.{Ask, Grant, Floor}
+use Rattle.vote_wire.specs.Datagram.{datagram_bytes}
+use Rattle.oath_node.specs.Machine.{Made, NodeState, opened_node, quiet_made}
+use Rattle.cluster_sim.specs.Examples.{alone, config, three}
+use Rattle.cluster_law.specs.Lives.{Answer, Datagram, Deed, FailsToOpen, Handout, Input, Line, Offers, Opens, Post, Setting, Stops, StopsIn, Takes}
+
+-- ---- One node
+
+-- one node
+abbrev pub one_node : Setting
+one_node = record { config = config; key = []; floors = alone }
+
+-- a right line of client 7
+abbrev pub right_line : Input
+right_line = Line 7 100 (codes "CHECK 1 silver 755224 -")
+
+-- a process takes it, and answers
+abbrev pub answers_once : List Deed
+answers_once = Opens 1 ∷ Takes 1 right_line ∷ Offers 1 ∷ []
+
+-- a process takes it, and ends before it answers; the next one takes it again
+abbrev pub ends_before_the_answer : List Deed
+ends_before_the_answer =
+    Opens 1 ∷ Takes 1 right_line ∷ Stops 1 ∷ Offers 1 ∷ Opens 1 ∷ Takes 1 right_line ∷ Offers 1 ∷ []
+
+-- A process ends inside the step; one ends while it opens, with its boot raised, and one without; the next takes the
+-- line again.
+abbrev pub ends_in_the_step : Bool → List Deed
+ends_in_the_step kept =
+    Opens 1 ∷ StopsIn 1 kept right_line ∷ FailsToOpen 1 true ∷ FailsToOpen 1 false ∷ Opens 1 ∷ Takes 1 right_line
+    ∷ Offers 1 ∷ []
+
+-- a line that comes where no process is
+abbrev pub comes_to_nobody : List Deed
+comes_to_nobody = Takes 1 right_line ∷ Offers 1 ∷ FailsToOpen 1 true ∷ Takes 1 right_line ∷ Offers 1 ∷ []
+
+-- where a process is, another tries to open, and one fails to
+abbrev pub opens_twice : List Deed
+opens_twice = Opens 1 ∷ Takes 1 right_line ∷ Opens 1 ∷ FailsToOpen 1 true ∷ Offers 1 ∷ []
+
+-- deeds of nodes that are no members
+abbrev pub strangers : List Deed
+strangers = Opens 0 ∷ Takes 0 right_line ∷ Offers 0 ∷ Opens 2 ∷ Takes 2 right_line ∷ Offers 2 ∷ []
+
+-- ---- Three nodes
+
+-- three nodes, whose first free factor is 0
+abbrev pub three_nodes : Setting
+three_nodes = record { config = config; key = replicate 32 0; floors = three }
+
+-- the first proposal of node 1, in its first boot
+abbrev pub first_proposal : ProposalRecord
+first_proposal = record { node = 1; boot = 1; seq = 0 }
+
+-- node 1 asks node 2 for the first factor
+abbrev pub ask : Envelope
+ask = record { sender = 1; receiver = 2; message = Ask first_proposal 0 0 0 }
+
+-- node 2 grants it
+abbrev pub grant : Envelope
+grant = record { sender = 2; receiver = 1; message = Grant first_proposal 0 0 0 }
+
+-- an envelope of the three nodes, as the bytes of a datagram
+abbrev pub bytes_of : Envelope → List ℕ
+bytes_of envelope = datagram_bytes three_nodes.key envelope.sender envelope.receiver envelope.message
+
+-- what comes when the Ask and the Grant do
+abbrev pub ask_comes : Input
+ask_comes = Datagram 1 (bytes_of ask)
+
+abbrev pub grant_comes : Input
+grant_comes = Datagram 2 (bytes_of grant)
+
+-- Node 3 has no process. Node 1 takes a line, and the first that it offers is its Ask to node 2; node 2 takes that, and
+-- offers its Grant, which node 1 takes; then node 1 offers its Ask to node 3, and last its answer.
+abbrev pub granted_by_two : List Deed
+granted_by_two =
+    Opens 1 ∷ Opens 2 ∷ Takes 1 right_line ∷ Offers 1 ∷ Takes 2 ask_comes ∷ Offers 2 ∷ Takes 1 grant_comes ∷ Offers 1
+    ∷ Offers 1 ∷ []
+
+-- the Grant comes before node 2 offered it, though node 2 has made it
+abbrev pub grant_before_its_offer : List Deed
+grant_before_its_offer =
+    Opens 1 ∷ Opens 2 ∷ Takes 1 right_line ∷ Offers 1 ∷ Takes 2 ask_comes ∷ Takes 1 grant_comes ∷ Offers 2 ∷ []
+
+-- a Grant that node 2 never made comes to node 1 from this node's address
+abbrev pub grant_from : ℕ → List Deed
+grant_from from = Opens 1 ∷ Takes 1 (Datagram from (bytes_of grant)) ∷ []
+
+-- a process ends inside the step that takes such a one
+abbrev pub stop_in_a_forged_grant : List Deed
+stop_in_a_forged_grant = Opens 1 ∷ StopsIn 1 true grant_comes ∷ []
+
+-- ---- Parts of deeds
+
+-- a store without rows, at this boot
+abbrev pub content_of_boot : ℕ → Content
+content_of_boot boot = record { rows = []; boot = boot; last = None }
+
+-- a node that has opened such a store
+abbrev pub quiet_node : NodeState
+quiet_node = opened_node (content_of_boot 0)
+
+-- a step that sends a Floor to node 2 and replies to client 7
+abbrev pub tells_both : Made
+tells_both = record (quiet_made quiet_node) {
+  sends = (2, Floor 0 4) ∷ [];
+  replies = record { client = 7; bytes = codes "NO" } ∷ [];
+}
+
+-- its Floor, as node 1 hands it out
+abbrev pub floor_out : Handout
+floor_out = Post (record { sender = 1; receiver = 2; message = Floor 0 4 })
+
+-- its answer, as node 1 hands it out in event 5
+abbrev pub answer_out : Handout
+answer_out = Answer (record { event = 5; node = 1; client = 7; bytes = codes "NO" })

@@ -1,0 +1,107 @@
+-- What is so of every history of a cluster: it is a run of the written world, deed by deed.
+use Rattle.std.specs.Prelude.{◌≡◌, ◌⊎◌, ℕ, ◌<◌, ◌≤◌, true, false, List, length, Option, Some, slice_get}
+use Rattle.otp_core.specs.Acceptance.{Acceptance}
+use Rattle.oath_node.specs.Hosted.{envelope_at}
+use Rattle.cluster_sim.specs.Answered.{IsOk, IsTextOf, NamePasses, TellTruth, ok_bytes}
+use Rattle.vote_wire.specs.Request.{without_lf}
+use Rattle.cluster_sim.specs.Justified.{AreJustified}
+use Rattle.cluster_sim.specs.World.{Act, Says, Deliver, Ticks, Noise, Told, WorldEvent, Happens, Cut, Restart, floor_before, passes_of, world_of}
+use Rattle.cluster_law.specs.Lives.{Deed, Opens, FailsToOpen, Takes, Offers, Stops, StopsIn, Input, Line, Datagram, Time, Setting, accepted_in, answered_in, floor_in, scene_of}
+
+-- the event in which nothing happens: there is no node 0
+abbrev pub nothing : WorldEvent
+nothing = Restart 0
+
+-- the act of the world that an input at a node is: a line is said there; a datagram is one that was sent, or noise
+abbrev pub IsActOf : List ℕ → ℕ → Input → Act → Type 0
+IsActOf key node (Line client moment bytes) act = act ≡ Says node client moment bytes
+IsActOf key node Time act = act ≡ Ticks node
+IsActOf key node (Datagram from bytes) act =
+    ((k : ℕ) × (act ≡ Deliver node k)) ⊎ (act ≡ Noise node from (envelope_at key bytes))
+
+-- an act of an input
+pub record HasAct (key : List ℕ) (node : ℕ) (input : Input) (made : Act → WorldEvent)
+    (event : WorldEvent) : Type 0 where
+  pub act : Act
+  pub event_is : event ≡ made act
+  pub is_act : IsActOf key node input act
+
+-- The event of the world that a deed is. What an input does to a node that has no process is nothing.
+abbrev pub IsEventOf : List ℕ → Deed → WorldEvent → Type 0
+IsEventOf key (Opens node) event = (event ≡ nothing) ⊎ (event ≡ Restart node)
+IsEventOf key (FailsToOpen node raised) event = (event ≡ nothing) ⊎ (event ≡ Restart node)
+IsEventOf key (Takes node input) event =
+    (event ≡ nothing) ⊎ HasAct key node input (λ act. Happens act) event
+IsEventOf key (Offers node) event = event ≡ nothing
+IsEventOf key (Stops node) event = event ≡ nothing
+IsEventOf key (StopsIn node false input) event = event ≡ nothing
+IsEventOf key (StopsIn node true input) event =
+    (event ≡ nothing) ⊎ HasAct key node input (λ act. Cut true act) event
+
+-- the event of a deed, at its place
+pub record HasEvent (key : List ℕ) (deed : Deed) (place : ℕ) (events : List WorldEvent) : Type 0 where
+  pub event : WorldEvent
+  pub is_there : slice_get events place ≡ Some event
+  pub is_event : IsEventOf key deed event
+
+-- the answer is among these
+pub record IsToldAmong (told : Told) (answers : List Told) : Type 0 where
+  pub place : ℕ
+  pub is_there : slice_get answers place ≡ Some told
+
+-- A history is a run of the world, event by event: what its stores wrote as accepted and what they hold is the run's,
+-- and what its processes answered the run tells.
+pub record IsRunOf (setting : Setting) (history : List Deed) (events : List WorldEvent) : Type 0 where
+  pub number : length events ≡ length history
+  pub each : (place : ℕ) (deed : Deed) → slice_get history place ≡ Some deed → HasEvent setting.key deed place events
+  pub notes : (scene_of setting history).notes ≡ (world_of setting.config setting.floors events).history
+  pub accepted : accepted_in setting history ≡ passes_of setting.config setting.floors events
+  pub floors : (node token event : ℕ) → floor_in setting history node token event
+      ≡ floor_before setting.config setting.floors events node token event
+  pub answered : (place : ℕ) (told : Told) → slice_get (answered_in setting history) place ≡ Some told
+      → IsToldAmong told (world_of setting.config setting.floors events).told
+
+-- There is such a run. By it each acceptance of the history is justified by the client's line with which it began; each
+-- `OK` that was offered belongs to an acceptance, and no other answer that was offered begins as one.
+pub record IsExplained (setting : Setting) (history : List Deed) : Type 0 where
+  pub events : List WorldEvent
+  pub is_run : IsRunOf setting history events
+  pub justified : AreJustified setting.config setting.floors events (accepted_in setting history)
+  pub told : NamePasses events (accepted_in setting history) (answered_in setting history)
+  pub no_other : TellTruth events (accepted_in setting history) (answered_in setting history)
+
+-- ---- Answers, in the words of the history alone
+
+-- the deed takes this line of the client at the node, with this nonce, or ends inside its step and keeps its change
+abbrev pub IsAskedInDeed : ℕ → ℕ → List ℕ → List ℕ → Option Deed → Type 0
+IsAskedInDeed node client line nonce (Some (Takes at (Line by moment text))) =
+    (at ≡ node) × (by ≡ client) × IsTextOf line nonce text
+IsAskedInDeed node client line nonce (Some (StopsIn at true (Line by moment text))) =
+    (at ≡ node) × (by ≡ client) × IsTextOf line nonce text
+IsAskedInDeed node client line nonce _ = ⊥
+
+-- the deed takes this line of the client at the node, an LF at its end aside
+abbrev pub IsSaidInDeed : ℕ → ℕ → List ℕ → Option Deed → Type 0
+IsSaidInDeed node client line (Some (Takes at (Line by moment text))) =
+    (at ≡ node) × (by ≡ client) × (without_lf text ≡ line)
+IsSaidInDeed node client line _ = ⊥
+
+-- What was answered is the OK of an acceptance of its node: the line with which that began its process took from the
+-- same client, with its nonce. If the acceptance ended in an earlier deed, the client sent that line again.
+pub record BelongsToAcceptance (setting : Setting) (history : List Deed) (told : Told) : Type 0 where
+  pub place : ℕ
+  pub pass : Acceptance
+  pub is_pass : slice_get (accepted_in setting history) place ≡ Some pass
+  pub node : pass.node ≡ told.node
+  pub ended : pass.ended ≤ told.event
+  pub line : List ℕ
+  pub nonce : List ℕ
+  pub asked : IsAskedInDeed told.node told.client line nonce (slice_get history pass.began)
+  pub bytes : told.bytes ≡ ok_bytes nonce pass.hi
+  pub again : pass.ended < told.event → IsSaidInDeed told.node told.client line (slice_get history told.event)
+
+-- each answer that was offered and begins as an OK does
+abbrev pub AnswerTruly : Setting → List Deed → Type 0
+AnswerTruly setting history =
+    (i : ℕ) (told : Told) → slice_get (answered_in setting history) i ≡ Some told → IsOk told.bytes
+    → BelongsToAcceptance setting history told

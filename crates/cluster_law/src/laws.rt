@@ -1,0 +1,213 @@
+//! What is so of every history of a cluster.
+
+ghost use Rattle.std.specs.Prelude.{◌≡◌, ◌⊎◌, ℕ, List, [], ◌∷◌, Option, Some, Result, Ok, Err, None, true, false, map, take, codes};
+ghost use Rattle.admit_core.specs.Throttle.{SpacesFailures};
+ghost use Rattle.cluster_sim.specs.Results.{results_in};
+ghost use Rattle.otp_core.specs.Acceptance.{HaveSingleUse, KeepRealTimeOrder};
+ghost use Rattle.vote_core.specs.Safety.{HaveMajority};
+ghost use Rattle.cluster_sim.specs.World.{WorldEvent};
+ghost use Rattle.floor_store.specs.Content.{Content};
+ghost use Rattle.floor_store.specs.Held.{IsSettled, RaisesBoot};
+ghost use Rattle.floor_store.specs.Range.{IsCount};
+ghost use Rattle.floor_store.specs.declared.fault.StoreFault.{StoreFault};
+ghost use Rattle.vote_core.specs.Schedule.{is_member};
+ghost use Rattle.oath_node.specs.Calls.{Handles, IsOpened};
+ghost use Rattle.oath_node.specs.Hosted.{Hosted, state_of};
+ghost use Rattle.oath_node.specs.Machine.{NodeState, opened_node};
+ghost use Rattle.oath_node.specs.Outputs.{OutputsRecord};
+ghost use Rattle.oath_node.specs.declared.fault.NodeFault.{NodeFault};
+ghost use Rattle.node_turns.specs.Turns.{Receipt, offers_in, run_at, run_with_turns};
+ghost use Rattle.vote_wire.specs.declared.answer.Outcome.TheVariants.{Accepted, Invalid};
+ghost use Rattle.cluster_sim.specs.Examples.{acceptance, told_outcome};
+ghost use Rattle.node_turns.specs.Port.{PortEvent};
+ghost use Rattle.node_turns.specs.Serving.{Serves};
+ghost use Rattle.node_turns.specs.declared.fault.ServeFault.TheVariants.{Clock, Port};
+ghost use Rattle.node_turns.specs.declared.turns.Served.{Served};
+ghost use Rattle.cluster_law.specs.Bytes.{IsSized, IsUnforgedHistory};
+ghost use Rattle.cluster_law.specs.Examples.{answer_out, answers_once, comes_to_nobody, content_of_boot, ends_before_the_answer, ends_in_the_step, floor_out, grant_before_its_offer, grant_from, granted_by_two, one_node, opens_twice, quiet_node, stop_in_a_forged_grant, strangers, tells_both, three_nodes};
+ghost use Rattle.cluster_law.specs.Lives.{Deed, Down, Input, IsHistory, Offers, Scene, Setting, Site, Stops, Takes, Time, Up, accepted_in, answered_in, answers_among, content_at, event_of, first_scene, floor_in, handouts_of, made_by_input, nodes_of, offers_by, own_site, scene_after, scene_of, site_after, site_cut, site_half_opened, site_offered, site_opened};
+ghost use Rattle.cluster_law.specs.Processes.{AreServing, IsHalfOpened, IsEndedNode, IsMemberIn, IsServed, IsServedNode, TakesTurns, item_of, member_in, run_over};
+ghost use Rattle.cluster_law.specs.Promises.{AnswerTruly, IsExplained, IsRunOf};
+
+use cluster_sim::{answers_belong_to_passes, world_is_safe};
+use floor_store::FloorStore;
+use oath_node::rulings_have_grounds;
+use vote_wire::one_spelling;
+
+/// Whatever processes the nodes of a cluster have, one after another, over what the one before left in the store, and
+/// whatever the network, the clocks and the clients do, but for datagrams that are forged under the key: what is
+/// accepted is safe, and what is answered is true.
+pub fn lives_are_worlds()
+    // A history is a run of the written world, event by event.
+    ensures world { (setting : Setting) (history : List Deed) → IsHistory setting history
+        → (events : List WorldEvent) × IsRunOf setting history events }
+    ensures single_use { (setting : Setting) (history : List Deed) → IsHistory setting history
+        → HaveSingleUse (accepted_in setting history) }
+    ensures in_order { (setting : Setting) (history : List Deed) → IsHistory setting history
+        → KeepRealTimeOrder (accepted_in setting history) }
+    ensures majority { (setting : Setting) (history : List Deed) → IsHistory setting history
+        → HaveMajority (nodes_of setting) (floor_in setting history) (accepted_in setting history) }
+    ensures explained { (setting : Setting) (history : List Deed) → IsHistory setting history
+        → IsExplained setting history }
+    // The failures of a token at a node are far apart.
+    ensures spaced { (setting : Setting) (history : List Deed) (node token : ℕ) → IsHistory setting history
+        → SpacesFailures (results_in (scene_of setting history).notes node token) }
+    // Each answer that a process offered and that begins as an `OK` belongs to an acceptance of its node, whose line
+    // its client sent there.
+    ensures told { (setting : Setting) (history : List Deed) → IsHistory setting history
+        → AnswerTruly setting history }
+{
+    world_is_safe();
+    answers_belong_to_passes();
+}
+
+/// Where each datagram with a right tag that comes from the address of the node that it names was offered before, byte
+/// for byte, each says what was offered: so the laws of histories hold.
+pub fn unforged_bytes_are_genuine()
+    ensures { (setting : Setting) (history : List Deed) → IsSized setting → IsUnforgedHistory setting history
+        → IsHistory setting history }
+{
+    one_spelling();
+    rulings_have_grounds();
+}
+
+/// Over any store, the calls of a node are the deeds of a history.
+pub fn calls_are_deeds<S: FloorStore>()
+    // A node that `Node::open` opened is the site that its process opened.
+    ensures opens { (store : S) (node : Hosted S) → IsOpened S.held store node → (S.held node.store).is_clean
+        → IsCount (S.held node.store).content.boot
+        → site_opened (S.held store).content ≡ Up (state_of S.held node) [] }
+    // What a stop leaves of a store whose boot was being raised is what a process that failed to open leaves.
+    ensures half_opens { (store left : S) (result : Result S StoreFault) (content : Content)
+        → RaisesBoot S.held store left result → IsSettled (S.held store) → (S.held left).leaves content
+        → IsCount content.boot → IsHalfOpened (S.held store).content content }
+    // A node that `Node::handle` took through an event is the site that took it, and hands out the same.
+    ensures takes { (setting : Setting) (place : ℕ) (input : Input) (old new : Hosted S) (outputs : OutputsRecord)
+        → IsMemberIn setting place old → Handles S.held old new (event_of setting.key input) (Ok outputs)
+        → (S.held new.store).is_clean
+        → state_of S.held new ≡ (made_by_input setting place input (state_of S.held old)).state }
+    ensures hands_out { (setting : Setting) (event place : ℕ) (input : Input) (old new : Hosted S)
+        (outputs : OutputsRecord)
+        → IsMemberIn setting place old → Handles S.held old new (event_of setting.key input) (Ok outputs)
+        → (S.held new.store).is_clean
+        → let made = made_by_input setting place input (state_of S.held old) in
+        outputs.items ≡ map (item_of setting.key) (handouts_of event place made) }
+    // What a stop leaves of its store in that call, however it ends, is what a process leaves that ended inside the
+    // step: what was there, or what the step makes.
+    ensures stops_inside { (setting : Setting) (place : ℕ) (input : Input) (old new : Hosted S)
+        (result : Result OutputsRecord NodeFault) (content : Content)
+        → IsMemberIn setting place old → Handles S.held old new (event_of setting.key input) result
+        → (S.held old.store).is_clean → IsSettled (S.held old.store) → (S.held new.store).leaves content
+        → (site_cut setting place false input (state_of S.held old) ≡ Down content)
+        ⊎ (site_cut setting place true input (state_of S.held old) ≡ Down content) }
+    // After each call that is answered by Ok a stop leaves what the node's content is, and nothing else.
+    ensures opens_settled { (store : S) (node : Hosted S) → IsOpened S.held store node
+        → (S.held node.store).is_clean → IsSettled (S.held node.store) }
+    ensures takes_settled { (setting : Setting) (input : Input) (old new : Hosted S) (outputs : OutputsRecord)
+        → Handles S.held old new (event_of setting.key input) (Ok outputs)
+        → (S.held new.store).is_clean → IsSettled (S.held old.store) → IsSettled (S.held new.store) }
+{}
+
+/// Among all that happens in a history, a node is what its own deeds make of it; and where these are those of a process
+/// that goes on, it is the run of its turns, and offers what that offers.
+pub fn turns_are_deeds()
+    ensures own { (setting : Setting) (node first : ℕ) (deeds : List Deed) (scene : Scene)
+        → is_member (nodes_of setting) node ≡ true
+        → (scene_after setting first deeds scene).sites node
+        ≡ own_site setting node first deeds (scene.sites node) }
+    ensures events { (setting : Setting) (node first : ℕ) (deeds : List Deed) (state : NodeState)
+        → AreServing node deeds
+        → let run = run_over setting node deeds state in
+        IsServed setting node first deeds state run.node run.entries }
+    ensures turns { (setting : Setting) (node first : ℕ) (deeds : List Deed) (state : NodeState)
+        (receipts : List Receipt) → AreServing node deeds → TakesTurns setting node deeds receipts
+        → let run = run_with_turns (member_in setting node) receipts (run_at state) in
+        run.end ≡ None → IsServed setting node first deeds state run.node (offers_in run.entries) }
+{}
+
+/// What `run_turns` promises of a call over any store and a port that keeps a record, is what a history says of such a
+/// process.
+pub fn served_nodes_are_deeds<S: FloorStore>()
+    ensures ok { (setting : Setting) (place first : ℕ) (deeds : List Deed) (old new : Hosted S)
+        (entries : List PortEvent) (asked told : Option (List (Option ℕ))) (turns : ℕ) (served : Served)
+        → IsMemberIn setting place old
+        → Serves S.held old new (Some []) (Some entries) asked told turns (Ok served) → (S.held new.store).is_clean
+        → IsServedNode setting place first deeds (state_of S.held old) (state_of S.held new) entries }
+    ensures port { (setting : Setting) (place first : ℕ) (deeds : List Deed) (old new : Hosted S)
+        (entries : List PortEvent) (asked told : Option (List (Option ℕ))) (turns : ℕ) → IsMemberIn setting place old
+        → Serves S.held old new (Some []) (Some entries) asked told turns (Err Port) → (S.held new.store).is_clean
+        → IsEndedNode setting place first deeds (state_of S.held old) (state_of S.held new) entries }
+    ensures clock { (setting : Setting) (place first : ℕ) (deeds : List Deed) (old new : Hosted S)
+        (entries : List PortEvent) (asked told : Option (List (Option ℕ))) (turns : ℕ) → IsMemberIn setting place old
+        → Serves S.held old new (Some []) (Some entries) asked told turns (Err Clock) → (S.held new.store).is_clean
+        → IsEndedNode setting place first deeds (state_of S.held old) (state_of S.held new) entries }
+{}
+
+/// Some histories, worked through: a line is accepted once, whatever ends when; what is not offered is not answered;
+/// and what comes where there is no process is lost.
+pub fn histories_are_worked()
+    ensures accepted { accepted_in one_node answers_once ≡ acceptance 1 1 1 0 0 ∷ [] }
+    ensures answered { answered_in one_node answers_once ≡ told_outcome 1 1 7 (codes "1") (Accepted 0) ∷ [] }
+    ensures accepted_before { accepted_in one_node ends_before_the_answer ≡ acceptance 1 1 1 0 0 ∷ [] }
+    ensures answered_after { answered_in one_node ends_before_the_answer
+        ≡ told_outcome 5 1 7 (codes "1") Invalid ∷ [] }
+    ensures accepted_kept { accepted_in one_node (ends_in_the_step true) ≡ acceptance 1 1 1 0 0 ∷ [] }
+    ensures answered_kept { answered_in one_node (ends_in_the_step true)
+        ≡ told_outcome 5 1 7 (codes "1") Invalid ∷ [] }
+    ensures accepted_lost { accepted_in one_node (ends_in_the_step false) ≡ acceptance 5 5 1 0 0 ∷ [] }
+    ensures answered_lost { answered_in one_node (ends_in_the_step false)
+        ≡ told_outcome 5 1 7 (codes "1") (Accepted 0) ∷ [] }
+    ensures boots { (content_at ((scene_of one_node (ends_in_the_step true)).sites 1)).boot ≡ 3 }
+    ensures nobody { scene_of one_node comes_to_nobody
+        ≡ record (first_scene one_node) { sites = (scene_of one_node comes_to_nobody).sites } }
+    // One process a node: where one is, none opens, and none fails to.
+    ensures one_process { answered_in one_node opens_twice ≡ told_outcome 1 1 7 (codes "1") (Accepted 0) ∷ [] }
+    // What is no member does nothing.
+    ensures strangers { scene_of one_node strangers ≡ first_scene one_node }
+    ensures is_history { IsHistory one_node answers_once }
+{}
+
+/// A history of three nodes, worked through: what two of them do is accepted, whatever became of the third.
+pub fn history_of_three_is_worked()
+    ensures accepted { accepted_in three_nodes granted_by_two ≡ acceptance 2 6 1 0 0 ∷ [] }
+    ensures answered { answered_in three_nodes granted_by_two
+        ≡ told_outcome 6 1 7 (codes "1") (Accepted 0) ∷ [] }
+    // The answer is offered after what was made before it.
+    ensures answered_last { answered_in three_nodes (take 8 granted_by_two) ≡ [] }
+    ensures floor_before { floor_in three_nodes granted_by_two 2 0 4 ≡ 0 }
+    ensures floor_after { floor_in three_nodes granted_by_two 2 0 5 ≡ 1 }
+    ensures floor_of_the_third { floor_in three_nodes granted_by_two 3 0 9 ≡ 0 }
+    ensures is_history { IsHistory three_nodes granted_by_two }
+{}
+
+/// What makes no history: a datagram under the key that its sender has not offered yet, or never. Noise makes one.
+pub fn promises_can_be_broken()
+    ensures forged { IsHistory three_nodes (grant_from 2) → ⊥ }
+    ensures forged_in_a_stop { IsHistory three_nodes stop_in_a_forged_grant → ⊥ }
+    ensures not_offered_yet { IsHistory three_nodes grant_before_its_offer → ⊥ }
+    ensures noise { IsHistory three_nodes (grant_from 3) }
+{}
+
+/// Parts of deeds, worked through: boots, and what is handed out in which order.
+pub fn deeds_are_worked()
+    // The last boot is 2^62 - 1.
+    ensures opens_before_the_last { site_opened (content_of_boot 4611686018427387902)
+        ≡ Up (opened_node (content_of_boot 4611686018427387902)) [] }
+    ensures opens_no_more { site_opened (content_of_boot 4611686018427387903)
+        ≡ Down (content_of_boot 4611686018427387903) }
+    ensures half_opens { site_half_opened true (content_of_boot 4611686018427387902)
+        ≡ Down (content_of_boot 4611686018427387903) }
+    ensures half_opens_no_more { site_half_opened true (content_of_boot 4611686018427387903)
+        ≡ Down (content_of_boot 4611686018427387903) }
+    ensures opens_in_vain { site_half_opened false (content_of_boot 3) ≡ Down (content_of_boot 3) }
+    // Datagrams are handed out before answers, and one at a time.
+    ensures handed_out { handouts_of 5 1 tells_both ≡ floor_out ∷ answer_out ∷ [] }
+    ensures first_offered { offers_by (Offers 1) (Up quiet_node (floor_out ∷ answer_out ∷ [])) ≡ floor_out ∷ [] }
+    ensures rest_waits { site_offered quiet_node (floor_out ∷ answer_out ∷ []) ≡ Up quiet_node (answer_out ∷ []) }
+    ensures all_offered { offers_by (Offers 1) (Up quiet_node []) ≡ [] }
+    ensures taken_is_not_offered { offers_by (Takes 1 Time) (Up quiet_node (floor_out ∷ [])) ≡ [] }
+    ensures stopped_is_not_offered { offers_by (Stops 1) (Up quiet_node (floor_out ∷ [])) ≡ [] }
+    ensures stopped { site_after one_node 0 (Stops 1) (Up quiet_node (floor_out ∷ [])) ≡ Down (content_of_boot 1) }
+    ensures answers { answers_among (floor_out ∷ answer_out ∷ [])
+        ≡ record { event = 5; node = 1; client = 7; bytes = codes "NO" } ∷ [] }
+{}

@@ -1,0 +1,11 @@
+//! The lives of the nodes of a cluster: every history of processes that open stores, serve and end at any moment is a
+//! run of the written world, so that what is promised of its runs holds of what these processes accepted and answered.
+#![tactic(auto)]
+
+mod laws;
+
+pub use laws::{
+    calls_are_deeds, deeds_are_worked, histories_are_worked, history_of_three_is_worked,
+    lives_are_worlds, promises_can_be_broken, served_nodes_are_deeds, turns_are_deeds,
+    unforged_bytes_are_genuine,
+};
