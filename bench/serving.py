@@ -60,8 +60,8 @@ def hear(client, line):
     nonce = line.split()[1]
     try:
         while True:
-            answer = client.recv(512).decode()
-            if answer.split()[1] == nonce:
+            answer = client.recv(512).decode("ascii", "replace")
+            if answer.split()[1:2] == [nonce]:
                 return answer
     except (TimeoutError, ConnectionRefusedError):
         return None

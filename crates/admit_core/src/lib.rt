@@ -8,8 +8,6 @@ mod gate;
 mod laws;
 mod password;
 mod search;
-#[cfg(test)]
-mod tests;
 mod windows;
 
 pub use drift::drift_after;

@@ -6,8 +6,6 @@
 mod answers;
 mod kept;
 mod laws;
-#[cfg(test)]
-mod tests;
 
 pub use answers::Answers;
 pub use kept::{Count, Kept, MAX_ANSWER_LEN, MAX_LINE_LEN, answer_again, keep};

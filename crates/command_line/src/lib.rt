@@ -8,8 +8,6 @@ mod laws;
 mod number;
 mod output;
 mod status;
-#[cfg(test)]
-mod tests;
 mod words;
 
 pub use clap_error::explain;

@@ -3,8 +3,6 @@
 
 mod cut;
 mod number;
-#[cfg(test)]
-mod tests;
 
 pub use cut::cut_at;
 pub use number::read_number;

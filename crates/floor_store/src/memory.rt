@@ -54,17 +54,6 @@ impl MemStore {
     }
 }
 
-#[cfg(test)]
-impl MemStore {
-    /// This store at the last boot.
-    pub(crate) fn at_last_boot(self) -> Self {
-        MemStore {
-            boot: COUNTS_END - 1,
-            ..self
-        }
-    }
-}
-
 impl FloorStore for MemStore {
     ghost use Rattle.std.specs.Prelude.{◌≡◌, None};
 

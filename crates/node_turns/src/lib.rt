@@ -10,8 +10,6 @@ mod fault;
 mod laws;
 mod list_port;
 mod port;
-#[cfg(test)]
-mod tests;
 mod turns;
 
 pub use clock::Clock;

@@ -1,212 +1,134 @@
-//! Nodes whose store fails at a write, one write after the other.
+//! A node whose store fails at a write, one write after the other.
 
-use crate::node_tests::{
-    SILVER, book_of, datagram_to, memory, node_over, opened, sent_to, settings, zeros,
+use crate::steps::{
+    ASK_1_2, ASK_1_3, ASK_2_1, ASK_2_3, DENY_3_2, GRANT_3_1, Out, SILVER, Step, book_of,
+    count_of_node, count_steps, memory, settings, zeros,
 };
-use arrayvec::ArrayVec;
 use floor_store::{FloorStore, FuseStore, MemStore, StoreFault};
-use oath_node::{Event, Item, Node, NodeFault, OpenFault, Scratch};
-use otp_core::Next;
+use oath_node::{Event, Node, NodeFault, OpenFault, Scratch};
 use std::alloc::Global;
-use std::process::Abort;
-use std::test::Fail;
 use token_file::Book;
 use vote_core::Place;
-use vote_wire::{ClusterKey, MAX_SENT_LEN};
+use vote_wire::ClusterKey;
 
-/// A node over a store in memory that fails at some write.
-type Fused<'b> = Node<'b, FuseStore<MemStore>>;
+/// A store in memory that fails at some write.
+type Fuse = FuseStore<MemStore>;
 
-/// A datagram.
-type Sent = ArrayVec<u8, MAX_SENT_LEN>;
+/// A client sends a code to node 1 of three, which node 3 grants.
+const FIRST: &[Step] = &[
+    Step::Line(
+        7,
+        1000,
+        b"CHECK a silver 755224 -",
+        &[Out::Sent(2, &ASK_1_2), Out::Sent(3, &ASK_1_3)],
+    ),
+    Step::Heard(3, &GRANT_3_1, &[Out::Told(7, b"OK a 0")]),
+];
 
-/// Node 3 of three over a store that doesn't fail.
-fn opened_again<'b>(
-    alloc: Global,
-    book: &'b Book,
-    key: &'b ClusterKey,
-    store: MemStore,
-) -> Result<Fused<'b>, Fail> {
-    node_over(alloc, book, key, FuseStore::new(store, 1_000, false), 3, 3)
-}
+/// Another client sends it to node 2, which node 3 denies.
+const SECOND: &[Step] = &[
+    Step::Line(
+        8,
+        1000,
+        b"CHECK b silver 755224 -",
+        &[Out::Sent(1, &ASK_2_1), Out::Sent(3, &ASK_2_3)],
+    ),
+    Step::Heard(3, &DENY_3_2, &[]),
+];
 
-/// Node 3 of three over a store whose write behind so many fails, and whether that was in its opening: then it is the
-/// node that the mended store opens.
-fn opened_third<'b>(
-    alloc: Global,
-    book: &'b Book,
-    key: &'b ClusterKey,
-    floors: &[Next],
-    writes: u64,
-    after: bool,
-) -> Result<(Fused<'b>, bool), Fail> {
-    let store = FuseStore::new(memory(alloc, floors)?, writes, after);
-    if store.tokens() as usize != book.len() {
-        return Err("another number of tokens".into());
-    }
-    let place = Place::new(3, 3).ok_or("a place")?;
-    match Node::open(alloc, book, settings()?, place, key, store) {
-        Ok(node) => Ok((node, false)),
-        Err((store, OpenFault::Store(StoreFault::Disk))) => {
-            Ok((opened_again(alloc, book, key, store.mend())?, true))
-        }
-        Err((_, fault)) => Err(fault.into()),
-    }
-}
+/// What node 3 hears and answers. Node 1 asks it twice.
+const THIRD: &[Step] = &[
+    Step::Heard(1, &ASK_1_3, &[Out::Sent(1, &GRANT_3_1)]),
+    Step::Heard(1, &ASK_1_3, &[Out::Sent(1, &GRANT_3_1)]),
+    Step::Heard(2, &ASK_2_3, &[Out::Sent(2, &DENY_3_2)]),
+];
 
-/// The node behind a datagram, what it sent back, and whether its store failed: then it was stopped, and the mended
-/// store opened it for the same datagram.
-fn heard<'b>(
-    alloc: Global,
-    book: &'b Book,
-    key: &'b ClusterKey,
-    mut node: Fused<'b>,
-    from: u8,
-    bytes: &[u8],
-) -> Result<(Fused<'b>, Sent, bool), Fail> {
+/// Whether a node answers a tick and a restart as one that its store stopped.
+fn is_stopped(node: &mut Node<'_, Fuse>) -> bool {
     let mut scratch = Scratch::new();
-    match node.handle(Event::Peer { from, bytes }, &mut scratch) {
-        Ok(outputs) => return Ok((node, sent_to(&outputs, from)?, false)),
-        Err(NodeFault::Store(StoreFault::Disk)) => {}
-        Err(fault) => return Err(fault.into()),
-    }
-    if node.handle(Event::Tick, &mut scratch).err() != Some(NodeFault::Stopped) {
-        return Err("a stopped node that goes on".into());
-    }
-    let mut node = opened_again(alloc, book, key, node.close().mend())?;
-    let sent = datagram_to(&mut node, from, bytes)?;
-    Ok((node, sent, true))
-}
-
-/// The Ask for node 3 that a line of the client makes a node send.
-fn asked(node: &mut Node<'_, MemStore>, client: u64, line: &[u8]) -> Result<Sent, Fail> {
-    let mut scratch = Scratch::new();
-    let event = Event::Client {
-        client,
-        moment: 1000,
-        line,
+    let ticked = match node.handle(Event::Tick, &mut scratch) {
+        Ok(_) => None,
+        Err(fault) => Some(fault),
     };
-    let outputs = node.handle(event, &mut scratch)?;
-    for item in outputs.items() {
-        if let Item::Datagram { to: 3, bytes } = item {
-            return Ok(bytes);
-        }
-    }
-    Err("no Ask".into())
+    !node.is_running()
+        && ticked == Some(NodeFault::Stopped)
+        && node.restart() == Err(NodeFault::Store(StoreFault::Disk))
 }
 
-/// What a node replies to the client for bytes of node 3; nothing where it has no reply.
-fn reply_for(node: &mut Node<'_, MemStore>, client: u64, bytes: &[u8]) -> Result<Sent, Fail> {
-    let mut scratch = Scratch::new();
-    let outputs = node.handle(Event::Peer { from: 3, bytes }, &mut scratch)?;
-    let mut text = ArrayVec::new();
-    for item in outputs.items() {
-        match item {
-            Item::Reply { client: to, bytes } if to == client => text = bytes,
-            _ => return Err("another item".into()),
-        }
-    }
-    Ok(text)
-}
-
-/// The Ask for node 3 with which a node puts the line of a client to the vote, and what it replies to that client for a
-/// vote of node 3.
-fn asked_and_told(
-    node: &mut Node<'_, MemStore>,
-    client: u64,
-    line: &[u8],
-    vote: &[u8],
-) -> Result<(Sent, Sent), Fail> {
-    let ask = asked(node, client, line)?;
-    Ok((ask, reply_for(node, client, vote)?))
-}
-
-/// The same of a fresh node of three.
-fn asks_and_is_told(
+/// How many steps of node 3 go as they say, before its store fails, and the store as it stands. Nothing, where a step
+/// goes otherwise.
+fn steps_of_third(
     alloc: Global,
-    me: u8,
-    client: u64,
-    line: &[u8],
-    vote: &[u8],
-) -> Result<(Sent, Sent), Fail> {
-    let (book, floors) = book_of(alloc, SILVER)?;
+    book: &Book,
+    key: &ClusterKey,
+    store: Fuse,
+    steps: &[Step],
+) -> Option<(Fuse, usize)> {
+    let settings = settings()?;
+    let place = Place::new(3, 3)?;
+    if store.tokens() as usize != book.len() {
+        return None;
+    }
+    match Node::open(alloc, book, settings, place, key, store) {
+        Ok(mut node) => {
+            let count = count_steps(&mut node, steps);
+            if count < steps.len() && !is_stopped(&mut node) {
+                return None;
+            }
+            Some((node.close(), count))
+        }
+        Err((store, OpenFault::Store(StoreFault::Disk))) => Some((store, 0)),
+        Err(_) => None,
+    }
+}
+
+/// The boot of node 3 after all its steps, where the rest of them go over the mended store once a write has failed.
+/// Nothing, where a step goes otherwise, or the fuse blows otherwise than it says.
+fn boot_of_third(
+    alloc: Global,
+    book: &Book,
+    key: &ClusterKey,
+    store: Fuse,
+    blows: bool,
+) -> Option<u64> {
+    let (store, count) = steps_of_third(alloc, book, key, store, THIRD)?;
+    if store.is_broken() != blows {
+        return None;
+    }
+    let store = FuseStore::new(store.mend(), 9, false);
+    let rest = THIRD.get(count..)?;
+    let (store, count) = steps_of_third(alloc, book, key, store, rest)?;
+    if count != rest.len() {
+        return None;
+    }
+    store.boot().ok()
+}
+
+/// The same of a fresh node of the one token.
+fn boot_of_fresh_third(alloc: Global, writes: u64, after: bool, blows: bool) -> Option<u64> {
     let key = zeros()?;
-    let mut node = opened(alloc, &book, &key, &floors, me, 3)?;
-    asked_and_told(&mut node, client, line, vote)
-}
-
-/// What node 3 sends back for an Ask of node 1, twice, and for another one of node 2; whether a write failed, and its
-/// boot at the end.
-fn votes_of_third<'b>(
-    alloc: Global,
-    book: &'b Book,
-    key: &'b ClusterKey,
-    node: Fused<'b>,
-    ask: &[u8],
-    other: &[u8],
-) -> Result<(Sent, Sent, bool, u64), Fail> {
-    let (node, grant, at_ask) = heard(alloc, book, key, node, 1, ask)?;
-    let (node, again, later) = heard(alloc, book, key, node, 1, ask)?;
-    if again != grant {
-        return Err("another Grant".into());
-    }
-    let (node, deny, last) = heard(alloc, book, key, node, 2, other)?;
-    Ok((grant, deny, at_ask || later || last, node.close().boot()?))
-}
-
-/// The same, where its write behind so many fails, which may be that of its opening.
-fn votes_of(
-    alloc: Global,
-    writes: u64,
-    after: bool,
-    ask: &[u8],
-    other: &[u8],
-) -> Result<(Sent, Sent, bool, u64), Fail> {
     let (book, floors) = book_of(alloc, SILVER)?;
-    let key = zeros()?;
-    let (node, at_open) = opened_third(alloc, &book, &key, &floors, writes, after)?;
-    let (grant, deny, failed, boot) = votes_of_third(alloc, &book, &key, node, ask, other)?;
-    Ok((grant, deny, at_open || failed, boot))
+    let store = FuseStore::new(memory(alloc, &floors)?, writes, after);
+    boot_of_third(alloc, &book, &key, store, blows)
 }
 
-/// Two clients send one code to nodes 1 and 2 of three, and node 3 grants it to node 1 alone, whichever of its writes
-/// fails. Gives whether one failed, and the boot of node 3 at the end. What nodes 1 and 2 do with the votes is seen in
-/// nodes that are asked the same again.
-fn run_of_two_clients<R: Abort + AllocGlobal>(
-    rt: &R,
-    writes: u64,
-    after: bool,
-) -> Result<(bool, u64), Fail> {
-    let alloc = rt.alloc();
-    let (first, second) = (b"CHECK a silver 755224 -", b"CHECK b silver 755224 -");
-    let (ask, _) = asks_and_is_told(alloc, 1, 7, first, b"")?;
-    let (other, _) = asks_and_is_told(alloc, 2, 8, second, b"")?;
-    let (grant, deny, failed, boot) = votes_of(alloc, writes, after, &ask, &other)?;
-    let (_, told) = asks_and_is_told(alloc, 1, 7, first, &grant)?;
-    assert!(rt; told.as_slice() == b"OK a 0".as_slice());
-    let (_, told) = asks_and_is_told(alloc, 2, 8, second, &deny)?;
-    assert!(rt; told.is_empty());
-    Ok((failed, boot))
-}
+/// How many writes pass, whether the change of the next one is kept, whether there is a next one, and the last boot.
+const WRITES: &[(u64, bool, bool, u64)] = &[
+    (0, false, true, 1),
+    (0, true, true, 2),
+    (1, false, true, 2),
+    (1, true, true, 2),
+    (2, false, false, 2),
+    (2, true, false, 2),
+];
 
-/// How many writes of node 3 come before the first run in which none fails. Its boot is the second where one fails.
-fn writes_of_a_run<R: Abort + AllocGlobal>(rt: &R, after: bool) -> Result<u64, Fail> {
-    for writes in 1..9 {
-        match run_of_two_clients(rt, writes, after)? {
-            (true, 2) => {}
-            (false, 1) => return Ok(writes),
-            _ => return Err("another boot".into()),
-        }
-    }
-    Err("more writes than there are".into())
-}
-
-/// Each write of node 3 fails in turn, lost or kept: that of its boot, and that of its Grant.
+/// Each write of node 3 fails in turn, lost or kept: that of its boot, and that of its Grant. It has no third one.
+/// It grants the code to node 1 alone in each run, which tells its client so, and node 2 doesn't.
 #[test]
-fn each_write_fails(rt: HostRuntime) -> Result<(), Fail> {
-    assert!(rt; run_of_two_clients(&rt, 0, false)? == (true, 1));
-    assert!(rt; run_of_two_clients(&rt, 0, true)? == (true, 2));
-    assert!(rt; writes_of_a_run(&rt, false)? == 2);
-    assert!(rt; writes_of_a_run(&rt, true)? == 2);
-    Ok(())
+fn each_write_fails(rt: HostRuntime) {
+    assert!(rt; count_of_node(rt.alloc(), 1, 3, FIRST) == Some(2));
+    assert!(rt; count_of_node(rt.alloc(), 2, 3, SECOND) == Some(2));
+    for &(writes, after, blows, boot) in WRITES {
+        assert!(rt; boot_of_fresh_third(rt.alloc(), writes, after, blows) == Some(boot));
+    }
 }

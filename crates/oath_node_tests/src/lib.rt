@@ -5,6 +5,8 @@
 #[cfg(test)]
 mod fuse_tests;
 #[cfg(test)]
+mod line_tests;
+#[cfg(test)]
 mod node_tests;
 #[cfg(test)]
-mod tests;
+mod steps;

@@ -1,1 +1,2 @@
-pub mod FlushLemmas
+mod FlushLemmas
+mod LinesLemmas

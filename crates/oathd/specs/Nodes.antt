@@ -1,6 +1,8 @@
 -- How the commands end that run nodes in this process.
 use Rattle.std.specs.Prelude.{◌≡◌, ℕ, ◌+◌, List, replicate, take, Option, Result, Ok, Err, IfNone, IfSome}
 use Rattle.otp_core.specs.Limits.{Limits}
+use Rattle.oathd_core.specs.Run.{EndsSo, run_of_input}
+use Rattle.oathd_core.specs.declared.fault.Fault.TheVariants as core
 use Rattle.oathd_cluster.specs.Run as cluster
 use Rattle.oathd_cluster.specs.Line.{LinesRead, node_lines}
 use Rattle.oathd_sim.specs.Sim as sim
@@ -14,9 +16,20 @@ IsKeyOf path key = IfNone path (key ≡ replicate 32 0)
 
 -- a fault is one of a key: its file can't be read, or has none, or the memory fails
 abbrev pub IsOfKey : Fault → Type 0
-IsOfKey (Run fault) = Unit {0}
+IsOfKey (Run core.Memory) = Unit {0}
+IsOfKey (Run (core.BadKey fault)) = Unit {0}
 IsOfKey (CannotReadFile path) = Unit {0}
 IsOfKey fault = ⊥
+
+-- The command `lines` ends so over its input, where that is known, and its output: as the run over that input does,
+-- under whichever key. Where no key could be had, nothing is written.
+abbrev pub LinesEndSo : Limits → ℕ → Option (List ℕ) → Result Unit Fault → Option (List ℕ) → Option (List ℕ) → Type 0
+LinesEndSo limits moment input (Ok done) old new =
+    IfSome input (λ text. EndsSo (run_of_input limits moment text) (Ok tt) old new)
+LinesEndSo limits moment input (Err (Run (core.BadKey fault))) old new = IfSome input (λ text. new ≡ old)
+LinesEndSo limits moment input (Err (Run fault)) old new =
+    IfSome input (λ text. EndsSo (run_of_input limits moment text) (Err fault) old new)
+LinesEndSo limits moment input (Err fault) old new = new ≡ old
 
 -- what the command `sim` simulates over an input
 abbrev pub simulation_of : ℕ → Limits → ℕ → List ℕ → List ℕ → sim.Sim

@@ -5,8 +5,6 @@ mod fault;
 mod key;
 mod serve;
 mod store;
-#[cfg(test)]
-mod tests;
 
 use command_line::process_words;
 use serve::serve;

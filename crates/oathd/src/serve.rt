@@ -1,15 +1,15 @@
 ghost use Rattle.std.specs.Prelude.{◌≡◌, ◌≤◌, ◌⊎◌, Err};
 ghost use Rattle.otp_core.specs.Range.{IsMoment};
 ghost use Rattle.oathd_core.specs.declared.fault.Fault.TheVariants.{CannotWrite};
-ghost use Rattle.oathd_core.specs.Request.{EndsAsAsked, HasMoment};
-ghost use Rattle.oathd.specs.Nodes.{ClusterEndsSo, SimEndsSo};
+ghost use Rattle.oathd_core.specs.Secret.{EndsWithText};
+ghost use Rattle.oathd.specs.Nodes.{ClusterEndsSo, LinesEndSo, SimEndsSo};
 
 use crate::fault::Fault;
 use crate::key::read_key;
 use crate::store::perform_action;
 use command_line::{OutsideFault, exit_status, explain, flushed};
 use oathd_cluster::run_cluster;
-use oathd_core::{Request, run};
+use oathd_core::{print_secret, serve_lines};
 use oathd_sim::run_sim;
 use oathd_words::{Task, read_words};
 use otp_core::Settings;
@@ -19,20 +19,56 @@ use std::io::{BufWriter, Read, Write};
 use std::net::Net;
 use std::rt::Files;
 use token_file::MAX_FILE_LEN;
+use vote_wire::ClusterKey;
 
-/// Does what is asked for, over an output that holds back what it is given until it is flushed. That happens
-/// before more of the input is waited for, and at the end, whatever that is.
-fn perform<R: Read, O: Write>(
+/// Answers the lines of the input by a node under this key. The output holds back what it is given until it is flushed.
+/// That happens before more of the input is waited for, and at the end, whatever that is.
+fn answer_under<'a, R: Read, O: Write>(
     alloc: Global,
-    request: &Request<'_>,
+    settings: Settings,
+    moment: u64,
+    key: &ClusterKey,
     reader: &mut R,
     held: &mut O,
-) -> Result<(), oathd_core::Fault>
-    requires { HasMoment request.now }
-    ensures ends { (result ≡ Err CannotWrite) ⊎ EndsAsAsked request.now (R.remaining reader.old) result
+) -> Result<(), Fault<'a>>
+    requires { IsMoment moment }
+    ensures ends { LinesEndSo settings moment (R.remaining reader.old) result
         (O.contents held.old) (O.contents held.new) }
 {
-    let end = run(alloc, request, reader, held);
+    let end = serve_lines(alloc, settings, moment, key, MAX_FILE_LEN, reader, held);
+    match flushed(held, end) {
+        Ok(()) => Ok(()),
+        Err(fault) => Err(Fault::Run(fault)),
+    }
+}
+
+/// Answers the lines of the input by a node under the key of the file named, if any. The output holds back what it is
+/// given until it is flushed.
+fn answer_lines<'a, F: Files, R: Read, O: Write>(
+    alloc: Global,
+    files: &F,
+    settings: Settings,
+    moment: u64,
+    key: Option<&'a str>,
+    reader: &mut R,
+    held: &mut O,
+) -> Result<(), Fault<'a>>
+    requires { IsMoment moment }
+    ensures ends { LinesEndSo settings moment (R.remaining reader.old) result
+        (O.contents held.old) (O.contents held.new) }
+{
+    match read_key(alloc, files, key) {
+        Ok(key) => answer_under(alloc, settings, moment, &key, reader, held),
+        Err(fault) => Err(fault),
+    }
+}
+
+/// Prints a secret in base32, over an output that holds back what it is given until it is flushed. That happens at the
+/// end, whatever that is.
+fn print<O: Write>(hex: &str, held: &mut O) -> Result<(), oathd_core::Fault>
+    ensures ends { (result ≡ Err CannotWrite) ⊎ EndsWithText hex.now result (O.contents held.old) (O.contents held.new) }
+{
+    let end = print_secret(held, hex.as_bytes());
     flushed(held, end)
 }
 
@@ -128,7 +164,11 @@ fn follow<'a, R: Read, O: Write, E: Write>(
         return Err(Fault::Run(oathd_core::Fault::Memory));
     };
     match task {
-        Task::Run(request) => perform(alloc, &request, reader, &mut held)?,
+        Task::Lines {
+            settings,
+            moment,
+            key,
+        } => answer_lines(alloc, rt, settings, moment, key, reader, &mut held)?,
         Task::Sim {
             nodes,
             settings,
@@ -149,6 +189,7 @@ fn follow<'a, R: Read, O: Write, E: Write>(
             users,
             action,
         } => perform_action(alloc, rt, database, users, action, &mut held)?,
+        Task::Secret { hex } => print(hex, &mut held)?,
     }
     Ok(0)
 }

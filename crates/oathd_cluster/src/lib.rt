@@ -3,7 +3,7 @@
 //! other.
 //!
 //! ```rust
-//! use oathd_cluster::{Setup, run_cluster};
+//! use oathd_cluster::run_cluster;
 //! use otp_core::Settings;
 //! use vote_wire::ClusterKey;
 //!

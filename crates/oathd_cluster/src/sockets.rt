@@ -12,7 +12,7 @@ use std::alloc::Global;
 use std::net::{Ipv4Addr, Net, SocketAddr, SocketAddrV4, UdpSocket};
 use std::time::Duration;
 use token_file::{Book, MAX_TOKENS};
-use udp_port::UdpPort;
+use udp_port::{NoClock, UdpPort};
 use vote_core::Place;
 use vote_wire::ClusterKey;
 
@@ -95,12 +95,12 @@ fn open_member<'b>(
     floors: &[Next],
     socket: UdpSocket,
     addresses: &[SocketAddrV4],
-) -> Result<Member<'b, UdpPort>, Fault>
+) -> Result<Member<'b, UdpPort<NoClock>>, Fault>
     requires few { length addresses.now ≤ 9 }
     requires as_many { length floors.now ≡ length book.now }
     ensures { IfErr result IsOfOpening }
 {
-    let port = UdpPort::new(socket, addresses.to_vec(alloc)?);
+    let port = UdpPort::in_rounds(socket, addresses.to_vec(alloc)?);
     let node = open_node(alloc, book, settings, key, place, floors)?;
     Ok(Member {
         node,
@@ -118,7 +118,7 @@ pub(crate) fn open_cluster<'b, N: Net>(
     settings: Settings,
     key: &'b ClusterKey,
     floors: &[Next],
-) -> Result<Cluster<'b, UdpPort>, Fault>
+) -> Result<Cluster<'b, UdpPort<NoClock>>, Fault>
     requires last { nodes ≤ 9 }
     requires as_many { length floors.now ≡ length book.now }
     ensures { IfErr result IsOfOpening }
@@ -138,6 +138,6 @@ pub(crate) fn open_cluster<'b, N: Net>(
     let (socket, _) = bind(net)?;
     Ok(Cluster {
         members,
-        client: UdpPort::new(socket, addresses),
+        client: UdpPort::in_rounds(socket, addresses),
     })
 }

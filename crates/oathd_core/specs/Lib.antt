@@ -1,6 +1,5 @@
 pub mod Client
 pub mod Examples
 pub mod Fault
-pub mod Request
 pub mod Run
 pub mod Secret

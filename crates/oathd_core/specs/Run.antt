@@ -69,6 +69,10 @@ run_read setup longest limit read =
 abbrev pub run_of : Setup → ℕ → ℕ → List ℕ → Run
 run_of setup longest limit text = run_read setup longest limit (take (limit + 1) text)
 
+-- the run of the command `lines` over an input: the whole input has at most 16 MiB, and so has its users file
+abbrev pub run_of_input : Limits → ℕ → List ℕ → Run
+run_of_input limits moment text = run_of (record { limits = limits; moment = moment }) 16777216 16777216 text
+
 -- answers, each on a line of its own
 abbrev pub printed_lines : List (List ℕ) → List ℕ
 printed_lines answers = flat_map line_of answers

@@ -1,4 +1,4 @@
-ghost use Rattle.std.specs.Prelude.{◌≡◌, ◌↔◌, [], ◌∷◌, ◌++◌, ℕ, List, Option, Some, None, Result, Ok, Err, codes, false, take};
+ghost use Rattle.std.specs.Prelude.{◌≡◌, [], ◌∷◌, ◌++◌, ℕ, List, Option, Some, None, Result, Ok, Err, codes, false, take};
 ghost use Rattle.otp_core.specs.Limits.{Limits};
 ghost use Rattle.secret_text.specs.declared.fault.SecretFault.TheVariants.{BadLength, Empty};
 ghost use Rattle.command_line.specs.declared.fault.OutsideFault.TheVariants as outside;
@@ -7,12 +7,10 @@ ghost use Rattle.oathd_core.specs.Client.{client_line_of, client_lines};
 ghost use Rattle.oathd_core.specs.Examples.{answered, fault_at, line_saying, lines_before, run_at_most};
 ghost use Rattle.oathd_core.specs.Fault.{IsOutside, outside_fault_of, status_of};
 ghost use Rattle.users_input.specs.Input.{lines_of};
-ghost use Rattle.oathd_core.specs.Request.{EndsAsAsked};
-ghost use Rattle.oathd_core.specs.Run.{Answered, EndsSo, Refused, clients_of, end_of, output_of, run_of};
+ghost use Rattle.oathd_core.specs.Run.{Answered, EndsSo, Refused, clients_of, end_of, output_of, run_of, run_of_input};
 ghost use Rattle.oathd_core.specs.Secret.{EndsWithText};
 ghost use Rattle.oathd_core.specs.declared.fault.Fault.{Fault};
 ghost use Rattle.oathd_core.specs.declared.fault.Fault.TheVariants.{BadKey, CannotRead, CannotWrite, InputLine, Memory, NotText, Users};
-ghost use Rattle.oathd_core.specs.declared.request.Request.TheVariants.{Lines};
 
 /// Some lines of clients.
 pub fn client_lines_are_worked()
@@ -61,9 +59,8 @@ pub fn runs_are_worked()
     ensures end { end_of answered ≡ Err (InputLine 7) }
     ensures end_of_all { end_of (Answered [] None) ≡ Ok tt }
     ensures end_of_users { end_of (Refused (fault_at 2 MissingField)) ≡ Err (Users (fault_at 2 MissingField)) }
-    ensures limit { (limits : Limits) (moment : ℕ) (text : List ℕ) (result : Result Unit Fault)
-        (old new : Option (List ℕ)) → EndsAsAsked (Lines limits moment) (Some text) result old new
-        ↔ EndsSo (run_of (record { limits = limits; moment = moment }) 16777216 16777216 text) result old new }
+    ensures limit { (limits : Limits) (moment : ℕ) (text : List ℕ) → run_of_input limits moment text
+        ≡ run_of (record { limits = limits; moment = moment }) 16777216 16777216 text }
     ensures status { (line : ℕ) → status_of (InputLine line) ≡ 1 }
     ensures memory { (status_of Memory ≡ 1) × (outside_fault_of outside.Memory ≡ Memory) }
     ensures read { status_of CannotRead ≡ 1 }

@@ -104,11 +104,11 @@ fn serve_input<B: BufRead + HoldsLine + Drop, W: Write>(
 
 /// Reads a users file, a line `%%` and lines of clients, answers each line by one node before the next one is read,
 /// and writes each answer on a line of its own. The writer is flushed before more of the input is waited for, and
-/// else not. The node keeps its last 1,024 answers, but those to bad
-/// lines, and gives one again to the same client and line. Each line of a client is its number, the moment and its
-/// request, with single spaces between. At most `limit` bytes are read, and one more, which tells that the input
-/// goes on: then the line that the limit cuts is bad. The users are imported at the moment given, in seconds since
-/// 1970-01-01 00:00:00 UTC, 0 to 1099511627775. Of the input a piece of 8,192 bytes and one line are held.
+/// else not. The node keeps its last 1,024 answers, but those to bad lines, and gives one again to the same client and
+/// line. It has no members to hear under the key. Each line of a client is its number, the moment and its request,
+/// with single spaces between. At most `limit` bytes are read, and one more, which tells that the input goes on: then
+/// the line that the limit cuts is bad. The users are imported at the moment given, in seconds since 1970-01-01
+/// 00:00:00 UTC, 0 to 1099511627775. Of the input a piece of 8,192 bytes and one line are held.
 ///
 /// # Errors
 /// `Users` where the users file has a fault, or the input fails in its midst, and then nothing is written;
@@ -118,6 +118,7 @@ pub fn serve_lines<R: Read, W: Write>(
     alloc: Global,
     settings: Settings,
     moment: u64,
+    key: &ClusterKey,
     limit: u32,
     reader: &mut R,
     writer: &mut W,
@@ -133,12 +134,11 @@ pub fn serve_lines<R: Read, W: Write>(
     let Ok(held) = BufReader::new(alloc, part) else {
         return Err(Fault::Memory);
     };
-    let key = ClusterKey::new(&[0; 32]).unwrap();
     serve_input(
         alloc,
         settings,
         moment,
-        &key,
+        key,
         Input::new(held, limit),
         writer,
     )

@@ -1,7 +1,11 @@
+ghost use Rattle.std.specs.Prelude.{◌≡◌, ◌↔◌, Err, IfOk, IsErr, IsOk, IsTrue};
+ghost use Rattle.oathd_files.specs.File.{IsEmptyFile};
+
 use floor_store::StoreFault;
 use oathd_store::Database;
 use sqlite::{Connection, File, FileStore};
-use std::fs;
+use std::fs::{self, Metadata};
+use std::io;
 
 /// A database in a file.
 #[derive(Drop)]
@@ -21,7 +25,7 @@ impl<'a> DatabaseFile<'a> {
         }
     }
 
-    /// The database in the file with this path, which has to be there.
+    /// The database in the file with this path, which has to be there and to hold something.
     pub(crate) fn found(rt: &'a HostRuntime, path: &'a str) -> Self {
         DatabaseFile {
             rt,
@@ -31,10 +35,34 @@ impl<'a> DatabaseFile<'a> {
     }
 }
 
+/// Whether this is a file that holds nothing.
+fn is_empty_file(found: &Metadata) -> bool
+    ensures { IsTrue result ↔ IsEmptyFile found.now }
+{
+    found.is_file() && found.len() == 0
+}
+
+/// Whether what is seen of a file lets it be opened for a store. An empty one is not opened, since that would make a
+/// database of it.
+///
+/// # Errors
+/// `Disk` where nothing is seen, `Unusable` where the file is empty.
+fn check_found(found: io::Result<Metadata>) -> Result<(), StoreFault>
+    ensures missing { IsErr found → result ≡ Err StoreFault.Disk }
+    ensures empty { IfOk found (λ file. IsEmptyFile file → result ≡ Err StoreFault.Unusable) }
+    ensures other { IfOk found (λ file. ¬ IsEmptyFile file → IsOk result) }
+{
+    match found {
+        Ok(file) if is_empty_file(&file) => Err(StoreFault::Unusable),
+        Ok(_) => Ok(()),
+        Err(_) => Err(StoreFault::Disk),
+    }
+}
+
 impl Database<FileStore<File>> for DatabaseFile<'_> {
     fn connect(self) -> Result<Connection<FileStore<File>>, StoreFault> {
-        if !self.is_made && fs::metadata(self.rt, self.path).is_err() {
-            return Err(StoreFault::Disk);
+        if !self.is_made {
+            check_found(fs::metadata(self.rt, self.path))?;
         }
         match Connection::open(self.rt, self.path) {
             Ok(conn) => Ok(conn),

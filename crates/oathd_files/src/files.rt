@@ -1,4 +1,4 @@
-//! The commands over a database in a file.
+//! The commands over a database in a file. Only [`init_file`] writes into a file that isn't there or is empty.
 
 ghost use Rattle.std.specs.Prelude.{IfErr, IfOk, IfSome};
 ghost use Rattle.otp_core.specs.Limits.{default_limits};
@@ -42,7 +42,7 @@ pub fn init_file<R: Read + Drop>(
 /// Writes the users file of the store in the file with this path, as [`export_store`] does.
 ///
 /// # Errors
-/// Those of [`export_store`]; `Store(Disk)` where the file isn't there.
+/// Those of [`export_store`]; `Store(Disk)` where the file isn't there, `Store(Unusable)` where it is empty.
 pub fn export_file<R: Read + Drop, W: Write>(
     alloc: Global,
     rt: &HostRuntime,
@@ -59,7 +59,7 @@ pub fn export_file<R: Read + Drop, W: Write>(
 /// Writes the passes of the store of a node in the file with this path, as [`audit_store`] does.
 ///
 /// # Errors
-/// Those of [`audit_store`]; `Store(Disk)` where the file isn't there.
+/// Those of [`audit_store`]; `Store(Disk)` where the file isn't there, `Store(Unusable)` where it is empty.
 pub fn audit_file<R: Read + Drop, W: Write>(
     alloc: Global,
     rt: &HostRuntime,
@@ -77,7 +77,7 @@ pub fn audit_file<R: Read + Drop, W: Write>(
 /// Makes the store of version 1 of a node in the file with this path one of version 2, as [`migrate_store`] does.
 ///
 /// # Errors
-/// Those of [`migrate_store`]; `Store(Disk)` where the file isn't there.
+/// Those of [`migrate_store`]; `Store(Disk)` where the file isn't there, `Store(Unusable)` where it is empty.
 pub fn migrate_file<R: Read + Drop>(
     alloc: Global,
     rt: &HostRuntime,
@@ -94,7 +94,7 @@ pub fn migrate_file<R: Read + Drop>(
 /// Serves a node over the store in the file with this path, as [`serve_store`] does.
 ///
 /// # Errors
-/// Those of [`serve_store`]; `Store(Disk)` where the file isn't there.
+/// Those of [`serve_store`]; `Store(Disk)` where the file isn't there, `Store(Unusable)` where it is empty.
 pub fn serve_file<R: Read + Drop>(
     alloc: Global,
     rt: &HostRuntime,

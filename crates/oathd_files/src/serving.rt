@@ -56,6 +56,6 @@ pub fn serve_store<R: Read + Drop, S: Alter + Drop, D: Database<S>, N: Net + Tim
     let (users, store) = open(alloc, users, settings, Some(place.me()), database)?;
     let mut node = open_node(alloc, &users.book, settings, place, key, store)?;
     let address = members[usize::from(place.me()) - 1];
-    let mut port = UdpPort::new(socket_at(outside, address)?, members);
+    let mut port = UdpPort::new(socket_at(outside, address)?, members, outside);
     serve(&mut node, &mut port, &mut SystemClock::new(outside), turns)
 }

@@ -37,14 +37,6 @@ pub unread_behind : (limits : Limits) (moment longest room : ℕ) (a : Option (L
 unread_behind limits moment longest room a import f h =
     IfSome_then a h (λ text e. unread_text limits moment longest room text import f e)
 
--- lines without their numbers
-unnumbered : (number : ℕ) (lines : List TextLine) → map (λ (line : NumberedLine). line.1) (numbered number lines) ≡ lines
-unnumbered number [] = refl
-unnumbered number (line ∷ more) = ap (λ (ls : List TextLine). line ∷ ls) (unnumbered (number + 1) more)
-
-same_lines : (m n : ℕ) (xs ys : List TextLine) → numbered m xs ≡ numbered n ys → xs ≡ ys
-same_lines m n xs ys e = sym (unnumbered m xs) ∙ ap (map (λ (line : NumberedLine). line.1)) e ∙ unnumbered n ys
-
 read_lines : (room : ℕ) (text read : List ℕ) (is_cut : Bool) → IsReadTo room text read is_cut → lines_of room text ≡ lines_between is_cut (pieces_of read)
 read_lines room text read is_cut h =
     ap (λ (b : Bool). lines_between b (pieces_of (take room text))) (sym h.cut_is) ∙ ap (λ (t : List ℕ). lines_between is_cut (pieces_of t)) (sym h.read_is)
@@ -55,23 +47,21 @@ pub has_parts : (limits : Limits) (moment longest room : ℕ) (a : Option (List 
     → IfSome a (λ text. import_read limits moment longest room text ≡ Ok (import_of book floors))
     → behind ≡ option_map (λ t. rest_behind 0 (lines_of room t)) a → Stays behind after → IfSome after (λ rest. HasRest rest first room' b)
     → IfSome b (λ text. IsReadTo room' text script is_cut)
-    → IfSome a (λ text. HasParts limits moment longest room text book floors script is_cut)
+    → IfSome a (λ text. HasParts limits moment longest room text book floors first script is_cut)
 has_parts limits moment longest room a book floors behind after first room' b script is_cut taken is stays has read =
     both a taken (subst (λ (o : Option (List NumberedLine)). Stays o after) is stays)
   where
     last : (text : List ℕ) → import_read limits moment longest room text ≡ Ok (import_of book floors) → (rest : List NumberedLine)
-        → rest ≡ rest_behind 0 (lines_of room text) → HasRest rest first room' b → HasParts limits moment longest room text book floors script is_cut
+        → rest ≡ rest_behind 0 (lines_of room text) → HasRest rest first room' b → HasParts limits moment longest room text book floors first script is_cut
     last text import rest same k =
         let here = subst (λ (o : Option (List ℕ)). IfSome o (λ t. IsReadTo room' t script is_cut)) k.left_is read in
-        let lines = lines_of room text in
         record {
           import = import;
-          rest = sym (same_lines first (0 + length (users_part lines) + 2) (lines_of room' k.text) (rest_part lines) (k.read ∙ same))
-              ∙ read_lines room' k.text script is_cut here;
+          rest = ap (numbered first) (sym (read_lines room' k.text script is_cut here)) ∙ k.read ∙ same;
         }
 
     both : (o : Option (List ℕ)) → IfSome o (λ text. import_read limits moment longest room text ≡ Ok (import_of book floors))
-        → Stays (option_map (λ t. rest_behind 0 (lines_of room t)) o) after → IfSome o (λ text. HasParts limits moment longest room text book floors script is_cut)
+        → Stays (option_map (λ t. rest_behind 0 (lines_of room t)) o) after → IfSome o (λ text. HasParts limits moment longest room text book floors first script is_cut)
     both None import s = tt
     both (Some text) import s =
         last text import (rest_behind 0 (lines_of room text)) refl (subst (λ (o : Option (List NumberedLine)). IfSome o (λ rest. HasRest rest first room' b)) s has)

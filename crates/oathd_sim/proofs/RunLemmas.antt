@@ -1,5 +1,5 @@
 -- What a run of a script tells, and how a simulation ends.
-use Rattle.std.proofs.Common.{◌≡◌, ◌<◌, arith, ℕ, Bool, true, List, [], ◌∷◌, length, map, replicate, Option, Some, None, IfSome, refl, sym, ap, subst, ◌∙◌}
+use Rattle.std.proofs.Common.{◌≡◌, ◌+◌, ◌<◌, arith, ℕ, Bool, true, List, [], ◌∷◌, length, map, replicate, Option, Some, None, IfSome, refl, sym, ap, subst, ◌∙◌}
 use Rattle.std.proofs.lemmas.Bool.{eqb-true}
 use Rattle.std.specs.Prelude.{◌==◌, Result, Ok, Err, IfErr, IfOk, OnOk, slice_get}
 use Rattle.std.specs.Option.{option_map}
@@ -25,11 +25,12 @@ use Rattle.cluster_sim.specs.declared.script.WorldEvent.TheVariants.{Happens, Cu
 use Rattle.sim_script.specs.Event.{ScriptRecord, act_of, event_of, script_value}
 use Rattle.sim_script.specs.declared.script.Script.{Script}
 use Rattle.sim_script.specs.ReportText.{report_text}
-use Rattle.users_input.specs.Input.{TextLine, lines_between, pieces_of}
+use Rattle.users_input.specs.Input.{lines_between, lines_of, pieces_of, rest_part, users_part}
 use Rattle.oathd_sim.specs.Parts.{HasParts, IsGivenUp, IsUnread}
 use Rattle.oathd_sim.specs.Sim.{EndsSo, IsCutSo, IsTaken, Setup, Sim, Reports, act_under, end_of, event_under, script_events, script_lines, script_read, sim_of_script, sim_of_users, sim_read}
 use Rattle.oathd_sim.specs.declared.fault.Fault.{Fault}
 use Rattle.oathd_sim.specs.declared.fault.Fault.TheVariants as fault
+use Rattle.oathd_sim.proofs.ScriptLemmas.{numbered_script}
 
 -- ---- the events of the code
 
@@ -134,14 +135,19 @@ unread_is_cut limits moment longest room None x h = tt
 unread_is_cut limits moment longest room (Some text) x h = unread_cut_text limits moment longest room text x h
 
 -- the simulation over two parts that are read
-module _ (setup : Setup) (longest room : ℕ) (book : List Credential) (floors : List ℕ) (script : List ℕ) (is_cut : Bool) where
+module _ (setup : Setup) (longest room : ℕ) (book : List Credential) (floors : List ℕ) (first : ℕ) (script : List ℕ) (is_cut : Bool) where
   abbrev sim : Sim
-  sim = sim_of_script setup (import_of book floors) (script_lines setup.nodes (lines_between is_cut (pieces_of script)))
+  sim = sim_of_script setup (import_of book floors) (script_lines setup.nodes first (lines_between is_cut (pieces_of script)))
 
-  parts_make : (text : List ℕ) → HasParts setup.limits setup.moment longest room text book floors script is_cut → sim_read setup longest room text ≡ sim
+  parts_make : (text : List ℕ) → HasParts setup.limits setup.moment longest room text book floors first script is_cut → sim_read setup longest room text ≡ sim
   parts_make text h =
+      let lines = lines_of room text in
+      let before = length (users_part lines) in
+      let same : before + 2 ≡ 0 + before + 2 = omega arith in
       ap (λ (r : Result Import (ℕ × LineFault)). sim_of_users setup r (script_read setup.nodes room text)) h.import
-      ∙ ap (λ (ls : List TextLine). sim_of_script setup (import_of book floors) (script_lines setup.nodes ls)) h.rest
+      ∙ ap (sim_of_script setup (import_of book floors))
+      (ap (λ (n : ℕ). script_lines setup.nodes n (rest_part lines)) same
+      ∙ sym (numbered_script setup.nodes first (0 + before + 2) (lines_between is_cut (pieces_of script)) (rest_part lines) h.rest))
 
   given_up : (x : Fault) (out : Option (List ℕ)) → IsGivenUp sim x → EndsSo sim (Err x) out out
   given_up fault.Memory out h = Appends-nil out
@@ -151,27 +157,27 @@ module _ (setup : Setup) (longest room : ℕ) (book : List Credential) (floors :
   given_up (fault.ScriptLine number) out h =
       subst (λ (s : Sim). EndsSo s (Err (fault.ScriptLine number)) out out) (sym h) (refl, Appends-nil out)
 
-  pub given_up_ends : (a : Option (List ℕ)) (x : Fault) (out : Option (List ℕ)) → IfSome a (λ text. HasParts setup.limits setup.moment longest room text book floors script is_cut)
+  pub given_up_ends : (a : Option (List ℕ)) (x : Fault) (out : Option (List ℕ)) → IfSome a (λ text. HasParts setup.limits setup.moment longest room text book floors first script is_cut)
       → IsGivenUp sim x → IfSome a (λ text. EndsSo (sim_read setup longest room text) (Err x) out out)
   given_up_ends None x out h g = tt
   given_up_ends (Some text) x out h g = subst (λ (s : Sim). EndsSo s (Err x) out out) (sym (parts_make text h)) (given_up x out g)
 
   reported_ends : (a : Option (List ℕ)) (report : ReportValue) (old new : Option (List ℕ))
-      → IfSome a (λ text. HasParts setup.limits setup.moment longest room text book floors script is_cut) → sim ≡ Reports report
+      → IfSome a (λ text. HasParts setup.limits setup.moment longest room text book floors first script is_cut) → sim ≡ Reports report
       → Appends old new (report_text report) → IfSome a (λ text. EndsSo (sim_read setup longest room text) (Ok tt) old new)
   reported_ends None report old new h is written = tt
   reported_ends (Some text) report old new h is written =
       subst (λ (s : Sim). EndsSo s (Ok tt) old new) (sym (parts_make text h ∙ is)) (refl, written)
 
   unwritten_ends : (a : Option (List ℕ)) (report : ReportValue) (old new : Option (List ℕ))
-      → IfSome a (λ text. HasParts setup.limits setup.moment longest room text book floors script is_cut) → sim ≡ Reports report
+      → IfSome a (λ text. HasParts setup.limits setup.moment longest room text book floors first script is_cut) → sim ≡ Reports report
       → IfSome a (λ text. EndsSo (sim_read setup longest room text) (Err fault.CannotWrite) old new)
   unwritten_ends None report old new h is = tt
   unwritten_ends (Some text) report old new h is =
       subst (λ (s : Sim). EndsSo s (Err fault.CannotWrite) old new) (sym (parts_make text h ∙ is)) refl
 
   pub printed_ends : (a : Option (List ℕ)) (report : ReportValue) (end : Result Unit Fault) (old new : Option (List ℕ))
-      → IfSome a (λ text. HasParts setup.limits setup.moment longest room text book floors script is_cut) → sim ≡ Reports report
+      → IfSome a (λ text. HasParts setup.limits setup.moment longest room text book floors first script is_cut) → sim ≡ Reports report
       → OnOk end (Appends old new (report_text report)) → IfErr end (λ x. x ≡ fault.CannotWrite)
       → IfSome a (λ text. EndsSo (sim_read setup longest room text) end old new)
   printed_ends a report (Ok tt) old new h is written failed = reported_ends a report old new h is written

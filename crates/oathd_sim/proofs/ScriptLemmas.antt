@@ -1,5 +1,5 @@
 -- The lines of a script that a limit may cut.
-use Rattle.std.proofs.Common.{◌≡◌, ℕ, ◌+◌, ◌<◌, Bool, true, false, List, [], ◌∷◌, length, Option, Some, None, refl, ap, ◌∙◌, arith}
+use Rattle.std.proofs.Common.{◌≡◌, ℕ, ◌+◌, ◌-◌, ◌<◌, ◌≤◌, Bool, true, false, List, [], ◌∷◌, length, map, Option, Some, None, refl, sym, ap, ◌∙◌, arith}
 use Rattle.std.specs.Prelude.{Result, Ok, Err, ◌==◌, count_by}
 use Rattle.std.proofs.lemmas.Bool.Decides.{nat_tests}
 use Rattle.std.proofs.lemmas.List.Splits.{length-slice_split}
@@ -10,6 +10,7 @@ use Rattle.sim_script.specs.Turns.{state_after, value_then}
 use Rattle.sim_script.specs.declared.fault.ScriptFault.{ScriptFault}
 use Rattle.sim_script.specs.declared.fault.ScriptFault.TheVariants.{Line, Memory}
 use Rattle.users_input.specs.Input.{TextLine, lines_between, pieces_of}
+use Rattle.users_input.specs.Users.{NumberedLine, numbered}
 use Rattle.oathd_sim.specs.Sim.{script_lines, with_text_line}
 
 -- what a script says
@@ -26,11 +27,31 @@ then_same number None next other h = refl
 then_same number (Some script) next other h = h script
 
 -- what follows on a value, where one end gives another
-then_end : (number : ℕ) (value : Option ScriptRecord) (next other : ScriptRecord → Said) (from to : Said)
-    → (failed number ≡ from → failed number ≡ to) → ((script : ScriptRecord) → next script ≡ from → other script ≡ to)
-    → value_then number value next ≡ from → value_then number value other ≡ to
-then_end number None next other from to none some e = none e
-then_end number (Some script) next other from to none some e = some script e
+then_end : (n m : ℕ) (value : Option ScriptRecord) (next other : ScriptRecord → Said) (from to : Said)
+    → (failed n ≡ from → failed m ≡ to) → ((script : ScriptRecord) → next script ≡ from → other script ≡ to)
+    → value_then n value next ≡ from → value_then m value other ≡ to
+then_end n m None next other from to none some e = none e
+then_end n m (Some script) next other from to none some e = some script e
+
+-- ---- numbered lines
+
+unnumbered : (number : ℕ) (lines : List TextLine) → map (λ (line : NumberedLine). line.1) (numbered number lines) ≡ lines
+unnumbered number [] = refl
+unnumbered number (line ∷ more) = ap (λ (ls : List TextLine). line ∷ ls) (unnumbered (number + 1) more)
+
+-- the number of the first line
+abbrev first_number : List NumberedLine → ℕ
+first_number [] = 0
+first_number (line ∷ more) = line.0
+
+-- what a script says is given by its lines and their numbers
+pub numbered_script : (nodes m n : ℕ) (xs ys : List TextLine) → numbered m xs ≡ numbered n ys → script_lines nodes m xs ≡ script_lines nodes n ys
+numbered_script nodes m n [] [] e = refl
+numbered_script nodes m n [] (y ∷ ys) e = absurd cc
+numbered_script nodes m n (x ∷ xs) [] e = absurd cc
+numbered_script nodes m n (x ∷ xs) (y ∷ ys) e =
+    ap (λ (k : ℕ). script_lines nodes k (x ∷ xs)) (ap first_number e)
+    ∙ ap (script_lines nodes n) (sym (unnumbered m (x ∷ xs)) ∙ ap (map (λ (line : NumberedLine). line.1)) e ∙ unnumbered n (y ∷ ys))
 
 module _ (nodes : ℕ) where
   abbrev said_from : ℕ → ScriptRecord → List (List ℕ) → Said
@@ -38,6 +59,33 @@ module _ (nodes : ℕ) where
 
   abbrev told_from : ℕ → ScriptRecord → List TextLine → Said
   told_from number script lines = state_after (with_text_line nodes) number script lines
+
+  -- ---- another first number
+
+  -- the number of a bad line, by how many lines stand before it
+  abbrev IsFrom : ℕ → ℕ → ScriptRecord → List (List ℕ) → ℕ → Type 0
+  IsFrom n m script pieces bad = (n ≤ bad) × (said_from m script pieces ≡ Err (m + (bad - n)))
+
+  bad_from : (n m : ℕ) (script : ScriptRecord) (pieces : List (List ℕ)) (bad : ℕ) → said_from n script pieces ≡ Err bad → IsFrom n m script pieces bad
+  bad_from n m script [] bad e = absurd cc
+  bad_from n m script (line ∷ more) bad e =
+      at (with_line nodes script line) (λ new h. bad_from (n + 1) (m + 1) new more bad h) e
+    where
+      at : (value : Option ScriptRecord) → ((new : ScriptRecord) → said_from (n + 1) new more ≡ Err bad → IsFrom (n + 1) (m + 1) new more bad)
+          → value_then n value (λ new. said_from (n + 1) new more) ≡ Err bad
+          → (n ≤ bad) × (value_then m value (λ new. said_from (m + 1) new more) ≡ Err (m + (bad - n)))
+      at None later h =
+          let same : n ≡ bad = cc in
+          (omega (arith, same), ap Err (omega (arith, same)))
+      at (Some new) later h =
+          let from = later new h in
+          (omega (arith, from.0), from.1 ∙ ap Err (omega (arith, from.0)))
+
+  good_from : (n m : ℕ) (script : ScriptRecord) (pieces : List (List ℕ)) (end : ScriptRecord) → said_from n script pieces ≡ Ok end
+      → said_from m script pieces ≡ Ok end
+  good_from n m script [] end e = e
+  good_from n m script (line ∷ more) end e =
+      then_end n m (with_line nodes script line) _ _ (Ok end) (Ok end) (λ h. absurd cc) (λ new h. good_from (n + 1) (m + 1) new more end h) e
 
   -- ---- a script that isn't cut
 
@@ -62,7 +110,7 @@ module _ (nodes : ℕ) where
       at None h = h
       at (Some new) h = absurd cc
   cut_bad n m script (line ∷ next ∷ more) some e =
-      then_end n (with_line nodes script line) _ _ (Err m) (Err m) (λ h. h) (λ new h. cut_bad (n + 1) m new (next ∷ more) (omega arith) h) e
+      then_end n n (with_line nodes script line) _ _ (Err m) (Err m) (λ h. h) (λ new h. cut_bad (n + 1) m new (next ∷ more) (omega arith) h) e
 
   -- ---- a script that is cut, and is good as far as it goes
 
@@ -71,7 +119,7 @@ module _ (nodes : ℕ) where
   cut_good n k script [] end some at e = absurd (omega (arith, some))
   cut_good n k script (line ∷ []) end some at e = let same : n ≡ k = omega (arith, at) in ap Err same
   cut_good n k script (line ∷ next ∷ more) end some at e =
-      then_end n (with_line nodes script line) _ _ (Ok end) (Err k) (λ h. absurd cc)
+      then_end n n (with_line nodes script line) _ _ (Ok end) (Err k) (λ h. absurd cc)
       (λ new h. cut_good (n + 1) k new (next ∷ more) end (omega arith) (omega (arith, at)) h) e
 
   -- ---- what is read
@@ -79,19 +127,30 @@ module _ (nodes : ℕ) where
   some_piece : (text : List ℕ) → 0 < length (pieces_of text)
   some_piece text = omega (arith, length-slice_split (λ byte. byte == 10) text)
 
-  pub uncut_is_read : (is_cut : Bool) (text : List ℕ) (script : ScriptRecord) → is_cut ≡ false → script_of nodes text ≡ Ok script
-      → script_lines nodes (lines_between is_cut (pieces_of text)) ≡ Ok script
-  uncut_is_read is_cut text script is e =
-      ap (λ (b : Bool). script_lines nodes (lines_between b (pieces_of text))) is ∙ uncut_lines 1 empty_script (pieces_of text) ∙ e
+  pub uncut_is_read : (first : ℕ) (is_cut : Bool) (text : List ℕ) (script : ScriptRecord) → is_cut ≡ false → script_of nodes text ≡ Ok script
+      → script_lines nodes first (lines_between is_cut (pieces_of text)) ≡ Ok script
+  uncut_is_read first is_cut text script is e =
+      ap (λ (b : Bool). script_lines nodes first (lines_between b (pieces_of text))) is ∙ uncut_lines first empty_script (pieces_of text)
+      ∙ good_from 1 first empty_script (pieces_of text) script e
 
-  pub cut_is_refused : (is_cut : Bool) (text : List ℕ) (script : ScriptRecord) (number : ℕ) → is_cut ≡ true → script_of nodes text ≡ Ok script
-      → number ≡ count_by (λ byte. byte == 10) text + 1 → script_lines nodes (lines_between is_cut (pieces_of text)) ≡ Err number
-  cut_is_refused is_cut text script number is e counted =
-      ap (λ (b : Bool). script_lines nodes (lines_between b (pieces_of text))) is
-      ∙ cut_good 1 number empty_script (pieces_of text) script (some_piece text) (omega (arith, counted, length-slice_split (λ byte. byte == 10) text)) e
+  pub cut_is_refused : (first : ℕ) (is_cut : Bool) (text : List ℕ) (script : ScriptRecord) (number : ℕ) → is_cut ≡ true → script_of nodes text ≡ Ok script
+      → number ≡ count_by (λ byte. byte == 10) text + 1 → script_lines nodes first (lines_between is_cut (pieces_of text)) ≡ Err (first + (number - 1))
+  cut_is_refused first is_cut text script number is e counted =
+      ap (λ (b : Bool). script_lines nodes first (lines_between b (pieces_of text))) is
+      ∙ cut_good first (first + (number - 1)) empty_script (pieces_of text) script (some_piece text) (omega (arith, counted, length-slice_split (λ byte. byte == 10) text))
+      (good_from 1 first empty_script (pieces_of text) script e)
 
-  pub fault_is_refused : (is_cut : Bool) (text : List ℕ) (fault : ScriptFault) → IsRefused (script_of nodes text) fault
-      → IsRefused (script_lines nodes (lines_between is_cut (pieces_of text))) fault
-  fault_is_refused false text (Line number) e = uncut_lines 1 empty_script (pieces_of text) ∙ e
-  fault_is_refused true text (Line number) e = cut_bad 1 number empty_script (pieces_of text) (some_piece text) e
-  fault_is_refused is_cut text Memory e = tt
+  pub bad_number : (text : List ℕ) (number : ℕ) → script_of nodes text ≡ Err number → 1 ≤ number
+  bad_number text number e = (bad_from 1 1 empty_script (pieces_of text) number e).0
+
+  pub bad_is_refused : (first : ℕ) (is_cut : Bool) (text : List ℕ) (number : ℕ) → script_of nodes text ≡ Err number
+      → script_lines nodes first (lines_between is_cut (pieces_of text)) ≡ Err (first + (number - 1))
+  bad_is_refused first false text number e =
+      uncut_lines first empty_script (pieces_of text) ∙ (bad_from 1 first empty_script (pieces_of text) number e).1
+  bad_is_refused first true text number e =
+      cut_bad first (first + (number - 1)) empty_script (pieces_of text) (some_piece text) (bad_from 1 first empty_script (pieces_of text) number e).1
+
+-- the fault of a bad line is one of the script
+pub refused_at : (said : Said) (number : ℕ) (fault : ScriptFault) → said ≡ Err number → IsRefused (Err number) fault → IsRefused said fault
+refused_at said number (Line other) e h = e ∙ h
+refused_at said number Memory e h = tt

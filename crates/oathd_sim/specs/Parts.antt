@@ -4,16 +4,18 @@ use Rattle.otp_core.specs.Limits.{Limits}
 use Rattle.token_file.specs.Credential.{Credential}
 use Rattle.token_file.specs.UsersFile.{Import, IsCutOff, import_of, instant_of, is_of_text}
 use Rattle.token_file.specs.declared.fault.LineFault.TheVariants.{Read}
-use Rattle.users_input.specs.Input.{lines_between, lines_of, pieces_of, rest_part, users_file}
+use Rattle.users_input.specs.Input.{lines_between, lines_of, pieces_of, users_file}
+use Rattle.users_input.specs.Users.{numbered, rest_behind}
 use Rattle.oathd_sim.specs.Sim.{Sim, BadScript, import_read}
 use Rattle.oathd_sim.specs.declared.fault.Fault.{Fault}
 use Rattle.oathd_sim.specs.declared.fault.Fault.TheVariants.{Memory, CannotRead, CannotWrite, Users, ScriptLine}
 
--- what is read of an input is this users file, and this script behind it, which the limit may cut
+-- what is read of an input is this users file, and this script behind it, which the limit may cut, from the line with
+-- a number on
 pub record HasParts (limits : Limits) (moment longest limit : ℕ) (read : List ℕ) (book : List Credential)
-    (floors : List ℕ) (script : List ℕ) (is_cut : Bool) : Type 0 where
+    (floors : List ℕ) (first : ℕ) (script : List ℕ) (is_cut : Bool) : Type 0 where
   pub import : import_read limits moment longest limit read ≡ Ok (import_of book floors)
-  pub rest : rest_part (lines_of limit read) ≡ lines_between is_cut (pieces_of script)
+  pub rest : numbered first (lines_between is_cut (pieces_of script)) ≡ rest_behind 0 (lines_of limit read)
 
 -- the two parts aren't read for this fault
 abbrev pub IsUnread : Limits → ℕ → ℕ → ℕ → List ℕ → Fault → Type 0

@@ -1,5 +1,5 @@
 -- What a simulation over one input tells, and how it ends.
-use Rattle.std.specs.Prelude.{◌≡◌, ℕ, ◌+◌, List, [], map, replicate, take, Option, Some, None, Result, Ok, Err, IsTrue}
+use Rattle.std.specs.Prelude.{◌≡◌, ℕ, ◌+◌, List, [], length, map, replicate, take, Option, Some, None, Result, Ok, Err, IsTrue}
 use Rattle.std.specs.Io.KnownBytes.{Appends}
 use Rattle.otp_core.specs.Limits.{Limits}
 use Rattle.token_file.specs.UsersFile.{Import, IsCutOff, book_of, instant_of, is_of_text}
@@ -15,20 +15,26 @@ use Rattle.sim_script.specs.Event.{Act, Says, Deliver, Ticks, Noise, Event, Happ
 use Rattle.sim_script.specs.ReportText.{report_text}
 use Rattle.sim_script.specs.Script.{with_line}
 use Rattle.sim_script.specs.Turns.{state_after}
-use Rattle.users_input.specs.Input.{TextLine, lines_of, rest_part, users_file}
+use Rattle.users_input.specs.Input.{TextLine, lines_of, rest_part, users_file, users_part}
 use Rattle.oathd_sim.specs.declared.fault.Fault.{Fault}
 use Rattle.oathd_sim.specs.declared.fault.Fault.TheVariants.{Memory, CannotRead, CannotWrite, Users, ScriptLine}
 
 -- ---- The script
 
--- a script with a line more, of so many nodes; one that goes on past the limit is bad, whatever it begins with
+-- A script with a line more, of the given number of nodes. A line that goes on past the limit is bad, whatever it
+-- begins with.
 abbrev pub with_text_line : ℕ → ScriptRecord → TextLine → Option ScriptRecord
 with_text_line nodes script None = None
 with_text_line nodes script (Some line) = with_line nodes script line
 
--- what lines say of so many nodes, or the number, from 1, of the first bad one
-abbrev pub script_lines : ℕ → List TextLine → Result ScriptRecord ℕ
-script_lines nodes lines = state_after (with_text_line nodes) 1 empty_script lines
+-- what lines that are numbered from a number on say of the given number of nodes, or the number of the first bad one
+abbrev pub script_lines : ℕ → ℕ → List TextLine → Result ScriptRecord ℕ
+script_lines nodes first lines = state_after (with_text_line nodes) first empty_script lines
+
+-- The script among the lines of an input. Lines are numbered from 1, and the first of the script stands behind the
+-- users file and `%%`.
+abbrev pub script_of_input : ℕ → List TextLine → Result ScriptRecord ℕ
+script_of_input nodes lines = script_lines nodes (length (users_part lines) + 2) (rest_part lines)
 
 -- an act of a script, in the world of a cluster with this key
 abbrev pub act_under : List ℕ → Act → world.Act
@@ -62,7 +68,7 @@ pub record Setup : Type 0 where
 pub data Sim : Type 0 where
   -- the users file has a fault
   Refused : FileFault → Sim
-  -- the line of the script with this number is its first bad one
+  -- the line with this number, from 1 in the whole input, is the first bad one of the script
   BadScript : ℕ → Sim
   -- what the run tells
   Reports : ReportValue → Sim
@@ -85,10 +91,9 @@ abbrev pub import_read : Limits → ℕ → ℕ → ℕ → List ℕ → Result 
 import_read limits moment longest limit read =
     book_of longest (instant_of limits moment) (users_file (lines_of limit read) read)
 
--- the script, of so many nodes, of what is read of an input, whose lines are numbered from 1 behind the users file and
--- `%%`
+-- the script, of the given number of nodes, in what is read of an input
 abbrev pub script_read : ℕ → ℕ → List ℕ → Result ScriptRecord ℕ
-script_read nodes limit read = script_lines nodes (rest_part (lines_of limit read))
+script_read nodes limit read = script_of_input nodes (lines_of limit read)
 
 -- what a simulation makes of what is read of an input
 abbrev pub sim_read : Setup → ℕ → ℕ → List ℕ → Sim

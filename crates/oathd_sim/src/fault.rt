@@ -22,7 +22,7 @@ pub enum Fault {
     /// The users file has a fault.
     #[error("users {0}")]
     Users(FileFault),
-    /// The line of the script with this number, from 1, is its first bad one.
+    /// The line with this number, from 1 in the whole input, is the script's first bad one.
     #[error("script line {0}")]
     ScriptLine(u64),
 }

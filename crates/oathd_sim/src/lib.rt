@@ -16,11 +16,11 @@
 #![tactic(auto)]
 
 mod fault;
+mod laws;
 mod parts;
 mod script;
 mod sim;
-#[cfg(test)]
-mod tests;
 
 pub use fault::Fault;
+pub use laws::scripts_are_worked;
 pub use sim::run_sim;

@@ -18,6 +18,8 @@ pub(crate) struct Parts {
     pub(crate) floors: Vec<Next>,
     /// What stands behind the users file.
     pub(crate) script: LimitedText,
+    /// The number of its first line, from 1 in the whole input.
+    pub(crate) first: u64,
     ghost each: { length floors.items ≡ length book },
 }
 
@@ -31,7 +33,7 @@ pub(crate) fn read_parts<B: BufRead + Drop>(
     requires { IsMoment moment }
     ensures parts { IfOk result (λ parts. IfSome (B.remaining input.reader) (λ text.
         HasParts settings moment 16777216 input.room text parts.book parts.floors.items
-        parts.script.bytes.items parts.script.is_cut)) }
+        parts.first parts.script.bytes.items parts.script.is_cut)) }
     ensures fault { IfErr result (λ fault. IfSome (B.remaining input.reader) (λ text.
         IsUnread settings moment 16777216 input.room text fault)) }
 {
@@ -40,11 +42,12 @@ pub(crate) fn read_parts<B: BufRead + Drop>(
         Ok(read) => read,
         Err(fault) => return Err(Fault::from(users.fault(fault))),
     };
-    let (rest, _) = users.into_rest()?;
+    let (rest, first) = users.into_rest()?;
     let script = rest.read_all(alloc)?;
     Ok(Parts {
         book,
         floors,
         script,
+        first,
     })
 }

@@ -1,4 +1,4 @@
-ghost use Rattle.std.specs.Prelude.{◌≡◌, ◌==◌, ◌≤◌, ◌+◌, IfErr, IfOk, Ok, count_by};
+ghost use Rattle.std.specs.Prelude.{◌≡◌, ◌==◌, ◌≤◌, ◌+◌, ◌-◌, IfErr, IfOk, Err, Ok, count_by};
 ghost use Rattle.sim_script.specs.Event.{script_value};
 ghost use Rattle.sim_script.specs.Reading.{IsRefused};
 ghost use Rattle.oathd_sim.specs.Sim.{script_lines};
@@ -15,22 +15,41 @@ fn line_count(text: &[u8]) -> u64
     text.iter().filter(|byte| **byte == b'\n').count() as u64 + 1
 }
 
-/// What a script says of so many nodes, where its last line may be cut. A line that is cut is bad.
+/// The fault of a bad line of a script whose first line has a number in its input, by the line's number in the script.
+fn bad_line(first: u64, number: u64) -> ScriptFault
+    requires { 1 ≤ number }
+    ensures { IsRefused (Err (first + (number - 1))) result }
+{
+    match first.checked_add(number - 1) {
+        Some(number) => ScriptFault::Line(number),
+        // No input has so many lines.
+        None => ScriptFault::Memory,
+    }
+}
+
+/// What a script says of the given number of nodes, where its last line may be cut, and its first line has a number in
+/// its input. A line that is cut is bad.
 pub(crate) fn read_lines<'a>(
     alloc: Global,
     arena: &'a Bump,
     nodes: u8,
+    first: u64,
     text: &'a [u8],
     is_cut: bool,
 ) -> Result<Script<'a>, ScriptFault>
     requires { nodes ≤ 9 }
     ensures script { IfOk result (λ script.
-        script_lines nodes (lines_between is_cut (pieces_of text.now)) ≡ Ok (script_value script)) }
-    ensures fault { IfErr result (IsRefused (script_lines nodes (lines_between is_cut (pieces_of text.now)))) }
+        script_lines nodes first (lines_between is_cut (pieces_of text.now)) ≡ Ok (script_value script)) }
+    ensures fault { IfErr result
+        (IsRefused (script_lines nodes first (lines_between is_cut (pieces_of text.now)))) }
 {
-    let script = read_script(alloc, arena, nodes, text)?;
+    let script = match read_script(alloc, arena, nodes, text) {
+        Ok(script) => script,
+        Err(ScriptFault::Line(number)) => return Err(bad_line(first, number)),
+        Err(ScriptFault::Memory) => return Err(ScriptFault::Memory),
+    };
     if is_cut {
-        return Err(ScriptFault::Line(line_count(text)));
+        return Err(bad_line(first, line_count(text)));
     }
     Ok(script)
 }

@@ -88,18 +88,21 @@ fn report_on(
     ensures report { (moment : ℕ) → IfOk result (λ report. sim_of_script
         (record { nodes = nodes; limits = settings; moment = moment; key = key.now })
         (import_of parts.now.book parts.now.floors.items)
-        (script_lines nodes (lines_between parts.now.script.is_cut (pieces_of parts.now.script.bytes.items)))
+        (script_lines nodes parts.now.first
+        (lines_between parts.now.script.is_cut (pieces_of parts.now.script.bytes.items)))
         ≡ Reports report) }
     ensures fault { (moment : ℕ) → IfErr result (IsGivenUp (sim_of_script
         (record { nodes = nodes; limits = settings; moment = moment; key = key.now })
         (import_of parts.now.book parts.now.floors.items)
-        (script_lines nodes (lines_between parts.now.script.is_cut (pieces_of parts.now.script.bytes.items))))) }
+        (script_lines nodes parts.now.first
+        (lines_between parts.now.script.is_cut (pieces_of parts.now.script.bytes.items))))) }
 {
     let arena = Bump::new(alloc);
     let script = read_lines(
         alloc,
         &arena,
         nodes,
+        parts.first,
         &parts.script.bytes,
         parts.script.is_cut,
     )?;
@@ -149,8 +152,8 @@ fn simulate<B: BufRead + Drop, W: Write>(
 ///
 /// # Errors
 /// `Users` where the users file has a fault, or the input fails in its midst; `CannotRead` where the input fails later;
-/// `ScriptLine` with the number, from 1 behind `%%`, of the script's first bad line; `Memory`; and nothing is written
-/// then. `CannotWrite`.
+/// `ScriptLine` with the number, from 1 in the whole input, of the script's first bad line; `Memory`; and nothing is
+/// written then. `CannotWrite`.
 pub fn run_sim<R: Read, W: Write>(
     alloc: Global,
     nodes: u8,

@@ -10,7 +10,7 @@ pub trait Database<S: Alter>: Drop {
     /// Opens it. The connection stands outside a transaction and has no limit on its steps.
     ///
     /// # Errors
-    /// `Disk` where it can't be opened.
+    /// `Disk` where it can't be opened, `Unusable` where it has to hold a store and is an empty file.
     fn connect(self) -> Result<Connection<S>, StoreFault>
         ensures { IfOk result (λ conn. conn.in_transaction ≡ false) };
 }

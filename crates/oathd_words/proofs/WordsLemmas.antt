@@ -4,13 +4,12 @@ use Rattle.std.specs.Prelude.{IfNone, codes}
 use Rattle.clap.specs.Matches.{first_value}
 use Rattle.clap.specs.declared.parser.matches.Found.{Found}
 use Rattle.otp_core.specs.Limits.{Limits}
-use Rattle.oathd_core.specs.declared.request.Request.TheVariants.{Lines, Secret}
 use Rattle.oathd_words.specs.StoreWords.{AsksForAction, AsksForStore}
 use Rattle.oathd_words.specs.Words.{AsksFor, AsksForNothing, AsksForNodes, GivesNumbers}
 use Rattle.oathd_words.specs.declared.store_words.Action.{Action}
 use Rattle.oathd_words.specs.declared.store_words.Action.TheVariants.{Init, Serve, Export, Audit, Migrate}
 use Rattle.oathd_words.specs.declared.words.Task.{Task}
-use Rattle.oathd_words.specs.declared.words.Task.TheVariants.{Run, Sim, Cluster, Store}
+use Rattle.oathd_words.specs.declared.words.Task.TheVariants.{Lines, Sim, Cluster, Store, Secret}
 
 -- a number that tells the names of the commands apart
 abbrev mark : List ℕ → ℕ
@@ -25,8 +24,8 @@ apart name a b p q below =
 
 module _ (name : List ℕ) (found : Found) where
   pub not_for_lines : name ≡ codes "lines" → ((limits : Limits) (moment : ℕ) → GivesNumbers found limits moment → ⊥) → AsksForNothing name found
-  not_for_lines is none (Run (Lines settings moment)) asks = none _ _ asks.1
-  not_for_lines is none (Run (Secret hex)) asks = apart name _ _ is asks.0 (lit< tt)
+  not_for_lines is none (Lines settings moment key) asks = none _ _ asks.1
+  not_for_lines is none (Secret hex) asks = apart name _ _ is asks.0 (lit< tt)
   not_for_lines is none (Sim nodes settings moment key) asks = apart name _ _ is asks.0 (lit< tt)
   not_for_lines is none (Cluster users nodes settings moment key) asks = apart name _ _ asks.0 is (lit< tt)
   not_for_lines is none (Store database users (Init node settings moment)) asks = apart name _ _ asks.2.0 is (lit< tt)
@@ -38,8 +37,8 @@ module _ (name : List ℕ) (found : Found) where
   pub not_for_sim : name ≡ codes "sim"
       → ((nodes : ℕ) (limits : Limits) (moment : ℕ) (key : Option (List ℕ)) → AsksForNodes found nodes limits moment key → ⊥)
       → AsksForNothing name found
-  not_for_sim is none (Run (Lines settings moment)) asks = apart name _ _ asks.0 is (lit< tt)
-  not_for_sim is none (Run (Secret hex)) asks = apart name _ _ is asks.0 (lit< tt)
+  not_for_sim is none (Lines settings moment key) asks = apart name _ _ asks.0 is (lit< tt)
+  not_for_sim is none (Secret hex) asks = apart name _ _ is asks.0 (lit< tt)
   not_for_sim is none (Sim nodes settings moment key) asks = none _ _ _ _ asks.1
   not_for_sim is none (Cluster users nodes settings moment key) asks = apart name _ _ asks.0 is (lit< tt)
   not_for_sim is none (Store database users (Init node settings moment)) asks = apart name _ _ asks.2.0 is (lit< tt)
@@ -52,8 +51,8 @@ module _ (name : List ℕ) (found : Found) where
       → ((users : List ℕ) (nodes : ℕ) (limits : Limits) (moment : ℕ) (key : Option (List ℕ)) → first_value found (codes "USERS") ≡ Some users
       → AsksForNodes found nodes limits moment key → ⊥)
       → AsksForNothing name found
-  not_for_cluster is none (Run (Lines settings moment)) asks = apart name _ _ is asks.0 (lit< tt)
-  not_for_cluster is none (Run (Secret hex)) asks = apart name _ _ is asks.0 (lit< tt)
+  not_for_cluster is none (Lines settings moment key) asks = apart name _ _ is asks.0 (lit< tt)
+  not_for_cluster is none (Secret hex) asks = apart name _ _ is asks.0 (lit< tt)
   not_for_cluster is none (Sim nodes settings moment key) asks = apart name _ _ is asks.0 (lit< tt)
   not_for_cluster is none (Cluster users nodes settings moment key) asks = none _ _ _ _ _ asks.1 asks.2
   not_for_cluster is none (Store database users (Init node settings moment)) asks = apart name _ _ is asks.2.0 (lit< tt)
@@ -63,8 +62,8 @@ module _ (name : List ℕ) (found : Found) where
   not_for_cluster is none (Store database users (Migrate node)) asks = apart name _ _ is asks.2.0 (lit< tt)
 
   pub not_for_secret : name ≡ codes "secret" → first_value found (codes "HEX") ≡ None → AsksForNothing name found
-  not_for_secret is none (Run (Lines settings moment)) asks = apart name _ _ asks.0 is (lit< tt)
-  not_for_secret is none (Run (Secret hex)) asks = let clash = sym none ∙ asks.1 in cc
+  not_for_secret is none (Lines settings moment key) asks = apart name _ _ asks.0 is (lit< tt)
+  not_for_secret is none (Secret hex) asks = let clash = sym none ∙ asks.1 in cc
   not_for_secret is none (Sim nodes settings moment key) asks = apart name _ _ asks.0 is (lit< tt)
   not_for_secret is none (Cluster users nodes settings moment key) asks = apart name _ _ asks.0 is (lit< tt)
   not_for_secret is none (Store database users (Init node settings moment)) asks = apart name _ _ asks.2.0 is (lit< tt)
@@ -77,8 +76,8 @@ module _ (name : List ℕ) (found : Found) where
   pub not_for_store : (name ≡ codes "lines" → ⊥) → (name ≡ codes "sim" → ⊥) → (name ≡ codes "cluster" → ⊥) → (name ≡ codes "secret" → ⊥)
       → ((database users : List ℕ) (action : Action) → AsksForStore name found database users action → ⊥)
       → AsksForNothing name found
-  not_for_store lines sim cluster secret none (Run (Lines settings moment)) asks = lines asks.0
-  not_for_store lines sim cluster secret none (Run (Secret hex)) asks = secret asks.0
+  not_for_store lines sim cluster secret none (Lines settings moment key) asks = lines asks.0
+  not_for_store lines sim cluster secret none (Secret hex) asks = secret asks.0
   not_for_store lines sim cluster secret none (Sim nodes settings moment key) asks = sim asks.0
   not_for_store lines sim cluster secret none (Cluster users nodes settings moment key) asks = cluster asks.0
   not_for_store lines sim cluster secret none (Store database users action) asks = none _ _ _ asks

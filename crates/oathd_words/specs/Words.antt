@@ -6,12 +6,10 @@ use Rattle.clap.specs.declared.parser.matches.Found.{Found}
 use Rattle.command_line.specs.Number.{number_at}
 use Rattle.otp_core.specs.Limits.{Limits}
 use Rattle.otp_core.specs.Range.{IsMoment}
-use Rattle.oathd_core.specs.Request.{HasMoment}
-use Rattle.oathd_core.specs.declared.request.Request.TheVariants.{Lines, Secret}
 use Rattle.oathd_words.specs.Given.{GivesLimits, GivesMember}
 use Rattle.oathd_words.specs.StoreWords.{AsksForStore, IsActionInRange}
 use Rattle.oathd_words.specs.declared.words.Task.{Task}
-use Rattle.oathd_words.specs.declared.words.Task.TheVariants.{Run, Sim, Cluster, Store}
+use Rattle.oathd_words.specs.declared.words.Task.TheVariants.{Lines, Sim, Cluster, Store, Secret}
 
 -- these numbers are given, and in their ranges
 pub record GivesNumbers (found : Found) (limits : Limits) (moment : ℕ) : Type 0 where
@@ -19,23 +17,28 @@ pub record GivesNumbers (found : Found) (limits : Limits) (moment : ℕ) : Type 
   pub moment_given : number_at found (codes "moment") ≡ Some moment
   pub moment_in_range : IsMoment moment
 
+-- this path of a key is given, or none is
+abbrev pub GivesKey : Found → Option (List ℕ) → Type 0
+GivesKey found key = first_value found (codes "key") ≡ key
+
 -- so many nodes, these numbers and this path of a key, if any, are given, and in their ranges
 pub record AsksForNodes (found : Found) (nodes : ℕ) (limits : Limits) (moment : ℕ)
     (key : Option (List ℕ)) : Type 0 where
   pub nodes_given : GivesMember found (codes "N") nodes
   pub numbers : GivesNumbers found limits moment
-  pub key_given : first_value found (codes "key") ≡ key
+  pub key_given : GivesKey found key
 
 -- the command with this name, and these values, ask for this
 abbrev pub AsksFor : List ℕ → Found → Task → Type 0
-AsksFor name found (Run (Lines settings moment)) = (name ≡ codes "lines") × GivesNumbers found settings moment
-AsksFor name found (Run (Secret hex)) = (name ≡ codes "secret") × (first_value found (codes "HEX") ≡ Some hex.now)
+AsksFor name found (Lines settings moment key) =
+    (name ≡ codes "lines") × GivesNumbers found settings moment × GivesKey found (option_map (λ path. path.now) key)
 AsksFor name found (Sim nodes settings moment key) =
     (name ≡ codes "sim") × AsksForNodes found nodes settings moment (option_map (λ path. path.now) key)
 AsksFor name found (Cluster users nodes settings moment key) =
     (name ≡ codes "cluster") × (first_value found (codes "USERS") ≡ Some users.now)
     × AsksForNodes found nodes settings moment (option_map (λ path. path.now) key)
 AsksFor name found (Store database users action) = AsksForStore name found database.now users.now action
+AsksFor name found (Secret hex) = (name ≡ codes "secret") × (first_value found (codes "HEX") ≡ Some hex.now)
 
 -- the command with this name, and these values, ask for nothing
 abbrev pub AsksForNothing : List ℕ → Found → Type 0
@@ -43,7 +46,8 @@ AsksForNothing name found = (task : Task) → AsksFor name found task → ⊥
 
 -- the numbers of a task are in their ranges
 abbrev pub IsInRange : Task → Type 0
-IsInRange (Run request) = HasMoment request
+IsInRange (Lines settings moment key) = IsMoment moment
 IsInRange (Sim nodes settings moment key) = (1 ≤ nodes) × (nodes ≤ 9) × IsMoment moment
 IsInRange (Cluster users nodes settings moment key) = (1 ≤ nodes) × (nodes ≤ 9) × IsMoment moment
 IsInRange (Store database users action) = IsActionInRange action
+IsInRange (Secret hex) = Unit {0}

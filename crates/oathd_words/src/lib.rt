@@ -2,7 +2,10 @@
 //! [`Task`].
 #![tactic(auto)]
 
+mod command_words;
+mod help;
 mod members;
+mod option_words;
 mod store_words;
 mod words;
 

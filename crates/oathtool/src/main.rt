@@ -2,8 +2,6 @@
 #![tactic(auto)]
 
 mod serve;
-#[cfg(test)]
-mod tests;
 mod words;
 
 use command_line::{exit_status, process_words};

@@ -32,8 +32,6 @@ mod laws;
 mod offset;
 mod plan;
 mod step_size;
-#[cfg(test)]
-mod tests;
 mod time;
 mod words;
 

@@ -6,8 +6,6 @@ mod bits;
 mod fault;
 mod hexadecimal;
 mod laws;
-#[cfg(test)]
-mod tests;
 
 pub use base32::{read_base32, write_base32};
 pub use fault::SecretFault;

@@ -15,8 +15,6 @@ mod line;
 mod report;
 mod rounds;
 mod script;
-#[cfg(test)]
-mod tests;
 
 pub use fault::ScriptFault;
 pub use laws::{

@@ -42,7 +42,7 @@ fn write_answer<W: Write>(writer: &mut W, answer: &WorldAnswer) -> Result<(), Ou
 }
 
 /// Writes how many datagrams were sent.
-pub(crate) fn write_sent<W: Write>(writer: &mut W, count: u64) -> Result<(), OutsideFault>
+fn write_sent<W: Write>(writer: &mut W, count: u64) -> Result<(), OutsideFault>
     ensures written { OnOk result (Appends (W.contents writer.old) (W.contents writer.new) (sent_line count)) }
     ensures fault { IfErr result (λ fault. fault ≡ OutsideFault.CannotWrite) }
 {
@@ -50,10 +50,7 @@ pub(crate) fn write_sent<W: Write>(writer: &mut W, count: u64) -> Result<(), Out
 }
 
 /// Writes accepted submissions, each on a line of its own.
-pub(crate) fn write_passes<W: Write>(
-    writer: &mut W,
-    passes: &[WorldPass],
-) -> Result<(), OutsideFault>
+fn write_passes<W: Write>(writer: &mut W, passes: &[WorldPass]) -> Result<(), OutsideFault>
     ensures written { OnOk result (Appends (W.contents writer.old) (W.contents writer.new)
         (flat_map pass_line passes.now)) }
     ensures fault { IfErr result (λ fault. fault ≡ OutsideFault.CannotWrite) }
@@ -65,10 +62,7 @@ pub(crate) fn write_passes<W: Write>(
 }
 
 /// Writes what clients were told, each answer on a line of its own.
-pub(crate) fn write_answers<W: Write>(
-    writer: &mut W,
-    answers: &[WorldAnswer],
-) -> Result<(), OutsideFault>
+fn write_answers<W: Write>(writer: &mut W, answers: &[WorldAnswer]) -> Result<(), OutsideFault>
     ensures written { OnOk result (Appends (W.contents writer.old) (W.contents writer.new)
         (flat_map answer_line answers.now)) }
     ensures fault { IfErr result (λ fault. fault ≡ OutsideFault.CannotWrite) }

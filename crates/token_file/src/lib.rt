@@ -10,8 +10,6 @@ mod laws;
 mod reading;
 mod row;
 mod source;
-#[cfg(test)]
-mod tests;
 mod token;
 mod type_word;
 mod write;

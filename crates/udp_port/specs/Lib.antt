@@ -1,3 +1,4 @@
 pub mod Address
 pub mod Examples
+pub mod Pace
 pub mod Receipt

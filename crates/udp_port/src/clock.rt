@@ -5,7 +5,8 @@ ghost use Rattle.otp_core.specs.Range.{IsMoment};
 
 use node_turns::Clock;
 use otp_core::MOMENTS_END;
-use std::time::{Clock as TimeSource, SystemTime, UNIX_EPOCH};
+use std::io::{self, ErrorKind};
+use std::time::{Clock as TimeSource, Duration, SystemTime, UNIX_EPOCH};
 
 /// The system's clock, which tells whole seconds. It fails where the system has none, and where it is set before
 /// 1970-01-01 00:00:00 UTC or 2^40 seconds behind it or more. It keeps no record.
@@ -38,5 +39,19 @@ impl<'a, R: TimeSource> SystemClock<'a, R> {
 impl<R: TimeSource> Clock for SystemClock<'_, R> {
     fn moment(&mut self) -> Option<u64> {
         self.now()
+    }
+}
+
+/// A clock that fails: time passes for a port over it only where a wait of its socket ends.
+#[derive(Clone, Copy)]
+pub struct NoClock;
+
+impl TimeSource for NoClock {
+    fn monotonic(&self) -> io::Result<Duration> {
+        Err(ErrorKind::Unsupported.into())
+    }
+
+    fn since_1970(&self) -> io::Result<Duration> {
+        Err(ErrorKind::Unsupported.into())
     }
 }

@@ -1,7 +1,12 @@
-ghost use Rattle.std.specs.Prelude.{◌≡◌, ◌∷◌, []};
+ghost use Rattle.std.specs.Prelude.{◌≡◌, ℕ, ◌+◌, ◌*◌, ◌<◌, ◌≤◌, ◌∷◌, [], List, Ok, Some, None, true, false, codes};
+ghost use Rattle.std.specs.declared.io.ErrorKind.TheVariants.{ConnectionRefused, ConnectionReset, Interrupted, NotFound, TimedOut, WouldBlock};
+ghost use Rattle.std.specs.declared.net.socket_addr.SocketAddr.TheVariants.{V4};
 ghost use Rattle.node_turns.specs.declared.port.Sender.TheVariants.{Client, Peer};
+ghost use Rattle.node_turns.specs.declared.port.Received.TheVariants.{Datagram, Fault, Quiet};
 ghost use Rattle.udp_port.specs.Address.{number_of, sender_of};
-ghost use Rattle.udp_port.specs.Examples.{at_host, at_local};
+ghost use Rattle.udp_port.specs.Examples.{at_host, at_local, received_by_one};
+ghost use Rattle.udp_port.specs.Pace.{AreClose, AreUpTo, due_after_quiet, due_after_start, interval, is_due, last_of, paced_of};
+ghost use Rattle.udp_port.specs.Receipt.{failure_of, is_answer};
 
 /// Numbers of addresses, and whose datagrams come from them.
 pub fn addresses_are_worked()
@@ -10,4 +15,60 @@ pub fn addresses_are_worked()
     ensures first { sender_of (at_local 2 ∷ at_local 2 ∷ []) (at_local 2) ≡ Peer 1 }
     ensures other_port { sender_of (at_local 1 ∷ at_local 2 ∷ []) (at_local 3) ≡ Client 139637976793091 }
     ensures other_host { sender_of (at_local 1 ∷ at_local 2 ∷ []) (at_host 10 1) ≡ Client 10995116343297 }
+{}
+
+/// What is an answer, and what receives come to.
+pub fn receipts_are_worked()
+    ensures no { is_answer (codes "NO - BADLINE") ≡ true }
+    ensures ok { is_answer (codes "OK 1 0") ≡ true }
+    ensures shortest { is_answer (codes "NO ") ≡ true }
+    ensures no_space { is_answer (codes "OK") ≡ false }
+    ensures small { is_answer (codes "no - BADLINE") ≡ false }
+    ensures inside { is_answer (codes "CHECK 1 NO 755224 -") ≡ false }
+    // a client's answer is passed over at a port that skips answers, and a member's is none
+    ensures client { received_by_one true 12 (at_local 2) (codes "NO - BADLINE") ≡ None }
+    ensures heard { received_by_one false 4 (at_local 2) (codes "NO 1") ≡ Some (Datagram (Client 139637976793090) 4) }
+    ensures member { received_by_one true 12 (at_local 1) (codes "NO - BADLINE") ≡ Some (Datagram (Peer 1) 12) }
+    ensures line { received_by_one true 7 (at_local 2) (codes "CHECK 1LINE")
+        ≡ Some (Datagram (Client 139637976793090) 7) }
+    // what an earlier datagram left in the buffer is none of this one
+    ensures left { received_by_one true 2 (at_local 2) (codes "NO - BADLINE")
+        ≡ Some (Datagram (Client 139637976793090) 2) }
+    ensures no_datagram { failure_of WouldBlock ≡ Some Quiet }
+    ensures in_time { failure_of TimedOut ≡ Some Quiet }
+    ensures signal { failure_of Interrupted ≡ None }
+    ensures nobody { failure_of ConnectionRefused ≡ None }
+    ensures gone { failure_of ConnectionReset ≡ None }
+    ensures fault { failure_of NotFound ≡ Some Fault }
+{}
+
+/// When quiet turns are due.
+pub fn quiet_turns_are_worked()
+    ensures start { due_after_start (Some 1000) None ≡ Some 1200 }
+    ensures no_start { is_due (Some 1000) None ≡ false }
+    ensures before { is_due (Some 1199) (Some 1200) ≡ false }
+    ensures still { due_after_start (Some 1199) (Some 1200) ≡ Some 1200 }
+    ensures due { is_due (Some 1200) (Some 1200) ≡ true }
+    ensures on_time { due_after_start (Some 1200) (Some 1200) ≡ Some 1400 }
+    ensures late { due_after_start (Some 1399) (Some 1200) ≡ Some 1400 }
+    ensures later { due_after_start (Some 1400) (Some 1200) ≡ Some 1600 }
+    // a wait that ends is quiet whenever it ends
+    ensures waited { due_after_quiet (Some 1350) (Some 1200) ≡ Some 1400 }
+    ensures waited_early { due_after_quiet (Some 1199) (Some 1200) ≡ Some 1399 }
+    ensures waited_first { due_after_quiet (Some 1000) None ≡ Some 1200 }
+    ensures no_clock { is_due None (Some 1200) ≡ false }
+    ensures no_clock_start { due_after_start None (Some 1200) ≡ Some 1200 }
+    ensures no_clock_wait { due_after_quiet None (Some 1200) ≡ Some 1200 }
+    // datagrams come at 166, 332, 498 and so on, and after a quiet receive the next begins at once
+    ensures each_166 { paced_of 200 (166 ∷ 332 ∷ 332 ∷ 498 ∷ 498 ∷ 664 ∷ 664 ∷ 830 ∷ 830 ∷ 996 ∷ 1162 ∷ 1162 ∷ [])
+        ≡ record { quiets = 5; due = 1200 } }
+{}
+
+/// Whatever comes, there are no more quiet turns without a wait than intervals are past, and one at the start; and
+/// where the receives begin at most an interval apart, there are no fewer.
+pub fn quiet_turns_keep_their_pace()
+    ensures most { (due last : ℕ) (moments : List ℕ) → due ≤ last + interval → AreUpTo last moments
+        → due + interval * (paced_of due moments).quiets ≤ last + interval }
+    ensures all { (before due : ℕ) (moments : List ℕ) → before < due → due ≤ before + interval → AreClose before moments
+        → last_of before moments < due + interval * (paced_of due moments).quiets }
 {}

@@ -1,17 +1,18 @@
 //! A node's port over a UDP socket, and the system's clock as a node's.
 //!
 //! What comes from the address of a member is that member's datagram, what comes from any other address is a client's,
-//! whose number is its address. The caller binds the socket and sets its read timeout: without one a receive waits for
-//! a datagram for ever, and the node is told of no time that passes.
+//! whose number is its address. A client's datagram that is an answer of a node, which begins with `OK ` or `NO `, is
+//! passed over. The caller binds the socket and sets its read timeout to the time from one quiet turn to the next:
+//! without one a receive waits for a datagram for ever, and the node learns of no time that passes.
 //!
 //! ```rust
 //! use std::net::{SocketAddr, UdpSocket};
 //! use std::time::Duration;
-//! use udp_port::{SystemClock, UdpPort};
+//! use udp_port::{QUIET_MILLIS, SystemClock, UdpPort};
 //!
 //! let socket = UdpSocket::bind(&rt, SocketAddr::V4(members[0]))?;
-//! socket.set_read_timeout(Some(Duration::from_millis(200)))?;
-//! let mut port = UdpPort::new(socket, members);
+//! socket.set_read_timeout(Some(Duration::from_millis(QUIET_MILLIS)))?;
+//! let mut port = UdpPort::new(socket, members, &rt);
 //! let mut clock = SystemClock::new(&rt);
 //! let served = run_turns(&mut node, &mut port, &mut clock, turns)?;
 //! ```
@@ -20,11 +21,13 @@
 mod address;
 mod clock;
 mod laws;
+mod pace;
 mod port;
-#[cfg(test)]
-mod tests;
 
 pub use address::{client_address, client_number};
-pub use clock::SystemClock;
-pub use laws::addresses_are_worked;
+pub use clock::{NoClock, SystemClock};
+pub use laws::{
+    addresses_are_worked, quiet_turns_are_worked, quiet_turns_keep_their_pace, receipts_are_worked,
+};
+pub use pace::QUIET_MILLIS;
 pub use port::{MAX_MEMBERS, UdpPort};

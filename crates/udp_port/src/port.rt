@@ -1,71 +1,146 @@
 //! A port over a UDP socket.
 
-ghost use Rattle.std.specs.Prelude.{◌≡◌, ◌≤◌, length};
-ghost use Rattle.std.specs.IoError.{error_kind};
-ghost use Rattle.udp_port.specs.Receipt.{is_quiet, receipt_of};
+ghost use Rattle.std.specs.Prelude.{◌≡◌, ◌≤◌, true, false, length, IfOk, IfSome};
+ghost use Rattle.node_turns.specs.Port.{IsWithin};
+ghost use Rattle.udp_port.specs.Receipt.{failure_of, is_answer, is_passed_over, receipt_of};
 
 use crate::address::{address_of, sender_of};
+use crate::clock::NoClock;
+use crate::pace::{Pace, millis_of};
 use node_turns::{Port, Received, Sender};
 use std::io::{self, ErrorKind};
 use std::net::{SocketAddr, SocketAddrV4, UdpSocket};
+use std::time::Clock as TimeSource;
 
 /// The most members of a cluster.
 pub const MAX_MEMBERS: usize = 9;
 
+/// A receive passes over at most this many datagrams.
+const MAX_PASSED_OVER: u8 = 64;
+
 /// A port over a UDP socket. It keeps no record.
 #[derive(Drop)]
-pub struct UdpPort {
+pub struct UdpPort<R: TimeSource + Drop> {
     socket: UdpSocket,
     members: Vec<SocketAddrV4>,
+    clock: R,
+    pace: Pace,
+    skips_answers: bool,
     ghost few: { length members.items ≤ 9 },
 }
 
-/// Whether a receive that failed so is quiet, and no fault of the port.
-fn is_quiet(kind: ErrorKind) -> bool
-    ensures { result ≡ is_quiet kind }
+/// What a receive that failed comes to, or `None` where it is passed over.
+fn failure_of(kind: ErrorKind) -> Option<Received>
+    ensures { result ≡ failure_of kind }
 {
     match kind {
         // nothing came in time
-        ErrorKind::WouldBlock | ErrorKind::TimedOut => true,
+        ErrorKind::WouldBlock | ErrorKind::TimedOut => Some(Received::Quiet),
         // a signal came first
-        ErrorKind::Interrupted => true,
+        ErrorKind::Interrupted => None,
         // an earlier datagram found nobody at its address: what is sent may be lost, and the socket is well
-        ErrorKind::ConnectionRefused | ErrorKind::ConnectionReset => true,
-        _ => false,
+        ErrorKind::ConnectionRefused | ErrorKind::ConnectionReset => None,
+        _ => Some(Received::Fault),
     }
 }
 
-/// What a receive of a socket comes to.
-fn receipt_of(members: &[SocketAddrV4], received: &io::Result<(usize, SocketAddr)>) -> Received
-    requires { length members.now ≤ 9 }
-    ensures { result ≡ receipt_of members.now received.now }
+/// Whether these bytes are an answer of a node.
+fn is_answer(bytes: &[u8]) -> bool
+    ensures { result ≡ is_answer bytes.now }
+{
+    bytes.starts_with(b"OK ") || bytes.starts_with(b"NO ")
+}
+
+/// Whether a datagram is passed over, at a port that skips answers or not.
+fn is_passed_over(skips_answers: bool, sender: Sender, bytes: &[u8]) -> bool
+    ensures { result ≡ is_passed_over skips_answers sender bytes.now }
+{
+    match sender {
+        Sender::Peer(_) => false,
+        Sender::Client(_) => skips_answers && is_answer(bytes),
+    }
+}
+
+/// What a receive of a socket comes to, or `None` where it is passed over.
+fn receipt_of(
+    skips_answers: bool,
+    members: &[SocketAddrV4],
+    received: &io::Result<(usize, SocketAddr)>,
+    buffer: &[u8; 512],
+) -> Option<Received>
+    requires few { length members.now ≤ 9 }
+    requires within { IfOk received.now (λ read. read.0 ≤ 512) }
+    ensures receipt { result ≡ receipt_of skips_answers members.now received.now buffer.now }
+    ensures within { IfSome result IsWithin }
 {
     match received {
-        Ok((len, SocketAddr::V4(address))) => Received::Datagram {
-            sender: sender_of(members, *address),
-            len: *len,
-        },
-        Ok((_, SocketAddr::V6(_))) => Received::Fault,
-        Err(error) if is_quiet(error.kind()) => Received::Quiet,
-        Err(_) => Received::Fault,
+        Ok((len, SocketAddr::V4(address))) => {
+            let sender = sender_of(members, *address);
+            if is_passed_over(skips_answers, sender, &buffer[..*len]) {
+                return None;
+            }
+            Some(Received::Datagram { sender, len: *len })
+        }
+        Ok((_, SocketAddr::V6(_))) => Some(Received::Fault),
+        Err(error) => failure_of(error.kind()),
     }
 }
 
-impl UdpPort {
-    /// A port over this socket, which is bound to an IPv4 address and has a read timeout. `members` are the addresses
-    /// of the cluster's members in order of their numbers, the first of which is 1; there are at most 9.
-    pub fn new(socket: UdpSocket, members: Vec<SocketAddrV4>) -> UdpPort
+impl<R: TimeSource + Drop> UdpPort<R> {
+    /// A port of a node over this socket, which is bound to an IPv4 address and has a read timeout. `members` are the
+    /// addresses of the cluster's members in order of their numbers, the first of which is 1; there are at most 9. By
+    /// the clock quiet turns come each 200 milliseconds, whatever else comes; by one that fails only where a wait of
+    /// the socket ends. A client's answer is passed over.
+    pub fn new(socket: UdpSocket, members: Vec<SocketAddrV4>, clock: R) -> UdpPort<R>
         requires { length members.items ≤ 9 }
-        ensures { result.members ≡ members }
+        ensures members { result.members ≡ members }
+        ensures skips { result.skips_answers ≡ true }
     {
-        UdpPort { socket, members }
+        UdpPort {
+            socket,
+            members,
+            clock,
+            pace: Pace::default(),
+            skips_answers: true,
+        }
     }
 }
 
-impl Port for UdpPort {
+impl UdpPort<NoClock> {
+    /// A port of a node or a client that plays rounds over this socket, as that of [`UdpPort::new`] by a clock that
+    /// fails. A client's answer is handed in as any other datagram is.
+    pub fn in_rounds(socket: UdpSocket, members: Vec<SocketAddrV4>) -> UdpPort<NoClock>
+        requires { length members.items ≤ 9 }
+        ensures members { result.members ≡ members }
+        ensures skips { result.skips_answers ≡ false }
+    {
+        UdpPort {
+            socket,
+            members,
+            clock: NoClock,
+            pace: Pace::default(),
+            skips_answers: false,
+        }
+    }
+}
+
+impl<R: TimeSource + Drop> Port for UdpPort<R> {
     fn receive(&mut self, buffer: &mut [u8; 512]) -> Received {
-        let received = self.socket.recv_from(buffer);
-        receipt_of(&self.members, &received)
+        for _ in 0..MAX_PASSED_OVER {
+            if self.pace.begin(millis_of(&self.clock)) {
+                return Received::Quiet;
+            }
+            let received = self.socket.recv_from(buffer);
+            match receipt_of(self.skips_answers, &self.members, &received, buffer) {
+                Some(Received::Quiet) => {
+                    self.pace.end_wait(millis_of(&self.clock));
+                    return Received::Quiet;
+                }
+                Some(received) => return received,
+                None => {}
+            }
+        }
+        Received::Quiet
     }
 
     fn send(&mut self, to: Sender, bytes: &[u8]) -> bool {

@@ -20,8 +20,6 @@ mod fault;
 mod input;
 mod laws;
 mod retry;
-#[cfg(test)]
-mod tests;
 mod users;
 
 pub use fault::{InputFault, UsersFault};

@@ -12,8 +12,6 @@ mod key;
 mod laws;
 mod line;
 mod reading;
-#[cfg(test)]
-mod tests;
 mod writing;
 
 pub use answer::{Answer, Nonce, Outcome, write_answer, write_reply};

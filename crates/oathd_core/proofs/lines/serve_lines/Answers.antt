@@ -27,20 +27,20 @@ returns g c =
     let n = c.args.limit + 1 in
     let left = take_remaining (λ r. g.R.Read.remaining r.reader.now) in
     let limited : c.take-part.result.limit ≡ n = c.take-part.ensures.limit ∙ ap (λ (k : ℕ). k + 1) c.from.ensures in
-    let all : reader_remaining left c.new-4.result.reader ≡ option_map (take n) known =
-    ap (reader_remaining left) c.new-4.ensures.reader
+    let all : reader_remaining left c.new-3.result.reader ≡ option_map (take n) known =
+    ap (reader_remaining left) c.new-3.ensures.reader
     ∙ held_none (reader_capacity held) (reader_buffer held) (left (reader_inner held)) c.in-Ok.ensures.capacity c.in-Ok.ensures.empty
     ∙ ap left c.in-Ok.ensures.inner
     ∙ ap (λ (k : ℕ). option_map (take k) (g.R.Read.remaining c.take-part.result.inner.reader.now)) limited
     ∙ ap (λ r. option_map (take n) (g.R.Read.remaining r.reader.now)) c.take-part.ensures.inner
     ∙ ap (λ r. option_map (take n) (g.R.Read.remaining r.now)) c.new.ensures in
-    let ends = subst (λ (k : ℕ). IfSome (reader_remaining left c.new-4.result.reader) (λ text. EndsSo (run_read setup 16777216 k text) c.serve_input.result
-    (g.W.Write.contents c.args.writer.now) (g.W.Write.contents c.serve_input.new.writer))) c.new-4.ensures.room c.serve_input.ensures.ends in
+    let ends = subst (λ (k : ℕ). IfSome (reader_remaining left c.new-3.result.reader) (λ text. EndsSo (run_read setup 16777216 k text) c.serve_input.result
+    (g.W.Write.contents c.args.writer.now) (g.W.Write.contents c.serve_input.new.writer))) c.new-3.ensures.room c.serve_input.ensures.ends in
     record {
-      ends = of_front known (reader_remaining left c.new-4.result.reader) n (λ (text : List ℕ). EndsSo (run_read setup 16777216 c.args.limit text) c.serve_input.result
+      ends = of_front known (reader_remaining left c.new-3.result.reader) n (λ (text : List ℕ). EndsSo (run_read setup 16777216 c.args.limit text) c.serve_input.result
           (g.W.Write.contents c.args.writer.now) (g.W.Write.contents c.serve_input.new.writer)) all ends;
-      cut = err_then c.serve_input.result (λ x. IfSome (reader_remaining left c.new-4.result.reader) (λ text. IsCutSo setup 16777216 c.new-4.result.room text x))
+      cut = err_then c.serve_input.result (λ x. IfSome (reader_remaining left c.new-3.result.reader) (λ text. IsCutSo setup 16777216 c.new-3.result.room text x))
           (λ x. IfSome known (λ text. IsCutSo setup 16777216 c.args.limit (take n text) x)) c.serve_input.ensures.cut
-          (λ x h. of_front known (reader_remaining left c.new-4.result.reader) n (λ (text : List ℕ). IsCutSo setup 16777216 c.args.limit text x) all
-          (subst (λ (k : ℕ). IfSome (reader_remaining left c.new-4.result.reader) (λ text. IsCutSo setup 16777216 k text x)) c.new-4.ensures.room h));
+          (λ x h. of_front known (reader_remaining left c.new-3.result.reader) n (λ (text : List ℕ). IsCutSo setup 16777216 c.args.limit text x) all
+          (subst (λ (k : ℕ). IfSome (reader_remaining left c.new-3.result.reader) (λ text. IsCutSo setup 16777216 k text x)) c.new-3.ensures.room h));
     }

@@ -31,7 +31,7 @@ pub returns-clause-parts : goal.returns-clause-parts
 returns-clause-parts g c =
     let a = g.B.Read.remaining c.args.input.reader in
     let import = import_of c.in-Ok.read.0 c.in-Ok.read.1.items in
-    has_parts c.args.settings c.args.moment 16777216 c.args.input.room a c.in-Ok.read.0 c.in-Ok.read.1.items _ _ c.in_ok-rest.field-0-1
+    has_parts c.args.settings c.args.moment 16777216 c.args.input.room a c.in-Ok.read.0 c.in-Ok.read.1.items _ _ c.in_ok-rest.first
     c.in_ok-rest.rest.room (g.B.Read.remaining c.in_ok-rest.rest.reader) c.in_ok-script.script.bytes.items c.in_ok-script.script.is_cut
     (imported c.args.settings c.args.moment 16777216 c.args.input.room a _ import c.new-users.ensures.left c.in-Ok.ensures.book)
     c.new-users.ensures.rest c.in-Ok.ensures.behind c.in_ok-rest.ensures c.in_ok-script.ensures

@@ -14,9 +14,9 @@ returns-clause-report c = λ moment.
     let config : Config = record { book = parts.book; limits = c.args.settings } in
     let script = script_value c.in_ok-script.script in
     told_by (record { nodes = c.args.nodes; limits = c.args.settings; moment = moment; key = c.args.key.now }) parts.book parts.floors.items
-    (script_lines c.args.nodes (lines_between parts.script.is_cut (pieces_of parts.script.bytes.items))) script
+    (script_lines c.args.nodes parts.first (lines_between parts.script.is_cut (pieces_of parts.script.bytes.items))) script
     (map (λ list. list.items) c.in_ok-floors.floors.items) c.run_script.result
-    (ap (λ (t : List ℕ). script_lines c.args.nodes (lines_between parts.script.is_cut (pieces_of t))) (sym c.deref.ensures.value) ∙ c.in_ok-script.ensures.script)
+    (ap (λ (t : List ℕ). script_lines c.args.nodes parts.first (lines_between parts.script.is_cut (pieces_of t))) (sym c.deref.ensures.value) ∙ c.in_ok-script.ensures.script)
     (c.in_ok-floors.ensures.same ∙ ap (replicate c.args.nodes) c.deref-2.ensures.value)
     (subst (λ lists. IfOk c.run_script.result (λ (report : ReportValue). report ≡ report_of config (map (λ list. list.items) lists)
     (script_events config (map (λ list. list.items) lists) c.args.key.now script))) c.deref-3.ensures.value c.run_script.ensures.report)

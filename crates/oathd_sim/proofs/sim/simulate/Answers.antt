@@ -17,7 +17,7 @@ returns-in_err-report-clause-ends g c =
     let x = c.in_err-report.field-0.0 in
     end_by c.from_residual-in_err-report.result x (λ (r : Result Unit Fault). IfSome a (λ (text : List ℕ). EndsSo (sim_read setup 16777216 c.args.input.room text) r out out))
     c.from_residual-in_err-report.ensures.1
-    (given_up_ends setup 16777216 c.args.input.room parts.book parts.floors.items parts.script.bytes.items parts.script.is_cut a x out
+    (given_up_ends setup 16777216 c.args.input.room parts.book parts.floors.items parts.first parts.script.bytes.items parts.script.is_cut a x out
     c.in_ok-parts.ensures.parts (c.in_err-report.ensures.fault c.args.moment))
 
 pub returns-in_err-report-clause-cut : goal.returns-in_err-report-clause-cut
@@ -29,14 +29,14 @@ returns-in_err-report-clause-cut g c =
     err_is c.from_residual-in_err-report.result x (λ (y : Fault). IfSome a (λ (text : List ℕ). IsCutSo c.args.settings c.args.moment 16777216 c.args.input.room text y))
     c.from_residual-in_err-report.ensures.1
     (given_up_is_no_cut c.args.settings c.args.moment 16777216 c.args.input.room a
-    (sim_of_script setup (import_of parts.book parts.floors.items) (script_lines c.args.nodes (lines_between parts.script.is_cut (pieces_of parts.script.bytes.items))))
+    (sim_of_script setup (import_of parts.book parts.floors.items) (script_lines c.args.nodes parts.first (lines_between parts.script.is_cut (pieces_of parts.script.bytes.items))))
     x (c.in_err-report.ensures.fault c.args.moment))
 
 pub returns-clause-ends : goal.returns-clause-ends
 returns-clause-ends g c =
     let setup : Setup = record { nodes = c.args.nodes; limits = c.args.settings; moment = c.args.moment; key = c.args.key.now } in
     let parts = c.in_ok-parts.parts in
-    printed_ends setup 16777216 c.args.input.room parts.book parts.floors.items parts.script.bytes.items parts.script.is_cut
+    printed_ends setup 16777216 c.args.input.room parts.book parts.floors.items parts.first parts.script.bytes.items parts.script.is_cut
     (g.B.Read.remaining c.args.input.reader) c.in_ok-report.report c.print_report.result (g.W.Write.contents c.args.writer.now) (g.W.Write.contents c.print_report.new.writer)
     c.in_ok-parts.ensures.parts (c.in_ok-report.ensures.report c.args.moment) c.print_report.ensures.written c.print_report.ensures.fault
 

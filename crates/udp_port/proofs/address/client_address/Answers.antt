@@ -1,4 +1,4 @@
-use Rattle.std.proofs.Common.{◌<◌, ◌^◌, ◌/◌, ◌%◌, ◌≡◌, ◌+◌, ◌*◌, arith}
+use Rattle.std.proofs.Common.{◌/◌, ◌%◌, arith}
 use Rattle.udp_port.proofs.AddressLemmas.{number_back}
 use Rattle.udp_port.proofs.address.client_address.Goals as goal
 

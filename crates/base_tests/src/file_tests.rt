@@ -1,0 +1,304 @@
+//! Users files, and the bytes of a datagram.
+
+use floor_store::Proposal;
+use otp_core::{Factor, Next, Settings};
+use std::alloc::{AllocError, Global};
+use std::io::{self, Error, ErrorKind, Read};
+use token_file::{Book, FileFault, FromRead, LineFault, Pulled, Source, read_book, write_row};
+use vote_core::Message;
+use vote_wire::{ClusterKey, read_message, write_message};
+
+/// Users files with the moments of their imports, and the first free factors of their tokens.
+const FILES: &[(&[u8], u64, &[u64])] = &[
+    (b"", 0, &[]),
+    (
+        b"HOTP silver - 3132333435363738393031323334353637383930 3 969429 2009-12-07T23:18:13L",
+        0,
+        &[4],
+    ),
+    (
+        b"HOTP silver - 3132333435363738393031323334353637383930 4 969429\n",
+        0,
+        &[4],
+    ),
+    (
+        b"HOTP silver - 3132333435363738393031323334353637383930 3 969428\n",
+        0,
+        &[3],
+    ),
+    (
+        b"HOTP silver - 3132333435363738393031323334353637383930",
+        0,
+        &[0],
+    ),
+    (
+        b"HOTP silver - 3132333435363738393031323334353637383930 4611686018427387904",
+        0,
+        &[4611686018427387904],
+    ),
+    (
+        b"HOTP/T30 silver - 3132333435363738393031323334353637383930",
+        59,
+        &[3],
+    ),
+    (
+        b"HOTP/T30 silver - 3132333435363738393031323334353637383930",
+        0,
+        &[2],
+    ),
+    (
+        b"HOTP/E/9 silver - 3132333435363738393031323334353637383930",
+        0,
+        &[],
+    ),
+    (
+        b"HOTP/E/6\tsilver\t-\t3132333435363738393031323334353637383930\t4\n",
+        0,
+        &[4],
+    ),
+    (b"# HOTP\n \t\r\nhotp a - 31\n\n", 0, &[]),
+    (
+        b"HOTP silver - 31 7\n\r\nHOTP/T60 gold + 32 x y",
+        59,
+        &[7, 2],
+    ),
+    (
+        b"HOTP a - 31 0000000000000000009\nHOTP b - 31 2 999999\n",
+        0,
+        &[9, 2],
+    ),
+];
+
+/// What a source gives at a moment, with a skew of 1; nothing where the moment is none.
+fn read_at<S: Source>(
+    alloc: Global,
+    source: &mut S,
+    moment: u64,
+) -> Option<Result<(Book, Vec<Next>), FileFault>> {
+    let settings = Settings::new(10, 1, 100)?;
+    if moment >= 1 << 40 {
+        return None;
+    }
+    Some(read_book(alloc, source, settings, moment))
+}
+
+/// Whether these are the first free factors.
+fn are(floors: &[Next], want: &[u64]) -> bool {
+    for (floor, value) in floors.iter().zip(want) {
+        if floor.value() != *value {
+            return false;
+        }
+    }
+    floors.len() == want.len()
+}
+
+/// Whether a users file has these first free factors.
+fn has_floors(alloc: Global, file: &[u8], moment: u64, want: &[u64]) -> bool {
+    match read_at(alloc, &mut FromRead::new(file), moment) {
+        Some(Ok((book, floors))) => book.len() == want.len() && are(&floors, want),
+        _ => false,
+    }
+}
+
+#[test]
+fn users_rows(rt: HostRuntime) {
+    for (file, moment, want) in FILES {
+        assert!(rt; has_floors(rt.alloc(), file, *moment, want));
+    }
+}
+
+/// The fault of a users file at moment 0.
+fn fault_of<S: Source>(alloc: Global, source: &mut S) -> Option<FileFault> {
+    match read_at(alloc, source, 0) {
+        Some(Err(fault)) => Some(fault),
+        _ => None,
+    }
+}
+
+/// A users file of this many rows.
+fn rows(alloc: Global, count: u32) -> Option<Vec<u8>> {
+    let mut text = Vec::new(alloc);
+    for number in 0..count {
+        let mut row = *b"HOTP u00000 - 31\n";
+        row[6] = b'0' + (number / 10000 % 10) as u8;
+        row[7] = b'0' + (number / 1000 % 10) as u8;
+        row[8] = b'0' + (number / 100 % 10) as u8;
+        row[9] = b'0' + (number / 10 % 10) as u8;
+        row[10] = b'0' + (number % 10) as u8;
+        text.extend_from_slice(&row).ok()?;
+    }
+    Some(text)
+}
+
+/// The place of the last of 10,000 tokens.
+fn last_place(alloc: Global) -> Option<u32> {
+    let text = rows(alloc, 10_000)?;
+    match read_at(alloc, &mut FromRead::new(text.as_slice()), 0)? {
+        Ok((book, _)) => Some(book.find(b"u09999")?.value()),
+        Err(_) => None,
+    }
+}
+
+/// The fault of a row too many.
+fn last_fault(alloc: Global) -> Option<FileFault> {
+    let text = rows(alloc, 10_001)?;
+    fault_of(alloc, &mut FromRead::new(text.as_slice()))
+}
+
+#[test]
+fn most_tokens(rt: HostRuntime) {
+    let want = FileFault {
+        line: 10_001,
+        kind: LineFault::TooMany,
+    };
+    assert!(rt; last_place(rt.alloc()) == Some(9_999));
+    assert!(rt; last_fault(rt.alloc()) == Some(want));
+}
+
+/// A reader that is interrupted this often, gives its text, and then fails.
+#[derive(Drop)]
+struct Broken<'a> {
+    interrupted: u32,
+    text: &'a [u8],
+}
+
+impl Read for Broken<'_> {
+    fn read(&mut self, buf: &mut [u8]) -> io::Result<usize> {
+        if self.interrupted > 0 {
+            self.interrupted -= 1;
+            return Err(Error::from(ErrorKind::Interrupted));
+        }
+        if self.text.is_empty() {
+            return Err(Error::from(ErrorKind::Other));
+        }
+        self.text.read(buf)
+    }
+}
+
+/// What a pull gives after this many interruptions.
+fn pulled_after(interrupted: u32) -> Pulled {
+    let text = b"x".as_slice();
+    let mut source = FromRead::new(Broken { interrupted, text });
+    source.pull(&mut [0; 4])
+}
+
+/// 64 interrupted reads in a row are passed over, and 65 are not.
+#[test]
+fn interrupted_reads(rt: HostRuntime) {
+    assert!(rt; pulled_after(64) == Pulled::Bytes(1));
+    assert!(rt; pulled_after(65) == Pulled::Failed);
+}
+
+/// Texts of a reader that fails after them, with their first faults: one of a line that was read before decides.
+const FAILED: &[(&[u8], u32, LineFault)] = &[
+    (b"", 1, LineFault::Read),
+    (b"HOTP silver - 31\nHOTP gold", 2, LineFault::Read),
+    (b"HOTP silver -\nHOTP gold", 1, LineFault::MissingField),
+    (&[b'x'; 4096], 1, LineFault::Read),
+    (&[b'x'; 4097], 1, LineFault::LineTooLong),
+];
+
+#[test]
+fn failed_reads(rt: HostRuntime) {
+    for (text, line, kind) in FAILED {
+        let (line, kind) = (*line, *kind);
+        let mut source = FromRead::new(Broken {
+            interrupted: 64,
+            text,
+        });
+        assert!(rt; fault_of(rt.alloc(), &mut source) == Some(FileFault { line, kind }));
+    }
+}
+
+/// The text of each fault of a users file.
+const FAULTS: &[(LineFault, &str)] = &[
+    (LineFault::MissingField, "line 7: MissingField"),
+    (LineFault::BadSecret, "line 7: BadSecret"),
+    (LineFault::BadCounter, "line 7: BadCounter"),
+    (LineFault::DuplicateUser, "line 7: DuplicateUser"),
+    (LineFault::NameTooLong, "line 7: NameTooLong"),
+    (LineFault::TooMany, "line 7: TooMany"),
+    (LineFault::LineTooLong, "line 7: LineTooLong"),
+    (LineFault::Read, "line 7: cannot read"),
+    (LineFault::Memory, "line 7: out of memory"),
+    (LineFault::FileTooLong, "line 7: FileTooLong"),
+];
+
+#[test]
+fn file_faults(rt: HostRuntime) -> Result<(), AllocError> {
+    for &(kind, text) in FAULTS {
+        let fault = FileFault { line: 7, kind };
+        assert!(rt; format!(in rt.alloc(); "{fault}")?.as_str() == text);
+    }
+    Ok(())
+}
+
+/// Whether the one token of a users file and its first free factor are written so.
+fn is_written(alloc: Global, file: &[u8], want: &[u8]) -> bool {
+    let Some(Ok((book, floors))) = read_at(alloc, &mut FromRead::new(file), 0) else {
+        return false;
+    };
+    let (Some(id), Some(next)) = (book.find(b"gold"), floors.first()) else {
+        return false;
+    };
+    let mut written = Vec::new(alloc);
+    match write_row(&mut written, book.token(id), *next) {
+        Ok(()) => written.as_slice() == want,
+        Err(_) => false,
+    }
+}
+
+/// Rows as they are written: a type has its digits always, a secret is in lower case, and the row of a time token has
+/// four fields.
+#[test]
+fn written_rows(rt: HostRuntime) {
+    assert!(rt;
+        is_written(
+            rt.alloc(),
+            b"HOTP gold - AB 4",
+            b"HOTP/E/6\tgold\t-\tab\t4\n"
+        )
+    );
+    assert!(rt;
+        is_written(
+            rt.alloc(),
+            b"HOTP/T60/7/SHA256 gold pw 00aBff",
+            b"HOTP/T60/7/SHA256\tgold\tpw\t00abff\n"
+        )
+    );
+}
+
+/// An Ask from 1 to 2 for token 0, factors 1 to 1, by proposal 0 of boot 2, and its tag under 32 zeros.
+const ASK: [u8; 59] = [
+    0x4f, 0x56, 2, 1, 1, 2, 0, 0, 0, 0, 1, 0, 0, 0, 0, 0, 0, 0, 2, 0, 0, 0, 0, 0, 0, 0, 0, 0, 0, 0,
+    0, 0, 0, 0, 1, 0, 0, 0, 0, 0, 0, 0, 1, 0xc2, 0x16, 0x72, 0x14, 0xab, 0x2f, 0x54, 0x75, 0x82,
+    0xf0, 0x53, 0xde, 0xc2, 0x7d, 0xf8, 0x9a,
+];
+
+/// Whether the Ask is written so under a key, and read of these bytes.
+fn is_datagram(key: &ClusterKey) -> Option<bool> {
+    let lo = Factor::new(1)?;
+    let ask = Message::Ask {
+        proposal: Proposal::new(1, 2, 0)?,
+        token: 0,
+        lo,
+        hi: lo,
+    };
+    let is_written = write_message(key, 1, 2, &ask).as_slice() == ASK.as_slice();
+    Some(is_written && read_message(key, &ASK) == Some((1, 2, ask)))
+}
+
+/// An Ask is these bytes under its key, which is read in hexadecimal, and no datagram under another one.
+#[test]
+fn ask_under_a_key(rt: HostRuntime) {
+    let key = ClusterKey::read(&[b'0'; 64]);
+    assert!(rt; key.is_ok());
+    if let Ok(key) = key {
+        assert!(rt; is_datagram(&key) == Some(true));
+    }
+    let other = ClusterKey::new(&[1; 32]);
+    assert!(rt; other.is_some());
+    if let Some(other) = other {
+        assert!(rt; read_message(&other, &ASK).is_none());
+    }
+}

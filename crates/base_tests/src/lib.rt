@@ -1,0 +1,15 @@
+//! The tests of the crates on which a node rests, by their public calls alone: `hmac_core`, `otp_core`, `field_text`,
+//! `secret_text`, `token_file`, `floor_store`, `vote_wire` and `answer_ring`. They stand apart, since a crate is proved
+//! anew with its tests.
+#![tactic(auto)]
+
+#[cfg(test)]
+mod code_tests;
+#[cfg(test)]
+mod file_tests;
+#[cfg(test)]
+mod ring_tests;
+#[cfg(test)]
+mod store_tests;
+#[cfg(test)]
+mod text_tests;

@@ -1,0 +1,78 @@
+//! Readers and writers that say little of their bytes, and fail.
+
+use std::cell::Cell;
+use std::io::{self, ErrorKind, Read, Write};
+
+/// A reader that gives a front of a text, at most so many bytes at once, and then fails, where it is to.
+#[derive(Drop)]
+pub(crate) struct Front<'a> {
+    pub(crate) text: &'a [u8],
+    pub(crate) size: usize,
+    pub(crate) fault: Option<ErrorKind>,
+}
+
+impl Read for Front<'_> {
+    fn read(&mut self, buf: &mut [u8]) -> io::Result<usize> {
+        if self.text.is_empty() {
+            return match self.fault {
+                Some(kind) => Err(kind.into()),
+                None => Ok(0),
+            };
+        }
+        let len = buf.len().min(self.size);
+        self.text.read(&mut buf[..len])
+    }
+}
+
+/// A reader each of whose lines is asked for only when so many bytes were written and flushed.
+#[derive(Drop)]
+pub(crate) struct Dialog<'a> {
+    pub(crate) lines: &'a [(&'static str, usize)],
+    pub(crate) given: usize,
+    pub(crate) flushed: &'a Cell<usize>,
+}
+
+impl Read for Dialog<'_> {
+    fn read(&mut self, buf: &mut [u8]) -> io::Result<usize> {
+        let Some(&(text, flushed)) = self.lines.get(self.given) else {
+            return Ok(0);
+        };
+        if self.flushed.get() != flushed {
+            return Err(ErrorKind::Other.into());
+        }
+        self.given = self.given.saturating_add(1);
+        text.as_bytes().read(buf)
+    }
+}
+
+/// A writer that has room for so many bytes, tells how many were written before it was flushed, and how often that was;
+/// its flush may fail.
+#[derive(Drop)]
+pub(crate) struct Room<'a> {
+    pub(crate) left: usize,
+    pub(crate) written: usize,
+    pub(crate) flushed: &'a Cell<usize>,
+    pub(crate) flushes: u32,
+    pub(crate) flush_fails: bool,
+}
+
+impl Write for Room<'_> {
+    fn write(&mut self, bytes: &[u8]) -> io::Result<usize> {
+        let taken = bytes.len().min(self.left);
+        if taken == 0 && !bytes.is_empty() {
+            return Err(ErrorKind::WriteZero.into());
+        }
+        self.left -= taken;
+        self.written = self.written.saturating_add(taken);
+        Ok(taken)
+    }
+
+    fn flush(&mut self) -> io::Result<()> {
+        if self.flush_fails {
+            return Err(ErrorKind::Other.into());
+        }
+        self.flushed.set(self.written);
+        self.flushes = self.flushes.saturating_add(1);
+        Ok(())
+    }
+}

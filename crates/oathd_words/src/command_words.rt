@@ -1,0 +1,280 @@
+//! The commands of `oathd`, as clap is told of them.
+
+use crate::help::{
+    AUDIT_HELP, CLUSTER_HELP, EXPORT_HELP, INIT_HELP, LINES_HELP, MIGRATE_HELP, PROGRAM_HELP,
+    SECRET_HELP, SERVE_HELP, SERVE_USAGE, SIM_HELP,
+};
+use crate::option_words::{
+    CLOCK_MOMENT, DATABASE, DRIFT, HEX, KEY, KEY_OR_ZEROS, LOOK_AHEAD, MEMBERS, MOMENT, NODE,
+    NODE_COUNT, RANGE, SKEW, TURNS, USERS, Word,
+};
+use clap::error::ErrorKind;
+use clap::{ArgMatches, Command, Error};
+use command_line::{NumberOption, VERSION, first_out_of_range, number_error};
+use std::alloc::{AllocError, Global};
+
+/// A command of the program.
+pub(crate) struct CommandWords {
+    /// The word that stands for it.
+    word: &'static str,
+    /// The same behind the program's name.
+    whole: &'static str,
+    about: &'static str,
+    /// Its usage, where clap's own is too long.
+    usage: Option<&'static str>,
+    /// What its help says besides its words.
+    after_help: &'static str,
+    /// Whether the help of a word stands below it.
+    next_line_help: bool,
+    words: &'static [Word],
+    /// The numbers among its values, each with its range.
+    numbers: &'static [NumberOption],
+}
+
+/// The commands, in the order of the help.
+pub(crate) const COMMANDS: [CommandWords; 9] = [
+    CommandWords {
+        word: "lines",
+        whole: "oathd lines",
+        about: "Answers lines of clients, behind a users file",
+        usage: None,
+        after_help: LINES_HELP,
+        next_line_help: true,
+        words: &[
+            Word::Number(LOOK_AHEAD),
+            Word::Number(SKEW),
+            Word::Number(RANGE),
+            Word::Number(DRIFT),
+            Word::Number(MOMENT),
+            Word::Text(KEY_OR_ZEROS),
+        ],
+        numbers: &[LOOK_AHEAD, SKEW, RANGE, DRIFT, MOMENT],
+    },
+    CommandWords {
+        word: "sim",
+        whole: "oathd sim",
+        about: "Runs a script of what happens to the nodes of a cluster",
+        usage: None,
+        after_help: SIM_HELP,
+        next_line_help: true,
+        words: &[
+            Word::Text(NODE_COUNT),
+            Word::Number(LOOK_AHEAD),
+            Word::Number(SKEW),
+            Word::Number(RANGE),
+            Word::Number(DRIFT),
+            Word::Number(MOMENT),
+            Word::Text(KEY_OR_ZEROS),
+        ],
+        numbers: &[LOOK_AHEAD, SKEW, RANGE, DRIFT, MOMENT],
+    },
+    CommandWords {
+        word: "cluster",
+        whole: "oathd cluster",
+        about: "Runs the nodes of a cluster over sockets, and sends them lines",
+        usage: None,
+        after_help: CLUSTER_HELP,
+        next_line_help: true,
+        words: &[
+            Word::Text(USERS),
+            Word::Text(NODE_COUNT),
+            Word::Number(LOOK_AHEAD),
+            Word::Number(SKEW),
+            Word::Number(RANGE),
+            Word::Number(DRIFT),
+            Word::Number(MOMENT),
+            Word::Text(KEY_OR_ZEROS),
+        ],
+        numbers: &[LOOK_AHEAD, SKEW, RANGE, DRIFT, MOMENT],
+    },
+    CommandWords {
+        word: "init",
+        whole: "oathd init",
+        about: "Makes the store of a node in a database",
+        usage: None,
+        after_help: INIT_HELP,
+        next_line_help: true,
+        words: &[
+            Word::Text(DATABASE),
+            Word::Text(USERS),
+            Word::Text(NODE),
+            Word::Number(SKEW),
+            Word::Text(CLOCK_MOMENT),
+        ],
+        numbers: &[SKEW, MOMENT],
+    },
+    CommandWords {
+        word: "serve",
+        whole: "oathd serve",
+        about: "Serves a node over a UDP socket and a database",
+        usage: Some(SERVE_USAGE),
+        after_help: SERVE_HELP,
+        next_line_help: true,
+        words: &[
+            Word::Text(DATABASE),
+            Word::Text(USERS),
+            Word::Text(NODE),
+            Word::Text(MEMBERS),
+            Word::Text(KEY),
+            Word::Number(LOOK_AHEAD),
+            Word::Number(SKEW),
+            Word::Number(RANGE),
+            Word::Number(DRIFT),
+            Word::Number(TURNS),
+        ],
+        numbers: &[LOOK_AHEAD, SKEW, RANGE, DRIFT, TURNS],
+    },
+    CommandWords {
+        word: "export",
+        whole: "oathd export",
+        about: "Prints a users file with the first free factors of a store",
+        usage: None,
+        after_help: EXPORT_HELP,
+        next_line_help: true,
+        words: &[Word::Text(DATABASE), Word::Text(USERS)],
+        numbers: &[],
+    },
+    CommandWords {
+        word: "audit",
+        whole: "oathd audit",
+        about: "Prints what a node accepted",
+        usage: None,
+        after_help: AUDIT_HELP,
+        next_line_help: true,
+        words: &[Word::Text(DATABASE), Word::Text(USERS), Word::Text(NODE)],
+        numbers: &[],
+    },
+    CommandWords {
+        word: "migrate",
+        whole: "oathd migrate",
+        about: "Makes the store of a node one of the present version",
+        usage: None,
+        after_help: MIGRATE_HELP,
+        next_line_help: true,
+        words: &[Word::Text(DATABASE), Word::Text(USERS), Word::Text(NODE)],
+        numbers: &[],
+    },
+    CommandWords {
+        word: "secret",
+        whole: "oathd secret",
+        about: "Prints a secret in base32, the text that authenticator apps take",
+        usage: None,
+        after_help: SECRET_HELP,
+        next_line_help: false,
+        words: &[Word::Text(HEX)],
+        numbers: &[],
+    },
+];
+
+impl CommandWords {
+    /// The command as clap's.
+    fn command<'a>(&self, alloc: Global) -> Result<Command<'a>, AllocError> {
+        let command = Command::new(alloc, self.word)
+            .about(self.about)
+            .next_line_help(self.next_line_help)
+            .after_help(self.after_help);
+        let mut command = match self.usage {
+            Some(usage) => command.override_usage(usage),
+            None => command,
+        };
+        for word in self.words {
+            command = command.arg(word.arg(alloc))?;
+        }
+        Ok(command)
+    }
+
+    /// The command with the program's name before its own, as errors write it.
+    fn usage<'a>(&self, alloc: Global) -> Result<Command<'a>, AllocError> {
+        self.command(alloc)?.bin_name(self.whole)
+    }
+}
+
+/// The program with one command more.
+fn with_command<'a>(
+    program: Command<'a>,
+    command: Result<Command<'a>, AllocError>,
+) -> Result<Command<'a>, AllocError> {
+    program.subcommand(command?)
+}
+
+/// The program with these commands.
+fn with_commands<'a>(
+    alloc: Global,
+    mut program: Command<'a>,
+    commands: &[CommandWords],
+) -> Result<Command<'a>, AllocError> {
+    for words in commands {
+        program = with_command(program, words.command(alloc))?;
+    }
+    Ok(program)
+}
+
+/// The program without its commands.
+fn bare_program<'a>(alloc: Global) -> Command<'a> {
+    Command::new(alloc, "oathd")
+        .version(VERSION)
+        .about("Validates one-time passwords of OATH tokens:\nHOTP (RFC 4226) and TOTP (RFC 6238)")
+        .after_help(PROGRAM_HELP)
+        .disable_help_subcommand(true)
+        .subcommand_required(true)
+}
+
+/// The whole command line, with these commands.
+pub(crate) fn program<'a>(
+    alloc: Global,
+    commands: &[CommandWords],
+) -> Result<Command<'a>, AllocError> {
+    with_commands(alloc, bare_program(alloc), commands)
+}
+
+/// The one of some commands that has this name.
+fn find_command<'c>(commands: &'c [CommandWords], name: &str) -> Option<&'c CommandWords> {
+    for words in commands {
+        if words.word == name {
+            return Some(words);
+        }
+    }
+    None
+}
+
+/// The error that says what the members have to be.
+fn members_error(
+    alloc: Global,
+    usage: &mut Command<'_>,
+    members: &str,
+) -> Result<Error, AllocError> {
+    let text = format!(in alloc;
+        "invalid value '{members}' for '--members <A,B,..>': A,B,.. is 1 to 9 IPv4 addresses with ports, each another, \
+        and one of them the node's"
+    )?;
+    usage.error(ErrorKind::ValueValidation, text.as_str())
+}
+
+/// The error that names the first of some numbers that is out of its range or not in digits alone, with that range, or
+/// else the members.
+fn error_of(
+    alloc: Global,
+    usage: &mut Command<'_>,
+    numbers: &[NumberOption],
+    matches: &ArgMatches<'_>,
+) -> Result<Error, AllocError> {
+    match matches.get_str("members") {
+        Some(members) if first_out_of_range(matches, numbers).is_none() => {
+            members_error(alloc, usage, members)
+        }
+        _ => number_error(alloc, usage, matches, numbers),
+    }
+}
+
+/// The error for values of the command with this name that ask for nothing, with the usage of the command.
+pub(crate) fn value_error(
+    alloc: Global,
+    commands: &[CommandWords],
+    name: &str,
+    matches: &ArgMatches<'_>,
+) -> Result<Error, AllocError> {
+    match find_command(commands, name) {
+        Some(words) => error_of(alloc, &mut words.usage(alloc)?, words.numbers, matches),
+        None => error_of(alloc, &mut bare_program(alloc), &[], matches),
+    }
+}

@@ -1,0 +1,183 @@
+//! The texts of the help of `oathd` and of its commands.
+
+/// What the help of the program says besides its commands.
+pub(crate) const PROGRAM_HELP: &str = "\
+oathd init makes a database with what a node keeps, and oathd serve serves the
+node: no password is accepted twice, whichever members are asked, and whenever
+nodes stop and start again. The commands lines, sim and cluster keep nothing
+between two runs: first free factors and the throttle begin anew with each users
+file.
+
+The status is 0 where all is done, 1 where a fault of the input, memory, clock
+or output, which standard error names, ended the run, 2 where the words are
+wrong, 3 where a store failed, and 4 where a socket did.";
+
+/// What the help of the command `lines` says of its input.
+pub(crate) const LINES_HELP: &str = "\
+Standard input is a users file, a line %% and the lines of clients. Each line of
+a client is answered by a line on standard output.
+
+A users file has a token on each line, in fields with blanks between:
+    TYPE USER PASSWORD SECRET [COUNTER [LAST]]
+TYPE is one of these:
+    HOTP, HOTP/E          a token that counts events (HOTP, RFC 4226)
+    HOTP/T30, HOTP/T60    a token that counts time steps of 30 or 60 seconds
+                          (TOTP, RFC 6238)
+Its codes have 6 digits, or as many as /6, /7 or /8 behind HOTP/E, HOTP/T30 or
+HOTP/T60 says: HOTP/E/8. They are made with SHA-1 or, where /SHA256 or /SHA512
+stands behind the digits of a time token, with that hash: HOTP/T30/6/SHA256.
+PASSWORD is - for none, + for one that is not checked here, or one that must be
+given. SECRET is in hexadecimal.
+
+A factor is the counter of an event token or the time step of a time token. The
+first free factor is the least that is not used up. That of an event token is
+COUNTER, 0 where that is missing, or one more where LAST is the code of COUNTER;
+that of a time token lies past the moment of the import and the skew.
+
+A line of a client is CLIENT MOMENT REQUEST, with single spaces: a number,
+seconds since 1970-01-01 00:00:00 UTC, and one of
+    CHECK NONCE USER CODE PASSWORD
+    RESYNC NONCE USER CODE NEXT-CODE PASSWORD
+A line that a client sends again is told its old answer: each submission has a
+NONCE of its own.
+
+No password is accepted twice within a run. Nothing is kept between two runs:
+first free factors and the throttle begin anew with each users file, so one
+run is one server.
+
+Example, which prints OK 1 0 and OK 2 8:
+    printf '%s\\n' \\
+        'HOTP silver - 3132333435363738393031323334353637383930' %% \\
+        '7 100 CHECK 1 silver 755224 -' \\
+        '7 110 RESYNC 2 silver 162583 399871 -' | oathd lines";
+
+/// What the help of the command `sim` says of its input.
+pub(crate) const SIM_HELP: &str = "\
+Standard input is a users file as the command lines takes it, a line %% and a
+script. N nodes begin with the users file, each with a store in memory. Nothing
+passes between them but what the script delivers.
+
+Each line of a script is one event, with single spaces; an empty line and one
+that begins with # are none. Events are counted from 0.
+    client NODE CLIENT MOMENT REQUEST   a client's line comes
+    deliver NODE K                      the datagram sent as number K comes
+    tick NODE                           some time passes
+    noise NODE FROM HEX                 bytes come from FROM's address
+    restart NODE                        the node restarts
+    cut kept EVENT, cut lost EVENT      the node stops inside one of the first
+                                        four: what it writes is kept or lost,
+                                        what it sends is lost, and it restarts
+Behind all events there may be one line of the nodes that still run, more than
+half of all, and behind it rounds, in each of which one of them is asked, and
+all that those nodes send each other comes:
+    live A B ..
+    round NODE CLIENT MOMENT REQUEST
+
+When the script is done it prints what was accepted, what was answered and how
+many datagrams were sent:
+    pass BEGAN ENDED NODE TOKEN LO HI
+    answer EVENT NODE CLIENT TEXT
+    sent COUNT
+
+Example, which prints pass 0 2 1 0 0 0, answer 2 1 7 OK a 0 and sent 3:
+    printf '%s\\n' \\
+        'HOTP silver - 3132333435363738393031323334353637383930' %% \\
+        'client 1 7 100 CHECK a silver 755224 -' \\
+        'deliver 2 0' 'deliver 1 2' | oathd sim 3";
+
+/// What the help of the command `cluster` says of its input.
+pub(crate) const CLUSTER_HELP: &str = "\
+USERS is a users file as the command lines takes it. N nodes begin with it, each
+with a store in memory and a UDP socket of its own on this machine. Standard
+input has the lines of a client.
+
+A line is NODE MOMENT REQUEST, with single spaces: the number of a node, seconds
+since 1970-01-01 00:00:00 UTC, and what the client says to that node. Each node
+then has one receive after the other, until the reply is there, and these lines
+are printed:
+    NODE REPLY
+    NODE -              no reply came after 64 rounds
+
+Beside the status of the command lines, it is 3 where a node failed, and 4 where
+a socket did.
+
+Example, which prints 1 OK a 0 and 2 NO b INVALID:
+    echo 'HOTP silver - 3132333435363738393031323334353637383930' > users
+    printf '%s\\n' '1 100 CHECK a silver 755224 -' \\
+        '2 100 CHECK b silver 755224 -' | oathd cluster users 3";
+
+/// What the help of the command `init` says besides its words.
+pub(crate) const INIT_HELP: &str = "\
+DB is made where it isn't there, and then holds the store of node I: the first
+free factor of each token of the users file, its throttle and the node's votes,
+and the passes of the node. Where a store is there it stays as it is. All
+members of a cluster begin with the same users file, each with a DB of its own,
+which only oathd init, serve, export and audit open, one at a time.
+
+The status is 3 where a store is there, or the database fails.
+
+Example, which prints nothing:
+    echo 'HOTP silver - 3132333435363738393031323334353637383930' > users
+    oathd init node1.db users --node 1";
+
+/// The usage of the command `serve`, on two lines.
+pub(crate) const SERVE_USAGE: &str = "\
+oathd serve [OPTIONS] --node <I> --members <A,B,..> --key <PATH>
+                   <DB> <USERS>";
+
+/// What the help of the command `serve` says besides its words.
+pub(crate) const SERVE_HELP: &str = "\
+DB is the store of node I, which oathd init made, and USERS the users file that
+it was made with. The node has a UDP socket at the I-th of the addresses and
+answers each datagram of a client, which is one line:
+    CHECK NONCE USER CODE PASSWORD
+    RESYNC NONCE USER CODE NEXT-CODE PASSWORD
+What comes from the address of another member is that member's vote. The moment
+is the system's. It ends after T receives, each of which waits 200 milliseconds
+at most, and prints nothing.
+
+No password is accepted twice, whichever members are asked, and whenever nodes
+stop and start again. An answer comes as long as more than half of the members
+run and hear each other.
+
+The status is 3 where the database fails, and 4 where the socket does.
+
+Example of a node alone:
+    oathd serve node1.db users --node 1 --members 127.0.0.1:7001 --key key";
+
+/// What the help of the command `export` says besides its words.
+pub(crate) const EXPORT_HELP: &str = "\
+USERS is the users file that the store was made with. What is printed is a users
+file with the first free factors that the store has.
+
+The status is 3 where the database fails, or holds no such store.";
+
+/// What the help of the command `audit` says besides its words.
+pub(crate) const AUDIT_HELP: &str = "\
+USERS is the users file that the store was made with. For each code that node I
+accepted, in order, this line is printed:
+    pass NUMBER TOKEN LO HI BOOT SEQ
+NUMBER counts from 1, and TOKEN is the number of the token in the users file,
+from 0. LO to HI are the factors that are used up. BOOT and SEQ are the number
+of the node's vote.
+
+The status is 3 where the database fails, or holds no store of node I.";
+
+/// What the help of the command `migrate` says besides its words.
+pub(crate) const MIGRATE_HELP: &str = "\
+DB is the store of node I as a version of oathd before clock drift made it, and
+USERS the users file that it was made with. It becomes a store that keeps the
+drift of each token, 0 at first, and is otherwise as it was. All is done in one
+step, or nothing.
+
+The status is 3 where the database fails, holds no such store, or is of the
+present version.";
+
+/// What the help of the command `secret` says besides its word.
+pub(crate) const SECRET_HELP: &str = "\
+HEX can be seen by other users of the machine while the program runs, and stays
+in the shell's history: give secrets of test tokens, or use a machine of your
+own.
+
+Example, which prints MZXW6YTBOI======:
+    oathd secret 666f6f626172";

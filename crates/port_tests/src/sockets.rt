@@ -1,0 +1,184 @@
+//! Ports over loopback sockets.
+
+use node_turns::{Clock, Port, Received, Sender};
+use std::cell::Cell;
+use std::io;
+use std::net::{Ipv4Addr, Net, SocketAddr, SocketAddrV4, UdpSocket};
+use std::test::Fail;
+use std::time::{Clock as TimeSource, Duration};
+use udp_port::{NoClock, SystemClock, UdpPort, client_number};
+
+/// A socket with an address of its own on this machine, and a short read timeout.
+fn socket<R: Net>(net: &R) -> io::Result<UdpSocket> {
+    let own = SocketAddrV4::new(Ipv4Addr::LOCALHOST, 0);
+    let socket = UdpSocket::bind(net, SocketAddr::V4(own))?;
+    socket.set_read_timeout(Some(Duration::from_millis(50)))?;
+    Ok(socket)
+}
+
+/// The address of a socket.
+fn address(socket: &UdpSocket) -> Result<SocketAddrV4, Fail> {
+    match socket.local_addr()? {
+        SocketAddr::V4(address) => Ok(address),
+        SocketAddr::V6(_) => Err(Fail::from("an IPv6 address")),
+    }
+}
+
+/// What a port receives first is this text of this sender.
+fn hands_in<P: Port>(port: &mut P, sender: Sender, text: &[u8]) -> bool {
+    let mut buffer = [0; 512];
+    port.receive(&mut buffer)
+        == Received::Datagram {
+            sender,
+            len: text.len(),
+        }
+        && buffer.starts_with(text)
+}
+
+/// A member's datagram is told from a stranger's, whatever they say, and each gets what is sent to it. A stranger's
+/// answer is passed over.
+#[test]
+fn tells_members_from_clients(rt: HostRuntime) -> Result<(), Fail> {
+    let alloc = rt.alloc();
+    let (own, member, stranger) = (socket(&rt)?, socket(&rt)?, socket(&rt)?);
+    let (at, first, client) = (address(&own)?, address(&member)?, address(&stranger)?);
+    let mut members = Vec::new(alloc);
+    members.push(first)?;
+    members.push(at)?;
+    let mut port = UdpPort::new(own, members, NoClock);
+    for text in ["NO - BADLINE", "OK 1 0", "OV"] {
+        stranger.send_to(text.as_bytes(), SocketAddr::V4(at))?;
+    }
+    member.send_to(b"NO - BADLINE", SocketAddr::V4(at))?;
+    for (from, sender, text) in [
+        (&stranger, Sender::Client(client_number(client)), "OV"),
+        (&member, Sender::Peer(1), "NO - BADLINE"),
+    ] {
+        assert!(rt; hands_in(&mut port, sender, text.as_bytes()));
+        assert!(rt; port.send(sender, b"back"));
+        let mut answer = [0; 8];
+        let (len, by) = from.recv_from(&mut answer)?;
+        assert!(rt; len == 4 && answer.starts_with(b"back") && by == SocketAddr::V4(at));
+    }
+    assert!(rt; !port.send(Sender::Peer(3), b"lost"));
+    Ok(())
+}
+
+/// Of a longer datagram 512 bytes are handed in, and the next datagram is whole.
+#[test]
+fn cuts_a_long_datagram(rt: HostRuntime) -> Result<(), Fail> {
+    let (own, stranger) = (socket(&rt)?, socket(&rt)?);
+    let (at, client) = (address(&own)?, client_number(address(&stranger)?));
+    let mut port = UdpPort::new(own, Vec::new(rt.alloc()), NoClock);
+    let sender = Sender::Client(client);
+    stranger.send_to(&[7; 600], SocketAddr::V4(at))?;
+    stranger.send_to(b"next", SocketAddr::V4(at))?;
+    stranger.send_to(b"", SocketAddr::V4(at))?;
+    assert!(rt; hands_in(&mut port, sender, &[7; 512]));
+    assert!(rt; hands_in(&mut port, sender, b"next"));
+    assert!(rt; hands_in(&mut port, sender, b""));
+    Ok(())
+}
+
+/// A receive that finds nothing in time is quiet, and so is one after a datagram that found nobody.
+#[test]
+fn is_quiet_where_nothing_comes(rt: HostRuntime) -> Result<(), Fail> {
+    let nobody = client_number(address(&socket(&rt)?)?);
+    let mut port = UdpPort::new(socket(&rt)?, Vec::new(rt.alloc()), NoClock);
+    let mut buffer = [0; 512];
+    for _ in 0..2 {
+        assert!(rt; port.receive(&mut buffer) == Received::Quiet);
+        let _taken = port.send(Sender::Client(nobody), b"lost");
+    }
+    Ok(())
+}
+
+/// Whether a port that says `NO - BADLINE` to whatever it is handed says so to what comes next.
+fn refuses<P: Port>(port: &mut P) -> bool {
+    let mut buffer = [0; 512];
+    match port.receive(&mut buffer) {
+        Received::Datagram { sender, .. } => port.send(sender, b"NO - BADLINE"),
+        Received::Quiet | Received::Fault => false,
+    }
+}
+
+/// A port answers a line that another sends, and the other no answer. After 64 answers a port is quiet, and then has
+/// the next line.
+#[test]
+fn answers_no_answer(rt: HostRuntime) -> Result<(), Fail> {
+    let (own, other) = (socket(&rt)?, socket(&rt)?);
+    let (at, from) = (address(&own)?, client_number(address(&other)?));
+    let mut port = UdpPort::new(own, Vec::new(rt.alloc()), NoClock);
+    let mut another = UdpPort::new(other, Vec::new(rt.alloc()), NoClock);
+    let to = Sender::Client(client_number(at));
+    assert!(rt; another.send(to, b"x"));
+    assert!(rt; refuses(&mut port));
+    assert!(rt; !refuses(&mut another));
+    for _ in 0..64 {
+        assert!(rt; another.send(to, b"OK 1 0"));
+    }
+    assert!(rt; another.send(to, b"y"));
+    assert!(rt; !refuses(&mut port));
+    assert!(rt; hands_in(&mut port, Sender::Client(from), b"y"));
+    Ok(())
+}
+
+/// A clock that tells this many milliseconds, or fails.
+#[derive(Drop)]
+struct Told(Cell<Option<u64>>);
+
+impl TimeSource for Told {
+    fn monotonic(&self) -> io::Result<Duration> {
+        self.since_1970()
+    }
+
+    fn since_1970(&self) -> io::Result<Duration> {
+        match self.0.get() {
+            Some(millis) => Ok(Duration::from_millis(millis)),
+            None => Err(io::ErrorKind::Other.into()),
+        }
+    }
+}
+
+/// Where datagrams are always there, a receive is quiet where the time says so, and takes none of them.
+#[test]
+fn is_quiet_by_time(rt: HostRuntime) -> Result<(), Fail> {
+    let (own, stranger) = (socket(&rt)?, socket(&rt)?);
+    let (at, client) = (address(&own)?, client_number(address(&stranger)?));
+    let clock = Told(Cell::new(None));
+    let mut port = UdpPort::new(own, Vec::new(rt.alloc()), &clock);
+    for (told, is_quiet) in [
+        (Some(1000), false),
+        (Some(1199), false),
+        (Some(1200), true),
+        (Some(1200), false),
+        (Some(1550), true),
+        (None, false),
+        (Some(1600), true),
+        (Some(2000), true),
+        (Some(2199), false),
+        (Some(2200), true),
+    ] {
+        clock.0.set(told);
+        stranger.send_to(b"x", SocketAddr::V4(at))?;
+        assert!(rt;
+            hands_in(&mut port, Sender::Client(client), b"x") != is_quiet,
+            "{told:?}"
+        );
+    }
+    Ok(())
+}
+
+/// A moment is below 2^40 seconds, and the system has one.
+#[test]
+fn moments_are_in_range(rt: HostRuntime) {
+    assert!(rt; SystemClock::new(&rt).moment().unwrap_or(0) > 1_600_000_000);
+    for (told, moment) in [
+        (Some(999), Some(0)),
+        (Some(1_099_511_627_775_999), Some(1_099_511_627_775)),
+        (Some(1_099_511_627_776_000), None),
+        (None, None),
+    ] {
+        assert!(rt; SystemClock::new(&Told(Cell::new(told))).moment() == moment);
+    }
+}

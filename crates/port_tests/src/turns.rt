@@ -1,0 +1,119 @@
+//! Turns over a port in memory.
+
+use floor_store::MemStore;
+use node_turns::{Coming, ListClock, ListPort, PortEntry, Sender, Served, run_turns};
+use oath_node::Node;
+use otp_core::{Next, Settings};
+use std::alloc::Global;
+use std::test::Fail;
+use token_file::{Book, FromRead, read_book};
+use vote_core::Place;
+use vote_wire::ClusterKey;
+
+/// The token of RFC 4226, Appendix D.
+const SILVER: &[u8] = b"HOTP silver - 3132333435363738393031323334353637383930";
+
+fn silver(alloc: Global) -> Result<(Book, Vec<Next>), Fail> {
+    let mut source = FromRead::new(SILVER);
+    match read_book(alloc, &mut source, Settings::default(), 0) {
+        Ok(read) => Ok(read),
+        Err(fault) => Err(fault.into()),
+    }
+}
+
+/// A node alone, over a fresh store in memory.
+fn node_alone<'b>(
+    alloc: Global,
+    book: &'b Book,
+    key: &'b ClusterKey,
+    floors: &[Next],
+) -> Result<Node<'b, MemStore>, Fail> {
+    let place = Place::new(1, 1).ok_or("a place")?;
+    if floors.len() > 10_000 || floors.len() != book.len() {
+        return Err("another number of tokens".into());
+    }
+    let store = MemStore::new(alloc, floors)?;
+    match Node::open(alloc, book, Settings::default(), place, key, store) {
+        Ok(node) => Ok(node),
+        Err((_, fault)) => Err(fault.into()),
+    }
+}
+
+/// What five turns of a node alone come to.
+fn served(
+    alloc: Global,
+    port: &mut ListPort<'_>,
+    clock: &mut ListClock<'_>,
+) -> Result<Served, Fail> {
+    let key = ClusterKey::new(&[0; 32]).ok_or("a key")?;
+    let (book, floors) = silver(alloc)?;
+    let mut node = node_alone(alloc, &book, &key, &floors)?;
+    match run_turns(&mut node, port, clock, 5) {
+        Ok(served) => Ok(served),
+        Err(fault) => Err(fault.into()),
+    }
+}
+
+/// Whether an entry is this datagram to client 7.
+fn is_answer(entry: Option<&PortEntry>, text: &[u8]) -> bool {
+    match entry {
+        Some(PortEntry::Offered { to, bytes }) => {
+            *to == Sender::Client(7) && bytes.as_slice() == text
+        }
+        _ => false,
+    }
+}
+
+/// Whether a port in memory has received what came, the first cut to 512 bytes, and was offered two answers.
+fn has_answered(entries: &[PortEntry]) -> bool {
+    let is_cut = match entries.first() {
+        Some(PortEntry::Received { bytes, .. }) => bytes.as_slice() == [7; 512].as_slice(),
+        _ => false,
+    };
+    is_cut
+        && entries.len() == 7
+        && is_answer(entries.get(3), b"OK 1 0")
+        && is_answer(entries.get(6), b"NO - BADLINE")
+}
+
+/// A long datagram of a member, a right line, a bad one, a receive that fails and a quiet one: each line is answered
+/// once, whether the port takes answers or not.
+#[test]
+fn lines_are_answered_once(rt: HostRuntime) -> Result<(), Fail> {
+    let alloc = rt.alloc();
+    let (sender, member) = (Sender::Client(7), Sender::Peer(2));
+    let (line, long) = (b"CHECK 1 silver 755224 -".as_slice(), [7; 600]);
+    let comings = [
+        Coming::Datagram {
+            sender: member,
+            bytes: &long,
+        },
+        Coming::Fault,
+        Coming::Datagram {
+            sender,
+            bytes: line,
+        },
+        Coming::Quiet,
+        Coming::Datagram {
+            sender,
+            bytes: b"CHECK",
+        },
+    ];
+    for takes_answers in [true, false] {
+        let mut port = ListPort::new(alloc, &comings);
+        if !takes_answers {
+            port.fail_sends();
+        }
+        let mut clock = ListClock::new(alloc, &[100, 101, 102]);
+        let end = served(alloc, &mut port, &mut clock)?;
+        assert!(rt;
+            end == Served {
+                received: 3,
+                replied: 2
+            }
+        );
+        assert!(rt; has_answered(port.record().ok_or("no record")?));
+        assert!(rt; clock.record().ok_or("no record")? == [Some(100), Some(101)].as_slice());
+    }
+    Ok(())
+}
