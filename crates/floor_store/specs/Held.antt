@@ -49,6 +49,14 @@ pub record Makes {S A E : Type 0} (held : S → Held) (old new : S) (made : Cont
   -- no token comes or goes
   pub tokens : length (held new).content.rows ≡ length (held old).content.rows
 
+-- A call that puts `made`. A stop before the next commit may leave it, or what a stop before the call could leave.
+pub record Puts {S A E : Type 0} (held : S → Held) (old new : S) (made : Content)
+    (result : Result A E) : Type 0 where
+  pub makes : Makes held old new made result
+  pub left : (c : Content) → (held new).leaves c → (held old).leaves c ⊎ (c ≡ made)
+  -- Ok is of a store that was not broken, and is not
+  pub intact : OnOk result (((held old).fault ≡ None) × ((held new).fault ≡ None))
+
 -- A call that writes `made`.
 pub record Writes {S A E : Type 0} (held : S → Held) (old new : S) (made : Content)
     (result : Result A E) : Type 0 where
@@ -59,12 +67,25 @@ pub record Writes {S A E : Type 0} (held : S → Held) (old new : S) (made : Con
   -- Ok is of a store that was not broken, and is not
   pub intact : OnOk result (((held old).fault ≡ None) × ((held new).fault ≡ None))
 
--- A call that writes `made`, or finds it there and writes nothing. What is made follows from rows that it reads, which
--- are right where the store is clean.
-pub record MayWrite {S A E : Type 0} (held : S → Held) (old new : S) (made : Content)
+-- The commit of all that was put: the store holds what it held, and after Ok a stop leaves nothing else. A stop in the
+-- midst leaves what a stop before the call could leave, or all of it.
+abbrev pub Commits : {S A E : Type 0} → (S → Held) → S → S → Result A E → Type 0
+Commits held old new result = Writes held old new (held old).content result
+
+-- A call that puts `made`, or finds it there and puts nothing. What is made follows from rows that it reads, which are
+-- right where the store is clean.
+pub record MayPut {S A E : Type 0} (held : S → Held) (old new : S) (made : Content)
     (result : Result A E) : Type 0 where
   pub makes : Makes held old new made result
   pub left : (held old).is_clean → (c : Content) → (held new).leaves c → (held old).leaves c ⊎ (c ≡ made)
+  pub intact : (held old).fault ≡ None → OnOk result ((held new).fault ≡ None)
+
+-- A call that writes `made`, or finds it there and writes nothing, and commits. What is made follows from rows that it
+-- reads, which are right where the store is clean.
+pub record MayWrite {S A E : Type 0} (held : S → Held) (old new : S) (made : Content)
+    (result : Result A E) : Type 0 where
+  pub makes : Makes held old new made result
+  pub left : (held new).is_clean → (c : Content) → (held new).leaves c → (held old).leaves c ⊎ (c ≡ made)
   pub settled : (held new).is_clean → IsSettled (held old) → OnOk result (IsSettled (held new))
   pub intact : (held old).fault ≡ None → OnOk result ((held new).fault ≡ None)
 

@@ -1,6 +1,6 @@
 ghost use Rattle.std.specs.Prelude.{◌≡◌, ◌⊎◌, ◌+◌, ◌<◌, ◌≤◌, ◌↔◌, length, IsTrue, true, false, IsSome, IfOk, IfErr, OnOk};
 ghost use Rattle.floor_store.specs.Content.{with_row, with_next_boot};
-ghost use Rattle.floor_store.specs.Held.{Breaks, RaisesBoot, Writes};
+ghost use Rattle.floor_store.specs.Held.{Breaks, Commits, Puts, RaisesBoot};
 ghost use Rattle.floor_store.specs.Fuse.{fuse_held, Burns};
 ghost use Rattle.floor_store.specs.Range.{IsCount};
 ghost use Rattle.floor_store.specs.declared.fault.StoreFault.{StoreFault};
@@ -11,8 +11,8 @@ use crate::row::{Pass, Row};
 use crate::store::FloorStore;
 use std::marker::Model;
 
-/// A store that lets some writes pass, and then fails as one whose disk is full or gone. `put` and
-/// `raise_boot` are a write each.
+/// A store that lets some writes pass, and then fails as one whose disk is full or gone. `put`, `commit`
+/// and `raise_boot` are a write each.
 #[derive(Drop)]
 pub struct FuseStore<S> {
     inner: S,
@@ -131,7 +131,7 @@ impl<S: FloorStore> FloorStore for FuseStore<S> {
 
     fn put(&mut self, token: u32, row: Row, pass: Option<Pass>) -> Result<(), StoreFault>
         requires { token < length (S.held self.old.inner).content.rows }
-        ensures writes { Writes (fuse_held S.held) self.old self.new
+        ensures puts { Puts (fuse_held S.held) self.old self.new
             (with_row (S.held self.old.inner).content token row pass) result }
         ensures breaks { IfErr result (Breaks (fuse_held S.held) self.old self.new) }
         ensures burns { Burns (fuse_held S.held) self.old self.new
@@ -142,6 +142,20 @@ impl<S: FloorStore> FloorStore for FuseStore<S> {
         }
         if self.reaches() {
             self.inner.put(token, row, pass)?;
+        }
+        self.burn()
+    }
+
+    fn commit(&mut self) -> Result<(), StoreFault>
+        ensures commits { Commits (fuse_held S.held) self.old self.new result }
+        ensures breaks { IfErr result (Breaks (fuse_held S.held) self.old self.new) }
+        ensures burns { Burns (fuse_held S.held) self.old self.new (S.held self.old.inner).content result }
+    {
+        if self.is_blown {
+            return Err(StoreFault::Disk);
+        }
+        if self.reaches() {
+            self.inner.commit()?;
         }
         self.burn()
     }

@@ -93,6 +93,13 @@ impl FloorStore for MemStore {
         Ok(())
     }
 
+    fn commit(&mut self) -> Result<(), StoreFault>
+        ensures never_fails { IsOk result }
+        ensures same { self.new ≡ self.old }
+    {
+        Ok(())
+    }
+
     fn raise_boot(&mut self) -> Result<u64, StoreFault>
         ensures raised { OnOk result (self.new ≡ with_next_boot self.old) }
         ensures value { IfOk result (λ boot. boot ≡ self.new.boot) }
