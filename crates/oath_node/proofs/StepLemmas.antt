@@ -5,7 +5,7 @@ use Rattle.std.specs.List.{list_any}
 use Rattle.std.specs.Option.{option_map}
 use Rattle.std.proofs.lemmas.Bool.{cond_both, lt-ltb, le-ltb}
 use Rattle.floor_store.specs.Content.{Content}
-use Rattle.floor_store.specs.Held.{Held, MayWrite, OldOrNew}
+use Rattle.floor_store.specs.Held.{Held, MayPut, OldOrNew}
 use Rattle.floor_store.specs.Records.{ProposalRecord}
 use Rattle.otp_core.specs.Acceptance.{majority_of, size}
 use Rattle.vote_core.specs.NodeSet.{PlaceRecord, with_node}
@@ -105,9 +105,9 @@ proposal_spent place client line nonce t lo hi drift x end = rw (le-ltb x.voter.
 
 -- ---- another name of the same step
 
-pub may_write_same : {S A E : Type 0} (held : S → Held) (old new : S) (one other : Content) (result : Result A E) → ((held old).is_clean → one ≡ other)
-    → MayWrite held old new one result → MayWrite held old new other result
-may_write_same held old new one other result same h = record {
+pub may_put_same : {S A E : Type 0} (held : S → Held) (old new : S) (one other : Content) (result : Result A E) → ((held old).is_clean → one ≡ other)
+    → MayPut held old new one result → MayPut held old new other result
+may_put_same held old new one other result same h = record {
   makes = record {
     ok = λ clean. subst (λ (made : Content). OnOk result ((held new).content ≡ made)) (same (h.makes.clean clean)) (h.makes.ok clean);
     err = λ clean. subst (λ (made : Content). OnErr result (OldOrNew (held old).content made (held new).content)) (same (h.makes.clean clean)) (h.makes.err clean);
@@ -117,7 +117,6 @@ may_write_same held old new one other result same h = record {
     tokens = h.makes.tokens;
   };
   left = λ clean c leaves. subst (λ (made : Content). (held old).leaves c ⊎ (c ≡ made)) (same clean) (h.left clean c leaves);
-  settled = h.settled;
   intact = h.intact;
 }
 
@@ -131,38 +130,34 @@ fails_same held old new one other Spent same h = record {
   unchanged = h.unchanged;
 }
 
--- what there is may be written
-pub writes_nothing : {S A E : Type 0} (held : S → Held) (store : S) (result : Result A E) → MayWrite held store store (held store).content result
-writes_nothing held store (Ok value) = record {
+-- what there is may be put
+pub puts_nothing : {S A E : Type 0} (held : S → Held) (store : S) (result : Result A E) → MayPut held store store (held store).content result
+puts_nothing held store (Ok value) = record {
   makes = record { ok = λ _. refl; err = λ _. tt; stays = λ _. refl; count = omega arith; clean = λ clean. clean; tokens = refl };
   left = λ _ c leaves. inl leaves;
-  settled = λ _ settled. settled;
   intact = λ works. works;
 }
-writes_nothing held store (Err fault) = record {
+puts_nothing held store (Err fault) = record {
   makes = record { ok = λ _. tt; err = λ _. inl refl; stays = λ _. refl; count = omega arith; clean = λ clean. clean; tokens = refl };
   left = λ _ c leaves. inl leaves;
-  settled = λ _ _. tt;
   intact = λ _. tt;
 }
 
 -- ---- a call of the store, as a call of the parts
 
-pub may_write_ok : {S A E B F : Type 0} (held : S → Held) (old new : S) (made : Content) (x : A) (y : B)
-    → MayWrite {A = A} {E = E} held old new made (Ok x) → MayWrite {A = B} {E = F} held old new made (Ok y)
-may_write_ok held old new made x y h = record {
+pub may_put_ok : {S A E B F : Type 0} (held : S → Held) (old new : S) (made : Content) (x : A) (y : B)
+    → MayPut {A = A} {E = E} held old new made (Ok x) → MayPut {A = B} {E = F} held old new made (Ok y)
+may_put_ok held old new made x y h = record {
   makes = record { ok = h.makes.ok; err = λ _. tt; stays = h.makes.stays; count = h.makes.count; clean = h.makes.clean; tokens = h.makes.tokens };
   left = h.left;
-  settled = h.settled;
   intact = h.intact;
 }
 
-pub may_write_err : {S A E B F : Type 0} (held : S → Held) (old new : S) (made : Content) (x : E) (y : F)
-    → MayWrite {A = A} {E = E} held old new made (Err x) → MayWrite {A = B} {E = F} held old new made (Err y)
-may_write_err held old new made x y h = record {
+pub may_put_err : {S A E B F : Type 0} (held : S → Held) (old new : S) (made : Content) (x : E) (y : F)
+    → MayPut {A = A} {E = E} held old new made (Err x) → MayPut {A = B} {E = F} held old new made (Err y)
+may_put_err held old new made x y h = record {
   makes = record { ok = λ _. tt; err = h.makes.err; stays = h.makes.stays; count = h.makes.count; clean = h.makes.clean; tokens = h.makes.tokens };
   left = h.left;
-  settled = λ _ _. tt;
   intact = λ _. tt;
 }
 
@@ -171,17 +166,17 @@ pub steps_same : {S : Type 0} (held : S → Held) (key : List ℕ) (old new : Pa
     → ((held old.store).is_clean → one (state_in held old) ≡ other (state_in held old))
     → Steps held key old new one result → Steps held key old new other result
 steps_same held key old new one other (Ok out) same h = record {
-  made = λ clean. subst (λ (made : Made). IsMade key old.voter.place made out (state_in held new)) (same (h.writes.makes.clean clean)) (h.made clean);
-  writes = may_write_same held old.store new.store (one (state_in held old)).state.content (other (state_in held old)).state.content (Ok out)
-      (λ clean. ap (λ (made : Made). made.state.content) (same clean)) h.writes;
+  made = λ clean. subst (λ (made : Made). IsMade key old.voter.place made out (state_in held new)) (same (h.puts.makes.clean clean)) (h.made clean);
+  puts = may_put_same held old.store new.store (one (state_in held old)).state.content (other (state_in held old)).state.content (Ok out)
+      (λ clean. ap (λ (made : Made). made.state.content) (same clean)) h.puts;
   fails = tt;
   boot = h.boot;
   same = h.same;
 }
 steps_same held key old new one other (Err fault) same h = record {
   made = tt;
-  writes = may_write_same held old.store new.store (one (state_in held old)).state.content (other (state_in held old)).state.content (Err fault)
-      (λ clean. ap (λ (made : Made). made.state.content) (same clean)) h.writes;
+  puts = may_put_same held old.store new.store (one (state_in held old)).state.content (other (state_in held old)).state.content (Err fault)
+      (λ clean. ap (λ (made : Made). made.state.content) (same clean)) h.puts;
   fails = fails_same held old new (one (state_in held old)) (other (state_in held old)) fault same h.fails;
   boot = h.boot;
   same = h.same;
@@ -193,8 +188,8 @@ pub steps_told : {S : Type 0} (held : S → Held) (key : List ℕ) (parts : Part
     → Steps held key parts parts step (Ok out)
 steps_told held key parts step out m is state told = record {
   made = λ clean. subst (λ (n : Made). IsMade key parts.voter.place n out (state_in held parts)) (sym is) (record { told = told; left = sym state });
-  writes = subst (λ (n : Made). MayWrite {A = OutputsRecord} {E = NodeFault} held parts.store parts.store n.state.content (Ok out)) (sym is)
-      (subst (λ (x : NodeState). MayWrite {A = OutputsRecord} {E = NodeFault} held parts.store parts.store x.content (Ok out)) (sym state) (writes_nothing held parts.store (Ok out)));
+  puts = subst (λ (n : Made). MayPut {A = OutputsRecord} {E = NodeFault} held parts.store parts.store n.state.content (Ok out)) (sym is)
+      (subst (λ (x : NodeState). MayPut {A = OutputsRecord} {E = NodeFault} held parts.store parts.store x.content (Ok out)) (sym state) (puts_nothing held parts.store (Ok out)));
   fails = tt;
   boot = λ _. refl;
   same = record { place = refl; tokens = refl; boot = refl };
@@ -206,7 +201,7 @@ pub steps_spent : {S : Type 0} (held : S → Held) (key : List ℕ) (parts : Par
     → Steps held key parts parts step (Err Spent)
 steps_spent held key parts step is end = record {
   made = tt;
-  writes = subst (λ (m : Made). MayWrite {A = OutputsRecord} {E = NodeFault} held parts.store parts.store m.state.content (Err Spent)) (sym is) (writes_nothing held parts.store (Err Spent));
+  puts = subst (λ (m : Made). MayPut {A = OutputsRecord} {E = NodeFault} held parts.store parts.store m.state.content (Err Spent)) (sym is) (puts_nothing held parts.store (Err Spent));
   fails = record { halts = λ _. ap (λ (m : Made). m.state.running) is; none_left = end; unchanged = refl };
   boot = λ _. refl;
   same = record { place = refl; tokens = refl; boot = refl };

@@ -1,6 +1,6 @@
 -- What the calls of a node do to it and to its store.
-use Rattle.std.specs.Prelude.{◌≡◌, ℕ, ◌^◌, ◌<◌, true, false, List, Result, Ok, Err, IfOk, IfErr, OnOk, OnErr}
-use Rattle.floor_store.specs.Held.{Held, Breaks, MayWrite, RaisesBoot}
+use Rattle.std.specs.Prelude.{◌≡◌, ◌⊎◌, ◌↔◌, ℕ, ◌^◌, ◌<◌, ◌≤◌, true, false, List, length, Result, Ok, Err, IfOk, IfErr, OnOk, OnErr}
+use Rattle.floor_store.specs.Held.{Held, Breaks, Commits, MayPut, MayWrite, RaisesBoot}
 use Rattle.floor_store.specs.declared.fault.StoreFault.{StoreFault}
 use Rattle.vote_core.specs.NodeSet.{PlaceRecord}
 use Rattle.oath_node.specs.Hosted.{Hosted, IsSameNode, config_of, made_of, state_of}
@@ -54,7 +54,41 @@ FailsBy held old new event (Store fault) = MeetsFailure held old new fault
 FailsBy held old new event Stopped = (old.running ≡ false) × (new ≡ old)
 FailsBy held old new event Spent = FindsNoNumber held old new event
 
--- A call that takes the node through one step of its machine, from `old` to `new`.
+-- A call that takes the node through one step of its machine, from `old` to `new`, and leaves the commit to its caller.
+pub record Takes {S : Type 0} (held : S → Held) (old new : Hosted S) (event : NodeEvent)
+    (result : Result OutputsRecord NodeFault) : Type 0 where
+  -- Ok, where the store is clean: the outputs and the state are exactly the step's. The node ran before, and runs on.
+  pub made : IfOk result (λ outputs. (held new.store).is_clean
+      → IsMade old.key old.voter.place (made_of held old event) outputs (state_of held new))
+  pub runs : OnOk result ((old.running ≡ true) × (new.running ≡ true))
+  -- The step's content is put, whole or not at all. A stop before the commit may leave it or not.
+  pub puts : MayPut held old.store new.store (made_of held old event).state.content result
+  -- Err: there are no outputs, and the node is stopped.
+  pub fails : IfErr result (FailsBy held old new event)
+  pub stopped : result ≡ Err Stopped ↔ (old.running ≡ false)
+  -- Over a store that met no failure in the call only these two are answered.
+  pub without_failure : (held new.store).failures ≡ (held old.store).failures
+      → IfErr result (λ fault. (fault ≡ Stopped) ⊎ (fault ≡ Spent))
+  pub few : IfOk result (λ outputs. (held new.store).is_clean → length outputs.items ≤ 264)
+  pub same : IsSameNode old new
+
+-- why a commit is answered by a fault, and what that leaves
+abbrev pub FailsToCommit : {S : Type 0} → (S → Held) → Hosted S → Hosted S → NodeFault → Type 0
+FailsToCommit held old new (Store fault) = MeetsFailure held old new fault
+FailsToCommit held old new Stopped = (old.running ≡ false) × (new ≡ old)
+FailsToCommit held old new Spent = ⊥
+
+-- A call that commits what a node put: all of it is kept, and a stop leaves nothing else.
+pub record CommitsNode {S A : Type 0} (held : S → Held) (old new : Hosted S) (result : Result A NodeFault) : Type 0 where
+  pub commits : Commits held old.store new.store result
+  -- Ok, where the store is clean: the node is the same machine. It ran before, and runs on.
+  pub state : (held new.store).is_clean → OnOk result (state_of held new ≡ state_of held old)
+  pub runs : OnOk result ((old.running ≡ true) × (new.running ≡ true))
+  -- Err: the node is stopped.
+  pub fails : IfErr result (FailsToCommit held old new)
+  pub same : IsSameNode old new
+
+-- A call that takes the node through one step of its machine, from `old` to `new`, and commits it.
 pub record Handles {S : Type 0} (held : S → Held) (old new : Hosted S) (event : NodeEvent)
     (result : Result OutputsRecord NodeFault) : Type 0 where
   -- Ok, where the store is clean: the outputs and the state are exactly the step's. The node ran before, and runs on.

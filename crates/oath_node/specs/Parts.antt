@@ -1,7 +1,7 @@
 -- What the parts of a running node are as a machine, and what a call does to them. Private contracts alone cite it: no
 -- public one rests on it.
 use Rattle.std.specs.Prelude.{◌≡◌, ℕ, ◌^◌, false, List, map, Result, IfOk, IfErr}
-use Rattle.floor_store.specs.Held.{Held, Breaks, MayWrite}
+use Rattle.floor_store.specs.Held.{Held, Breaks, MayPut}
 use Rattle.vote_core.specs.State.{IsSameVoter, VoterRecord, sent_by, voter_of}
 use Rattle.vote_core.specs.declared.step.Step.{Step}
 use Rattle.answer_ring.specs.Answers.{KeptAnswer}
@@ -35,7 +35,7 @@ pub record Steps {S : Type 0} (held : S → Held) (key : List ℕ) (old new : Pa
     (result : Result OutputsRecord NodeFault) : Type 0 where
   pub made : IfOk result (λ outputs. (held new.store).is_clean
       → IsMade key old.voter.place (step (state_in held old)) outputs (state_in held new))
-  pub writes : MayWrite held old.store new.store (step (state_in held old)).state.content result
+  pub puts : MayPut held old.store new.store (step (state_in held old)).state.content result
   pub fails : IfErr result (FailsParts held old new (step (state_in held old)))
   pub boot : (held new.store).is_clean → (held new.store).content.boot ≡ (held old.store).content.boot
   pub same : IsSameVoter old.voter new.voter

@@ -1,12 +1,12 @@
 //! What each event makes of a running node.
 
 ghost use Rattle.std.specs.Prelude.{◌≡◌, ◌<◌, ◌≤◌, ◌↔◌, IfErr, IsTrue, None, false, length, nat_le};
-ghost use Rattle.floor_store.specs.Held.{Breaks, MayWrite};
+ghost use Rattle.floor_store.specs.Held.{Breaks, MayPut};
 ghost use Rattle.floor_store.specs.Range.{IsSpan};
 ghost use Rattle.answer_ring.specs.Answers.{kept_with};
 ghost use Rattle.oath_node.specs.Heard.{IsHeardAs};
-ghost use Rattle.oath_node.specs.Hosted.{envelope_at, event_of};
-ghost use Rattle.oath_node.specs.Machine.{content_with_failure, made_by_datagram, made_by_event, made_by_line, made_by_message, made_by_proposal, made_by_ruling, made_by_tick};
+ghost use Rattle.oath_node.specs.Hosted.{envelope_at};
+ghost use Rattle.oath_node.specs.Machine.{content_with_failure, made_by_datagram, made_by_line, made_by_message, made_by_proposal, made_by_ruling, made_by_tick};
 ghost use Rattle.oath_node.specs.Outputs.{reply_outputs};
 ghost use Rattle.oath_node.specs.Parts.{Steps};
 ghost use Rattle.oath_node.specs.Recording.{IfProposes, IsRecordable};
@@ -15,7 +15,6 @@ ghost use Rattle.otp_core.specs.Range.{IsMoment};
 ghost use Rattle.vote_core.specs.Calls.{FitsVoter, IsOther, IsStoreOf};
 ghost use Rattle.vote_core.specs.Rows.{row};
 
-use crate::event::Event;
 use crate::fault::NodeFault;
 use crate::outputs::{Outputs, Scratch};
 use crate::owner::{Owner, is_waiting};
@@ -45,7 +44,7 @@ fn is_heard(voter: &Voter, from: u8, sender: u8, to: u8, message: &Message) -> b
 fn fail<S: FloorStore>(store: &mut S, token: u32, moment: u64) -> Result<(), StoreFault>
     requires token { token < length (S.held store.old).content.rows }
     requires moment { IsMoment moment }
-    ensures writes { MayWrite S.held store.old store.new
+    ensures puts { MayPut S.held store.old store.new
         (content_with_failure token moment (S.held store.old).content) result }
     ensures breaks { IfErr result (Breaks S.held store.old store.new) }
     ensures boot { (S.held store.new).is_clean → (S.held store.new).content.boot ≡ (S.held store.old).content.boot }
@@ -75,7 +74,7 @@ fn remember<'k>(
 
 impl<S: FloorStore> Parts<S> {
     /// A tick.
-    fn on_tick<'k>(
+    pub(crate) fn on_tick<'k>(
         &mut self,
         key: &'k ClusterKey,
         scratch: &'k mut Scratch,
@@ -125,7 +124,7 @@ impl<S: FloorStore> Parts<S> {
 
     /// A datagram from the address of a member. It is dropped where it is outside the peer format, comes from
     /// another than it says, goes to another, or is of no member or token that there is.
-    fn on_datagram<'k>(
+    pub(crate) fn on_datagram<'k>(
         &mut self,
         book: &Book,
         settings: Settings,
@@ -249,7 +248,7 @@ impl<S: FloorStore> Parts<S> {
     }
 
     /// The line of a client, as it came.
-    fn on_line<'k>(
+    pub(crate) fn on_line<'k>(
         &mut self,
         book: &Book,
         settings: Settings,
@@ -280,34 +279,5 @@ impl<S: FloorStore> Parts<S> {
         let is_full = self.is_full();
         let verdict = examine(book, settings, &self.store, is_full, moment, request);
         self.on_verdict(key, client, moment, line, verdict)
-    }
-
-    /// Any event.
-    pub(crate) fn on_event<'k>(
-        &mut self,
-        book: &Book,
-        settings: Settings,
-        key: &'k ClusterKey,
-        event: Event<'_>,
-        scratch: &'k mut Scratch,
-    ) -> Result<Outputs<'k>, NodeFault>
-        requires works { (S.held self.old.store).fault ≡ None }
-        requires store { IsStoreOf self.old.voter (S.held self.old.store) }
-        requires rows { length (S.held self.old.store).content.rows ≡ length book.now }
-        requires room { (S.held self.old.store).is_clean
-            → length self.old.owners.items ≤ length self.old.voter.ballots }
-        ensures { Steps S.held key.now self.old self.new (made_by_event
-            (record { book = book.now; limits = settings }) self.old.voter.place (event_of key.now event.entry))
-            result }
-    {
-        match event {
-            Event::Client {
-                client,
-                moment,
-                line,
-            } => self.on_line(book, settings, key, client, moment, line),
-            Event::Peer { from, bytes } => self.on_datagram(book, settings, key, from, bytes),
-            Event::Tick => self.on_tick(key, scratch),
-        }
     }
 }

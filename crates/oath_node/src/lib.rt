@@ -3,14 +3,16 @@
 //!
 //! A [`Node`] goes from bytes to bytes, over a store of its own. It sends nothing itself: each call of
 //! [`Node::handle`] takes one event and answers [`Outputs`], which say what is to be sent. The lists of a tick
-//! are long: they stand in a [`Scratch`], which a caller keeps and lends to each call. What a caller owes, in
-//! this order:
+//! are long: they stand in a [`Scratch`], which a caller keeps and lends to each call. A caller that has several
+//! events at once may take each alone ([`Node::take`], [`Node::take_line`], [`Node::take_datagram`]), and then
+//! have all that they put kept by one [`Node::commit`]. What a caller owes, in this order:
 //!
 //! 1. Open each node on a store with a row for each token of the book ([`Node::open`]). All members of a
 //!    cluster have the same book, the same settings and the same key, each a place and a store of its own.
 //! 2. Hand in a datagram from the address of a member as [`Event::Peer`], any other as [`Event::Client`] with a
 //!    number for the client, by which its answers are told from those of others.
-//! 3. Send the outputs of a call only after it answered `Ok`: what it writes is kept by then.
+//! 3. Send the outputs of `handle` only after it answered `Ok`, and those of events that were taken only after the
+//!    commit behind them did: what the events put is kept by then.
 //! 4. Hand in an [`Event::Tick`] at regular times, so that lost messages are sent again, and a line that finds
 //!    no majority is answered at last.
 //! 5. After a fault the node is stopped. Restart it ([`Node::restart`]), or close it and mend its store.

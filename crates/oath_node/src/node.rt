@@ -1,9 +1,11 @@
 //! A node: it answers the lines of clients and the datagrams of the other members, over a store.
 
-ghost use Rattle.std.specs.Prelude.{◌≡◌, ◌⊎◌, ◌≤◌, ◌↔◌, Err, IfErr, IfOk, false, length};
-ghost use Rattle.oath_node.specs.Calls.{Handles, IsOpened, IsRefused, Restarts};
-ghost use Rattle.oath_node.specs.Hosted.{event_of};
+ghost use Rattle.std.specs.Prelude.{◌≡◌, ◌⊎◌, ◌≤◌, ◌↔◌, Err, IfErr, IfOk, OnOk, true, false, length};
+ghost use Rattle.oath_node.specs.Calls.{CommitsNode, Handles, IsOpened, IsRefused, Restarts, Takes};
+ghost use Rattle.oath_node.specs.Hosted.{envelope_at, event_of};
+ghost use Rattle.oath_node.specs.Machine.{Client, Peer, Tick};
 ghost use Rattle.oath_node.specs.declared.fault.NodeFault.{NodeFault};
+ghost use Rattle.vote_core.specs.State.{IsPlace};
 
 use crate::event::Event;
 use crate::fault::{NodeFault, OpenFault};
@@ -125,13 +127,124 @@ impl<'b, S: FloorStore> Node<'b, S> {
         }
     }
 
-    /// Takes an event: one step of the node's machine, with at most one write to its store. The outputs are
-    /// there once what it writes is kept. Those of a tick stand in the scratch. It takes no memory.
+    /// Refuses a node that is stopped.
+    fn check_running(&self) -> Result<(), NodeFault>
+        ensures runs { OnOk result (self.now.running ≡ true) }
+        ensures stopped { IfErr result (λ fault. (fault ≡ NodeFault.Stopped) × (self.now.running ≡ false)) }
+        ensures place { IsPlace self.now.voter.place }
+        ensures few { length self.now.voter.ballots ≤ 32 }
+    {
+        // At most 32 lines wait, and there are at most nine members.
+        let _pending = self.parts.voter.pending();
+        let place = self.parts.voter.place();
+        let _me = place.me();
+        let _members = place.n();
+        if self.is_running {
+            Ok(())
+        } else {
+            Err(NodeFault::Stopped)
+        }
+    }
+
+    /// Takes the line of a client, as it came: one step of the node's machine, with at most one put to its store,
+    /// and no commit. Nothing of the outputs may be sent before [`Node::commit`] answered Ok: until then a stop may
+    /// leave the store without what was put. They borrow the key alone, so they can wait while further events are
+    /// taken. It takes no memory.
     ///
     /// # Errors
     /// `Stopped` where the node was stopped before, and nothing changes. `Store` where the store met a failure,
-    /// and `Spent` where a line is right but no number of this boot is left for a proposal: then there are no
+    /// and `Spent` where the line is right but no number of this boot is left for a proposal: then there are no
     /// outputs, and the node is stopped until it is restarted.
+    pub fn take_line(
+        &mut self,
+        client: u64,
+        moment: u64,
+        line: &[u8],
+    ) -> Result<Outputs<'b>, NodeFault>
+        ensures { Takes S.held self.old self.new (Client client moment line.now) result }
+    {
+        self.check_running()?;
+        let taken = self
+            .parts
+            .on_line(self.book, self.settings, self.key, client, moment, line);
+        self.is_running = taken.is_ok();
+        taken
+    }
+
+    /// Takes a datagram from the address of a member, as [`Node::take_line`] takes a line.
+    ///
+    /// # Errors
+    /// `Stopped` and `Store`, as for a line.
+    pub fn take_datagram(&mut self, from: u8, bytes: &[u8]) -> Result<Outputs<'b>, NodeFault>
+        ensures { Takes S.held self.old self.new (Peer from (envelope_at self.old.key bytes.now)) result }
+    {
+        self.check_running()?;
+        let taken = self
+            .parts
+            .on_datagram(self.book, self.settings, self.key, from, bytes);
+        self.is_running = taken.is_ok();
+        taken
+    }
+
+    /// Takes a tick. The lists of the outputs stand in the scratch.
+    fn take_tick<'k>(&mut self, scratch: &'k mut Scratch) -> Result<Outputs<'k>, NodeFault>
+    where
+        'b: 'k,
+        ensures { Takes S.held self.old self.new Tick result }
+    {
+        self.check_running()?;
+        let taken = self.parts.on_tick(self.key, scratch);
+        self.is_running = taken.is_ok();
+        taken
+    }
+
+    /// Takes an event, as [`Node::take_line`] takes a line. The outputs of a tick stand in the scratch.
+    ///
+    /// # Errors
+    /// Those of [`Node::take_line`].
+    pub fn take<'k>(
+        &mut self,
+        event: Event<'_>,
+        scratch: &'k mut Scratch,
+    ) -> Result<Outputs<'k>, NodeFault>
+    where
+        'b: 'k,
+        ensures { Takes S.held self.old self.new (event_of self.old.key event.entry) result }
+    {
+        match event {
+            Event::Client {
+                client,
+                moment,
+                line,
+            } => self.take_line(client, moment, line),
+            Event::Peer { from, bytes } => self.take_datagram(from, bytes),
+            Event::Tick => self.take_tick(scratch),
+        }
+    }
+
+    /// Keeps for good what the events that were taken put to the store. It takes no memory.
+    ///
+    /// # Errors
+    /// `Stopped` where the node was stopped before, and nothing changes. `Store` where the store met a failure: the
+    /// node is stopped until it is restarted, and nothing of the outputs since the last commit may be sent.
+    pub fn commit(&mut self) -> Result<(), NodeFault>
+        ensures { CommitsNode S.held self.old self.new result }
+    {
+        self.check_running()?;
+        match self.parts.store.commit() {
+            Ok(()) => Ok(()),
+            Err(fault) => {
+                self.is_running = false;
+                Err(NodeFault::Store(fault))
+            }
+        }
+    }
+
+    /// Takes an event and commits it: one step of the node's machine. The outputs are there once what it put to the
+    /// store is kept. Those of a tick stand in the scratch. It takes no memory.
+    ///
+    /// # Errors
+    /// Those of [`Node::take`] and of [`Node::commit`]: then there are no outputs, and the node is stopped.
     pub fn handle<'k>(
         &mut self,
         event: Event<'_>,
@@ -146,24 +259,9 @@ impl<'b, S: FloorStore> Node<'b, S> {
         ensures without_failure { (S.held self.new.store).failures ≡ (S.held self.old.store).failures
             → IfErr result (λ fault. (fault ≡ NodeFault.Stopped) ⊎ (fault ≡ NodeFault.Spent)) }
     {
-        if !self.is_running {
-            return Err(NodeFault::Stopped);
-        }
-        // At most 32 lines wait, and there are at most nine members.
-        let _pending = self.parts.voter.pending();
-        let place = self.parts.voter.place();
-        let _me = place.me();
-        let _members = place.n();
-        match self
-            .parts
-            .on_event(self.book, self.settings, self.key, event, scratch)
-        {
-            Ok(outputs) => Ok(outputs),
-            Err(fault) => {
-                self.is_running = false;
-                Err(fault)
-            }
-        }
+        let outputs = self.take(event, scratch)?;
+        self.commit()?;
+        Ok(outputs)
     }
 
     /// The store as it stands.

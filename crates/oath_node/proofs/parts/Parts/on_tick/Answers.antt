@@ -1,7 +1,7 @@
 use Rattle.std.proofs.Common.{None, refl}
 use Rattle.vote_core.specs.Voting.{tick}
 use Rattle.oath_node.specs.Parts.{state_in}
-use Rattle.oath_node.proofs.StepLemmas.{finished, may_write_ok, tick_begun}
+use Rattle.oath_node.proofs.StepLemmas.{finished, may_put_ok, tick_begun}
 use Rattle.oath_node.proofs.parts.Parts.on_tick.Goals as goal
 
 pub returns-in-Ok : goal.returns-in-Ok
@@ -14,7 +14,7 @@ returns-in-Ok g c =
           (tick old.voter.place x.content x.voter) c.finish_tick.result c.finish_tick.new.owners.items c.finish_tick.new.answers
           refl (c.in-Ok.ensures.votes.voted clean) (tick_begun old.voter.place x.content x.voter) c.in-Ok.ensures.votes.same.place
           c.finish_tick.ensures.outputs c.finish_tick.ensures.owners c.finish_tick.ensures.answers;
-      writes = may_write_ok held old.store c.tick.new.store _ c.in-Ok.step c.finish_tick.result c.in-Ok.ensures.votes.writes;
+      puts = may_put_ok held old.store c.tick.new.store _ c.in-Ok.step c.finish_tick.result c.in-Ok.ensures.votes.puts;
       fails = tt;
       boot = c.in-Ok.ensures.votes.boot;
       same = c.in-Ok.ensures.votes.same;

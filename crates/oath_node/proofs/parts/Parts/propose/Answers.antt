@@ -5,7 +5,7 @@ use Rattle.oath_node.specs.Hosted.{running_state}
 use Rattle.oath_node.specs.Machine.{Made, NodeState, Owner, made_by_proposal, made_by_vote, next_beginning, next_owner}
 use Rattle.oath_node.specs.Parts.{state_in}
 use Rattle.oath_node.specs.declared.fault.NodeFault.TheVariants.{Store}
-use Rattle.oath_node.proofs.StepLemmas.{finished, may_write_err, may_write_ok, propose_begun, proposal_below, proposal_spent, steps_same, steps_spent}
+use Rattle.oath_node.proofs.StepLemmas.{finished, may_put_err, may_put_ok, propose_begun, proposal_below, proposal_spent, steps_same, steps_spent}
 use Rattle.oath_node.proofs.parts.Parts.propose.Goals as goal
 
 abbrev owner : ℕ → ℕ → List ℕ → List ℕ → Owner
@@ -38,7 +38,7 @@ returns-in-Ok g c =
           c.finish_vote.result c.finish_vote.new.owners.items c.finish_vote.new.answers refl
           (c.in-Ok.ensures.votes.voted clean) (propose_begun old.voter.place c.args.token c.args.lo c.args.hi c.args.drift x.content x.voter) c.in-Ok.ensures.votes.same.place
           c.finish_vote.ensures.outputs c.finish_vote.ensures.owners c.finish_vote.ensures.answers);
-      writes = may_write_ok held old.store c.propose.new.store v.content c.in-Ok.step c.finish_vote.result c.in-Ok.ensures.votes.writes;
+      puts = may_put_ok held old.store c.propose.new.store v.content c.in-Ok.step c.finish_vote.result c.in-Ok.ensures.votes.puts;
       fails = tt;
       boot = c.in-Ok.ensures.votes.boot;
       same = c.in-Ok.ensures.votes.same;
@@ -63,7 +63,7 @@ returns-in-Err-Store g c =
     (λ _. sym (proposal_below old.voter.place client line c.args.nonce c.args.token c.args.lo c.args.hi c.args.drift x below))
     (record {
       made = tt;
-      writes = may_write_err held old.store c.propose.new.store v.content c.in-Err-Store.fault (Store c.in-Err-Store.fault) votes.writes;
+      puts = may_put_err held old.store c.propose.new.store v.content c.in-Err-Store.fault (Store c.in-Err-Store.fault) votes.puts;
       fails = votes.breaks;
       boot = votes.boot;
       same = votes.same;
