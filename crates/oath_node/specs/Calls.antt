@@ -86,6 +86,7 @@ pub record CommitsNode {S A : Type 0} (held : S → Held) (old new : Hosted S) (
   pub runs : OnOk result ((old.running ≡ true) × (new.running ≡ true))
   -- Err: the node is stopped.
   pub fails : IfErr result (FailsToCommit held old new)
+  pub stopped : result ≡ Err Stopped ↔ (old.running ≡ false)
   pub same : IsSameNode old new
 
 -- A call that takes the node through one step of its machine, from `old` to `new`, and commits it.
