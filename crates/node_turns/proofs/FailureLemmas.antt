@@ -13,7 +13,7 @@ use Rattle.node_turns.proofs.StepLemmas.{run_with_events-end}
 pub same_run : (a : Run) → DoesTheSame a a
 same_run a = record { node = refl; offers = refl; received = refl; replied = refl }
 
-offers-append : (xs ys : List PortEvent) → offers_in (xs ++ ys) ≡ offers_in xs ++ offers_in ys
+pub offers-append : (xs ys : List PortEvent) → offers_in (xs ++ ys) ≡ offers_in xs ++ offers_in ys
 offers-append [] ys = refl
 offers-append (Received sender bytes ∷ xs) ys = offers-append xs ys
 offers-append (Quiet ∷ xs) ys = offers-append xs ys

@@ -31,7 +31,7 @@ reply_count-append [] ys = omega arith
 reply_count-append (Datagram to bytes ∷ xs) ys = reply_count-append xs ys
 reply_count-append (Reply client bytes ∷ xs) ys = omega (arith, reply_count-append xs ys)
 
-receives_in-append : (xs ys : List PortEvent) → receives_in (xs ++ ys) ≡ receives_in xs ++ receives_in ys
+pub receives_in-append : (xs ys : List PortEvent) → receives_in (xs ++ ys) ≡ receives_in xs ++ receives_in ys
 receives_in-append [] ys = refl
 receives_in-append (Received sender bytes ∷ xs) ys = ap (λ zs. Received sender bytes ∷ zs) (receives_in-append xs ys)
 receives_in-append (Quiet ∷ xs) ys = ap (λ zs. Quiet ∷ zs) (receives_in-append xs ys)

@@ -1,159 +1,37 @@
--- What turns do, one after the other.
-use Rattle.std.proofs.Common.{◌≡◌, ℕ, ◌+◌, ◌*◌, ◌^◌, ◌<◌, ◌≤◌, List, [], ◌∷◌, ◌++◌, length, map, refl, sym, ap, ◌∙◌, subst, arith}
-use Rattle.std.specs.Prelude.{Bool, true, false, if◌then◌else◌, nat_eq, ◌%◌, Option, None, Result, Ok, Err, OnOk}
+-- What batches do, one after the other.
+use Rattle.std.proofs.Common.{◌≡◌, ℕ, ◌+◌, ◌*◌, ◌^◌, ◌<◌, ◌≤◌, List, [], ◌∷◌, ◌++◌, length, map, refl, sym, ap, ◌∙◌, subst, arith, length-append}
+use Rattle.std.specs.Prelude.{Option, None, Result, Ok, Err, OnOk}
 use Rattle.std.specs.Option.{option_map}
 use Rattle.std.proofs.lemmas.List.{append_assoc, append-nil, map-append}
-use Rattle.floor_store.specs.Held.{Held}
+use Rattle.floor_store.specs.Held.{Held, IsSettled}
 use Rattle.oath_node.specs.Hosted.{Hosted, IsSameNode, state_of}
-use Rattle.oath_node.specs.Machine.{Tick}
 use Rattle.node_turns.specs.Port.{Grows, PortEvent}
-use Rattle.node_turns.specs.Serving.{EndsByClock, EndsSo, FailsAmong, Serves, Stands, served_in}
-use Rattle.node_turns.specs.Steps.{EventsEnd, HandsIn, IsClean, IsLeftByClock, IsOf, IsOfNode, Scene, TakesTurn, TurnEnds}
-use Rattle.node_turns.specs.Turns.{Member, Receipt, Run, FromPeer, FromClient, Nothing, Failure, end_with, entry_of, events_of_turn, member_of, moments_for, moments_in, receives_in, run_at, run_with_events, run_with_receipt, run_with_turn, run_with_turns, tally_with, tick_at, while_going}
+use Rattle.node_turns.specs.Serving.{EndsByClock, EndsSettled, EndsSo, Serves, Stands, run_over, served_in}
+use Rattle.node_turns.specs.Steps.{BatchEnds, EndsAtClock, IsClean, IsOf, Scene, StepsBatch, TakesBatch, tally_after}
+use Rattle.node_turns.specs.Turns.{AreBatches, GoesOn, IsBatch, Member, Receipt, Run, entry_of, events_of_turns, member_of, moments_for, moments_in, received_after, received_with, receipts_in, receives_in, run_at, run_with_batch, run_with_batches, while_going}
 use Rattle.node_turns.specs.declared.fault.ServeFault.{ServeFault}
 use Rattle.node_turns.specs.declared.fault.ServeFault.TheVariants.{Node, Port, Clock}
 use Rattle.node_turns.specs.declared.turns.Served.{Served}
 use Rattle.node_turns.specs.declared.turns.Tally.{Tally}
-use Rattle.node_turns.proofs.GrowLemmas.{grows_receives, grows_refl, grows_trans}
-use Rattle.node_turns.proofs.StepLemmas.{member_same, run_with_events-end, same_refl, same_trans}
+use Rattle.node_turns.proofs.BatchLemmas.{one_more, received_after-append, received_after_few, received_after_is}
+use Rattle.node_turns.proofs.GrowLemmas.{grows_refl, grows_trans}
+use Rattle.node_turns.proofs.StepLemmas.{member_same, same_refl, same_trans}
 
--- ---- One turn
-
-receive_of : (receipt : Receipt) → receives_in (entry_of receipt ∷ []) ≡ entry_of receipt ∷ []
-receive_of (FromPeer from bytes) = refl
-receive_of (FromClient client bytes moment) = refl
-receive_of Nothing = refl
-receive_of Failure = refl
-
--- the receives grow by a receive
-pub grows_receive : (x y : Option (List PortEvent)) (receipt : Receipt) → Grows x y (entry_of receipt ∷ [])
-    → Grows (option_map receives_in x) (option_map receives_in y) (entry_of receipt ∷ [])
-grows_receive x y receipt h =
-    subst (Grows (option_map receives_in x) (option_map receives_in y)) (receive_of receipt)
-    (grows_receives x y (entry_of receipt ∷ []) h)
-
--- a scene of a run, behind a receive
-pub received : {S : Type 0} (held : S → Held) (first : Option (List PortEvent)) (node : Hosted S)
-    (e0 e1 : Option (List PortEvent)) (t : Tally) (run : Run) (receipt : Receipt) → Grows e0 e1 (entry_of receipt ∷ [])
-    → IsOf held first (record { node = node; entries = e0; tally = t }) run
-    → IsOf held first (record { node = node; entries = e1; tally = tally_with receipt t }) (run_with_receipt receipt run)
-received held first node e0 e1 t run receipt grows of = record {
-  stands = record {
-    state = of.stands.state;
-    entries = grows_trans first e0 e1 run.entries (entry_of receipt ∷ []) of.stands.entries grows;
-  };
-  tally = ap (tally_with receipt) of.tally;
-}
-
-turn_end : {A S : Type 0} (held : S → Held) (first : Option (List PortEvent)) (member : Member) (run : Run)
-    (receipt : Receipt) (count : ℕ) (new : Scene S) (result : Result A ServeFault)
-    → count ≡ (tally_with receipt run.tally).received → end_with receipt (tally_with receipt run.tally) ≡ None
-    → EventsEnd held first member (run_with_receipt receipt run) (events_of_turn member.key count receipt) new result
-    → TurnEnds held first member run receipt new result
-turn_end held first member run receipt count new (Ok done) same none h =
-    let events = events_of_turn member.key (tally_with receipt run.tally).received receipt in
-    let start = run_with_receipt receipt run in (
-      subst (λ (n : ℕ). IsOf held first new (run_with_events member (events_of_turn member.key n receipt) start)) same h,
-      run_with_events-end member events start ∙ none,
-    )
-turn_end held first member run receipt count new (Err (Node fault)) same none h =
-    let start = run_with_receipt receipt run in
-    subst (λ (n : ℕ). FailsAmong held first member start (events_of_turn member.key n receipt) new.node new.entries fault) same h
-turn_end held first member run receipt count new (Err Port) same none h = absurd h
-turn_end held first member run receipt count new (Err Clock) same none h = absurd h
-
-on_ok : {A E : Type 0} (result : Result A E) (P : Type 0) → P → OnOk result P
-on_ok (Ok value) P h = h
-on_ok (Err fault) P h = tt
-
-left_by_clock : {A S : Type 0} (old new : Hosted S) (result : Result A ServeFault) → IsOfNode result
-    → IsLeftByClock old new result
-left_by_clock old new (Ok done) h = tt
-left_by_clock old new (Err (Node fault)) h = tt
-left_by_clock old new (Err Port) h = tt
-left_by_clock old new (Err Clock) h = absurd h
-
--- a turn whose events are handed in
-pub turn_of_events : {A S : Type 0} (held : S → Held) (node : Hosted S) (e0 e1 : Option (List PortEvent)) (t : Tally)
-    (new : Scene S) (asked told : Option (List (Option ℕ))) (receipt : Receipt) (result : Result A ServeFault)
-    → Grows e0 e1 (entry_of receipt ∷ []) → Grows asked told (moments_for receipt)
-    → ((u : Tally) → end_with receipt u ≡ None) → (tally_with receipt t).faults ≡ 0
-    → (tally_with receipt t).received ≤ t.received + 1 → (tally_with receipt t).replied ≡ t.replied
-    → length (events_of_turn node.key (tally_with receipt t).received receipt) ≤ 2
-    → HandsIn held (record { node = node; entries = e1; tally = tally_with receipt t }) new
-    (events_of_turn node.key (tally_with receipt t).received receipt) result
-    → TakesTurn held (record { node = node; entries = e0; tally = t }) new asked told result
-turn_of_events held node e0 e1 t new asked told receipt result grows moments none calm one more short h =
-    let count = (tally_with receipt t).received in
-    let faults : new.tally.faults < 16 = let e = h.tally.1 in omega (arith, e, calm) in
-    record {
-      receipt = receipt;
-      moments = moments;
-      keeps = record {
-        same = h.keeps.same;
-        clean = h.keeps.clean;
-        receives = grows_trans (option_map receives_in e0) (option_map receives_in e1) (option_map receives_in new.entries)
-            (entry_of receipt ∷ []) [] (grows_receive e0 e1 receipt grows) h.keeps.receives;
-        few = λ clean. omega (arith, h.keeps.few clean, more, short);
-      };
-      received = let e = h.tally.0 in omega (arith, e, one);
-      faults = on_ok result (new.tally.faults < 16) faults;
-      clock = left_by_clock node new.node result h.of_node;
-      does = λ clean room first run of.
-          let start = received held first node e0 e1 t run receipt grows of in
-          let same = ap (λ (u : Tally). (tally_with receipt u).received) of.tally in
-          turn_end held first (member_of node) run receipt count new result same (none (tally_with receipt run.tally))
-          (h.does clean (omega (arith, room, more, short)) first (run_with_receipt receipt run) start);
-    }
-
--- a turn that ends by the clock
-pub turn_without_moment : {A S : Type 0} (held : S → Held) (node : Hosted S) (e0 e1 : Option (List PortEvent)) (t : Tally)
-    (asked told : Option (List (Option ℕ))) (client : ℕ) (bytes : List ℕ)
-    → Grows e0 e1 (entry_of (FromClient client bytes None) ∷ []) → Grows asked told (None ∷ [])
-    → TakesTurn {A = A} held (record { node = node; entries = e0; tally = t })
-    (record { node = node; entries = e1; tally = tally_with (FromClient client bytes None) t }) asked told (Err Clock)
-turn_without_moment held node e0 e1 t asked told client bytes grows moments =
-    let receipt = FromClient client bytes None in
-    record {
-      receipt = receipt;
-      moments = moments;
-      keeps = record {
-        same = same_refl node;
-        clean = λ clean. clean;
-        receives = grows_receive e0 e1 receipt grows;
-        few = λ clean. omega arith;
-      };
-      received = omega arith;
-      faults = tt;
-      clock = refl;
-      does = λ clean room first run of.
-          ((received held first node e0 e1 t run receipt grows of).stands, refl);
-    }
-
-short_by : (b : Bool) → length (if b then Tick ∷ [] else []) ≤ 1
-short_by true = omega arith
-short_by false = omega arith
-
-pub tick_short : (n : ℕ) → length (tick_at n) ≤ 1
-tick_short n = short_by (nat_eq (n % 64) 0)
-
--- ---- Turns one after the other
-
--- After so many turns the scene is that of the run that they make.
+-- After so many turns the scene is that of the run that their batches make.
 pub record IsSoFar {S : Type 0} (held : S → Held) (old : Hosted S) (first : Option (List PortEvent))
     (asked : Option (List (Option ℕ))) (count : ℕ) (now : Scene S) (told : Option (List (Option ℕ))) : Type 0 where
-  pub receipts : List Receipt
-  pub many : length receipts ≡ count
-  pub moments : Grows asked told (moments_in receipts)
-  pub receives : Grows (option_map receives_in first) (option_map receives_in now.entries) (map entry_of receipts)
+  pub batches : List (List Receipt)
+  pub formed : AreBatches 0 batches
+  pub many : length (receipts_in batches) ≡ count
+  pub moments : Grows asked told (moments_in (receipts_in batches))
+  pub receives : Grows (option_map receives_in first) (option_map receives_in now.entries) (map entry_of (receipts_in batches))
   pub same : IsSameNode old now.node
   pub few : IsClean held now → now.tally.replied ≤ 528 * count
-  pub received : now.tally.received ≤ count
+  pub received : now.tally.received ≡ received_after (receipts_in batches) 0
   pub faults : now.tally.faults < 16
-  pub of : IsClean held now → count < 2 ^ 32
-      → IsOf held first now (run_with_turns (member_of old) receipts (run_at (state_of held old)))
-  pub going : IsClean held now → count < 2 ^ 32
-      → (run_with_turns (member_of old) receipts (run_at (state_of held old))).end ≡ None
+  pub settled : IsClean held now → IsSettled (held old.store) → IsSettled (held now.node.store)
+  pub of : IsClean held now → count < 2 ^ 32 → IsOf held first now (run_over held old batches)
+  pub going : IsClean held now → count < 2 ^ 32 → (run_over held old batches).end ≡ None
 
 -- a tally of nothing
 pub zero_tally : (t : Tally) → t.received ≡ 0 → t.replied ≡ 0 → t.faults ≡ 0
@@ -169,88 +47,158 @@ pub so_far_start : {S : Type 0} (held : S → Held) (old : Hosted S) (first : Op
     → IsSoFar held old first asked 0
     (record { node = old; entries = first; tally = record { received = 0; replied = 0; faults = 0 } }) asked
 so_far_start held old first asked = record {
-  receipts = [];
+  batches = [];
+  formed = tt;
   many = refl;
   moments = grows_refl asked;
   receives = grows_refl (option_map receives_in first);
   same = same_refl old;
   few = λ clean. omega arith;
-  received = omega arith;
+  received = refl;
   faults = omega arith;
+  settled = λ clean settled. settled;
   of = λ clean below. record { stands = record { state = refl; entries = grows_refl first }; tally = refl };
   going = λ clean below. refl;
 }
 
-run_with_turns-append : (member : Member) (xs : List Receipt) (x : Receipt) (run : Run)
-    → run_with_turns member (xs ++ x ∷ []) run
-    ≡ while_going (run_with_turns member xs run).end (run_with_turn member x (run_with_turns member xs run))
-    (run_with_turns member xs run)
-run_with_turns-append member [] x run = refl
-run_with_turns-append member (y ∷ xs) x run =
-    run_with_turns-append member xs x (while_going run.end (run_with_turn member y run) run)
+-- ---- One batch more
 
--- a turn of a run that goes on
-run_with_more : (member : Member) (xs : List Receipt) (x : Receipt) (run : Run) → (run_with_turns member xs run).end ≡ None
-    → run_with_turns member (xs ++ x ∷ []) run ≡ run_with_turn member x (run_with_turns member xs run)
-run_with_more member xs x run going =
-    run_with_turns-append member xs x run
+run_with_batches-append : (member : Member) (bs : List (List Receipt)) (b : List Receipt) (run : Run)
+    → run_with_batches member (bs ++ b ∷ []) run
+    ≡ while_going (run_with_batches member bs run).end (run_with_batch member b (run_with_batches member bs run))
+    (run_with_batches member bs run)
+run_with_batches-append member [] b run = refl
+run_with_batches-append member (c ∷ bs) b run =
+    run_with_batches-append member bs b (while_going run.end (run_with_batch member c run) run)
+
+-- a batch of a run that goes on
+run_with_more : (member : Member) (bs : List (List Receipt)) (b : List Receipt) (run : Run)
+    → (run_with_batches member bs run).end ≡ None
+    → run_with_batches member (bs ++ b ∷ []) run ≡ run_with_batch member b (run_with_batches member bs run)
+run_with_more member bs b run going =
+    run_with_batches-append member bs b run
     ∙ ap (λ (e : Option ServeFault).
-    while_going e (run_with_turn member x (run_with_turns member xs run)) (run_with_turns member xs run)) going
+    while_going e (run_with_batch member b (run_with_batches member bs run)) (run_with_batches member bs run)) going
 
-one_more : (xs : List Receipt) (x : Receipt) → length (xs ++ x ∷ []) ≡ length xs + 1
-one_more [] x = refl
-one_more (y ∷ xs) x = omega (arith, one_more xs x)
+receipts_more : (bs : List (List Receipt)) (b : List Receipt) → receipts_in (bs ++ b ∷ []) ≡ receipts_in bs ++ b
+receipts_more [] b = append-nil b
+receipts_more (c ∷ bs) b =
+    ap (λ (xs : List Receipt). c ++ xs) (receipts_more bs b) ∙ sym (append_assoc c (receipts_in bs) b)
 
-moments_more : (xs : List Receipt) (x : Receipt) → moments_in (xs ++ x ∷ []) ≡ moments_in xs ++ moments_for x
-moments_more [] x = append-nil (moments_for x)
-moments_more (y ∷ xs) x =
-    ap (λ ms. moments_for y ++ ms) (moments_more xs x) ∙ sym (append_assoc (moments_for y) (moments_in xs) (moments_for x))
+formed_more : (n : ℕ) (bs : List (List Receipt)) (b : List Receipt) → AreBatches n bs
+    → IsBatch (received_after (receipts_in bs) n) b → AreBatches n (bs ++ b ∷ [])
+formed_more n [] b h k = (k, tt)
+formed_more n (c ∷ bs) b h k =
+    (h.0, formed_more (received_after c n) bs b h.1
+    (subst (λ (m : ℕ). IsBatch m b) (received_after-append c (receipts_in bs) n) k))
 
--- what holds of the turns so far and of one more, whatever becomes of it
-moments_with : (asked told said : Option (List (Option ℕ))) (xs : List Receipt) (x : Receipt)
-    → Grows asked told (moments_in xs) → Grows told said (moments_for x) → Grows asked said (moments_in (xs ++ x ∷ []))
-moments_with asked told said xs x h k =
-    subst (Grows asked said) (sym (moments_more xs x)) (grows_trans asked told said (moments_in xs) (moments_for x) h k)
+moments-append : (xs ys : List Receipt) → moments_in (xs ++ ys) ≡ moments_in xs ++ moments_in ys
+moments-append [] ys = refl
+moments-append (x ∷ xs) ys =
+    ap (λ ms. moments_for x ++ ms) (moments-append xs ys) ∙ sym (append_assoc (moments_for x) (moments_in xs) (moments_in ys))
 
-receives_with : (first e0 e1 : Option (List PortEvent)) (xs : List Receipt) (x : Receipt)
-    → Grows first e0 (map entry_of xs) → Grows e0 e1 (map entry_of (x ∷ [])) → Grows first e1 (map entry_of (xs ++ x ∷ []))
-receives_with first e0 e1 xs x h k =
-    subst (Grows first e1) (sym (map-append entry_of xs (x ∷ [])))
-    (grows_trans first e0 e1 (map entry_of xs) (map entry_of (x ∷ [])) h k)
+moments_with : (asked told said : Option (List (Option ℕ))) (bs : List (List Receipt)) (b : List Receipt)
+    → Grows asked told (moments_in (receipts_in bs)) → Grows told said (moments_in b)
+    → Grows asked said (moments_in (receipts_in (bs ++ b ∷ [])))
+moments_with asked told said bs b h k =
+    subst (Grows asked said) (sym (ap moments_in (receipts_more bs b) ∙ moments-append (receipts_in bs) b))
+    (grows_trans asked told said (moments_in (receipts_in bs)) (moments_in b) h k)
 
--- after one turn more
+receives_with : (first e0 e1 : Option (List PortEvent)) (bs : List (List Receipt)) (b : List Receipt)
+    → Grows first e0 (map entry_of (receipts_in bs)) → Grows e0 e1 (map entry_of b)
+    → Grows first e1 (map entry_of (receipts_in (bs ++ b ∷ [])))
+receives_with first e0 e1 bs b h k =
+    subst (Grows first e1) (sym (ap (map entry_of) (receipts_more bs b) ∙ map-append entry_of (receipts_in bs) b))
+    (grows_trans first e0 e1 (map entry_of (receipts_in bs)) (map entry_of b) h k)
+
+many_with : (bs : List (List Receipt)) (b : List Receipt)
+    → length (receipts_in (bs ++ b ∷ [])) ≡ length (receipts_in bs) + length b
+many_with bs b = ap (λ (xs : List Receipt). length xs) (receipts_more bs b) ∙ length-append (receipts_in bs) b
+
+-- what becomes of a batch behind what was so far
+ends_so_far : {A S : Type 0} (held : S → Held) (old : Hosted S) (first : Option (List PortEvent)) (asked : Option (List (Option ℕ)))
+    (count : ℕ) (now new : Scene S) (batch : List Receipt) (told said : Option (List (Option ℕ))) (result : Result A ServeFault)
+    (h : IsSoFar held old first asked count now told) → StepsBatch held now new batch told said result
+    → IsClean held new → count + length batch < 2 ^ 32
+    → BatchEnds held first (held now.node.store) (member_of old) (run_over held old h.batches) batch new result
+ends_so_far held old first asked count now new batch told said result h t clean below =
+    let before = t.clean clean in
+    let small : count < 2 ^ 32 = omega (arith, below) in
+    let run = run_over held old h.batches in
+    subst (λ (m : Member). BatchEnds held first (held now.node.store) m run batch new result) (member_same old now.node h.same)
+    (t.does clean (omega (arith, h.few before, below)) first run (h.of before small) (h.going before small))
+
+-- after one batch more
 pub so_far_next : (A : Type 0) {S : Type 0} (held : S → Held) (old : Hosted S) (first : Option (List PortEvent))
-    (asked : Option (List (Option ℕ))) (count : ℕ) (now new : Scene S) (told said : Option (List (Option ℕ))) (done : A)
-    → IsSoFar held old first asked count now told → TakesTurn {A = A} held now new told said (Ok done)
-    → IsSoFar held old first asked (count + 1) new said
-so_far_next A held old first asked count now new told said done h t =
+    (asked : Option (List (Option ℕ))) (count : ℕ) (now new : Scene S) (batch : List Receipt) (told said : Option (List (Option ℕ)))
+    (done : A) → IsSoFar held old first asked count now told → IsBatch now.tally.received batch
+    → StepsBatch {A = A} held now new batch told said (Ok done)
+    → IsSoFar held old first asked (count + length batch) new said
+so_far_next A held old first asked count now new batch told said done h is t =
     let member = member_of old in
     let start = run_at (state_of held old) in
-    let run = run_with_turns member h.receipts start in
-    let fewer : IsClean held new → now.tally.replied ≤ 528 * count = λ clean. h.few (t.keeps.clean clean) in
-    let more : IsClean held new → count + 1 < 2 ^ 32
-    → TurnEnds {A = A} held first member run t.receipt new (Ok done) =
-    λ clean below.
-    let before = t.keeps.clean clean in
-    let small : count < 2 ^ 32 = omega (arith, below) in
-    subst (λ (m : Member). TurnEnds {A = A} held first m run t.receipt new (Ok done)) (member_same old now.node h.same)
-    (t.does clean (omega (arith, fewer clean, small)) first run (h.of before small)) in
-    let whole : IsClean held new → count + 1 < 2 ^ 32
-    → run_with_turns member (h.receipts ++ t.receipt ∷ []) start ≡ run_with_turn member t.receipt run =
-    λ clean below. run_with_more member h.receipts t.receipt start (h.going (t.keeps.clean clean) (omega (arith, below))) in
+    let whole : IsClean held new → count + length batch < 2 ^ 32
+    → run_over held old (h.batches ++ batch ∷ []) ≡ run_with_batch member batch (run_over held old h.batches) =
+    λ clean below. run_with_more member h.batches batch start (h.going (t.clean clean) (omega (arith, below))) in
     record {
-      receipts = h.receipts ++ t.receipt ∷ [];
-      many = one_more h.receipts t.receipt ∙ ap (λ (n : ℕ). n + 1) h.many;
-      moments = moments_with asked told said h.receipts t.receipt h.moments t.moments;
+      batches = h.batches ++ batch ∷ [];
+      formed = formed_more 0 h.batches batch h.formed (subst (λ (n : ℕ). IsBatch n batch) h.received is);
+      many = many_with h.batches batch ∙ ap (λ (n : ℕ). n + length batch) h.many;
+      moments = moments_with asked told said h.batches batch h.moments t.moments;
       receives = receives_with (option_map receives_in first) (option_map receives_in now.entries)
-          (option_map receives_in new.entries) h.receipts t.receipt h.receives t.keeps.receives;
-      same = same_trans old now.node new.node h.same t.keeps.same;
-      few = λ clean. omega (arith, t.keeps.few clean, fewer clean);
-      received = omega (arith, t.received, h.received);
+          (option_map receives_in new.entries) h.batches batch h.receives t.receives;
+      same = same_trans old now.node new.node h.same t.same;
+      few = λ clean. omega (arith, t.few clean, h.few (t.clean clean));
+      received = t.received ∙ received_after_is batch now.tally ∙ ap (received_after batch) h.received
+          ∙ sym (ap (λ (xs : List Receipt). received_after xs 0) (receipts_more h.batches batch) ∙ received_after-append (receipts_in h.batches) batch 0);
       faults = t.faults;
-      of = λ clean below. subst (IsOf held first new) (sym (whole clean below)) (more clean below).0;
-      going = λ clean below. ap (λ (r : Run). r.end) (whole clean below) ∙ (more clean below).1;
+      settled = λ clean settled. t.settled clean;
+      of = λ clean below. subst (IsOf held first new) (sym (whole clean below))
+          (ends_so_far {A = A} held old first asked count now new batch told said (Ok done) h t clean below).0;
+      going = λ clean below. ap (λ (r : Run). r.end) (whole clean below)
+          ∙ (ends_so_far {A = A} held old first asked count now new batch told said (Ok done) h t clean below).1;
     }
+
+-- after a step that received nothing
+so_far_same : (A : Type 0) {S : Type 0} (held : S → Held) (old : Hosted S) (first : Option (List PortEvent))
+    (asked : Option (List (Option ℕ))) (count : ℕ) (now new : Scene S) (told said : Option (List (Option ℕ)))
+    (done : A) → IsSoFar held old first asked count now told → StepsBatch {A = A} held now new [] told said (Ok done)
+    → IsSoFar held old first asked count new said
+so_far_same A held old first asked count now new told said done h t =
+    let ends : IsClean held new → count < 2 ^ 32
+    → BatchEnds {A = A} held first (held now.node.store) (member_of old) (run_over held old h.batches) [] new (Ok done) =
+    λ clean below. ends_so_far {A = A} held old first asked count now new [] told said (Ok done) h t clean (omega (arith, below)) in
+    record {
+      batches = h.batches;
+      formed = h.formed;
+      many = h.many;
+      moments = subst (Grows asked said) (append-nil (moments_in (receipts_in h.batches)))
+          (grows_trans asked told said (moments_in (receipts_in h.batches)) [] h.moments t.moments);
+      receives = subst (Grows (option_map receives_in first) (option_map receives_in new.entries))
+          (append-nil (map entry_of (receipts_in h.batches)))
+          (grows_trans (option_map receives_in first) (option_map receives_in now.entries) (option_map receives_in new.entries)
+          (map entry_of (receipts_in h.batches)) [] h.receives t.receives);
+      same = same_trans old now.node new.node h.same t.same;
+      few = λ clean. omega (arith, t.few clean, h.few (t.clean clean));
+      received = t.received ∙ h.received;
+      faults = t.faults;
+      settled = λ clean settled. t.settled clean;
+      of = λ clean below. (ends clean below).0;
+      going = λ clean below. (ends clean below).1;
+    }
+
+-- the turns that are left fit
+pub so_far_few : {S : Type 0} (held : S → Held) (old : Hosted S) (first : Option (List PortEvent))
+    (asked : Option (List (Option ℕ))) (count left turns : ℕ) (now : Scene S) (told : Option (List (Option ℕ)))
+    → IsSoFar held old first asked count now told → count + left ≡ turns → turns < 2 ^ 32
+    → (now.tally.received + left < 2 ^ 32) × (now.tally.faults < 16)
+so_far_few held old first asked count left turns now told h sum below =
+    let received = h.received in
+    let few = received_after_few (receipts_in h.batches) 0 in
+    let many = h.many in
+    (omega (arith, received, few, many, sum, below), h.faults)
+
+-- ---- The end
 
 -- all turns are taken
 pub serves_all : {S : Type 0} (held : S → Held) (old : Hosted S) (first : Option (List PortEvent))
@@ -258,7 +206,8 @@ pub serves_all : {S : Type 0} (held : S → Held) (old : Hosted S) (first : Opti
     → turns < 2 ^ 32 → IsSoFar held old first asked turns now told
     → Serves held old now.node first now.entries asked told turns (Ok (served_in now.tally))
 serves_all held old first asked turns now told below h = record {
-  receipts = h.receipts;
+  batches = h.batches;
+  formed = h.formed;
   moments = h.moments;
   receives = h.receives;
   most = omega (arith, h.many);
@@ -266,74 +215,103 @@ serves_all held old first asked turns now told below h = record {
   exact = λ clean.
       let of = h.of clean below in
       (of.stands, h.going clean below, ap served_in of.tally);
+  settled = h.settled;
   same = h.same;
 }
 
--- how a run ends by its last turn
-ends_with : (A : Type 0) {S : Type 0} (held : S → Held) (first : Option (List PortEvent)) (member : Member) (start : Run)
-    (xs : List Receipt) (x : Receipt) (new : Scene S) (fault : ServeFault)
-    → (run_with_turns member xs start).end ≡ None
-    → TurnEnds {A = A} held first member (run_with_turns member xs start) x new (Err fault)
-    → EndsSo held first member start (xs ++ x ∷ []) new.node new.entries (Err fault)
-ends_with A held first member start xs x new (Node fault) going h =
-    record { before = xs; last = x; receipts_are = refl; going = going; fails = h }
-ends_with A held first member start xs x new Port going h =
-    let whole = run_with_more member xs x start going in
-    (subst (Stands held first new.node new.entries) (sym whole) h.0, ap (λ (r : Run). r.end) whole ∙ h.1)
-ends_with A held first member start xs x new Clock going h =
-    let whole = run_with_more member xs x start going in
-    (subst (Stands held first new.node new.entries) (sym whole) h.0, ap (λ (r : Run). r.end) whole ∙ h.1)
+-- how a run ends by its last batch
+ends_with : (A : Type 0) {S : Type 0} (held : S → Held) (old new : Hosted S) (first : Option (List PortEvent)) (store : Held)
+    (bs : List (List Receipt)) (b : List Receipt) (now : Scene S) (fault : ServeFault)
+    → (run_over held old bs).end ≡ None → (IsSettled (held old.store) → IsSettled store)
+    → BatchEnds {A = A} held first store (member_of old) (run_over held old bs) b now (Err fault)
+    → EndsSo held old now.node first now.entries (bs ++ b ∷ []) (Err fault)
+ends_with A held old new first store bs b now (Node fault) going settled h =
+    record { before = bs; last = b; batches_are = refl; going = going; fails = h.0; left = λ s. h.1 (settled s) }
+ends_with A held old new first store bs b now Port going settled h =
+    let whole = run_with_more (member_of old) bs b (run_at (state_of held old)) going in
+    (subst (Stands held first now.node now.entries) (sym whole) h.0, ap (λ (r : Run). r.end) whole ∙ h.1)
+ends_with A held old new first store bs b now Clock going settled h =
+    let whole = run_with_more (member_of old) bs b (run_at (state_of held old)) going in
+    (subst (Stands held first now.node now.entries) (sym whole) h.0, ap (λ (r : Run). r.end) whole ∙ h.1)
 
--- a turn ends the run
-pub serves_less : (A : Type 0) {S : Type 0} (held : S → Held) (old : Hosted S) (first : Option (List PortEvent))
-    (asked : Option (List (Option ℕ))) (count turns : ℕ) (now new : Scene S) (told said : Option (List (Option ℕ)))
-    (fault : ServeFault) → turns < 2 ^ 32 → count < turns → IsSoFar held old first asked count now told
-    → TakesTurn {A = A} held now new told said (Err fault)
+settled_so : (A B : Type 0) (store : Held) (fault : ServeFault) → EndsSettled {A = A} store (Err fault) → EndsSettled {A = B} store (Err fault)
+settled_so A B store (Node fault) h = tt
+settled_so A B store Port h = h
+settled_so A B store Clock h = h
+
+-- a batch ends the run
+pub serves_less : {S : Type 0} (held : S → Held) (old : Hosted S) (first : Option (List PortEvent))
+    (asked : Option (List (Option ℕ))) (count left turns : ℕ) (now new : Scene S) (told said : Option (List (Option ℕ)))
+    (fault : ServeFault) → turns < 2 ^ 32 → count + left ≡ turns → IsSoFar held old first asked count now told
+    → TakesBatch held now new told said left (Err fault)
     → Serves held old new.node first new.entries asked said turns (Err fault)
-serves_less A held old first asked count turns now new told said fault below within h t =
-    let member = member_of old in
-    let start = run_at (state_of held old) in
-    let run = run_with_turns member h.receipts start in
+serves_less held old first asked count left turns now new told said fault below sum h b =
+    let t = b.steps in
+    let batch = b.batch in
     record {
-      receipts = h.receipts ++ t.receipt ∷ [];
-      moments = moments_with asked told said h.receipts t.receipt h.moments t.moments;
+      batches = h.batches ++ batch ∷ [];
+      formed = formed_more 0 h.batches batch h.formed (subst (λ (n : ℕ). IsBatch n batch) h.received b.is_batch);
+      moments = moments_with asked told said h.batches batch h.moments t.moments;
       receives = receives_with (option_map receives_in first) (option_map receives_in now.entries)
-          (option_map receives_in new.entries) h.receipts t.receipt h.receives t.keeps.receives;
-      most = omega (arith, one_more h.receipts t.receipt, h.many, within);
+          (option_map receives_in new.entries) h.batches batch h.receives t.receives;
+      most = omega (arith, many_with h.batches batch, h.many, sum, b.most);
       all = tt;
       exact = λ clean.
-          let before = t.keeps.clean clean in
-          let small : count < 2 ^ 32 = omega (arith, below, within) in
-          let fewer = h.few before in
-          ends_with A held first member start h.receipts t.receipt new fault (h.going before small)
-          (subst (λ (m : Member). TurnEnds {A = A} held first m run t.receipt new (Err fault)) (member_same old now.node h.same)
-          (t.does clean (omega (arith, fewer, small)) first run (h.of before small)));
-      same = same_trans old now.node new.node h.same t.keeps.same;
+          let before = t.clean clean in
+          let small : count < 2 ^ 32 = omega (arith, below, sum) in
+          ends_with ℕ held old new.node first (held now.node.store) h.batches batch new fault (h.going before small) (h.settled before)
+          (ends_so_far {A = ℕ} held old first asked count now new batch told said (Err fault) h t clean (omega (arith, below, sum, b.most)));
+      settled = λ clean settled. settled_so ℕ Served (held new.node.store) fault (t.settled clean);
+      same = same_trans old now.node new.node h.same t.same;
     }
 
--- a turn ends the run by the clock
-by_clock : (A : Type 0) {S : Type 0} (held : S → Held) (old : Hosted S) (first : Option (List PortEvent))
-    (asked : Option (List (Option ℕ))) (count turns : ℕ) (now new : Scene S) (told said : Option (List (Option ℕ)))
-    → turns < 2 ^ 32 → count < turns → IsSoFar held old first asked count now told
-    → TakesTurn {A = A} held now new told said (Err Clock) → EndsByClock held old new.node first asked turns
-by_clock A held old first asked count turns now new told said below within h t = record {
-  count = count;
-  within = within;
-  served = served_in now.tally;
-  kept = now.entries;
-  told = told;
-  before = subst (λ n. Serves held old n first now.entries asked told count (Ok (served_in now.tally))) (sym t.clock)
-      (serves_all held old first asked count now told (omega (arith, below, within)) h);
-}
+batch_of_going : (x : Receipt) (xs : List Receipt) (n : ℕ) → GoesOn n (x ∷ xs) → IsBatch n (x ∷ xs)
+batch_of_going x [] n h = record { before = []; last = x; is = refl; goes_on = tt }
+batch_of_going x (y ∷ ys) n h =
+    let b = batch_of_going y ys (received_with x n) h.1 in
+    record { before = x ∷ b.before; last = b.last; is = ap (λ (zs : List Receipt). x ∷ zs) b.is; goes_on = (h.0, b.goes_on) }
 
--- a turn ends the run, which is by the clock where the fault says so
-pub ends_by_clock : (A : Type 0) {S : Type 0} (held : S → Held) (old : Hosted S) (first : Option (List PortEvent))
-    (asked : Option (List (Option ℕ))) (count turns : ℕ) (now new : Scene S) (told said : Option (List (Option ℕ)))
-    (fault : ServeFault) → turns < 2 ^ 32 → count < turns → IsSoFar held old first asked count now told
-    → TakesTurn {A = A} held now new told said (Err fault) → (result : Result Served ServeFault) → result ≡ Err fault
+-- what was received before the clock failed is served
+served_before : {S : Type 0} (held : S → Held) (old : Hosted S) (first : Option (List PortEvent))
+    (asked : Option (List (Option ℕ))) (count : ℕ) (now new : Scene S) (before : List Receipt) (told said : Option (List (Option ℕ)))
+    → IsSoFar held old first asked count now told → GoesOn now.tally.received before
+    → StepsBatch {A = Unit {0}} held now new before told said (Ok tt)
+    → IsSoFar held old first asked (count + length before) new said
+served_before held old first asked count now new [] told said h goes t =
+    subst (λ (n : ℕ). IsSoFar held old first asked n new said) (let e : count ≡ count + 0 = omega arith in e)
+    (so_far_same (Unit {0}) held old first asked count now new told said tt h t)
+served_before held old first asked count now new (x ∷ xs) told said h goes t =
+    so_far_next (Unit {0}) held old first asked count now new (x ∷ xs) told said tt h
+    (batch_of_going x xs now.tally.received goes) t
+
+-- a batch ends the run by the clock
+by_clock : {S : Type 0} (held : S → Held) (old : Hosted S) (first : Option (List PortEvent))
+    (asked : Option (List (Option ℕ))) (count left turns : ℕ) (now new : Scene S) (told said : Option (List (Option ℕ)))
+    → turns < 2 ^ 32 → count + left ≡ turns → IsSoFar held old first asked count now told
+    → TakesBatch held now new told said left (Err Clock) → EndsByClock held old new.node first asked turns
+by_clock held old first asked count left turns now new told said below sum h b =
+    let c = b.clock in
+    let then : Scene _ = record { node = new.node; entries = c.kept; tally = c.tally } in
+    let fewer : count + length c.before < turns =
+    let e = ap (λ (xs : List Receipt). length xs) c.is ∙ one_more c.before c.last in omega (arith, sum, e, b.most) in
+    record {
+      count = count + length c.before;
+      within = fewer;
+      served = served_in c.tally;
+      kept = c.kept;
+      told = c.said;
+      before = serves_all held old first asked (count + length c.before) then c.said (omega (arith, fewer, below))
+          (served_before held old first asked count now then c.before told c.said h c.goes_on c.steps);
+    }
+
+-- a batch ends the run, which is by the clock where the fault says so
+pub ends_by_clock : {S : Type 0} (held : S → Held) (old : Hosted S) (first : Option (List PortEvent))
+    (asked : Option (List (Option ℕ))) (count left turns : ℕ) (now new : Scene S) (told said : Option (List (Option ℕ)))
+    (fault : ServeFault) → turns < 2 ^ 32 → count + left ≡ turns → IsSoFar held old first asked count now told
+    → TakesBatch held now new told said left (Err fault) → (result : Result Served ServeFault) → result ≡ Err fault
     → result ≡ Err Clock → EndsByClock held old new.node first asked turns
-ends_by_clock A held old first asked count turns now new told said (Node fault) below within h t result is clock =
+ends_by_clock held old first asked count left turns now new told said (Node fault) below sum h b result is clock =
     absurd cc
-ends_by_clock A held old first asked count turns now new told said Port below within h t result is clock = absurd cc
-ends_by_clock A held old first asked count turns now new told said Clock below within h t result is clock =
-    by_clock A held old first asked count turns now new told said below within h t
+ends_by_clock held old first asked count left turns now new told said Port below sum h b result is clock = absurd cc
+ends_by_clock held old first asked count left turns now new told said Clock below sum h b result is clock =
+    by_clock held old first asked count left turns now new told said below sum h b

@@ -1,5 +1,5 @@
 -- What a port and a clock tell of their calls.
-use Rattle.std.specs.Prelude.{◌≡◌, ℕ, ◌≤◌, ⊤, List, ◌++◌, take, Option, Some, IfSome}
+use Rattle.std.specs.Prelude.{◌≡◌, ℕ, ◌≤◌, ⊤, List, [], ◌∷◌, ◌++◌, take, Option, Some, None, IfSome}
 use Rattle.std.specs.Option.{option_map}
 use Rattle.node_turns.specs.declared.port.Sender.{Sender}
 use Rattle.node_turns.specs.declared.port.Received.{Received as Receive}
@@ -24,6 +24,11 @@ abbrev pub IsWithin : Receive → Type 0
 IsWithin (Datagram sender len) = len ≤ 512
 IsWithin QuietReceive = ⊤
 IsWithin Fault = ⊤
+
+-- what a poll that left this in the buffer adds to a port's record: nothing where nothing was there
+abbrev pub entries_of_poll : Option Receive → List ℕ → List PortEvent
+entries_of_poll None buffer = []
+entries_of_poll (Some received) buffer = event_of_receive received buffer ∷ []
 
 -- Where there is a record at the end, there was one before, and these were added to it.
 abbrev pub Grows : {A : Type 0} → Option (List A) → Option (List A) → List A → Type 0

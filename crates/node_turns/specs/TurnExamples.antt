@@ -1,9 +1,9 @@
 -- Worked runs: what is seen of them, and what they are handed.
-use Rattle.std.specs.Prelude.{ℕ, ◌+◌, Bool, true, false, List, filter, length, replicate, Option, Some, None, codes}
+use Rattle.std.specs.Prelude.{ℕ, ◌+◌, Bool, true, false, List, filter, length, map, replicate, Option, Some, None, codes}
 use Rattle.oath_node.specs.Cases.{config, idle_node}
 use Rattle.vote_core.specs.Cases.{place}
 use Rattle.node_turns.specs.Port.{PortEvent, Received, Quiet, Faulted, Offered}
-use Rattle.node_turns.specs.Turns.{Member, Receipt, FromClient, FromPeer, Run, run_at, run_with_turns}
+use Rattle.node_turns.specs.Turns.{Member, Receipt, FromClient, FromPeer, Run, is_receive, run_at, run_with_batches, run_with_turns}
 use Rattle.node_turns.specs.declared.fault.ServeFault.{ServeFault}
 use Rattle.node_turns.specs.declared.port.Sender.TheVariants.{Client, Peer}
 
@@ -49,6 +49,14 @@ first_of_three = record { config = config; key = replicate 32 0; place = place 1
 -- what is seen of its run from the start, where these are handed in
 abbrev pub run_of : List Receipt → RunView
 run_of receipts = run_view (run_with_turns first_of_three receipts (run_at (idle_node 0)))
+
+-- what is seen of it with these batches
+abbrev pub batches_of : List (List Receipt) → RunView
+batches_of batches = run_view (run_with_batches first_of_three batches (run_at (idle_node 0)))
+
+-- which of its entries with these batches are receives, and which are offers
+abbrev pub order_of : List (List Receipt) → List Bool
+order_of batches = map is_receive (run_with_batches first_of_three batches (run_at (idle_node 0))).entries
 
 -- a datagram of a client that is no line
 abbrev pub no_line : Receipt

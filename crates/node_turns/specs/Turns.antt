@@ -1,6 +1,6 @@
 -- A run of a node over a port and a clock: what is received is handed to the node, and what the node sends and replies
 -- is offered.
-use Rattle.std.specs.Prelude.{◌≡◌, ℕ, ◌+◌, ◌%◌, nat_eq, not, Bool, if◌then◌else◌, List, [], ◌∷◌, ◌++◌, length, map, filter, Option, Some, None, true, false}
+use Rattle.std.specs.Prelude.{◌≡◌, ⊤, ℕ, ◌+◌, ◌%◌, nat_eq, not, Bool, if◌then◌else◌, List, [], ◌∷◌, ◌++◌, length, map, filter, Option, Some, None, true, false}
 use Rattle.std.specs.List.{flat_map}
 use Rattle.vote_core.specs.NodeSet.{PlaceRecord}
 use Rattle.oath_node.specs.Hosted.{Hosted, config_of, envelope_at}
@@ -160,11 +160,89 @@ run_with_turns member [] run = run
 run_with_turns member (receipt ∷ receipts) run =
     run_with_turns member receipts (while_going run.end (run_with_turn member receipt run) run)
 
--- ---- Faults of the port
+-- ---- A batch of turns
+
+-- the datagrams that were received so far, with this receipt
+abbrev pub received_with : Receipt → ℕ → ℕ
+received_with (FromPeer from bytes) received = received + 1
+received_with (FromClient client bytes moment) received = received + 1
+received_with Nothing received = received
+received_with Failure received = received
+
+-- the same with these receipts, in order
+abbrev pub received_after : List Receipt → ℕ → ℕ
+received_after [] received = received
+received_after (receipt ∷ receipts) received = received_after receipts (received_with receipt received)
+
+-- the events of turns with these receipts, after this number of datagrams
+abbrev pub events_of_turns : List ℕ → ℕ → List Receipt → List NodeEvent
+events_of_turns key received [] = []
+events_of_turns key received (receipt ∷ receipts) =
+    let count = received_with receipt received in
+    events_of_turn key count receipt ++ events_of_turns key count receipts
+
+-- the run with these receives, in order
+abbrev pub run_with_receipts : List Receipt → Run → Run
+run_with_receipts [] run = run
+run_with_receipts (receipt ∷ receipts) run = run_with_receipts receipts (run_with_receipt receipt run)
+
+-- the run with one batch more: all its receives, and then the events of all of them
+abbrev pub run_with_batch : Member → List Receipt → Run → Run
+run_with_batch member batch run =
+    run_with_events member (events_of_turns member.key run.tally.received batch) (run_with_receipts batch run)
+
+-- the run with these batches, in order
+abbrev pub run_with_batches : Member → List (List Receipt) → Run → Run
+run_with_batches member [] run = run
+run_with_batches member (batch ∷ batches) run =
+    run_with_batches member batches (while_going run.end (run_with_batch member batch run) run)
+
+-- what these batches were handed, in order
+abbrev pub receipts_in : List (List Receipt) → List Receipt
+receipts_in [] = []
+receipts_in (batch ∷ batches) = batch ++ receipts_in batches
+
+-- A batch ends behind this receipt, which is the one with so many datagrams: behind the one that brings the tick, one
+-- that is quiet or a fault, and one that the clock told no moment for.
+abbrev pub ends_batch : ℕ → Receipt → Bool
+ends_batch received (FromPeer from bytes) = nat_eq (received % 64) 0
+ends_batch received (FromClient client bytes (Some moment)) = nat_eq (received % 64) 0
+ends_batch received (FromClient client bytes None) = true
+ends_batch received Nothing = true
+ends_batch received Failure = true
+
+-- behind none of these a batch ends
+abbrev pub GoesOn : ℕ → List Receipt → Type 0
+GoesOn received [] = ⊤
+GoesOn received (receipt ∷ receipts) =
+    let count = received_with receipt received in
+    (ends_batch count receipt ≡ false) × GoesOn count receipts
+
+-- The receives of a batch, after this number of datagrams: at least one, and none behind one that ends it.
+pub record IsBatch (received : ℕ) (batch : List Receipt) : Type 0 where
+  pub before : List Receipt
+  pub last : Receipt
+  pub is : batch ≡ before ++ last ∷ []
+  pub goes_on : GoesOn received before
+
+-- these are batches, one after the other
+abbrev pub AreBatches : ℕ → List (List Receipt) → Type 0
+AreBatches received [] = ⊤
+AreBatches received (batch ∷ batches) = IsBatch received batch × AreBatches (received_after batch received) batches
 
 -- the offers among these entries
 abbrev pub offers_in : List PortEvent → List PortEvent
 offers_in entries = filter (λ entry. not (is_receive entry)) entries
+
+-- two runs came to the same: they differ at most in how their receives stand among their offers
+pub record ComesToTheSame (run other : Run) : Type 0 where
+  pub node : run.node ≡ other.node
+  pub offers : offers_in run.entries ≡ offers_in other.entries
+  pub receives : receives_in run.entries ≡ receives_in other.entries
+  pub tally : run.tally ≡ other.tally
+  pub end : run.end ≡ other.end
+
+-- ---- Faults of the port
 
 -- a receive that failed
 abbrev pub is_failure : Receipt → Bool

@@ -1,8 +1,8 @@
-ghost use Rattle.std.specs.Prelude.{◌≡◌, ◌∷◌, [], ◌++◌, List, Some, None, replicate};
-ghost use Rattle.node_turns.specs.TurnExamples.{going_with, line_without_moment, no_line, noise, run_of};
+ghost use Rattle.std.specs.Prelude.{◌≡◌, ◌∷◌, [], ◌++◌, List, Some, None, false, replicate, true};
+ghost use Rattle.node_turns.specs.TurnExamples.{batches_of, going_with, line_without_moment, no_line, noise, order_of, run_of};
 ghost use Rattle.oath_node.specs.Cases.{idle_node};
 ghost use Rattle.node_turns.specs.Port.{Faulted, Offered, Quiet, Received};
-ghost use Rattle.node_turns.specs.Turns.{DoesTheSame, Failure, Member, Nothing, Receipt, Run, moments_in, offers_in, run_at, run_with_turns, without_failures};
+ghost use Rattle.node_turns.specs.Turns.{AreBatches, ComesToTheSame, DoesTheSame, Failure, GoesOn, IsBatch, Member, Nothing, Receipt, Run, moments_in, offers_in, receipts_in, run_at, run_with_batch, run_with_batches, run_with_turn, run_with_turns, without_failures};
 ghost use Rattle.node_turns.specs.declared.fault.ServeFault.TheVariants.{Clock, Port};
 ghost use Rattle.node_turns.specs.declared.port.Sender.TheVariants.{Client, Peer};
 
@@ -29,6 +29,49 @@ pub fn faults_change_no_offer()
     ensures { (member : Member) (receipts : List Receipt) (start : Run) → start.end ≡ None
         → (run_with_turns member receipts start).end ≡ None
         → DoesTheSame (run_with_turns member receipts start) (run_with_turns member (without_failures receipts) start) }
+{}
+
+/// Batches come to what their turns come to one by one: the same node, the same offers in the same order, the same
+/// receives and the same end. In a batch the receives come first, and then the offers.
+pub fn batches_are_turns()
+    ensures order { (member : Member) (batches : List (List Receipt)) (start : Run)
+        → AreBatches start.tally.received batches
+        → ComesToTheSame (run_with_batches member batches start)
+        (run_with_turns member (receipts_in batches) start) }
+    ensures one { (member : Member) (receipt : Receipt) (start : Run)
+        → run_with_batch member (receipt ∷ []) start ≡ run_with_turn member receipt start }
+    // So faults of the port change nothing of batches either.
+    ensures failures { (member : Member) (batches : List (List Receipt)) (start : Run)
+        → AreBatches start.tally.received batches → start.end ≡ None
+        → (run_with_batches member batches start).end ≡ None
+        → DoesTheSame (run_with_batches member batches start)
+        (run_with_turns member (without_failures (receipts_in batches)) start) }
+{}
+
+/// What some batches of a member of three come to: what is seen of them, and how receives and offers follow.
+pub fn batches_are_worked()
+    ensures lines { order_of ((no_line ∷ no_line ∷ no_line ∷ []) ∷ [])
+        ≡ true ∷ true ∷ true ∷ false ∷ false ∷ false ∷ [] }
+    ensures one_by_one { order_of ((no_line ∷ []) ∷ (no_line ∷ []) ∷ []) ≡ true ∷ false ∷ true ∷ false ∷ [] }
+    // the tick comes behind the 64th datagram, and before the offers
+    ensures tick { order_of (replicate 63 no_line ∷ (no_line ∷ []) ∷ [])
+        ≡ replicate 63 true ++ replicate 63 false ++ true ∷ replicate 3 false }
+    ensures lines_and_tick { batches_of (replicate 64 no_line ∷ []) ≡ going_with 64 64 1 }
+    // what was received before the port or the clock failed is served
+    ensures fault { batches_of ((no_line ∷ Failure ∷ []) ∷ []) ≡ going_with 1 1 0 }
+    ensures last_fault { batches_of (replicate 15 (Failure ∷ []) ++ (no_line ∷ Failure ∷ []) ∷ [])
+        ≡ going_with 1 1 0 }
+    ensures too_many_faults { batches_of (replicate 17 (Failure ∷ []))
+        ≡ record (going_with 0 0 0) { end = Some Port } }
+    ensures clock { batches_of ((no_line ∷ line_without_moment ∷ []) ∷ (Nothing ∷ []) ∷ [])
+        ≡ record (going_with 2 1 0) { end = Some Clock } }
+    // what ends a batch
+    ensures whole { AreBatches 62 ((no_line ∷ no_line ∷ []) ∷ (no_line ∷ Failure ∷ []) ∷ (Nothing ∷ []) ∷ []) }
+    ensures behind_the_64th { GoesOn 62 (no_line ∷ no_line ∷ []) → ⊥ }
+    ensures behind_a_quiet_one { GoesOn 0 (Nothing ∷ []) → ⊥ }
+    ensures behind_a_fault { GoesOn 0 (Failure ∷ []) → ⊥ }
+    ensures behind_no_moment { GoesOn 0 (line_without_moment ∷ []) → ⊥ }
+    ensures none { IsBatch 0 [] → ⊥ }
 {}
 
 /// Which receives failed, which entries are offers, and how two runs can differ, worked.

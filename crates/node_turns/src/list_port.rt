@@ -15,10 +15,12 @@ use std::marker::Model;
 pub enum Coming<'a> {
     /// A datagram, which is cut to 512 bytes.
     Datagram { sender: Sender, bytes: &'a [u8] },
-    /// Nothing in a while.
+    /// Nothing in a while. A poll finds nothing, and leaves it to the next receive.
     Quiet,
     /// A fault.
     Fault,
+    /// What follows comes later: a poll finds nothing once, and a receive waits for what follows.
+    Pause,
 }
 
 /// An entry of the record of a port in memory.
@@ -121,23 +123,63 @@ impl<'a> ListPort<'a> {
         }
     }
 
+    /// Adds the entry of a receive.
+    fn keep_received(&mut self, received: Received, buffer: &[u8; 512])
+        requires { IsWithin received }
+        ensures { Grows self.old self.new (event_of_receive received buffer.now ∷ []) }
+    {
+        let entry = entry_of_receive(self.alloc, received, buffer.as_slice());
+        self.keep(entry);
+    }
+
+    /// Takes out what is next but for pauses.
+    fn next(&mut self) -> Coming<'a>
+        ensures { self.new ≡ self.old }
+    {
+        let comings = self.comings;
+        for place in 0..comings.len() {
+            match comings[place] {
+                Coming::Pause => {}
+                coming => {
+                    self.comings = &comings[place + 1..];
+                    return coming;
+                }
+            }
+        }
+        self.comings = &comings[comings.len()..];
+        Coming::Quiet
+    }
+
+    /// Whether a poll finds nothing. A pause is then over.
+    fn is_empty_now(&mut self) -> bool
+        ensures { self.new ≡ self.old }
+    {
+        let comings = self.comings;
+        if comings.is_empty() {
+            return true;
+        }
+        match comings[0] {
+            Coming::Pause => {
+                self.comings = &comings[1..];
+                true
+            }
+            Coming::Quiet => true,
+            Coming::Datagram { .. } | Coming::Fault => false,
+        }
+    }
+
     /// Hands in what is next.
     fn hand_in(&mut self, buffer: &mut [u8; 512]) -> Received
         ensures within { IsWithin result }
         ensures record { self.new ≡ self.old }
     {
-        let comings = self.comings;
-        if comings.is_empty() {
-            return Received::Quiet;
-        }
-        self.comings = &comings[1..];
-        match comings[0] {
+        match self.next() {
             Coming::Datagram { sender, bytes } => {
                 let len = bytes.len().min(MAX_DATAGRAM_LEN);
                 buffer[..len].copy_from_slice(&bytes[..len]);
                 Received::Datagram { sender, len }
             }
-            Coming::Quiet => Received::Quiet,
+            Coming::Quiet | Coming::Pause => Received::Quiet,
             Coming::Fault => Received::Fault,
         }
     }
@@ -148,9 +190,21 @@ impl Port for ListPort<'_> {
 
     fn receive(&mut self, buffer: &mut [u8; 512]) -> Received {
         let received = self.hand_in(buffer);
-        let entry = entry_of_receive(self.alloc, received, buffer.as_slice());
-        self.keep(entry);
+        self.keep_received(received, buffer);
         received
+    }
+
+    fn poll(&mut self, buffer: &mut [u8; 512]) -> Option<Received> {
+        if self.is_empty_now() {
+            return None;
+        }
+        match self.hand_in(buffer) {
+            Received::Quiet => None,
+            received => {
+                self.keep_received(received, buffer);
+                Some(received)
+            }
+        }
     }
 
     fn send(&mut self, to: Sender, bytes: &[u8]) -> bool {

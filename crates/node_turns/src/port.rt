@@ -25,8 +25,9 @@ pub enum Received {
 
 /// A port of datagrams. Where it keeps a record of its calls, each call adds its entry at the end.
 pub trait Port {
-    ghost use Rattle.std.specs.Prelude.{◌∷◌, [], List, Option, None};
-    ghost use Rattle.node_turns.specs.Port.{Grows, IsWithin, PortEvent, Offered, event_of_receive};
+    ghost use Rattle.std.specs.Prelude.{◌≢◌, ◌∷◌, [], List, Option, Some, None, IfSome};
+    ghost use Rattle.node_turns.specs.Port.{Grows, IsWithin, PortEvent, Offered, entries_of_poll, event_of_receive};
+    ghost use Rattle.node_turns.specs.declared.port.Received.TheVariants.{Quiet as QuietReceive};
 
     // What was received and offered, in order. None: it keeps no record, or couldn't keep it.
     ghost events: { Self → Option (List PortEvent) } = { λ _. None };
@@ -35,6 +36,12 @@ pub trait Port {
     fn receive(&mut self, buffer: &mut [u8; 512]) -> Received
         ensures within { IsWithin result }
         ensures event { Grows (events self.old) (events self.new) (event_of_receive result buffer.new ∷ []) };
+
+    /// A datagram that is there already, or a fault; it doesn't wait, and is never quiet. None where nothing is there.
+    fn poll(&mut self, buffer: &mut [u8; 512]) -> Option<Received>
+        ensures within { IfSome result IsWithin }
+        ensures waits { result ≢ Some QuietReceive }
+        ensures event { Grows (events self.old) (events self.new) (entries_of_poll result buffer.new) };
 
     /// Offers a datagram, and tells whether it was taken. A datagram that isn't taken is lost.
     fn send(&mut self, to: Sender, bytes: &[u8]) -> bool

@@ -1,4 +1,4 @@
-use Rattle.std.proofs.Common.{sym, subst}
+use Rattle.std.proofs.Common.{ℕ, ◌+◌, length, arith, sym, subst}
 use Rattle.std.specs.Prelude.{Result}
 use Rattle.node_turns.specs.Serving.{Serves}
 use Rattle.node_turns.specs.Steps.{scene}
@@ -6,46 +6,65 @@ use Rattle.node_turns.specs.declared.fault.ServeFault.{ServeFault}
 use Rattle.node_turns.specs.declared.turns.Served.{Served}
 use Rattle.node_turns.specs.declared.turns.Tally.{Tally}
 use Rattle.node_turns.proofs.GrowLemmas.{err_is}
-use Rattle.node_turns.proofs.TurnLemmas.{IsSoFar, ends_by_clock, serves_less, so_far_next, so_far_start, zero_tally}
+use Rattle.node_turns.proofs.TurnLemmas.{IsSoFar, ends_by_clock, serves_all, serves_less, so_far_few, so_far_next, so_far_start, zero_tally}
 use Rattle.node_turns.proofs.turns.run_turns.Goals as goal
 
-pub loop-init : goal.loop-init
-loop-init g c =
+pub loop-left-init : goal.loop-left-init
+loop-left-init g c =
     let held = g.S.FloorStore.held in
     let first = g.P.Port.events c.args.port.now in
     let asked = g.C.Clock.moments c.args.clock.now in
     let zeros = c.default-tally.ensures in
-    subst (λ (t : Tally). IsSoFar held c.args.node.now first asked 0 (scene g.P.Port.events c.args.node.now c.args.port.now t) asked)
-    (sym (zero_tally c.default-tally.result zeros.0 zeros.1.0 zeros.1.1)) (so_far_start held c.args.node.now first asked)
+    (
+      0,
+      omega arith,
+      subst (λ (t : Tally). IsSoFar held c.args.node.now first asked 0 (scene g.P.Port.events c.args.node.now c.args.port.now t) asked)
+      (sym (zero_tally c.default-tally.result zeros.0 zeros.1.0 zeros.1.1)) (so_far_start held c.args.node.now first asked),
+    )
 
-pub returns-in_err-take_turn-clause-serves : goal.returns-in_err-take_turn-clause-serves
-returns-in_err-take_turn-clause-serves g c =
+pub take_batch-requires-clause-few : goal.take_batch-requires-clause-few
+take_batch-requires-clause-few g c =
+    let h = c.loop-left.invariant in
+    so_far_few g.S.FloorStore.held c.args.node.now (g.P.Port.events c.args.port.now) (g.C.Clock.moments c.args.clock.now) h.0
+    c.loop-left.left c.args.turns (scene g.P.Port.events c.loop-left.node c.loop-left.port c.loop-left.tally)
+    (g.C.Clock.moments c.loop-left.clock) h.2 h.1 c.ranges.turns.fits
+
+pub returns-in_err-left-clause-serves : goal.returns-in_err-left-clause-serves
+returns-in_err-left-clause-serves g c =
     let held = g.S.FloorStore.held in
     let first = g.P.Port.events c.args.port.now in
     let asked = g.C.Clock.moments c.args.clock.now in
-    let now = scene g.P.Port.events c.loop.node c.loop.port c.loop.tally in
-    let new = scene g.P.Port.events c.take_turn.new.node c.take_turn.new.port c.take_turn.new.tally in
-    let told = g.C.Clock.moments c.take_turn.new.clock in
-    let fault = c.in_err-take_turn.field-0.0 in
+    let now = scene g.P.Port.events c.loop-left.node c.loop-left.port c.loop-left.tally in
+    let new = scene g.P.Port.events c.take_batch.new.node c.take_batch.new.port c.take_batch.new.tally in
+    let told = g.C.Clock.moments c.take_batch.new.clock in
+    let fault = c.in_err-left.field-0.0 in
+    let h = c.loop-left.invariant in
     subst (λ (r : Result Served ServeFault). Serves held c.args.node.now new.node first new.entries asked told c.args.turns r)
     (sym (err_is c.from_residual.result fault c.from_residual.ensures.1))
-    (serves_less Unit held c.args.node.now first asked c.loop.counter c.args.turns now new (g.C.Clock.moments c.loop.clock) told
-    fault c.ranges.turns.fits c.loop-test.true c.loop.invariant c.in_err-take_turn.ensures)
+    (serves_less held c.args.node.now first asked h.0 c.loop-left.left c.args.turns now new (g.C.Clock.moments c.loop-left.clock) told
+    fault c.ranges.turns.fits h.1 h.2 c.in_err-left.ensures)
 
-pub loop-preserved : goal.loop-preserved
-loop-preserved g c =
-    so_far_next Unit g.S.FloorStore.held c.args.node.now (g.P.Port.events c.args.port.now) (g.C.Clock.moments c.args.clock.now)
-    c.loop.counter (scene g.P.Port.events c.loop.node c.loop.port c.loop.tally)
-    (scene g.P.Port.events c.take_turn.new.node c.take_turn.new.port c.take_turn.new.tally) (g.C.Clock.moments c.loop.clock)
-    (g.C.Clock.moments c.take_turn.new.clock) c.in_ok-take_turn.field-0 c.loop.invariant c.in_ok-take_turn.ensures
+pub returns-in_err-left-clause-clock : goal.returns-in_err-left-clause-clock
+returns-in_err-left-clause-clock g c =
+    let fault = c.in_err-left.field-0.0 in
+    let h = c.loop-left.invariant in
+    ends_by_clock g.S.FloorStore.held c.args.node.now (g.P.Port.events c.args.port.now)
+    (g.C.Clock.moments c.args.clock.now) h.0 c.loop-left.left c.args.turns
+    (scene g.P.Port.events c.loop-left.node c.loop-left.port c.loop-left.tally)
+    (scene g.P.Port.events c.take_batch.new.node c.take_batch.new.port c.take_batch.new.tally)
+    (g.C.Clock.moments c.loop-left.clock) (g.C.Clock.moments c.take_batch.new.clock) fault c.ranges.turns.fits h.1
+    h.2 c.in_err-left.ensures c.from_residual.result (err_is c.from_residual.result fault c.from_residual.ensures.1)
 
-pub returns-in_err-take_turn-clause-clock : goal.returns-in_err-take_turn-clause-clock
-returns-in_err-take_turn-clause-clock g c =
-    let fault = c.in_err-take_turn.field-0.0 in
-    ends_by_clock Unit g.S.FloorStore.held c.args.node.now (g.P.Port.events c.args.port.now)
-    (g.C.Clock.moments c.args.clock.now) c.loop.counter c.args.turns
-    (scene g.P.Port.events c.loop.node c.loop.port c.loop.tally)
-    (scene g.P.Port.events c.take_turn.new.node c.take_turn.new.port c.take_turn.new.tally)
-    (g.C.Clock.moments c.loop.clock) (g.C.Clock.moments c.take_turn.new.clock) fault c.ranges.turns.fits c.loop-test.true
-    c.loop.invariant c.in_err-take_turn.ensures c.from_residual.result
-    (err_is c.from_residual.result fault c.from_residual.ensures.1)
+pub loop-left-preserved : goal.loop-left-preserved
+loop-left-preserved g c =
+    let h = c.loop-left.invariant in
+    let b = c.in_ok-left.ensures in
+    let taken = b.count in
+    (
+      h.0 + length b.batch,
+      omega (arith, h.1, taken, b.most),
+      so_far_next ℕ g.S.FloorStore.held c.args.node.now (g.P.Port.events c.args.port.now) (g.C.Clock.moments c.args.clock.now) h.0
+      (scene g.P.Port.events c.loop-left.node c.loop-left.port c.loop-left.tally)
+      (scene g.P.Port.events c.take_batch.new.node c.take_batch.new.port c.take_batch.new.tally) b.batch (g.C.Clock.moments c.loop-left.clock)
+      (g.C.Clock.moments c.take_batch.new.clock) c.in_ok-left.field-0 h.2 b.is_batch b.steps,
+    )
