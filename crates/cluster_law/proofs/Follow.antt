@@ -2,6 +2,7 @@
 use Rattle.std.proofs.Common.{◌≡◌, ℕ, zero, suc, ◌⊎◌, inl, inr, ⊎_elim, Bool, true, false, cond, List, [], ◌∷◌, ◌++◌, map, Option, Some, None, refl, sym, ap, ◌∙◌, subst, eqb, ltb}
 use Rattle.std.specs.List.{slice_get}
 use Rattle.std.proofs.lemmas.Bool.{cond_both, cond-true, cond-false, eqb-true, eq-eqb, cases_Bool}
+use Rattle.std.proofs.lemmas.List.{append-nil}
 use Rattle.floor_store.specs.Content.{Content, with_next_boot}
 use Rattle.vote_core.proofs.Basics.{Each, each_append, each_get, each_map, each_weaker}
 use Rattle.vote_core.specs.Schedule.{Envelope, envelope_from, is_member, last_boot}
@@ -10,7 +11,7 @@ use Rattle.oath_node.specs.Machine.{Config, Made, NodeState, Peer, made_by_event
 use Rattle.cluster_sim.proofs.Owners.{get_more}
 use Rattle.cluster_sim.specs.World.{Note, Act, Says, Deliver, Ticks, Noise, Told, World, WorldEvent, Happens, Cut, Restart, acting_node, delivered_event, is_from, node_event_of, node_if_sent, node_of, note_of, place_at, told_reply, with_state, with_told_of, world_after_act, world_after_event, world_after_restart, world_after_turn, world_with_made}
 use Rattle.cluster_law.specs.Lives.{Deed, Opens, FailsToOpen, Takes, Offers, Stops, StopsIn, Input, Line, Datagram, Time, Handout, Post, Answer, Scene, Setting, Site, Down, Up, IsGenuine, IsGenuineDeed, event_of, handouts_of, made_by_input, node_of_deed, nodes_of, place_in, scene_after_deed, first_of_these, scene_at, site_cut, site_half_opened, site_offered, site_opened, site_taken, with_site}
-use Rattle.cluster_law.specs.Promises.{IsActOf, IsEventOf, nothing}
+use Rattle.cluster_law.specs.Promises.{HasAct, IsActOf, IsEventOf, nothing}
 
 -- ---- What a scene is in a world
 
@@ -31,7 +32,7 @@ pub record Matches (setting : Setting) (scene : Scene) (w : World) : Type 0 wher
 
 -- ---- lists
 
-get_after : {A : Type 0} (xs ys : List A) (k : ℕ) (y : A) → slice_get ys k ≡ Some y → (m : ℕ) × (slice_get (xs ++ ys) m ≡ Some y)
+pub get_after : {A : Type 0} (xs ys : List A) (k : ℕ) (y : A) → slice_get ys k ≡ Some y → (m : ℕ) × (slice_get (xs ++ ys) m ≡ Some y)
 get_after [] ys k y e = (k, e)
 get_after (x ∷ xs) ys k y e = let r = get_after xs ys k y e in (suc r.0, r.1)
 
@@ -211,6 +212,15 @@ site_changes setting i a scene w m here = record {
   notes = m.notes;
 }
 
+restart_told : (config : Config) (e i : ℕ) (w : World) → is_member w.n i ≡ true → (world_after_event config e (Restart i) w).told ≡ w.told ++ []
+restart_told config e i w member = ap (λ (z : World). z.told) (restarts config e i w member) ∙ sym (append-nil w.told)
+
+cut_told : (e i : ℕ) (made : Made) (w : World) → is_member w.n i ≡ true → (world_after_restart (Some i) (cut_world e i made w)).told ≡ w.told
+unfolding world_with_made world_after_restart
+cut_told e i made w member =
+    let v = cut_world e i made w in
+    ap (λ (z : World). z.told) (cond-true (is_member w.n i) (record v { nodes = with_state i (restarted_node (v.nodes i)) v.nodes }) v member)
+
 restart_matches : (setting : Setting) (e i : ℕ) (a : Site) (scene : Scene) (w : World) → is_member w.n i ≡ true → Matches setting scene w → ((v : World) → IsSiteIn v a (restarted_node (w.nodes i)))
     → Matches setting (scene_with i a [] [] scene) (world_after_event setting.config e (Restart i) w)
 restart_matches setting e i a scene w member m here =
@@ -227,17 +237,57 @@ restart_matches setting e i a scene w member m here =
 
 -- ---- a deed
 
--- the event of a deed, and the scene after it
-pub record Follows (setting : Setting) (e : ℕ) (deed : Deed) (scene : Scene) (w : World) : Type 0 where
-  pub event : WorldEvent
-  pub is_event : IsEventOf setting.key deed event
-  pub matches : Matches setting scene (world_after_event setting.config e event w)
+-- the event of a deed at a member whose site was this
+abbrev pub IsFull : List ℕ → Deed → Site → WorldEvent → Type 0
+IsFull key (Opens i) (Down c) event = (event ≡ nothing) ⊎ (event ≡ Restart i)
+IsFull key (Opens i) (Up s waiting) event = event ≡ nothing
+IsFull key (FailsToOpen i raised) (Down c) event = (event ≡ nothing) ⊎ (event ≡ Restart i)
+IsFull key (FailsToOpen i raised) (Up s waiting) event = event ≡ nothing
+IsFull key (Takes i input) (Down c) event = event ≡ nothing
+IsFull key (Takes i input) (Up s waiting) event = HasAct key i input (λ act. Happens act) event
+IsFull key (Offers i) old event = event ≡ nothing
+IsFull key (Stops i) old event = event ≡ nothing
+IsFull key (StopsIn i kept input) (Down c) event = event ≡ nothing
+IsFull key (StopsIn i false input) (Up s waiting) event = event ≡ nothing
+IsFull key (StopsIn i true input) (Up s waiting) event = HasAct key i input (λ act. Cut true act) event
 
-stays : (setting : Setting) (e : ℕ) (deed : Deed) (scene : Scene) (w : World) → IsEventOf setting.key deed nothing → Matches setting scene w → Follows setting e deed scene w
-stays setting e deed scene w is m = record {
+full_is_event : (key : List ℕ) (deed : Deed) (old : Site) (event : WorldEvent) → IsFull key deed old event → IsEventOf key deed event
+full_is_event key (Opens i) (Down c) event h = h
+full_is_event key (Opens i) (Up s waiting) event h = inl h
+full_is_event key (FailsToOpen i raised) (Down c) event h = h
+full_is_event key (FailsToOpen i raised) (Up s waiting) event h = inl h
+full_is_event key (Takes i input) (Down c) event h = inl h
+full_is_event key (Takes i input) (Up s waiting) event h = inr h
+full_is_event key (Offers i) old event h = h
+full_is_event key (Stops i) old event h = h
+full_is_event key (StopsIn i false input) (Down c) event h = h
+full_is_event key (StopsIn i true input) (Down c) event h = inl h
+full_is_event key (StopsIn i false input) (Up s waiting) event h = h
+full_is_event key (StopsIn i true input) (Up s waiting) event h = inr h
+
+-- the answers that a deed at that site makes
+abbrev pub answers_made : Setting → ℕ → Deed → Site → List Told
+answers_made setting e (Takes i input) (Up s waiting) = map (told_reply e i) (made_by_input setting i input s).replies
+answers_made setting e (Takes i input) (Down c) = []
+answers_made setting e (Opens i) old = []
+answers_made setting e (FailsToOpen i raised) old = []
+answers_made setting e (Offers i) old = []
+answers_made setting e (Stops i) old = []
+answers_made setting e (StopsIn i kept input) old = []
+
+-- the event of a deed at a site, and the scene after it
+record Follows (setting : Setting) (e : ℕ) (deed : Deed) (old : Site) (scene : Scene) (w : World) : Type 0 where
+  event : WorldEvent
+  is_full : IsFull setting.key deed old event
+  matches : Matches setting scene (world_after_event setting.config e event w)
+  told : (world_after_event setting.config e event w).told ≡ w.told ++ answers_made setting e deed old
+
+stays : (setting : Setting) (e : ℕ) (deed : Deed) (old : Site) (scene : Scene) (w : World) → IsFull setting.key deed old nothing → answers_made setting e deed old ≡ [] → Matches setting scene w → Follows setting e deed old scene w
+stays setting e deed old scene w is none m = record {
   event = nothing;
-  is_event = is;
+  is_full = is;
   matches = subst (λ z. Matches setting scene z) (sym (quiet setting.config e w)) m;
+  told = ap (λ (z : World). z.told) (quiet setting.config e w) ∙ sym (append-nil w.told) ∙ ap (λ l. w.told ++ l) (sym none);
 }
 
 -- a node with no process opens, or ends while it opens
@@ -247,61 +297,64 @@ opens_site c x w same low =
     ∙ ap (λ (d : Content). opened_node d) same
 
 opened_up : (setting : Setting) (e i : ℕ) (c : Content) (scene : Scene) (w : World) → is_member w.n i ≡ true → Matches setting scene w → IsSiteIn w (Down c) (w.nodes i) → ltb c.boot last_boot ≡ true
-    → Follows setting e (Opens i) (scene_with i (Up (opened_node c) []) [] [] scene) w
+    → Follows setting e (Opens i) (Down c) (scene_with i (Up (opened_node c) []) [] [] scene) w
 opened_up setting e i c scene w member m here low =
     ⊎_elim
     (λ (same : (w.nodes i).content ≡ c). record {
       event = Restart i;
-      is_event = inr refl;
+      is_full = inr refl;
       matches = restart_matches setting e i (Up (opened_node c) []) scene w member m (λ v. (opens_site c (w.nodes i) w same low, tt));
+      told = restart_told setting.config e i w member;
     })
-    (λ (is : w.nodes i ≡ opened_node c). stays setting e (Opens i) (scene_with i (Up (opened_node c) []) [] [] scene) w (inl refl) (site_changes setting i (Up (opened_node c) []) scene w m (is, tt)))
+    (λ (is : w.nodes i ≡ opened_node c). stays setting e (Opens i) (Down c) (scene_with i (Up (opened_node c) []) [] [] scene) w (inl refl) refl (site_changes setting i (Up (opened_node c) []) scene w m (is, tt)))
     here
 
 opens : (setting : Setting) (e i : ℕ) (c : Content) (scene : Scene) (w : World) → is_member w.n i ≡ true → Matches setting scene w → IsSiteIn w (Down c) (w.nodes i)
-    → Follows setting e (Opens i) (scene_with i (site_opened c) [] [] scene) w
+    → Follows setting e (Opens i) (Down c) (scene_with i (site_opened c) [] [] scene) w
 opens setting e i c scene w member m here =
-    cond_both (ltb c.boot last_boot) (Up (opened_node c) []) (Down c) (λ a. Follows setting e (Opens i) (scene_with i a [] [] scene) w)
+    cond_both (ltb c.boot last_boot) (Up (opened_node c) []) (Down c) (λ a. Follows setting e (Opens i) (Down c) (scene_with i a [] [] scene) w)
     (λ low. opened_up setting e i c scene w member m here low)
-    (λ _. stays setting e (Opens i) (scene_with i (Down c) [] [] scene) w (inl refl) (site_changes setting i (Down c) scene w m here))
+    (λ _. stays setting e (Opens i) (Down c) (scene_with i (Down c) [] [] scene) w (inl refl) refl (site_changes setting i (Down c) scene w m here))
 
 raised_up : (setting : Setting) (e i : ℕ) (c : Content) (scene : Scene) (w : World) → is_member w.n i ≡ true → Matches setting scene w → IsSiteIn w (Down c) (w.nodes i) → ltb c.boot last_boot ≡ true
-    → Follows setting e (FailsToOpen i true) (scene_with i (Down (with_next_boot c)) [] [] scene) w
+    → Follows setting e (FailsToOpen i true) (Down c) (scene_with i (Down (with_next_boot c)) [] [] scene) w
 raised_up setting e i c scene w member m here low =
     let a = Down (with_next_boot c) in
     ⊎_elim
     (λ (same : (w.nodes i).content ≡ c). record {
       event = Restart i;
-      is_event = inr refl;
+      is_full = inr refl;
       matches = restart_matches setting e i a scene w member m (λ v. inl (ap (λ (x : NodeState). x.content) (opens_site c (w.nodes i) w same low)));
+      told = restart_told setting.config e i w member;
     })
-    (λ (is : w.nodes i ≡ opened_node c). stays setting e (FailsToOpen i true) (scene_with i a [] [] scene) w (inl refl) (site_changes setting i a scene w m (inl (ap (λ (x : NodeState). x.content) is))))
+    (λ (is : w.nodes i ≡ opened_node c). stays setting e (FailsToOpen i true) (Down c) (scene_with i a [] [] scene) w (inl refl) refl (site_changes setting i a scene w m (inl (ap (λ (x : NodeState). x.content) is))))
     here
 
 half_opens : (setting : Setting) (e i : ℕ) (raised : Bool) (c : Content) (scene : Scene) (w : World) → is_member w.n i ≡ true → Matches setting scene w → IsSiteIn w (Down c) (w.nodes i)
-    → Follows setting e (FailsToOpen i raised) (scene_with i (site_half_opened raised c) [] [] scene) w
-half_opens setting e i false c scene w member m here = stays setting e (FailsToOpen i false) (scene_with i (Down c) [] [] scene) w (inl refl) (site_changes setting i (Down c) scene w m here)
+    → Follows setting e (FailsToOpen i raised) (Down c) (scene_with i (site_half_opened raised c) [] [] scene) w
+half_opens setting e i false c scene w member m here = stays setting e (FailsToOpen i false) (Down c) (scene_with i (Down c) [] [] scene) w (inl refl) refl (site_changes setting i (Down c) scene w m here)
 half_opens setting e i true c scene w member m here =
-    cond_both (ltb c.boot last_boot) (Down (with_next_boot c)) (Down c) (λ a. Follows setting e (FailsToOpen i true) (scene_with i a [] [] scene) w)
+    cond_both (ltb c.boot last_boot) (Down (with_next_boot c)) (Down c) (λ a. Follows setting e (FailsToOpen i true) (Down c) (scene_with i a [] [] scene) w)
     (λ low. raised_up setting e i c scene w member m here low)
-    (λ _. stays setting e (FailsToOpen i true) (scene_with i (Down c) [] [] scene) w (inl refl) (site_changes setting i (Down c) scene w m here))
+    (λ _. stays setting e (FailsToOpen i true) (Down c) (scene_with i (Down c) [] [] scene) w (inl refl) refl (site_changes setting i (Down c) scene w m here))
 
 -- a process takes an input
 takes : (setting : Setting) (e i : ℕ) (input : Input) (s : NodeState) (waiting : List Handout) (scene : Scene) (w : World) → is_member w.n i ≡ true → Matches setting scene w → IsSiteIn w (Up s waiting) (w.nodes i)
-    → IsGenuine setting.key scene.offered input → Follows setting e (Takes i input) (scene_with i (site_taken setting e i input s waiting) [] (note_of e i (made_by_input setting i input s) ∷ []) scene) w
-unfolding world_after_event
+    → IsGenuine setting.key scene.offered input → Follows setting e (Takes i input) (Up s waiting) (scene_with i (site_taken setting e i input s waiting) [] (note_of e i (made_by_input setting i input s) ∷ []) scene) w
+unfolding world_after_event world_with_made
 takes setting e i input s waiting scene w member m here genuine =
     let found = act_for setting.key scene.offered w i input m.offered genuine in
     record {
       event = Happens found.act;
-      is_event = inr (record { act = found.act; event_is = refl; is_act = found.is_act });
+      is_full = record { act = found.act; event_is = refl; is_act = found.is_act };
       matches = subst (λ z. Matches setting (scene_with i (site_taken setting e i input s waiting) [] (note_of e i (made_by_input setting i input s) ∷ []) scene) z) (sym (acts setting e i found.act input s w m.n member here.0 found.acting found.event))
           (taken setting e i input s waiting scene w m here.1);
+      told = ap (λ (z : World). z.told) (acts setting e i found.act input s w m.n member here.0 found.acting found.event);
     }
 
 -- it ends inside the step, and the change is kept
 cut_kept : (setting : Setting) (e i : ℕ) (input : Input) (s : NodeState) (waiting : List Handout) (scene : Scene) (w : World) → is_member w.n i ≡ true → Matches setting scene w → IsSiteIn w (Up s waiting) (w.nodes i)
-    → IsGenuine setting.key scene.offered input → Follows setting e (StopsIn i true input) (scene_with i (site_cut setting i true input s) [] (note_of e i (made_by_input setting i input s) ∷ []) scene) w
+    → IsGenuine setting.key scene.offered input → Follows setting e (StopsIn i true input) (Up s waiting) (scene_with i (site_cut setting i true input s) [] (note_of e i (made_by_input setting i input s) ∷ []) scene) w
 unfolding world_after_event
 cut_kept setting e i input s waiting scene w member m here genuine =
     let found = act_for setting.key scene.offered w i input m.offered genuine in
@@ -311,16 +364,17 @@ cut_kept setting e i input s waiting scene w member m here genuine =
     ∙ ap (λ z. world_after_restart (Some i) (with_told_of w z)) (acts setting e i found.act input s w m.n member here.0 found.acting found.event) in
     record {
       event = Cut true found.act;
-      is_event = inr (record { act = found.act; event_is = refl; is_act = found.is_act });
+      is_full = record { act = found.act; event_is = refl; is_act = found.is_act };
       matches = subst (λ z. Matches setting (scene_with i (site_cut setting i true input s) [] (note_of e i made ∷ []) scene) z) (sym is) (cut_matches setting e i input s scene w member m);
+      told = ap (λ (z : World). z.told) is ∙ cut_told e i made w member ∙ sym (append-nil w.told);
     }
 
 -- it offers the next
 offers : (setting : Setting) (e i : ℕ) (s : NodeState) (waiting : List Handout) (scene : Scene) (w : World) → Matches setting scene w → IsSiteIn w (Up s waiting) (w.nodes i)
-    → Follows setting e (Offers i) (scene_with i (site_offered s waiting) (first_of_these waiting) [] scene) w
-offers setting e i s [] scene w m here = stays setting e (Offers i) (scene_with i (Up s []) [] [] scene) w refl (site_changes setting i (Up s []) scene w m here)
+    → Follows setting e (Offers i) (Up s waiting) (scene_with i (site_offered s waiting) (first_of_these waiting) [] scene) w
+offers setting e i s [] scene w m here = stays setting e (Offers i) (Up s []) (scene_with i (Up s []) [] [] scene) w refl refl (site_changes setting i (Up s []) scene w m here)
 offers setting e i s (h ∷ waiting) scene w m here =
-    stays setting e (Offers i) (scene_with i (Up s waiting) (h ∷ []) [] scene) w refl
+    stays setting e (Offers i) (Up s (h ∷ waiting)) (scene_with i (Up s waiting) (h ∷ []) [] scene) w refl refl
     (record {
       n = m.n;
       sites = site_set (IsSiteIn w) i (Up s waiting) scene.sites w.nodes (here.0, here.1.1) m.sites;
@@ -329,24 +383,24 @@ offers setting e i s (h ∷ waiting) scene w m here =
     })
 
 -- its site changes alone
-alone : (setting : Setting) (e : ℕ) (deed : Deed) (i : ℕ) (a : Site) (scene : Scene) (w : World) → IsEventOf setting.key deed nothing → Matches setting scene w → IsSiteIn w a (w.nodes i) → Follows setting e deed (scene_with i a [] [] scene) w
-alone setting e deed i a scene w is m here = stays setting e deed (scene_with i a [] [] scene) w is (site_changes setting i a scene w m here)
+alone : (setting : Setting) (e : ℕ) (deed : Deed) (old : Site) (i : ℕ) (a : Site) (scene : Scene) (w : World) → IsFull setting.key deed old nothing → answers_made setting e deed old ≡ [] → Matches setting scene w → IsSiteIn w a (w.nodes i) → Follows setting e deed old (scene_with i a [] [] scene) w
+alone setting e deed old i a scene w is none m here = stays setting e deed old (scene_with i a [] [] scene) w is none (site_changes setting i a scene w m here)
 
 at_site : (setting : Setting) (e : ℕ) (deed : Deed) (a : Site) (scene : Scene) (w : World) → is_member w.n (node_of_deed deed) ≡ true → Matches setting scene w → IsSiteIn w a (w.nodes (node_of_deed deed))
-    → IsGenuineDeed setting scene deed → Follows setting e deed (scene_at setting e deed a scene) w
+    → IsGenuineDeed setting scene deed → Follows setting e deed a (scene_at setting e deed a scene) w
 at_site setting e (Opens i) (Down c) scene w member m here g = opens setting e i c scene w member m here
-at_site setting e (Opens i) (Up s waiting) scene w member m here g = alone setting e (Opens i) i (Up s waiting) scene w (inl refl) m here
+at_site setting e (Opens i) (Up s waiting) scene w member m here g = alone setting e (Opens i) (Up s waiting) i (Up s waiting) scene w refl refl m here
 at_site setting e (FailsToOpen i raised) (Down c) scene w member m here g = half_opens setting e i raised c scene w member m here
-at_site setting e (FailsToOpen i raised) (Up s waiting) scene w member m here g = alone setting e (FailsToOpen i raised) i (Up s waiting) scene w (inl refl) m here
-at_site setting e (Takes i input) (Down c) scene w member m here g = alone setting e (Takes i input) i (Down c) scene w (inl refl) m here
+at_site setting e (FailsToOpen i raised) (Up s waiting) scene w member m here g = alone setting e (FailsToOpen i raised) (Up s waiting) i (Up s waiting) scene w refl refl m here
+at_site setting e (Takes i input) (Down c) scene w member m here g = alone setting e (Takes i input) (Down c) i (Down c) scene w refl refl m here
 at_site setting e (Takes i input) (Up s waiting) scene w member m here g = takes setting e i input s waiting scene w member m here g
-at_site setting e (Offers i) (Down c) scene w member m here g = alone setting e (Offers i) i (Down c) scene w refl m here
+at_site setting e (Offers i) (Down c) scene w member m here g = alone setting e (Offers i) (Down c) i (Down c) scene w refl refl m here
 at_site setting e (Offers i) (Up s waiting) scene w member m here g = offers setting e i s waiting scene w m here
-at_site setting e (Stops i) (Down c) scene w member m here g = alone setting e (Stops i) i (Down c) scene w refl m here
-at_site setting e (Stops i) (Up s waiting) scene w member m here g = alone setting e (Stops i) i (Down s.content) scene w refl m (inl (ap (λ (x : NodeState). x.content) here.0))
-at_site setting e (StopsIn i false input) (Down c) scene w member m here g = alone setting e (StopsIn i false input) i (Down c) scene w refl m here
-at_site setting e (StopsIn i true input) (Down c) scene w member m here g = alone setting e (StopsIn i true input) i (Down c) scene w (inl refl) m here
-at_site setting e (StopsIn i false input) (Up s waiting) scene w member m here g = alone setting e (StopsIn i false input) i (Down s.content) scene w refl m (inl (ap (λ (x : NodeState). x.content) here.0))
+at_site setting e (Stops i) (Down c) scene w member m here g = alone setting e (Stops i) (Down c) i (Down c) scene w refl refl m here
+at_site setting e (Stops i) (Up s waiting) scene w member m here g = alone setting e (Stops i) (Up s waiting) i (Down s.content) scene w refl refl m (inl (ap (λ (x : NodeState). x.content) here.0))
+at_site setting e (StopsIn i false input) (Down c) scene w member m here g = alone setting e (StopsIn i false input) (Down c) i (Down c) scene w refl refl m here
+at_site setting e (StopsIn i true input) (Down c) scene w member m here g = alone setting e (StopsIn i true input) (Down c) i (Down c) scene w refl refl m here
+at_site setting e (StopsIn i false input) (Up s waiting) scene w member m here g = alone setting e (StopsIn i false input) (Up s waiting) i (Down s.content) scene w refl refl m (inl (ap (λ (x : NodeState). x.content) here.0))
 at_site setting e (StopsIn i true input) (Up s waiting) scene w member m here g = cut_kept setting e i input s waiting scene w member m here g
 
 -- nothing may be the event of any deed
@@ -359,10 +413,38 @@ may_be_nothing key (Stops i) = refl
 may_be_nothing key (StopsIn i false input) = refl
 may_be_nothing key (StopsIn i true input) = inl refl
 
-pub follows : (setting : Setting) (e : ℕ) (deed : Deed) (scene : Scene) (w : World) → Matches setting scene w → IsGenuineDeed setting scene deed → Follows setting e deed (scene_after_deed setting e deed scene) w
-unfolding scene_after_deed
-follows setting e deed scene w m g =
+-- at a member a deed is what its site says, and elsewhere nothing
+abbrev pub IsOneAt : Setting → Deed → Scene → Bool → WorldEvent → Type 0
+IsOneAt setting deed scene true event = IsFull setting.key deed (scene.sites (node_of_deed deed)) event
+IsOneAt setting deed scene false event = event ≡ nothing
+
+-- the answers that a deed makes
+abbrev pub answers_by : Setting → ℕ → Deed → Scene → List Told
+answers_by setting e deed scene = cond (is_member (nodes_of setting) (node_of_deed deed)) (answers_made setting e deed (scene.sites (node_of_deed deed))) []
+
+-- the event of a deed, and the scene after it
+pub record IsFollowed (setting : Setting) (e : ℕ) (deed : Deed) (scene new : Scene) (w : World) (made : List Told) (member : Bool) : Type 0 where
+  pub event : WorldEvent
+  pub is_event : IsEventOf setting.key deed event
+  pub is_one : IsOneAt setting deed scene member event
+  pub matches : Matches setting new (world_after_event setting.config e event w)
+  pub told : (world_after_event setting.config e event w).told ≡ w.told ++ made
+
+followed : (setting : Setting) (e : ℕ) (deed : Deed) (scene : Scene) (w : World) (member : Bool) → is_member (nodes_of setting) (node_of_deed deed) ≡ member → Matches setting scene w → IsGenuineDeed setting scene deed
+    → IsFollowed setting e deed scene (cond member (scene_at setting e deed (scene.sites (node_of_deed deed)) scene) scene) w (cond member (answers_made setting e deed (scene.sites (node_of_deed deed))) []) member
+followed setting e deed scene w true is m g =
     let i = node_of_deed deed in
-    cond_both (is_member (nodes_of setting) i) (scene_at setting e deed (scene.sites i) scene) scene (λ z. Follows setting e deed z w)
-    (λ member. at_site setting e deed (scene.sites i) scene w (ap (λ n. is_member n i) m.n ∙ member) m (m.sites i) g)
-    (λ _. stays setting e deed scene w (may_be_nothing setting.key deed) m)
+    let f = at_site setting e deed (scene.sites i) scene w (ap (λ n. is_member n i) m.n ∙ is) m (m.sites i) g in
+    record { event = f.event; is_event = full_is_event setting.key deed (scene.sites i) f.event f.is_full; is_one = f.is_full; matches = f.matches; told = f.told }
+followed setting e deed scene w false is m g = record {
+  event = nothing;
+  is_event = may_be_nothing setting.key deed;
+  is_one = refl;
+  matches = subst (λ z. Matches setting scene z) (sym (quiet setting.config e w)) m;
+  told = ap (λ (z : World). z.told) (quiet setting.config e w) ∙ sym (append-nil w.told);
+}
+
+pub follows : (setting : Setting) (e : ℕ) (deed : Deed) (scene : Scene) (w : World) → Matches setting scene w → IsGenuineDeed setting scene deed
+    → IsFollowed setting e deed scene (scene_after_deed setting e deed scene) w (answers_by setting e deed scene) (is_member (nodes_of setting) (node_of_deed deed))
+unfolding scene_after_deed
+follows setting e deed scene w m g = followed setting e deed scene w (is_member (nodes_of setting) (node_of_deed deed)) refl m g

@@ -1,22 +1,36 @@
 -- A history is a run of the world, and what is promised of every run is so of it.
-use Rattle.std.proofs.Common.{◌≡◌, ℕ, zero, suc, ⊎_elim, inr, List, [], ◌∷◌, length, take, Some, refl, sym, ap, subst}
+use Rattle.std.proofs.Common.{◌≡◌, ℕ, zero, suc, ⊎_elim, inr, List, [], ◌∷◌, ◌++◌, length, take, Some, refl, sym, ap, ◌∙◌, subst}
 use mathlib.Core.Path.{fun_ext}
 use Rattle.std.specs.List.{slice_get}
+use Rattle.std.proofs.lemmas.List.{append-nil, append_assoc}
 use Rattle.std.proofs.lemmas.Option.{none-some, same_Some}
 use Rattle.floor_store.specs.Content.{Content}
 use Rattle.otp_core.specs.Acceptance.{HaveSingleUse, KeepRealTimeOrder}
 use Rattle.vote_core.proofs.Basics.{Each, each_get}
 use Rattle.vote_core.specs.Rows.{row}
+use Rattle.vote_core.specs.Schedule.{is_member}
 use Rattle.vote_core.specs.Safety.{HaveMajority}
 use Rattle.oath_node.specs.Machine.{Config, NodeState, opened_node}
-use Rattle.cluster_sim.specs.Answered.{NamePasses, TellTruth}
+use Rattle.cluster_sim.specs.Answered.{AreAnswered, NamePasses, TellTruth}
 use Rattle.admit_core.specs.Throttle.{SpacesFailures}
 use Rattle.cluster_sim.specs.Results.{results_in, results_of}
 use Rattle.cluster_sim.specs.Justified.{AreJustified}
 use Rattle.cluster_sim.specs.World.{Told, World, WorldEvent, floor_before, opening_world, passes_in, passes_of, world_after_event, world_after_events, world_of}
-use Rattle.cluster_law.specs.Lives.{Deed, Handout, Post, Answer, Scene, Setting, Site, Down, Up, AreGenuine, IsHistory, accepted_in, answered_in, answers_among, content_at, first_scene, floor_in, nodes_of, scene_after, scene_after_deed, scene_of}
+use Rattle.cluster_law.specs.Lives.{Deed, Handout, Post, Answer, Scene, Setting, Site, Down, Up, AreGenuine, IsHistory, accepted_in, answered_in, answers_among, content_at, first_scene, floor_in, node_of_deed, nodes_of, scene_after, scene_after_deed, scene_of}
 use Rattle.cluster_law.specs.Promises.{HasEvent, IsEventOf, IsExplained, IsRunOf, IsToldAmong}
-use Rattle.cluster_law.proofs.Follow.{IsKnown, IsSiteIn, Matches, follows}
+use Rattle.cluster_law.proofs.Follow.{IsKnown, IsOneAt, IsSiteIn, Matches, answers_by, follows}
+
+-- the answers that these deeds make
+abbrev pub answers_in : Setting → ℕ → List Deed → Scene → List Told
+answers_in setting e [] scene = []
+answers_in setting e (d ∷ ds) scene = answers_by setting e d scene ++ answers_in setting (suc e) ds (scene_after_deed setting e d scene)
+
+-- each event is that of its deed where it stands
+abbrev pub AreOnes : Setting → ℕ → List Deed → Scene → List WorldEvent → Type 0
+AreOnes setting e [] scene [] = Unit {0}
+AreOnes setting e [] scene (x ∷ xs) = ⊥
+AreOnes setting e (d ∷ ds) scene [] = ⊥
+AreOnes setting e (d ∷ ds) scene (x ∷ xs) = IsOneAt setting d scene (is_member (nodes_of setting) (node_of_deed d)) x × AreOnes setting (suc e) ds (scene_after_deed setting e d scene) xs
 
 -- the events of these deeds, and the world after each of them
 record Runs (setting : Setting) (e : ℕ) (deeds : List Deed) (scene : Scene) (w : World) : Type 0 where
@@ -25,6 +39,8 @@ record Runs (setting : Setting) (e : ℕ) (deeds : List Deed) (scene : Scene) (w
   each : (place : ℕ) (deed : Deed) → slice_get deeds place ≡ Some deed → HasEvent setting.key deed place events
   whole : Matches setting (scene_after setting e deeds scene) (world_after_events setting.config e events w)
   parts : (k : ℕ) → Matches setting (scene_after setting e (take k deeds) scene) (world_after_events setting.config e (take k events) w)
+  ones : AreOnes setting e deeds scene events
+  told : (world_after_events setting.config e events w).told ≡ w.told ++ answers_in setting e deeds scene
 
 none_left : (setting : Setting) (e : ℕ) (scene : Scene) (w : World) → Matches setting scene w → (k : ℕ) → Matches setting (scene_after setting e (take k []) scene) (world_after_events setting.config e (take k []) w)
 unfolding scene_after world_after_events
@@ -54,6 +70,8 @@ runs setting e [] scene w m g = record {
   each = λ place deed at. absurd (none-some deed at);
   whole = m;
   parts = none_left setting e scene w m;
+  ones = tt;
+  told = sym (append-nil w.told);
 }
 runs setting e (x ∷ xs) scene w m g =
     let f = follows setting e x scene w m g.0 in
@@ -64,6 +82,9 @@ runs setting e (x ∷ xs) scene w m g =
       each = each_place setting.key x xs f.event r.events f.is_event r.each;
       whole = r.whole;
       parts = each_part setting e x xs f.event r.events scene w m r.parts;
+      ones = (f.is_one, r.ones);
+      told = r.told ∙ ap (λ l. l ++ answers_in setting (suc e) xs (scene_after_deed setting e x scene)) f.told
+          ∙ append_assoc w.told (answers_by setting e x scene) (answers_in setting (suc e) xs (scene_after_deed setting e x scene));
     }
 
 pub starts : (setting : Setting) → Matches setting (first_scene setting) (opening_world setting.config setting.floors)
@@ -81,8 +102,15 @@ all_told w [] p = tt
 all_told w (Post l ∷ hs) p = all_told w hs p.1
 all_told w (Answer t ∷ hs) p = (record { place = p.0.0; is_there = p.0.1 }, all_told w hs p.1)
 
-pub is_run : (setting : Setting) (history : List Deed) → IsHistory setting history → (events : List WorldEvent) × IsRunOf setting history events
-is_run setting history g =
+-- the run of a history, and what it tells
+pub record Whole (setting : Setting) (history : List Deed) : Type 0 where
+  pub events : List WorldEvent
+  pub run : IsRunOf setting history events
+  pub ones : AreOnes setting 0 history (first_scene setting) events
+  pub told : (world_of setting.config setting.floors events).told ≡ answers_in setting 0 history (first_scene setting)
+
+pub whole_run : (setting : Setting) (history : List Deed) → IsHistory setting history → Whole setting history
+whole_run setting history g =
     let start = opening_world setting.config setting.floors in
     let r = runs setting 0 history (first_scene setting) start (starts setting) g in
     let w = world_after_events setting.config 0 r.events start in
@@ -90,11 +118,15 @@ is_run setting history g =
       number = r.number;
       each = r.each;
       notes = sym r.whole.notes;
+      notes_before = λ event. sym (r.parts event).notes;
       accepted = ap passes_in (sym r.whole.notes);
       floors = λ node token event. same_row (world_after_events setting.config 0 (take event r.events) start) ((scene_of setting (take event history)).sites node) _ token ((r.parts event).sites node);
       answered = λ place told at. each_get (λ (t : Told). IsToldAmong t w.told) (answered_in setting history) place told (all_told w (scene_of setting history).offered r.whole.offered) at;
     } in
-    (r.events, of_run)
+    record { events = r.events; run = of_run; ones = r.ones; told = r.told }
+
+pub is_run : (setting : Setting) (history : List Deed) → IsHistory setting history → (events : List WorldEvent) × IsRunOf setting history events
+is_run setting history g = let r = whole_run setting history g in (r.events, r.run)
 
 -- ---- the promises
 
@@ -158,3 +190,6 @@ pub spaced : SpacedLaw → (setting : Setting) (history : List Deed) (node token
 spaced law setting history node token g =
     let r = is_run setting history g in
     subst (λ ns. SpacesFailures (results_in ns node token)) (sym r.1.notes) (law setting.config setting.floors r.0 node token)
+
+abbrev pub AnsweredLaw : Type 0
+AnsweredLaw = (config : Config) (floors : List (List ℕ)) (events : List WorldEvent) → AreAnswered events (world_of config floors events).told (passes_of config floors events)

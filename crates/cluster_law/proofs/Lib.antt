@@ -1,8 +1,11 @@
+pub mod Answered
 pub mod Bytes
 pub mod Calls
 pub mod Events
 pub mod Examples
 pub mod Follow
 pub mod Histories
+pub mod Justified
 pub mod Serving
+pub mod SingleNode
 pub mod Told

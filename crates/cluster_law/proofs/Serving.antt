@@ -20,7 +20,7 @@ use Rattle.cluster_law.proofs.Events.{Does, all_end, are_events}
 
 -- ---- a node's site is its own deeds'
 
-deed_at : (setting : Setting) (e node : ℕ) (d : Deed) (scene : Scene) → is_member (nodes_of setting) node ≡ true
+pub deed_at : (setting : Setting) (e node : ℕ) (d : Deed) (scene : Scene) → is_member (nodes_of setting) node ≡ true
     → (scene_after_deed setting e d scene).sites node ≡ cond (eqb node (node_of_deed d)) (site_after setting e d (scene.sites node)) (scene.sites node)
 unfolding scene_after_deed
 deed_at setting e node d scene member =

@@ -9,7 +9,7 @@ use Rattle.cluster_law.specs.Lives.{Deed, Opens, FailsToOpen, Takes, Offers, Sto
 use Rattle.cluster_law.specs.Promises.{AnswerTruly, HasAct, IsActOf, IsAskedInDeed, IsEventOf, IsExplained, IsRunOf, IsSaidInDeed, nothing}
 
 -- what holds of an act by the line that it is
-by_line : (P : Act → Type 0) (key : List ℕ) (i : ℕ) (input : Input) (act : Act) → IsActOf key i input act → P act → ((k : ℕ) → P (Deliver i k) → ⊥) → ((from : ℕ) (bytes : List ℕ) → P (Noise i from (envelope_at key bytes)) → ⊥) → (P (Ticks i) → ⊥)
+pub by_line : (P : Act → Type 0) (key : List ℕ) (i : ℕ) (input : Input) (act : Act) → IsActOf key i input act → P act → ((k : ℕ) → P (Deliver i k) → ⊥) → ((from : ℕ) (bytes : List ℕ) → P (Noise i from (envelope_at key bytes)) → ⊥) → (P (Ticks i) → ⊥)
     → (client : ℕ) × (moment : ℕ) × (text : List ℕ) × (input ≡ Line client moment text) × P (Says i client moment text)
 by_line P key i (Line client moment text) act is p sent noise tick = (client, moment, text, refl, subst P is p)
 by_line P key i Time act is p sent noise tick = absurd (tick (subst P is p))
@@ -26,7 +26,7 @@ asked_cut key node client line nonce i input act is p =
     let r = by_line (λ a. IsAskedBy node client line nonce a) key i input act is p (λ k z. z) (λ from bytes z. z) (λ z. z) in
     subst (λ x. IsAskedInDeed node client line nonce (Some (StopsIn i true x))) (sym r.3) r.4
 
-asked_deed : (key : List ℕ) (node client : ℕ) (line nonce : List ℕ) (d : Deed) (e : WorldEvent) → IsEventOf key d e → IsAskedIn node client line nonce (Some e) → IsAskedInDeed node client line nonce (Some d)
+pub asked_deed : (key : List ℕ) (node client : ℕ) (line nonce : List ℕ) (d : Deed) (e : WorldEvent) → IsEventOf key d e → IsAskedIn node client line nonce (Some e) → IsAskedInDeed node client line nonce (Some d)
 asked_deed key node client line nonce (Opens i) e is p = ⊎_elim (λ (q : e ≡ nothing). absurd (subst (λ x. IsAskedIn node client line nonce (Some x)) q p)) (λ (q : e ≡ Restart i). absurd (subst (λ x. IsAskedIn node client line nonce (Some x)) q p)) is
 asked_deed key node client line nonce (FailsToOpen i raised) e is p = ⊎_elim (λ (q : e ≡ nothing). absurd (subst (λ x. IsAskedIn node client line nonce (Some x)) q p)) (λ (q : e ≡ Restart i). absurd (subst (λ x. IsAskedIn node client line nonce (Some x)) q p)) is
 asked_deed key node client line nonce (Takes i input) e is p =
@@ -58,7 +58,7 @@ said_deed key node client line (StopsIn i true input) e is p =
     (λ (h : HasAct key i input (λ act. Cut true act) e). absurd (subst (λ x. IsSaidIn node client line (Some x)) h.event_is p)) is
 
 -- at a place of the history
-at_place : (P : Option WorldEvent → Type 0) (Q : Option Deed → Type 0) (setting : Setting) (history : List Deed) (events : List WorldEvent) (k : ℕ) → IsRunOf setting history events
+pub at_place : (P : Option WorldEvent → Type 0) (Q : Option Deed → Type 0) (setting : Setting) (history : List Deed) (events : List WorldEvent) (k : ℕ) → IsRunOf setting history events
     → (P None → ⊥) → ((d : Deed) (e : WorldEvent) → IsEventOf setting.key d e → P (Some e) → Q (Some d)) → P (slice_get events k) → Q (slice_get history k)
 at_place P Q setting history events k run empty is p =
     ⊎_elim

@@ -6,8 +6,12 @@ use Rattle.vote_core.specs.Schedule.{Envelope}
 use Rattle.vote_core.specs.declared.message.Message.TheVariants.{Ask, Grant, Floor}
 use Rattle.vote_wire.specs.Datagram.{datagram_bytes}
 use Rattle.oath_node.specs.Machine.{Made, NodeState, opened_node, quiet_made}
-use Rattle.cluster_sim.specs.Examples.{alone, config, three}
+use Rattle.otp_core.specs.Acceptance.{Acceptance}
+use Rattle.vote_wire.specs.declared.answer.Outcome.TheVariants.{Accepted}
+use Rattle.cluster_sim.specs.Examples.{acceptance, alone, clock_alone, clock_config, config, three, told_outcome}
+use Rattle.cluster_sim.specs.World.{Told}
 use Rattle.cluster_law.specs.Lives.{Answer, Datagram, Deed, FailsToOpen, Handout, Input, Line, Offers, Opens, Post, Setting, Stops, StopsIn, Takes}
+use Rattle.cluster_law.specs.SingleNode.{reference_of}
 
 -- ---- One node
 
@@ -22,6 +26,10 @@ right_line = Line 7 100 (codes "CHECK 1 silver 755224 -")
 -- a process takes it, and answers
 abbrev pub answers_once : List Deed
 answers_once = Opens 1 ∷ Takes 1 right_line ∷ Offers 1 ∷ []
+
+-- it ends after that
+abbrev pub ends_after_the_answer : List Deed
+ends_after_the_answer = Opens 1 ∷ Takes 1 right_line ∷ Offers 1 ∷ Stops 1 ∷ []
 
 -- a process takes it, and ends before it answers; the next one takes it again
 abbrev pub ends_before_the_answer : List Deed
@@ -120,3 +128,41 @@ floor_out = Post (record { sender = 1; receiver = 2; message = Floor 0 4 })
 -- its answer, as node 1 hands it out in event 5
 abbrev pub answer_out : Handout
 answer_out = Answer (record { event = 5; node = 1; client = 7; bytes = codes "NO" })
+
+-- ---- Grounds, and what becomes of answers
+
+-- the acceptance of the right line in deed 1
+abbrev pub first_pass : Acceptance
+first_pass = acceptance 1 1 1 0 0
+
+-- its answer
+abbrev pub first_ok : Told
+first_ok = told_outcome 1 1 7 (codes "1") (Accepted 0)
+
+-- one node with a token that goes by a clock, whose first free factor is 2
+abbrev pub clock_node : Setting
+clock_node = record { config = clock_config 10; key = []; floors = clock_alone }
+
+-- the code of the step before the present one
+abbrev pub line_behind : Input
+line_behind = Line 7 120 (codes "CHECK 1 silver 969429 -")
+
+-- a process takes it
+abbrev pub takes_behind : List Deed
+takes_behind = Opens 1 ∷ Takes 1 line_behind ∷ []
+
+-- a process ends inside that step
+abbrev pub ends_behind : Bool → List Deed
+ends_behind kept = Opens 1 ∷ StopsIn 1 kept line_behind ∷ []
+
+-- a process takes the right line twice
+abbrev pub takes_twice : List Deed
+takes_twice = Opens 1 ∷ Takes 1 right_line ∷ Takes 1 right_line ∷ []
+
+-- another node's deeds between those of the one that there is
+abbrev pub among_strangers : List Deed
+among_strangers = Opens 2 ∷ Opens 1 ∷ Takes 2 right_line ∷ Takes 1 right_line ∷ Stops 2 ∷ []
+
+-- what the server tells where that token is the one of the one node
+abbrev pub told_by_reference : List Deed → List Told
+told_by_reference history = reference_of config [] (0 ∷ []) history

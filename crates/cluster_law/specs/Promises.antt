@@ -1,11 +1,11 @@
 -- What is so of every history of a cluster: it is a run of the written world, deed by deed.
-use Rattle.std.specs.Prelude.{◌≡◌, ◌⊎◌, ℕ, ◌<◌, ◌≤◌, true, false, List, length, Option, Some, slice_get}
+use Rattle.std.specs.Prelude.{◌≡◌, ◌⊎◌, ℕ, ◌<◌, ◌≤◌, true, false, List, length, take, Option, Some, slice_get}
 use Rattle.otp_core.specs.Acceptance.{Acceptance}
 use Rattle.oath_node.specs.Hosted.{envelope_at}
 use Rattle.cluster_sim.specs.Answered.{IsOk, IsTextOf, NamePasses, TellTruth, ok_bytes}
 use Rattle.vote_wire.specs.Request.{without_lf}
 use Rattle.cluster_sim.specs.Justified.{AreJustified}
-use Rattle.cluster_sim.specs.World.{Act, Says, Deliver, Ticks, Noise, Told, WorldEvent, Happens, Cut, Restart, floor_before, passes_of, world_of}
+use Rattle.cluster_sim.specs.World.{Act, Says, Deliver, Ticks, Noise, Told, WorldEvent, Happens, Cut, Restart, floor_before, passes_of, world_before, world_of}
 use Rattle.cluster_law.specs.Lives.{Deed, Opens, FailsToOpen, Takes, Offers, Stops, StopsIn, Input, Line, Datagram, Time, Setting, accepted_in, answered_in, floor_in, scene_of}
 
 -- the event in which nothing happens: there is no node 0
@@ -55,6 +55,8 @@ pub record IsRunOf (setting : Setting) (history : List Deed) (events : List Worl
   pub number : length events ≡ length history
   pub each : (place : ℕ) (deed : Deed) → slice_get history place ≡ Some deed → HasEvent setting.key deed place events
   pub notes : (scene_of setting history).notes ≡ (world_of setting.config setting.floors events).history
+  pub notes_before : (event : ℕ) → (scene_of setting (take event history)).notes
+      ≡ (world_before setting.config setting.floors events event).history
   pub accepted : accepted_in setting history ≡ passes_of setting.config setting.floors events
   pub floors : (node token event : ℕ) → floor_in setting history node token event
       ≡ floor_before setting.config setting.floors events node token event

@@ -1,7 +1,7 @@
 //! What is so of every history of a cluster.
 
-ghost use Rattle.std.specs.Prelude.{◌≡◌, ◌⊎◌, ℕ, List, [], ◌∷◌, Option, Some, Result, Ok, Err, None, true, false, map, take, codes};
-ghost use Rattle.admit_core.specs.Throttle.{SpacesFailures};
+ghost use Rattle.std.specs.Prelude.{pos, negsuc, ◌≡◌, ◌⊎◌, ◌+◌, ◌<◌, ◌^◌, ℕ, List, [], ◌∷◌, length, Option, Some, Result, Ok, Err, None, true, false, map, take, codes};
+ghost use Rattle.admit_core.specs.Throttle.{Accepted as Passed, SpacesFailures};
 ghost use Rattle.cluster_sim.specs.Results.{results_in};
 ghost use Rattle.otp_core.specs.Acceptance.{HaveSingleUse, KeepRealTimeOrder};
 ghost use Rattle.vote_core.specs.Safety.{HaveMajority};
@@ -13,7 +13,7 @@ ghost use Rattle.floor_store.specs.declared.fault.StoreFault.{StoreFault};
 ghost use Rattle.vote_core.specs.Schedule.{is_member};
 ghost use Rattle.oath_node.specs.Calls.{Handles, IsOpened};
 ghost use Rattle.oath_node.specs.Hosted.{Hosted, state_of};
-ghost use Rattle.oath_node.specs.Machine.{NodeState, opened_node};
+ghost use Rattle.oath_node.specs.Machine.{Config, NodeState, opened_node};
 ghost use Rattle.oath_node.specs.Outputs.{OutputsRecord};
 ghost use Rattle.oath_node.specs.declared.fault.NodeFault.{NodeFault};
 ghost use Rattle.node_turns.specs.Turns.{Receipt, offers_in, run_at, run_with_turns};
@@ -23,12 +23,16 @@ ghost use Rattle.node_turns.specs.Port.{PortEvent};
 ghost use Rattle.node_turns.specs.Serving.{Serves};
 ghost use Rattle.node_turns.specs.declared.fault.ServeFault.TheVariants.{Clock, Port};
 ghost use Rattle.node_turns.specs.declared.turns.Served.{Served};
+ghost use Rattle.cluster_law.specs.Answered.{AnswersAll, EndsProcess, HasYetToOffer, IsAnsweredInDeed, IsLost, IsOfferedOrEnds};
 ghost use Rattle.cluster_law.specs.Bytes.{IsSized, IsUnforgedHistory};
-ghost use Rattle.cluster_law.specs.Examples.{answer_out, answers_once, comes_to_nobody, content_of_boot, ends_before_the_answer, ends_in_the_step, floor_out, grant_before_its_offer, grant_from, granted_by_two, one_node, opens_twice, quiet_node, stop_in_a_forged_grant, strangers, tells_both, three_nodes};
-ghost use Rattle.cluster_law.specs.Lives.{Deed, Down, Input, IsHistory, Offers, Scene, Setting, Site, Stops, Takes, Time, Up, accepted_in, answered_in, answers_among, content_at, event_of, first_scene, floor_in, handouts_of, made_by_input, nodes_of, offers_by, own_site, scene_after, scene_of, site_after, site_cut, site_half_opened, site_offered, site_opened};
+ghost use Rattle.cluster_law.specs.Examples.{among_strangers, answer_out, answers_once, clock_node, comes_to_nobody, content_of_boot, ends_after_the_answer, ends_before_the_answer, ends_behind, ends_in_the_step, first_ok, first_pass, floor_out, grant_before_its_offer, grant_from, granted_by_two, one_node, opens_twice, quiet_node, right_line, stop_in_a_forged_grant, strangers, takes_behind, takes_twice, tells_both, three_nodes, told_by_reference};
+ghost use Rattle.cluster_law.specs.Justified.{IsJustifiedInDeed, JustifiesAll, drift_in, moment_in_deed, results_held};
+ghost use Rattle.cluster_law.specs.Lives.{Deed, Down, Input, IsHistory, Offers, Opens, Scene, Setting, Site, Stops, StopsIn, Takes, Time, Up, accepted_in, answered_in, answers_among, content_at, event_of, first_scene, floor_in, handouts_of, made_by_input, nodes_of, offers_by, own_site, scene_after, scene_of, site_after, site_cut, site_half_opened, site_offered, site_opened};
 ghost use Rattle.cluster_law.specs.Processes.{AreServing, IsHalfOpened, IsEndedNode, IsMemberIn, IsServed, IsServedNode, TakesTurns, item_of, member_in, run_over};
 ghost use Rattle.cluster_law.specs.Promises.{AnswerTruly, IsExplained, IsRunOf};
+ghost use Rattle.cluster_law.specs.SingleNode.{IsPartOf, reference_of, setting_of_one};
 
+use admit_core::gate_keeps_throttle;
 use cluster_sim::{answers_belong_to_passes, world_is_safe};
 use floor_store::FloorStore;
 use oath_node::rulings_have_grounds;
@@ -56,9 +60,26 @@ pub fn lives_are_worlds()
     // its client sent there.
     ensures told { (setting : Setting) (history : List Deed) → IsHistory setting history
         → AnswerTruly setting history }
+    // Each acceptance is justified by the line with which it began, by what its store held and had accepted before.
+    ensures justified { (setting : Setting) (history : List Deed) → IsHistory setting history
+        → JustifiesAll setting history }
+    // Each acceptance that a process lived to take has its `OK`, which was offered, unless that process ended first.
+    ensures answered { (setting : Setting) (history : List Deed) → IsHistory setting history
+        → AnswersAll setting history }
 {
     world_is_safe();
     answers_belong_to_passes();
+}
+
+/// What the processes of a cluster of one node answered is a part, in order, of what the server with one front end
+/// answers to the lines that they took and whose changes their store kept.
+pub fn one_node_answers_as_the_reference()
+    ensures { (config : Config) (key floors : List ℕ) (history : List Deed) → 1 + length history < 2 ^ 62
+        → IsHistory (setting_of_one config key floors) history
+        → IsPartOf (answered_in (setting_of_one config key floors) history) (reference_of config key floors history) }
+{
+    rulings_have_grounds();
+    gate_keeps_throttle();
 }
 
 /// Where each datagram with a right tag that comes from the address of the node that it names was offered before, byte
@@ -186,6 +207,71 @@ pub fn promises_can_be_broken()
     ensures forged_in_a_stop { IsHistory three_nodes stop_in_a_forged_grant → ⊥ }
     ensures not_offered_yet { IsHistory three_nodes grant_before_its_offer → ⊥ }
     ensures noise { IsHistory three_nodes (grant_from 3) }
+{}
+
+/// The drifts and the results by which an acceptance is justified, worked through; and what justifies none: a deed that
+/// took no line, a line at another node, or in a stop that lost it.
+pub fn grounds_are_worked()
+    ensures line { moment_in_deed (Some (Takes 1 right_line)) ≡ Some 100 }
+    ensures line_in_a_stop { moment_in_deed (Some (StopsIn 1 true right_line)) ≡ Some 100 }
+    ensures no_line { moment_in_deed (Some (Takes 1 Time)) ≡ None }
+    ensures no_drift_yet { drift_in clock_node takes_behind 1 0 1 ≡ pos 0 }
+    ensures drift { drift_in clock_node takes_behind 1 0 2 ≡ negsuc 0 }
+    ensures drift_kept { drift_in clock_node (ends_behind true) 1 0 2 ≡ negsuc 0 }
+    ensures drift_lost { drift_in clock_node (ends_behind false) 1 0 2 ≡ pos 0 }
+    ensures drift_elsewhere { drift_in clock_node takes_behind 2 0 2 ≡ pos 0 }
+    ensures drift_of_another { drift_in clock_node takes_behind 1 1 2 ≡ pos 0 }
+    ensures no_result_yet { results_held one_node answers_once 1 0 1 ≡ [] }
+    ensures result { results_held one_node answers_once 1 0 2 ≡ Passed ∷ [] }
+    ensures result_stays { results_held one_node ends_before_the_answer 1 0 5 ≡ Passed ∷ [] }
+    ensures offer { IsJustifiedInDeed one_node answers_once (acceptance 2 2 1 0 0) → ⊥ }
+    ensures no_deed { IsJustifiedInDeed one_node answers_once (acceptance 9 9 1 0 0) → ⊥ }
+    ensures node { IsJustifiedInDeed one_node answers_once (acceptance 1 1 2 0 0) → ⊥ }
+    ensures token { IsJustifiedInDeed one_node answers_once (record first_pass { token = 1 }) → ⊥ }
+    ensures lost { IsJustifiedInDeed one_node (ends_in_the_step false) first_pass → ⊥ }
+{}
+
+/// What becomes of an answer, worked through: it waits, is offered, or is lost with its process.
+pub fn answers_are_worked()
+    ensures waits { HasYetToOffer first_ok ((scene_of one_node (take 2 answers_once)).sites 1) }
+    ensures waits_no_more { HasYetToOffer first_ok ((scene_of one_node answers_once).sites 1) → ⊥ }
+    ensures lost { IsLost one_node ends_before_the_answer first_ok }
+    ensures not_lost { IsLost one_node answers_once first_ok → ⊥ }
+    ensures not_lost_once_offered { IsLost one_node ends_after_the_answer first_ok → ⊥ }
+    ensures of_another { IsOfferedOrEnds one_node answers_once (record first_ok { client = 8 }) → ⊥ }
+    ensures stop { EndsProcess 1 (Some (Stops 1)) }
+    ensures stop_in_a_step { EndsProcess 1 (Some (StopsIn 1 false right_line)) }
+    ensures stop_elsewhere { EndsProcess 1 (Some (Stops 2)) → ⊥ }
+    ensures stop_in_a_step_elsewhere { EndsProcess 1 (Some (StopsIn 2 false right_line)) → ⊥ }
+    ensures opening { EndsProcess 1 (Some (Opens 1)) → ⊥ }
+    // What a stop inside a step wrote has no answer, and what was written has one otherwise.
+    ensures of_a_stop { IsAnsweredInDeed one_node (ends_in_the_step true) first_pass
+        (Some (StopsIn 1 true right_line)) }
+    ensures of_a_lost_stop { IsAnsweredInDeed one_node (ends_in_the_step false) first_pass
+        (Some (StopsIn 1 false right_line)) → ⊥ }
+    ensures of_an_offer { IsAnsweredInDeed one_node answers_once first_pass (Some (Offers 1)) → ⊥ }
+    ensures answered { IsAnsweredInDeed one_node answers_once first_pass (Some (Takes 1 right_line)) }
+    ensures in_another_deed { IsAnsweredInDeed one_node answers_once (record first_pass { ended = 2 })
+        (Some (Takes 1 right_line)) → ⊥ }
+    ensures at_another_node { IsAnsweredInDeed one_node answers_once (record first_pass { node = 2 })
+        (Some (Takes 1 right_line)) → ⊥ }
+{}
+
+/// What the server with one front end tells in a history of one node, worked through: each line that was taken and kept
+/// is answered, a process that opens has forgotten the answers, and no other node is heard.
+pub fn reference_is_worked()
+    ensures once { told_by_reference answers_once ≡ first_ok ∷ [] }
+    ensures twice { told_by_reference takes_twice ≡ first_ok ∷ record first_ok { event = 2 } ∷ [] }
+    ensures forgotten { told_by_reference ends_before_the_answer
+        ≡ first_ok ∷ told_outcome 5 1 7 (codes "1") Invalid ∷ [] }
+    ensures kept { told_by_reference (ends_in_the_step true) ≡ told_outcome 5 1 7 (codes "1") Invalid ∷ [] }
+    ensures lost { told_by_reference (ends_in_the_step false) ≡ told_outcome 5 1 7 (codes "1") (Accepted 0) ∷ [] }
+    ensures nobody { told_by_reference comes_to_nobody ≡ [] }
+    ensures strangers { told_by_reference among_strangers ≡ record first_ok { event = 3 } ∷ [] }
+    ensures part { IsPartOf (record first_ok { event = 2 } ∷ []) (first_ok ∷ record first_ok { event = 2 } ∷ []) }
+    ensures order { IsPartOf (record first_ok { event = 2 } ∷ first_ok ∷ [])
+        (first_ok ∷ record first_ok { event = 2 } ∷ []) → ⊥ }
+    ensures number { IsPartOf (first_ok ∷ first_ok ∷ []) (first_ok ∷ []) → ⊥ }
 {}
 
 /// Parts of deeds, worked through: boots, and what is handed out in which order.

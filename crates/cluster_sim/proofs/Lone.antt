@@ -54,24 +54,24 @@ abbrev place : PlaceRecord
 place = record { me = 1; n = 1 }
 
 -- nothing is ever pending
-abbrev lone : Content → ℕ → ℕ → List KeptAnswer → NodeState
+abbrev pub lone : Content → ℕ → ℕ → List KeptAnswer → NodeState
 lone c seq turn answers = record { content = c; voter = record { pending = []; seq = seq; turn = turn }; owners = []; answers = answers; running = true }
 
 -- the rows have the floors, the gates of the results and the drifts; the boot and the number are bounded
-record Rows (tokens b q : ℕ) (c : Content) (seq : ℕ) (s : Server) : Type 0 where
-  sized : length c.rows ≡ tokens
-  floors : (t : ℕ) → t < tokens → (row c t).next ≡ s.floors t
-  gates : (t : ℕ) → t < tokens → (row c t).gate ≡ gate_after ((s.fronts 1).results t)
-  drifts : (t : ℕ) → t < tokens → (row c t).drift ≡ (s.fronts 1).drifts t
-  boot : c.boot ≤ b
-  low : seq ≤ q
+pub record Rows (tokens b q : ℕ) (c : Content) (seq : ℕ) (s : Server) : Type 0 where
+  pub sized : length c.rows ≡ tokens
+  pub floors : (t : ℕ) → t < tokens → (row c t).next ≡ s.floors t
+  pub gates : (t : ℕ) → t < tokens → (row c t).gate ≡ gate_after ((s.fronts 1).results t)
+  pub drifts : (t : ℕ) → t < tokens → (row c t).drift ≡ (s.fronts 1).drifts t
+  pub boot : c.boot ≤ b
+  pub low : seq ≤ q
 
-record Alike (tokens b q : ℕ) (x : NodeState) (s : Server) : Type 0 where
-  content : Content
-  seq : ℕ
-  turn : ℕ
-  is : x ≡ lone content seq turn (s.fronts 1).answers
-  rows : Rows tokens b q content seq s
+pub record Alike (tokens b q : ℕ) (x : NodeState) (s : Server) : Type 0 where
+  pub content : Content
+  pub seq : ℕ
+  pub turn : ℕ
+  pub is : x ≡ lone content seq turn (s.fronts 1).answers
+  pub rows : Rows tokens b q content seq s
 
 -- what a line leaves and tells
 record LineAlike (tokens b q e client : ℕ) (o : Made) (t : Served) : Type 0 where
@@ -213,15 +213,15 @@ line_alike law rules config b q e c seq turn s client moment text h below =
 
 -- ---- the world
 
-record Lone (tokens b q : ℕ) (w : World) (s : Server) : Type 0 where
-  alone : w.n ≡ 1
-  unsaid : w.sent ≡ []
-  node : Alike tokens b q (w.nodes 1) s
+pub record Lone (tokens b q : ℕ) (w : World) (s : Server) : Type 0 where
+  pub alone : w.n ≡ 1
+  pub unsaid : w.sent ≡ []
+  pub node : Alike tokens b q (w.nodes 1) s
 
 -- what an event leaves and tells
-record LoneStep (tokens b q : ℕ) (w new : World) (s : Server) (told : List Told) : Type 0 where
-  lone : Lone tokens b q new s
-  tells : new.told ≡ w.told ++ told
+pub record LoneStep (tokens b q : ℕ) (w new : World) (s : Server) (told : List Told) : Type 0 where
+  pub lone : Lone tokens b q new s
+  pub tells : new.told ≡ w.told ++ told
 
 lone_weaker : (tokens b q b' q' : ℕ) (w : World) (s : Server) → b ≤ b' → q ≤ q' → Lone tokens b q w s → Lone tokens b' q' w s
 lone_weaker tokens b q b' q' w s lb lq h =
@@ -410,7 +410,7 @@ stop_lone tokens b q (Noise i from read) w v s low unsaid h = restart_lone token
 
 -- ---- events and runs
 
-happens_lone : GateLaw → RulingLaw → (config : Config) (b q e : ℕ) (x : WorldEvent) (w : World) (s : Server) → b < last_boot → q < 2 ^ 62 → Lone (length config.book) b q w s
+pub happens_lone : GateLaw → RulingLaw → (config : Config) (b q e : ℕ) (x : WorldEvent) (w : World) (s : Server) → b < last_boot → q < 2 ^ 62 → Lone (length config.book) b q w s
     → LoneStep (length config.book) (b + 1) (q + 1) w (world_after_event config e x w) (server_after_event config x s) (answers_to_event config e x s)
 unfolding world_after_event
 happens_lone law rules config b q e (Happens a) w s low few h =
@@ -461,7 +461,7 @@ opening_get (suc k) floor t h =
     ap (λ m. get_or (opening_rows (suc k) floor) m no_row) (here ∙ sym size) ∙ get_end (opening_rows k floor) (opening_row (floor k)) no_row ∙ ap (λ m. opening_row (floor m)) (sym here) in
     ⊎_elim early last (cases_lt t k)
 
-start_lone : GateLaw → (config : Config) (floors : List ℕ) → Lone (length config.book) 1 0 (opening_world config (floors ∷ [])) (opening_server floors)
+pub start_lone : GateLaw → (config : Config) (floors : List ℕ) → Lone (length config.book) 1 0 (opening_world config (floors ∷ [])) (opening_server floors)
 start_lone law config floors = record {
   alone = refl;
   unsaid = refl;

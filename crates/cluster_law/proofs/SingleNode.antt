@@ -1,0 +1,384 @@
+-- A cluster of one node answers as the server with one front end does.
+use Rattle.std.proofs.Common.{◌≡◌, ℕ, zero, suc, ◌+◌, ◌^◌, ◌<◌, ◌≤◌, ◌⊎◌, inl, inr, ⊎_elim, Bool, true, false, cond, List, [], ◌∷◌, ◌++◌, length, map, Option, Some, None, refl, sym, ap, ◌∙◌, subst, arith, eqb, leb, ltb}
+use mathlib.Core.Path.{fun_ext}
+use Rattle.std.proofs.lemmas.Bool.{cond_both, cond-true, cond-false, cases_Bool, eqb-true, eqb-false, eq-eqb, and_parts, leb-true}
+use Rattle.std.proofs.lemmas.List.{append-nil, append_assoc}
+use Rattle.floor_store.specs.Content.{Content, with_next_boot}
+use Rattle.vote_core.specs.Schedule.{Envelope, envelope_from, is_member, last_boot}
+use Rattle.oath_node.specs.Hosted.{envelope_at}
+use Rattle.oath_node.specs.Machine.{Config, Made, NodeState, opened_node}
+use Rattle.cluster_sim.proofs.BelowLaws.{GateLaw, RulingLaw}
+use Rattle.cluster_sim.proofs.Lone.{Lone, LoneStep, happens_lone, lone, start_lone}
+use Rattle.cluster_sim.specs.FrontEnds.{Front, Server, served_line, server_with_restarted}
+use Rattle.cluster_sim.specs.SingleNode.{answers_to_act, answers_to_event, front_of, opening_server, server_after_act, server_after_event, server_after_restart, told_answer}
+use Rattle.cluster_sim.specs.World.{Act, Says, Deliver, Ticks, Noise, Told, World, WorldEvent, Happens, Cut, Restart, opening_world, told_reply, world_after_event}
+use Rattle.cluster_law.specs.Lives.{AreGenuine, Deed, Opens, FailsToOpen, Takes, Offers, Stops, StopsIn, Input, Line, Datagram, Time, Handout, Post, Answer, IsHistory, Scene, Setting, Site, Down, Up, answered_in, answers_among, first_scene, handouts_of, made_by_input, node_of_deed, nodes_of, offers_by, scene_after, scene_after_deed, scene_at, scene_of, site_after, site_cut, site_half_opened, site_offered, site_opened}
+use Rattle.cluster_law.specs.Promises.{HasAct, IsActOf, nothing}
+use Rattle.cluster_law.specs.SingleNode.{IsPartOf, answers_to_deed, answers_to_deeds, reference_of, server_after_deed, setting_of_one}
+use Rattle.cluster_law.proofs.Follow.{IsFollowed, IsFull, IsOneAt, IsSiteIn, Matches, answers_by, answers_made, follows}
+use Rattle.cluster_law.proofs.Histories.{answers_in, starts}
+use Rattle.cluster_law.proofs.Serving.{deed_at}
+
+-- ---- the server
+
+restarted_twice : (s : Server) → server_with_restarted 1 (server_with_restarted 1 s) ≡ server_with_restarted 1 s
+restarted_twice s =
+    let front : Front = record (s.fronts 1) { answers = [] } in
+    ap (λ (f : ℕ → Front). record s { fronts = f }) (fun_ext (λ p. twice (eqb p 1) front (s.fronts p)))
+  where
+    twice : (b : Bool) (x y : Front) → cond b x (cond b x y) ≡ cond b x y
+    twice true x y = refl
+    twice false x y = refl
+
+unkept : (s : Server) → (s.fronts 1).answers ≡ [] → server_with_restarted 1 s ≡ s
+unkept s none =
+    let front : Front = record (s.fronts 1) { answers = [] } in
+    let same : front ≡ s.fronts 1 = ap (λ a. record (s.fronts 1) { answers = a }) (sym none) in
+    ap (λ (f : ℕ → Front). record s { fronts = f })
+    (fun_ext (λ p. cond_both (eqb p 1) front (s.fronts p) (λ z. z ≡ s.fronts p) (λ at. same ∙ ap (λ m. s.fronts m) (sym (eqb-true p 1 at))) (λ _. refl)))
+
+-- the server of the world, and that of the history
+abbrev SameServer : Site → Server → Server → Type 0
+SameServer (Down c) sw sh = server_with_restarted 1 sw ≡ server_with_restarted 1 sh
+SameServer (Up s waiting) sw sh = sw ≡ sh
+
+-- the answers and the servers after a deed
+record Step (setting : Setting) (e : ℕ) (d : Deed) (a : Site) (x : WorldEvent) (sw sh : Server) : Type 0 where
+  answers : answers_to_event setting.config e x sw ≡ answers_to_deed setting.config e d a sh
+  same : SameServer (site_after setting e d a) (server_after_event setting.config x sw) (server_after_deed setting.config d a sh)
+
+-- the answers that a process keeps are the server's
+abbrev Keeps : Setting → ℕ → Deed → Site → WorldEvent → Server → Type 0
+Keeps setting e d a x sw = (s : NodeState) (waiting : List Handout) → site_after setting e d a ≡ Up s waiting → s.answers ≡ ((server_after_event setting.config x sw).fronts 1).answers
+
+restart_here : (i : ℕ) (s : Server) → 1 ≡ i → server_after_restart i s ≡ server_with_restarted 1 s
+restart_here i s own = cond-true (eqb i 1) (server_with_restarted 1 s) s (eq-eqb i 1 (sym own))
+
+-- a process opens
+opening : (setting : Setting) (e i : ℕ) (c : Content) (x : WorldEvent) (sw sh : Server) → answers_to_event setting.config e x sw ≡ [] → server_with_restarted 1 (server_after_event setting.config x sw) ≡ server_with_restarted 1 sw
+    → Keeps setting e (Opens i) (Down c) x sw → SameServer (Down c) sw sh → Step setting e (Opens i) (Down c) x sw sh
+opening setting e i c x sw sh none rest keeps same =
+    let new = server_after_event setting.config x sw in
+    let there = server_with_restarted 1 sh in
+    record {
+      answers = none;
+      same = cond_both (ltb c.boot last_boot) (Up (opened_node c) []) (Down c) (λ z. SameServer z new there)
+          (λ low.
+          let kept : (new.fronts 1).answers ≡ [] = sym (keeps (opened_node c) [] (cond-true (ltb c.boot last_boot) (Up (opened_node c) []) (Down c) low)) in
+          sym (unkept new kept) ∙ rest ∙ same)
+          (λ _. rest ∙ same ∙ sym (restarted_twice sh));
+    }
+
+half_opening : (setting : Setting) (e i : ℕ) (raised : Bool) (c : Content) (x : WorldEvent) (sw sh : Server) → answers_to_event setting.config e x sw ≡ [] → server_with_restarted 1 (server_after_event setting.config x sw) ≡ server_with_restarted 1 sw
+    → SameServer (Down c) sw sh → Step setting e (FailsToOpen i raised) (Down c) x sw sh
+half_opening setting e i false c x sw sh none rest same = record { answers = none; same = rest ∙ same }
+half_opening setting e i true c x sw sh none rest same =
+    let new = server_after_event setting.config x sw in
+    record {
+      answers = none;
+      same = cond_both (ltb c.boot last_boot) (Down (with_next_boot c)) (Down c) (λ z. SameServer z new sh) (λ _. rest ∙ same) (λ _. rest ∙ same);
+    }
+
+-- what a restart or nothing does to the server
+quiet_or_restart : (config : Config) (e i : ℕ) (x : WorldEvent) (sw : Server) → 1 ≡ i → (x ≡ nothing) ⊎ (x ≡ Restart i)
+    → (answers_to_event config e x sw ≡ []) × (server_with_restarted 1 (server_after_event config x sw) ≡ server_with_restarted 1 sw)
+quiet_or_restart config e i x sw own is =
+    ⊎_elim
+    (λ (q : x ≡ nothing). (ap (λ z. answers_to_event config e z sw) q, ap (λ z. server_with_restarted 1 (server_after_event config z sw)) q))
+    (λ (q : x ≡ Restart i). (
+      ap (λ z. answers_to_event config e z sw) q,
+      ap (λ z. server_with_restarted 1 (server_after_event config z sw)) q ∙ ap (λ z. server_with_restarted 1 z) (restart_here i sw own) ∙ restarted_twice sw,
+    ))
+    is
+
+-- a process takes an input
+act_step : (setting : Setting) (e i : ℕ) (input : Input) (act : Act) (s : NodeState) (waiting : List Handout) (sw sh : Server) → 1 ≡ i → IsActOf setting.key i input act → sw ≡ sh
+    → Step setting e (Takes i input) (Up s waiting) (Happens act) sw sh
+act_step setting e i (Line client moment text) act s waiting sw sh own is same =
+    let config = setting.config in
+    let here = eq-eqb i 1 (sym own) in
+    let served = served_line config sw 1 client moment text in
+    subst (λ (a : Act). Step setting e (Takes i (Line client moment text)) (Up s waiting) (Happens a) sw sh) (sym is)
+    (record {
+      answers = cond-true (eqb i 1) (told_answer e client served.reply) [] here ∙ ap (λ z. told_answer e client (served_line config z 1 client moment text).reply) same;
+      same = cond-true (eqb i 1) served.server sw here ∙ ap (λ z. (served_line config z 1 client moment text).server) same;
+    })
+act_step setting e i Time act s waiting sw sh own is same =
+    subst (λ (a : Act). Step setting e (Takes i Time) (Up s waiting) (Happens a) sw sh) (sym is) (record { answers = refl; same = same })
+act_step setting e i (Datagram from bytes) act s waiting sw sh own is same =
+    ⊎_elim
+    (λ (q : (k : ℕ) × (act ≡ Deliver i k)). subst (λ (a : Act). Step setting e (Takes i (Datagram from bytes)) (Up s waiting) (Happens a) sw sh) (sym q.1) (record { answers = refl; same = same }))
+    (λ (q : act ≡ Noise i from (envelope_at setting.key bytes)). subst (λ (a : Act). Step setting e (Takes i (Datagram from bytes)) (Up s waiting) (Happens a) sw sh) (sym q) (record { answers = refl; same = same }))
+    is
+
+-- it ends inside the step, and the change is kept
+cut_step : (setting : Setting) (e i : ℕ) (input : Input) (act : Act) (s : NodeState) (waiting : List Handout) (sw sh : Server) → 1 ≡ i → IsActOf setting.key i input act → sw ≡ sh
+    → Step setting e (StopsIn i true input) (Up s waiting) (Cut true act) sw sh
+cut_step setting e i (Line client moment text) act s waiting sw sh own is same =
+    let config = setting.config in
+    let here = eq-eqb i 1 (sym own) in
+    let served = (served_line config sw 1 client moment text).server in
+    subst (λ (a : Act). Step setting e (StopsIn i true (Line client moment text)) (Up s waiting) (Cut true a) sw sh) (sym is)
+    (record {
+      answers = refl;
+      same = ap (λ z. server_with_restarted 1 z) (restart_here i (cond (eqb i 1) served sw) own)
+          ∙ restarted_twice (cond (eqb i 1) served sw)
+          ∙ ap (λ z. server_with_restarted 1 z) (cond-true (eqb i 1) served sw here)
+          ∙ ap (λ z. server_with_restarted 1 (served_line config z 1 client moment text).server) same;
+    })
+cut_step setting e i Time act s waiting sw sh own is same =
+    subst (λ (a : Act). Step setting e (StopsIn i true Time) (Up s waiting) (Cut true a) sw sh) (sym is)
+    (record { answers = refl; same = ap (λ z. server_with_restarted 1 z) (restart_here i sw own) ∙ restarted_twice sw ∙ ap (λ z. server_with_restarted 1 z) same })
+cut_step setting e i (Datagram from bytes) act s waiting sw sh own is same =
+    ⊎_elim
+    (λ (q : (k : ℕ) × (act ≡ Deliver i k)). subst (λ (a : Act). Step setting e (StopsIn i true (Datagram from bytes)) (Up s waiting) (Cut true a) sw sh) (sym q.1) (record { answers = refl; same = ap (λ z. server_with_restarted 1 z) same }))
+    (λ (q : act ≡ Noise i from (envelope_at setting.key bytes)). subst (λ (a : Act). Step setting e (StopsIn i true (Datagram from bytes)) (Up s waiting) (Cut true a) sw sh) (sym q)
+    (record { answers = refl; same = ap (λ z. server_with_restarted 1 z) (restart_here i sw own) ∙ restarted_twice sw ∙ ap (λ z. server_with_restarted 1 z) same }))
+    is
+
+-- what takes an input where no process is
+lost : (setting : Setting) (e i : ℕ) (input : Input) (c : Content) (sw sh : Server) → SameServer (Down c) sw sh → Step setting e (Takes i input) (Down c) nothing sw sh
+lost setting e i (Line client moment text) c sw sh same = record { answers = refl; same = same }
+lost setting e i Time c sw sh same = record { answers = refl; same = same }
+lost setting e i (Datagram from bytes) c sw sh same = record { answers = refl; same = same }
+
+lost_cut : (setting : Setting) (e i : ℕ) (kept : Bool) (input : Input) (c : Content) (sw sh : Server) → SameServer (Down c) sw sh → Step setting e (StopsIn i kept input) (Down c) nothing sw sh
+lost_cut setting e i false input c sw sh same = record { answers = refl; same = same }
+lost_cut setting e i true (Line client moment text) c sw sh same = record { answers = refl; same = same }
+lost_cut setting e i true Time c sw sh same = record { answers = refl; same = same }
+lost_cut setting e i true (Datagram from bytes) c sw sh same = record { answers = refl; same = same }
+
+offering : (setting : Setting) (e i : ℕ) (s : NodeState) (waiting : List Handout) (sw sh : Server) → sw ≡ sh → Step setting e (Offers i) (Up s waiting) nothing sw sh
+offering setting e i s [] sw sh same = record { answers = refl; same = same }
+offering setting e i s (h ∷ waiting) sw sh same = record { answers = refl; same = same }
+
+step : (setting : Setting) (e : ℕ) (d : Deed) (a : Site) (x : WorldEvent) (sw sh : Server) → 1 ≡ node_of_deed d → IsFull setting.key d a x → Keeps setting e d a x sw → SameServer a sw sh → Step setting e d a x sw sh
+step setting e (Opens i) (Down c) x sw sh own full keeps same =
+    let q = quiet_or_restart setting.config e i x sw own full in
+    opening setting e i c x sw sh q.0 q.1 keeps same
+step setting e (Opens i) (Up s waiting) x sw sh own full keeps same = subst (λ z. Step setting e (Opens i) (Up s waiting) z sw sh) (sym full) (record { answers = refl; same = same })
+step setting e (FailsToOpen i raised) (Down c) x sw sh own full keeps same =
+    let q = quiet_or_restart setting.config e i x sw own full in
+    half_opening setting e i raised c x sw sh q.0 q.1 same
+step setting e (FailsToOpen i raised) (Up s waiting) x sw sh own full keeps same = subst (λ z. Step setting e (FailsToOpen i raised) (Up s waiting) z sw sh) (sym full) (record { answers = refl; same = same })
+step setting e (Takes i input) (Down c) x sw sh own full keeps same = subst (λ z. Step setting e (Takes i input) (Down c) z sw sh) (sym full) (lost setting e i input c sw sh same)
+step setting e (Takes i input) (Up s waiting) x sw sh own full keeps same = subst (λ z. Step setting e (Takes i input) (Up s waiting) z sw sh) (sym full.event_is) (act_step setting e i input full.act s waiting sw sh own full.is_act same)
+step setting e (Offers i) (Down c) x sw sh own full keeps same = subst (λ z. Step setting e (Offers i) (Down c) z sw sh) (sym full) (record { answers = refl; same = same })
+step setting e (Offers i) (Up s waiting) x sw sh own full keeps same = subst (λ z. Step setting e (Offers i) (Up s waiting) z sw sh) (sym full) (offering setting e i s waiting sw sh same)
+step setting e (Stops i) (Down c) x sw sh own full keeps same = subst (λ z. Step setting e (Stops i) (Down c) z sw sh) (sym full) (record { answers = refl; same = same })
+step setting e (Stops i) (Up s waiting) x sw sh own full keeps same = subst (λ z. Step setting e (Stops i) (Up s waiting) z sw sh) (sym full) (record { answers = refl; same = ap (λ z. server_with_restarted 1 z) same })
+step setting e (StopsIn i kept input) (Down c) x sw sh own full keeps same = subst (λ z. Step setting e (StopsIn i kept input) (Down c) z sw sh) (sym full) (lost_cut setting e i kept input c sw sh same)
+step setting e (StopsIn i false input) (Up s waiting) x sw sh own full keeps same = subst (λ z. Step setting e (StopsIn i false input) (Up s waiting) z sw sh) (sym full) (record { answers = refl; same = ap (λ z. server_with_restarted 1 z) same })
+step setting e (StopsIn i true input) (Up s waiting) x sw sh own full keeps same = subst (λ z. Step setting e (StopsIn i true input) (Up s waiting) z sw sh) (sym full.event_is) (cut_step setting e i input full.act s waiting sw sh own full.is_act same)
+
+-- ---- all deeds
+
+cancel : {A : Type 0} (xs ys zs : List A) → xs ++ ys ≡ xs ++ zs → ys ≡ zs
+cancel [] ys zs e = e
+cancel (x ∷ xs) ys zs e = cancel xs ys zs (tail x (xs ++ ys) (xs ++ zs) e)
+  where
+    tail : {A : Type 0} (x : A) (ys zs : List A) → x ∷ ys ≡ x ∷ zs → ys ≡ zs
+    tail x ys zs e = cc
+
+member_of_one : (n j : ℕ) → n ≡ 1 → 1 ≡ j → is_member n j ≡ true
+member_of_one n j one own = ap (λ m. is_member m j) one ∙ ap (λ m. is_member 1 m) (sym own)
+
+stranger_to_one : (n j : ℕ) → n ≡ 1 → eqb 1 j ≡ false → is_member n j ≡ false
+stranger_to_one n j one out =
+    ⊎_elim
+    (λ (q : is_member n j ≡ true).
+    let parts = and_parts (leb 1 j) (leb j 1) (ap (λ m. is_member m j) (sym one) ∙ q) in
+    absurd (eqb-false 1 j out (omega (arith, leb-true 1 j parts.0, leb-true j 1 parts.1))))
+    (λ (q : is_member n j ≡ false). q)
+    (cases_Bool (is_member n j))
+
+abbrev RestIs : Setting → ℕ → ℕ → ℕ → List Deed → Type 0
+RestIs setting b q e ds =
+    (scene : Scene) (w : World) (sw sh : Server) → Matches setting scene w → AreGenuine setting e ds scene → Lone (length setting.config.book) b q w sw → SameServer (scene.sites 1) sw sh
+    → answers_in setting e ds scene ≡ answers_to_deeds setting e ds (scene.sites 1) sh
+
+-- a deed, and the rest
+deed_is : (setting : Setting) (b q e : ℕ) (d : Deed) (ds : List Deed) (scene : Scene) (w : World) (sw sh : Server) → nodes_of setting ≡ 1 → Matches setting scene w → AreGenuine setting (suc e) ds (scene_after_deed setting e d scene) → SameServer (scene.sites 1) sw sh
+    → (f : IsFollowed setting e d scene (scene_after_deed setting e d scene) w (answers_by setting e d scene) (is_member (nodes_of setting) (node_of_deed d)))
+    → LoneStep (length setting.config.book) b q w (world_after_event setting.config e f.event w) (server_after_event setting.config f.event sw) (answers_to_event setting.config e f.event sw)
+    → RestIs setting b q (suc e) ds → (at : Bool) → eqb 1 (node_of_deed d) ≡ at
+    → answers_in setting e (d ∷ ds) scene
+    ≡ cond at (answers_to_deed setting.config e d (scene.sites 1) sh ++ answers_to_deeds setting (suc e) ds (site_after setting e d (scene.sites 1)) (server_after_deed setting.config d (scene.sites 1) sh))
+    (answers_to_deeds setting (suc e) ds (scene.sites 1) sh)
+deed_is setting b q e d ds scene w sw sh one m g same f k rest true at =
+    let config = setting.config in
+    let j = node_of_deed d in
+    let own = eqb-true 1 j at in
+    let a = scene.sites 1 in
+    let next = scene_after_deed setting e d scene in
+    let new = server_after_event config f.event sw in
+    let member = member_of_one (nodes_of setting) j one own in
+    let is_one : IsOneAt setting d scene true f.event = subst (λ z. IsOneAt setting d scene z f.event) member f.is_one in
+    let full : IsFull setting.key d a f.event = subst (λ n. IsFull setting.key d (scene.sites n) f.event) (sym own) is_one in
+    let site : next.sites 1 ≡ site_after setting e d a = deed_at setting e 1 d scene (member_of_one (nodes_of setting) 1 one refl) ∙ cond-true (eqb 1 j) (site_after setting e d a) a at in
+    let keeps : Keeps setting e d a f.event sw = λ s waiting up.
+    let here : IsSiteIn (world_after_event config e f.event w) (Up s waiting) ((world_after_event config e f.event w).nodes 1) =
+    subst (λ z. IsSiteIn (world_after_event config e f.event w) z ((world_after_event config e f.event w).nodes 1)) (site ∙ up) (f.matches.sites 1) in
+    ap (λ (z : NodeState). z.answers) (sym here.0 ∙ k.lone.node.is) in
+    let st = step setting e d a f.event sw sh own full keeps same in
+    let made : answers_by setting e d scene ≡ answers_to_deed config e d a sh = cancel w.told (answers_by setting e d scene) (answers_to_event config e f.event sw) (sym f.told ∙ k.tells) ∙ st.answers in
+    let same2 : SameServer (next.sites 1) new (server_after_deed config d a sh) = subst (λ z. SameServer z new (server_after_deed config d a sh)) (sym site) st.same in
+    ap (λ xs. xs ++ answers_in setting (suc e) ds next) made
+    ∙ ap (λ xs. answers_to_deed config e d a sh ++ xs) (rest next (world_after_event config e f.event w) new (server_after_deed config d a sh) f.matches g k.lone same2)
+    ∙ ap (λ z. answers_to_deed config e d a sh ++ answers_to_deeds setting (suc e) ds z (server_after_deed config d a sh)) site
+deed_is setting b q e d ds scene w sw sh one m g same f k rest false at =
+    let config = setting.config in
+    let j = node_of_deed d in
+    let a = scene.sites 1 in
+    let next = scene_after_deed setting e d scene in
+    let new = server_after_event config f.event sw in
+    let out = stranger_to_one (nodes_of setting) j one at in
+    let is_one : f.event ≡ nothing = subst (λ z. IsOneAt setting d scene z f.event) out f.is_one in
+    let site : next.sites 1 ≡ a = deed_at setting e 1 d scene (member_of_one (nodes_of setting) 1 one refl) ∙ cond-false (eqb 1 j) (site_after setting e d a) a at in
+    let made : answers_by setting e d scene ≡ [] = cond-false (is_member (nodes_of setting) j) (answers_made setting e d (scene.sites j)) [] out in
+    let still : new ≡ sw = ap (λ x. server_after_event config x sw) is_one in
+    let same2 : SameServer (next.sites 1) new sh = subst (λ z. SameServer z new sh) (sym site) (subst (λ z. SameServer a z sh) (sym still) same) in
+    ap (λ xs. xs ++ answers_in setting (suc e) ds next) made
+    ∙ rest next (world_after_event config e f.event w) new sh f.matches g k.lone same2
+    ∙ ap (λ z. answers_to_deeds setting (suc e) ds z sh) site
+
+deeds_are : GateLaw → RulingLaw → (setting : Setting) (b q e : ℕ) (ds : List Deed) → nodes_of setting ≡ 1 → b + length ds ≤ last_boot → q + length ds ≤ 2 ^ 62 → RestIs setting b q e ds
+unfolding AreGenuine answers_to_deeds
+deeds_are law rules setting b q e [] one low few = λ scene w sw sh m g h same. refl
+deeds_are law rules setting b q e (d ∷ ds) one low few = λ scene w sw sh m g h same.
+    let f = follows setting e d scene w m g.0 in
+    let k = happens_lone law rules setting.config b q e f.event w sw (omega (arith, low)) (omega (arith, few)) h in
+    deed_is setting (b + 1) (q + 1) e d ds scene w sw sh one m g.1 same f k
+    (deeds_are law rules setting (b + 1) (q + 1) (suc e) ds one (omega (arith, low)) (omega (arith, few))) (eqb 1 (node_of_deed d)) refl
+
+-- ---- what is offered is a part of what is made
+
+part_all : (xs : List Told) → IsPartOf xs xs
+part_all [] = tt
+part_all (x ∷ xs) = inl (refl, part_all xs)
+
+part_front : (xs ys zs : List Told) → IsPartOf (xs ++ ys) zs → IsPartOf xs zs
+part_front [] ys zs h = tt
+part_front (x ∷ xs) ys [] h = h
+part_front (x ∷ xs) ys (z ∷ zs) h =
+    ⊎_elim (λ (p : (x ≡ z) × IsPartOf (xs ++ ys) zs). inl (p.0, part_front xs ys zs p.1)) (λ (p : IsPartOf (x ∷ xs ++ ys) zs). inr (part_front (x ∷ xs) ys zs p)) h
+
+part_later : (xs ys zs : List Told) → IsPartOf xs zs → IsPartOf xs (ys ++ zs)
+part_later xs [] zs h = h
+part_later [] (y ∷ ys) zs h = tt
+part_later (x ∷ xs) (y ∷ ys) zs h = inr (part_later (x ∷ xs) ys zs h)
+
+part_both : (xs ys zs us : List Told) → IsPartOf xs ys → IsPartOf zs us → IsPartOf (xs ++ zs) (ys ++ us)
+part_both [] ys zs us h k = part_later zs ys us k
+part_both (x ∷ xs) [] zs us h k = absurd h
+part_both (x ∷ xs) (y ∷ ys) zs us h k =
+    ⊎_elim (λ (p : (x ≡ y) × IsPartOf xs ys). inl (p.0, part_both xs ys zs us p.1 k)) (λ (p : IsPartOf (x ∷ xs) ys). inr (part_both (x ∷ xs) ys zs us p k)) h
+
+among_append : (xs ys : List Handout) → answers_among (xs ++ ys) ≡ answers_among xs ++ answers_among ys
+among_append [] ys = refl
+among_append (Post l ∷ xs) ys = among_append xs ys
+among_append (Answer t ∷ xs) ys = ap (λ zs. t ∷ zs) (among_append xs ys)
+
+among_posts : (ls : List Envelope) → answers_among (map (λ (l : Envelope). Post l) ls) ≡ []
+among_posts [] = refl
+among_posts (l ∷ ls) = among_posts ls
+
+among_answers : (ts : List Told) → answers_among (map (λ (t : Told). Answer t) ts) ≡ ts
+among_answers [] = refl
+among_answers (t ∷ ts) = ap (λ zs. t ∷ zs) (among_answers ts)
+
+among_handouts : (e i : ℕ) (made : Made) → answers_among (handouts_of e i made) ≡ map (told_reply e i) made.replies
+among_handouts e i made =
+    let ls = map (envelope_from i) made.sends in
+    let ts = map (told_reply e i) made.replies in
+    among_append (map (λ (l : Envelope). Post l) ls) (map (λ (t : Told). Answer t) ts)
+    ∙ ap (λ zs. zs ++ answers_among (map (λ (t : Told). Answer t) ts)) (among_posts ls) ∙ among_answers ts
+
+-- the answers that wait at a site
+abbrev waiting_at : Site → List Told
+waiting_at (Down c) = []
+waiting_at (Up s waiting) = answers_among waiting
+
+abbrev Offered : List Handout → Site → List Told → Type 0
+Offered hs a all = IsPartOf (answers_among hs ++ waiting_at a) all
+
+-- nothing is offered, and nothing made
+stays_part : (hs : List Handout) (a : Site) (all : List Told) → Offered hs a all → Offered (hs ++ []) a (all ++ [])
+stays_part hs a all h =
+    subst (λ xs. IsPartOf (answers_among xs ++ waiting_at a) (all ++ [])) (sym (append-nil hs)) (subst (λ xs. IsPartOf (answers_among hs ++ waiting_at a) xs) (sym (append-nil all)) h)
+
+ends_part : (hs : List Handout) (a : Site) (c : Content) (all : List Told) → Offered hs a all → Offered (hs ++ []) (Down c) (all ++ [])
+ends_part hs a c all h =
+    let front : IsPartOf (answers_among hs) all = part_front (answers_among hs) (waiting_at a) all h in
+    stays_part hs (Down c) all (subst (λ xs. IsPartOf xs all) (sym (append-nil (answers_among hs))) front)
+
+site_part : (setting : Setting) (e : ℕ) (d : Deed) (a : Site) (hs : List Handout) (all : List Told) → Offered hs a all → Offered (hs ++ offers_by d a) (site_after setting e d a) (all ++ answers_made setting e d a)
+site_part setting e (Opens i) (Down c) hs all h =
+    cond_both (ltb c.boot last_boot) (Up (opened_node c) []) (Down c) (λ z. Offered (hs ++ []) z (all ++ [])) (λ _. stays_part hs (Up (opened_node c) []) all h) (λ _. stays_part hs (Down c) all h)
+site_part setting e (Opens i) (Up s waiting) hs all h = stays_part hs (Up s waiting) all h
+site_part setting e (FailsToOpen i false) (Down c) hs all h = stays_part hs (Down c) all h
+site_part setting e (FailsToOpen i true) (Down c) hs all h =
+    cond_both (ltb c.boot last_boot) (Down (with_next_boot c)) (Down c) (λ z. Offered (hs ++ []) z (all ++ [])) (λ _. stays_part hs (Down (with_next_boot c)) all h) (λ _. stays_part hs (Down c) all h)
+site_part setting e (FailsToOpen i raised) (Up s waiting) hs all h = stays_part hs (Up s waiting) all h
+site_part setting e (Takes i input) (Down c) hs all h = stays_part hs (Down c) all h
+site_part setting e (Takes i input) (Up s waiting) hs all h =
+    let made = made_by_input setting i input s in
+    let ts = map (told_reply e i) made.replies in
+    let both : IsPartOf ((answers_among hs ++ answers_among waiting) ++ ts) (all ++ ts) = part_both (answers_among hs ++ answers_among waiting) all ts ts h (part_all ts) in
+    subst (λ xs. IsPartOf xs (all ++ ts))
+    (append_assoc (answers_among hs) (answers_among waiting) ts
+    ∙ ap (λ xs. answers_among hs ++ (answers_among waiting ++ xs)) (sym (among_handouts e i made))
+    ∙ ap (λ xs. answers_among hs ++ xs) (sym (among_append waiting (handouts_of e i made)))
+    ∙ ap (λ xs. answers_among xs ++ answers_among (waiting ++ handouts_of e i made)) (sym (append-nil hs)))
+    both
+site_part setting e (Offers i) (Down c) hs all h = stays_part hs (Down c) all h
+site_part setting e (Offers i) (Up s []) hs all h = stays_part hs (Up s []) all h
+site_part setting e (Offers i) (Up s (x ∷ waiting)) hs all h =
+    subst (λ xs. IsPartOf xs (all ++ []))
+    (ap (λ xs. answers_among hs ++ xs) (among_append (x ∷ []) waiting) ∙ sym (append_assoc (answers_among hs) (answers_among (x ∷ [])) (answers_among waiting))
+    ∙ ap (λ xs. xs ++ answers_among waiting) (sym (among_append hs (x ∷ []))))
+    (subst (λ xs. IsPartOf (answers_among hs ++ answers_among (x ∷ waiting)) xs) (sym (append-nil all)) h)
+site_part setting e (Stops i) (Down c) hs all h = stays_part hs (Down c) all h
+site_part setting e (Stops i) (Up s waiting) hs all h = ends_part hs (Up s waiting) s.content all h
+site_part setting e (StopsIn i kept input) (Down c) hs all h = stays_part hs (Down c) all h
+site_part setting e (StopsIn i false input) (Up s waiting) hs all h = ends_part hs (Up s waiting) s.content all h
+site_part setting e (StopsIn i true input) (Up s waiting) hs all h = ends_part hs (Up s waiting) (made_by_input setting i input s).state.content all h
+
+deed_part : (setting : Setting) (e : ℕ) (d : Deed) (scene : Scene) (all : List Told) (member : Bool) → (member ≡ true → 1 ≡ node_of_deed d) → Offered scene.offered (scene.sites 1) all
+    → let next = cond member (scene_at setting e d (scene.sites (node_of_deed d)) scene) scene in
+    Offered next.offered (next.sites 1) (all ++ cond member (answers_made setting e d (scene.sites (node_of_deed d))) [])
+deed_part setting e d scene all false own h = subst (λ xs. Offered scene.offered (scene.sites 1) xs) (sym (append-nil all)) h
+deed_part setting e d scene all true own h =
+    let j = node_of_deed d in
+    let here = own refl in
+    let old = scene.sites j in
+    let start : Offered scene.offered old all = subst (λ n. Offered scene.offered (scene.sites n) all) here h in
+    let p = site_part setting e d old scene.offered all start in
+    subst (λ z. Offered (scene.offered ++ offers_by d old) z (all ++ answers_made setting e d old))
+    (sym (cond-true (eqb 1 j) (site_after setting e d old) (scene.sites 1) (eq-eqb 1 j here))) p
+
+own_of_member : (n j : ℕ) → n ≡ 1 → is_member n j ≡ true → 1 ≡ j
+own_of_member n j one member =
+    let parts = and_parts (leb 1 j) (leb j 1) (ap (λ m. is_member m j) (sym one) ∙ member) in
+    omega (arith, leb-true 1 j parts.0, leb-true j 1 parts.1)
+
+deeds_part : (setting : Setting) (e : ℕ) (ds : List Deed) (scene : Scene) (all : List Told) → nodes_of setting ≡ 1 → Offered scene.offered (scene.sites 1) all
+    → Offered (scene_after setting e ds scene).offered ((scene_after setting e ds scene).sites 1) (all ++ answers_in setting e ds scene)
+unfolding scene_after scene_after_deed
+deeds_part setting e [] scene all one h = subst (λ xs. Offered scene.offered (scene.sites 1) xs) (sym (append-nil all)) h
+deeds_part setting e (d ∷ ds) scene all one h =
+    let next = scene_after_deed setting e d scene in
+    let j = node_of_deed d in
+    let p : Offered next.offered (next.sites 1) (all ++ answers_by setting e d scene) = deed_part setting e d scene all (is_member (nodes_of setting) j) (λ member. own_of_member (nodes_of setting) j one member) h in
+    subst (λ xs. Offered (scene_after setting (suc e) ds next).offered ((scene_after setting (suc e) ds next).sites 1) xs) (append_assoc all (answers_by setting e d scene) (answers_in setting (suc e) ds next))
+    (deeds_part setting (suc e) ds next (all ++ answers_by setting e d scene) one p)
+
+pub single_node : GateLaw → RulingLaw → (config : Config) (key floors : List ℕ) (history : List Deed) → 1 + length history < 2 ^ 62 → IsHistory (setting_of_one config key floors) history
+    → IsPartOf (answered_in (setting_of_one config key floors) history) (reference_of config key floors history)
+single_node law rules config key floors history short g =
+    let setting = setting_of_one config key floors in
+    let start = first_scene setting in
+    let made : answers_in setting 0 history start ≡ reference_of config key floors history =
+    deeds_are law rules setting 1 0 0 history refl (omega (arith, short)) (omega (arith, short)) start (opening_world config (floors ∷ [])) (opening_server floors) (opening_server floors) (starts setting) g (start_lone law config floors) refl in
+    let part = deeds_part setting 0 history start [] refl tt in
+    subst (λ xs. IsPartOf (answered_in setting history) xs) made (part_front (answered_in setting history) (waiting_at ((scene_of setting history).sites 1)) (answers_in setting 0 history start) part)

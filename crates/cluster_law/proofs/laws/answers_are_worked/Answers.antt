@@ -1,0 +1,155 @@
+-- Each history is computed, the hash with it.
+use Rattle.std.proofs.Common.{◌≡◌, ℕ, zero, suc, ◌⊎◌, inl, inr, ⊎_elim, List, [], ◌∷◌, Option, Some, None, refl, sym, ap, ◌∙◌, subst, arith}
+use Rattle.std.specs.Prelude.{codes, take}
+use Rattle.std.specs.List.{slice_get}
+use Rattle.std.proofs.lemmas.Option.{none-some, same_Some}
+use Rattle.admit_core.specs.Fit.{Check, code_at}
+use Rattle.sha1.specs.Sha1.{first_words, schedule, rounds, compress, hash_after, digest_bytes, sha1}
+use Rattle.vote_core.specs.Voting.{propose, propose_alone, propose_among, tick}
+use Rattle.oath_node.specs.Machine.{NodeState, made_by_proposal, made_by_ruling, made_by_datagram, made_while_running, made_by_event}
+use Rattle.vote_wire.specs.Request.{Request}
+use Rattle.vote_wire.proofs.RequestLemmas.{line_of_request}
+use Rattle.cluster_sim.specs.World.{Told}
+use Rattle.cluster_law.specs.Answered.{EndsProcess, HasYetToOffer, IsLost, IsOfferedOrEnds}
+use Rattle.cluster_law.specs.Examples.{answers_once, ends_after_the_answer, first_ok, one_node}
+use Rattle.cluster_law.specs.Lives.{Answer, Down, Handout, Site, Up, answered_in, scene_after, scene_after_deed, scene_of}
+use Rattle.cluster_law.specs.Promises.{IsToldAmong}
+use Rattle.cluster_law.proofs.laws.answers_are_worked.Goals as goal
+
+-- nothing waits there
+abbrev HasNothing : Site → Type 0
+HasNothing (Down content) = Unit {0}
+HasNothing (Up state []) = Unit {0}
+HasNothing (Up state (handout ∷ waiting)) = ⊥
+
+none_in : (told : Told) (state : NodeState) (waiting : List Handout) (place : ℕ) → HasNothing (Up state waiting) → slice_get waiting place ≡ Some (Answer told) → ⊥
+none_in told state [] place none at = none-some (Answer told) at
+none_in told state (handout ∷ waiting) place none at = none
+
+nothing_waits : (told : Told) (site : Site) → HasNothing site → HasYetToOffer told site → ⊥
+nothing_waits told site none h = none_in told h.state h.waiting h.place (subst (λ (s : Site). HasNothing s) h.is_up none) h.is_there
+
+-- ---- a process takes a line, and answers
+
+ends_never : (node event : ℕ) → EndsProcess node (slice_get answers_once event) → ⊥
+ends_never node zero h = h
+ends_never node (suc zero) h = h
+ends_never node (suc (suc zero)) h = h
+ends_never node (suc (suc (suc k))) h = h
+
+has_offered : HasNothing ((scene_of one_node answers_once).sites 1)
+unfolding code_at first_words schedule rounds compress hash_after digest_bytes sha1 scene_after scene_after_deed made_by_event made_while_running made_by_datagram made_by_ruling made_by_proposal propose propose_alone propose_among tick
+has_offered = tt
+
+no_second : HasNothing ((scene_of one_node answers_once).sites 2)
+unfolding code_at first_words schedule rounds compress hash_after digest_bytes sha1 scene_after scene_after_deed made_by_event made_while_running made_by_datagram made_by_ruling made_by_proposal propose propose_alone propose_among tick
+no_second = tt
+
+are_answers : answered_in one_node answers_once ≡ first_ok ∷ []
+unfolding code_at first_words schedule rounds compress hash_after digest_bytes sha1 scene_after scene_after_deed made_by_event made_while_running made_by_datagram made_by_ruling made_by_proposal propose propose_alone propose_among tick
+are_answers = refl
+
+only : (told : Told) (place : ℕ) → slice_get (first_ok ∷ []) place ≡ Some told → told ≡ first_ok
+only told zero e = sym (same_Some first_ok told e)
+only told (suc place) e = absurd (none-some told e)
+
+-- what was offered or is lost or waits is the OK
+is_first : (told : Told) → HasNothing ((scene_of one_node answers_once).sites told.node) → IsOfferedOrEnds one_node answers_once told → told ≡ first_ok
+is_first told none h =
+    ⊎_elim
+    (λ (p : IsToldAmong told (answered_in one_node answers_once)). only told p.place (subst (λ ts. slice_get ts p.place ≡ Some told) are_answers p.is_there))
+    (λ (p : IsLost one_node answers_once told ⊎ HasYetToOffer told ((scene_of one_node answers_once).sites told.node)).
+    ⊎_elim
+    (λ (q : IsLost one_node answers_once told). absurd (ends_never told.node q.event q.ends))
+    (λ (q : HasYetToOffer told ((scene_of one_node answers_once).sites told.node)). absurd (nothing_waits told ((scene_of one_node answers_once).sites told.node) none q))
+    p)
+    h
+
+pub returns-clause-waits : goal.returns-clause-waits
+unfolding code_at first_words schedule rounds compress hash_after digest_bytes sha1 scene_after scene_after_deed made_by_event made_while_running made_by_datagram made_by_ruling made_by_proposal propose propose_alone propose_among tick
+returns-clause-waits c = record { state = _; waiting = _; is_up = refl; place = 0; is_there = refl }
+
+pub returns-clause-waits_no_more : goal.returns-clause-waits_no_more
+returns-clause-waits_no_more c h = nothing_waits first_ok ((scene_of one_node answers_once).sites 1) has_offered h
+
+pub returns-clause-lost : goal.returns-clause-lost
+unfolding code_at first_words schedule rounds compress hash_after digest_bytes sha1 scene_after scene_after_deed made_by_event made_while_running made_by_datagram made_by_ruling made_by_proposal propose propose_alone propose_among tick
+returns-clause-lost c = record { event = 2; ends = refl; yet = record { state = _; waiting = _; is_up = refl; place = 0; is_there = refl } }
+
+pub returns-clause-not_lost : goal.returns-clause-not_lost
+returns-clause-not_lost c h = ends_never 1 h.event h.ends
+
+-- its process ends last
+ends_last : (node event : ℕ) → EndsProcess node (slice_get ends_after_the_answer event) → event ≡ 3
+ends_last node zero h = absurd h
+ends_last node (suc zero) h = absurd h
+ends_last node (suc (suc zero)) h = absurd h
+ends_last node (suc (suc (suc zero))) h = refl
+ends_last node (suc (suc (suc (suc k)))) h = absurd h
+
+pub returns-clause-not_lost_once_offered : goal.returns-clause-not_lost_once_offered
+returns-clause-not_lost_once_offered c h =
+    let last = ends_last 1 h.event h.ends in
+    nothing_waits first_ok ((scene_of one_node answers_once).sites 1) has_offered
+    (subst (λ event. HasYetToOffer first_ok ((scene_of one_node (take event ends_after_the_answer)).sites 1)) last h.yet)
+
+pub returns-clause-of_another : goal.returns-clause-of_another
+returns-clause-of_another c h =
+    let same = is_first (record first_ok { client = 8 }) has_offered h in
+    let client : 8 ≡ 7 = ap (λ (told : Told). told.client) same in
+    omega (arith, client)
+
+pub returns-clause-stop : goal.returns-clause-stop
+returns-clause-stop c = refl
+
+pub returns-clause-stop_in_a_step : goal.returns-clause-stop_in_a_step
+returns-clause-stop_in_a_step c = refl
+
+pub returns-clause-stop_elsewhere : goal.returns-clause-stop_elsewhere
+returns-clause-stop_elsewhere c h = let node : 2 ≡ 1 = h in omega (arith, node)
+
+pub returns-clause-stop_in_a_step_elsewhere : goal.returns-clause-stop_in_a_step_elsewhere
+returns-clause-stop_in_a_step_elsewhere c h = let node : 2 ≡ 1 = h in omega (arith, node)
+
+pub returns-clause-opening : goal.returns-clause-opening
+returns-clause-opening c h = h
+
+pub returns-clause-of_a_stop : goal.returns-clause-of_a_stop
+returns-clause-of_a_stop c = tt
+
+pub returns-clause-of_a_lost_stop : goal.returns-clause-of_a_lost_stop
+returns-clause-of_a_lost_stop c h = h
+
+pub returns-clause-of_an_offer : goal.returns-clause-of_an_offer
+returns-clause-of_an_offer c h = h
+
+-- what the line says
+request : Request
+request = record { nonce = codes "1"; user = codes "silver"; submission = Check (codes "755224"); password = None }
+
+pub returns-clause-answered : goal.returns-clause-answered
+unfolding request
+returns-clause-answered c = record {
+  answer = first_ok;
+  event = refl;
+  node = refl;
+  line = codes "CHECK 1 silver 755224 -";
+  nonce = codes "1";
+  asked = (refl, refl, record { request = request; grammar = line_of_request (codes "CHECK 1 silver 755224 -") request refl; nonce_is = refl; line_is = refl });
+  bytes = refl;
+  becomes = inl (record { place = 0; is_there = ap (λ ts. slice_get ts 0) are_answers });
+}
+
+pub returns-clause-in_another_deed : goal.returns-clause-in_another_deed
+returns-clause-in_another_deed c h =
+    let none = subst (λ node. HasNothing ((scene_of one_node answers_once).sites node)) (sym h.node) has_offered in
+    let same = is_first h.answer none h.becomes in
+    let event : 1 ≡ 2 = sym (ap (λ (told : Told). told.event) same) ∙ h.event in
+    omega (arith, event)
+
+pub returns-clause-at_another_node : goal.returns-clause-at_another_node
+returns-clause-at_another_node c h =
+    let none = subst (λ node. HasNothing ((scene_of one_node answers_once).sites node)) (sym h.node) no_second in
+    let same = is_first h.answer none h.becomes in
+    let node : 1 ≡ 2 = sym (ap (λ (told : Told). told.node) same) ∙ h.node in
+    omega (arith, node)
