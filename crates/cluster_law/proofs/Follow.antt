@@ -77,7 +77,7 @@ restarted_is : (w : World) (x : NodeState) → IsSiteIn w (Down x.content) (rest
 restarted_is w x =
     cond_both (ltb x.content.boot last_boot) (opened_node x.content) (stopped_node x) (λ y. (y.content ≡ x.content) ⊎ (y ≡ opened_node x.content)) (λ _. inr refl) (λ _. inl refl)
 
-acts : (setting : Setting) (e i : ℕ) (act : Act) (input : Input) (s : NodeState) (w : World) → w.n ≡ nodes_of setting → is_member w.n i ≡ true → w.nodes i ≡ s
+pub acts : (setting : Setting) (e i : ℕ) (act : Act) (input : Input) (s : NodeState) (w : World) → w.n ≡ nodes_of setting → is_member w.n i ≡ true → w.nodes i ≡ s
     → acting_node act ≡ i → node_event_of w.sent act ≡ Some (event_of setting.key input)
     → world_after_act setting.config e act w ≡ world_with_made e i (made_by_input setting i input s) w
 unfolding world_after_act world_after_turn

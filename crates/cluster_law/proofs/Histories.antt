@@ -108,6 +108,7 @@ pub record Whole (setting : Setting) (history : List Deed) : Type 0 where
   pub run : IsRunOf setting history events
   pub ones : AreOnes setting 0 history (first_scene setting) events
   pub told : (world_of setting.config setting.floors events).told ≡ answers_in setting 0 history (first_scene setting)
+  pub matches : Matches setting (scene_of setting history) (world_of setting.config setting.floors events)
 
 pub whole_run : (setting : Setting) (history : List Deed) → IsHistory setting history → Whole setting history
 whole_run setting history g =
@@ -123,7 +124,7 @@ whole_run setting history g =
       floors = λ node token event. same_row (world_after_events setting.config 0 (take event r.events) start) ((scene_of setting (take event history)).sites node) _ token ((r.parts event).sites node);
       answered = λ place told at. each_get (λ (t : Told). IsToldAmong t w.told) (answered_in setting history) place told (all_told w (scene_of setting history).offered r.whole.offered) at;
     } in
-    record { events = r.events; run = of_run; ones = r.ones; told = r.told }
+    record { events = r.events; run = of_run; ones = r.ones; told = r.told; matches = r.whole }
 
 pub is_run : (setting : Setting) (history : List Deed) → IsHistory setting history → (events : List WorldEvent) × IsRunOf setting history events
 is_run setting history g = let r = whole_run setting history g in (r.events, r.run)

@@ -8,4 +8,5 @@ pub mod Histories
 pub mod Justified
 pub mod Serving
 pub mod SingleNode
+pub mod Sweeps
 pub mod Told

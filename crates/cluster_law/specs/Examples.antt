@@ -10,7 +10,7 @@ use Rattle.otp_core.specs.Acceptance.{Acceptance}
 use Rattle.vote_wire.specs.declared.answer.Outcome.TheVariants.{Accepted}
 use Rattle.cluster_sim.specs.Examples.{acceptance, alone, clock_alone, clock_config, config, three, told_outcome}
 use Rattle.cluster_sim.specs.World.{Told}
-use Rattle.cluster_law.specs.Lives.{Answer, Datagram, Deed, FailsToOpen, Handout, Input, Line, Offers, Opens, Post, Setting, Stops, StopsIn, Takes}
+use Rattle.cluster_law.specs.Lives.{Answer, Datagram, Deed, FailsToOpen, Handout, Input, Line, Offers, Opens, Post, Scene, Setting, Stops, StopsIn, Takes, scene_of}
 use Rattle.cluster_law.specs.SingleNode.{reference_of}
 
 -- ---- One node
@@ -59,7 +59,7 @@ strangers = Opens 0 ∷ Takes 0 right_line ∷ Offers 0 ∷ Opens 2 ∷ Takes 2 
 
 -- three nodes, whose first free factor is 0
 abbrev pub three_nodes : Setting
-three_nodes = record { config = config; key = replicate 32 0; floors = three }
+three_nodes = record { config = config; key = replicate 32 1; floors = three }
 
 -- the first proposal of node 1, in its first boot
 abbrev pub first_proposal : ProposalRecord
@@ -103,6 +103,18 @@ grant_from from = Opens 1 ∷ Takes 1 (Datagram from (bytes_of grant)) ∷ []
 -- a process ends inside the step that takes such a one
 abbrev pub stop_in_a_forged_grant : List Deed
 stop_in_a_forged_grant = Opens 1 ∷ StopsIn 1 true grant_comes ∷ []
+
+-- one node has a process
+abbrev pub one_open : Scene
+one_open = scene_of one_node (Opens 1 ∷ [])
+
+-- two of the three have one
+abbrev pub two_open : Scene
+two_open = scene_of three_nodes (Opens 1 ∷ Opens 2 ∷ [])
+
+-- node 2 is told by node 1 that its first free factor is 0
+abbrev pub floor_comes : Input
+floor_comes = Datagram 1 (bytes_of (record { sender = 1; receiver = 2; message = Floor 0 0 }))
 
 -- ---- Parts of deeds
 

@@ -1,6 +1,6 @@
 //! What is so of every history of a cluster.
 
-ghost use Rattle.std.specs.Prelude.{pos, negsuc, ◌≡◌, ◌⊎◌, ◌+◌, ◌<◌, ◌^◌, ℕ, List, [], ◌∷◌, length, Option, Some, Result, Ok, Err, None, true, false, map, take, codes};
+ghost use Rattle.std.specs.Prelude.{pos, negsuc, ◌≡◌, ◌⊎◌, ◌+◌, ◌<◌, ◌^◌, ℕ, List, [], ◌∷◌, length, Option, Some, Result, Ok, Err, None, true, false, map, replicate, take, codes};
 ghost use Rattle.admit_core.specs.Throttle.{Accepted as Passed, SpacesFailures};
 ghost use Rattle.cluster_sim.specs.Results.{results_in};
 ghost use Rattle.otp_core.specs.Acceptance.{HaveSingleUse, KeepRealTimeOrder};
@@ -25,15 +25,17 @@ ghost use Rattle.node_turns.specs.declared.fault.ServeFault.TheVariants.{Clock, 
 ghost use Rattle.node_turns.specs.declared.turns.Served.{Served};
 ghost use Rattle.cluster_law.specs.Answered.{AnswersAll, EndsProcess, HasYetToOffer, IsAnsweredInDeed, IsLost, IsOfferedOrEnds};
 ghost use Rattle.cluster_law.specs.Bytes.{IsSized, IsUnforgedHistory};
-ghost use Rattle.cluster_law.specs.Examples.{among_strangers, answer_out, answers_once, clock_node, comes_to_nobody, content_of_boot, ends_after_the_answer, ends_before_the_answer, ends_behind, ends_in_the_step, first_ok, first_pass, floor_out, grant_before_its_offer, grant_from, granted_by_two, one_node, opens_twice, quiet_node, right_line, stop_in_a_forged_grant, strangers, takes_behind, takes_twice, tells_both, three_nodes, told_by_reference};
+ghost use Rattle.cluster_law.specs.Examples.{among_strangers, answer_out, answers_once, clock_node, comes_to_nobody, content_of_boot, ends_after_the_answer, ends_before_the_answer, ends_behind, ends_in_the_step, first_ok, first_pass, floor_comes, floor_out, grant_before_its_offer, grant_from, granted_by_two, one_node, one_open, opens_twice, quiet_node, right_line, stop_in_a_forged_grant, strangers, takes_behind, takes_twice, tells_both, three_nodes, told_by_reference, two_open};
 ghost use Rattle.cluster_law.specs.Justified.{IsJustifiedInDeed, JustifiesAll, drift_in, moment_in_deed, results_held};
 ghost use Rattle.cluster_law.specs.Lives.{Deed, Down, Input, IsHistory, Offers, Opens, Scene, Setting, Site, Stops, StopsIn, Takes, Time, Up, accepted_in, answered_in, answers_among, content_at, event_of, first_scene, floor_in, handouts_of, made_by_input, nodes_of, offers_by, own_site, scene_after, scene_of, site_after, site_cut, site_half_opened, site_offered, site_opened};
 ghost use Rattle.cluster_law.specs.Processes.{AreServing, IsHalfOpened, IsEndedNode, IsMemberIn, IsServed, IsServedNode, TakesTurns, item_of, member_in, run_over};
 ghost use Rattle.cluster_law.specs.Promises.{AnswerTruly, IsExplained, IsRunOf};
 ghost use Rattle.cluster_law.specs.SingleNode.{IsPartOf, reference_of, setting_of_one};
+ghost use Rattle.cluster_law.specs.Sweeps.{IsSweep, IsTick, SweepsLevel, greatest_in, is_step_of};
+ghost use Rattle.std.specs.List.{filter};
 
 use admit_core::gate_keeps_throttle;
-use cluster_sim::{answers_belong_to_passes, world_is_safe};
+use cluster_sim::{answers_belong_to_passes, sweep_levels, world_is_safe};
 use floor_store::FloorStore;
 use oath_node::rulings_have_grounds;
 use vote_wire::one_spelling;
@@ -80,6 +82,14 @@ pub fn one_node_answers_as_the_reference()
 {
     rulings_have_grounds();
     gate_keeps_throttle();
+}
+
+/// Whatever was before: where live members tick and hear each other, and nothing else comes to them, nothing is left
+/// waiting there, and their stores hold the same first free factors: the greatest that one of them held.
+pub fn sweeps_level_stores()
+    ensures { SweepsLevel }
+{
+    sweep_levels();
 }
 
 /// Where each datagram with a right tag that comes from the address of the node that it names was offered before, byte
@@ -272,6 +282,21 @@ pub fn reference_is_worked()
     ensures order { IsPartOf (record first_ok { event = 2 } ∷ first_ok ∷ [])
         (first_ok ∷ record first_ok { event = 2 } ∷ []) → ⊥ }
     ensures number { IsPartOf (first_ok ∷ first_ok ∷ []) (first_ok ∷ []) → ⊥ }
+{}
+
+/// Parts of a sweep, worked through: a tick whose first free factor the other live member takes is one, and one that it
+/// doesn't take is none; offers and other nodes count for nothing; and a turn has as many ticks as are asked for.
+pub fn sweeps_are_worked()
+    ensures tick { IsTick three_nodes (1 ∷ 2 ∷ []) two_open 1 (Takes 1 Time ∷ Takes 2 floor_comes ∷ []) }
+    ensures not_taken { IsTick three_nodes (1 ∷ 2 ∷ []) two_open 1 (Takes 1 Time ∷ []) → ⊥ }
+    ensures taken_elsewhere { IsTick three_nodes (1 ∷ 2 ∷ []) two_open 1 (Takes 1 Time ∷ Takes 3 floor_comes ∷ []) → ⊥ }
+    ensures no_tick { IsTick three_nodes (1 ∷ 2 ∷ []) two_open 1 (Takes 1 right_line ∷ Takes 2 floor_comes ∷ []) → ⊥ }
+    ensures steps { filter (is_step_of (1 ∷ [])) (Takes 1 Time ∷ Offers 1 ∷ Takes 2 Time ∷ Stops 1 ∷ [])
+        ≡ Takes 1 Time ∷ Stops 1 ∷ [] }
+    ensures sweep { IsSweep one_node (1 ∷ []) one_open (Offers 1 ∷ Stops 2 ∷ replicate 8 (Takes 1 Time)) }
+    ensures short { IsSweep one_node (1 ∷ []) one_open (replicate 7 (Takes 1 Time)) → ⊥ }
+    ensures greatest { greatest_in (1 ∷ 2 ∷ []) (scene_of three_nodes (take 5 granted_by_two)) 0 ≡ 1 }
+    ensures greatest_of_the_first { greatest_in (2 ∷ 1 ∷ []) (scene_of three_nodes (take 5 granted_by_two)) 0 ≡ 1 }
 {}
 
 /// Parts of deeds, worked through: boots, and what is handed out in which order.

@@ -1,0 +1,343 @@
+-- A sweep of a history does what a sweep of the world does.
+use Rattle.std.proofs.Common.{◌≡◌, ℕ, zero, suc, ◌+◌, ◌<◌, ◌⊎◌, ⊎_elim, max, Bool, true, false, not, cond, ◌&&◌, List, [], ◌∷◌, ◌++◌, length, map, Option, Some, None, refl, sym, ap, ◌∙◌, subst, arith, eqb, drop}
+use Rattle.std.specs.List.{filter, slice_get}
+use Rattle.std.proofs.Math.Seq.{drop-append_seam}
+use Rattle.std.proofs.lemmas.Bool.{cond_both, cond-true, cond-false, cases_Bool, eq-eqb, eqb-true, and_parts, false≢true, or_left, or_right}
+use Rattle.std.proofs.lemmas.Option.{none-some, same_Some}
+use Rattle.floor_store.specs.Content.{Content}
+use Rattle.vote_core.proofs.Basics.{Each, each_all, each_map}
+use Rattle.vote_core.specs.Rows.{row}
+use Rattle.vote_core.specs.Schedule.{Envelope, envelope_from, is_member}
+use Rattle.vote_core.specs.declared.message.Message.{Message}
+use Rattle.oath_node.specs.Hosted.{envelope_at}
+use Rattle.oath_node.specs.Machine.{Config, Made, NodeState, Peer}
+use Rattle.cluster_sim.proofs.Owners.{get_more}
+use Rattle.cluster_sim.specs.Rounds.{AreUp, SweepLevels, deliveries, greatest, is_floor, is_floor_to, is_live, next_at, sweep_events, tick_events, turn_events, turns_events}
+use Rattle.cluster_sim.specs.World.{Act, Deliver, Ticks, World, WorldEvent, Happens, acting_node, delivered_event, node_event_of, with_state, world_after_act, world_after_event, world_after_events, world_of, world_with_made}
+use Rattle.cluster_law.specs.Lives.{Deed, Opens, FailsToOpen, Takes, Offers, Stops, StopsIn, Handout, Input, Datagram, Time, IsHistory, Scene, Setting, Site, Down, Up, content_at, event_of, first_scene, made_by_input, node_of_deed, nodes_of, scene_after, scene_after_deed, scene_of, site_after, site_half_opened, site_opened}
+use Rattle.cluster_law.specs.Sweeps.{AreLive, AreTaken, AreTurns, IsLive, IsSweep, IsSwept, IsTick, IsTurn, SweepsLevel, greatest_in, is_offer, is_step_of, next_in, sent_by_tick}
+use Rattle.cluster_law.proofs.Follow.{IsSiteIn, Matches, acts}
+use Rattle.cluster_law.proofs.Histories.{Whole, whole_run}
+use Rattle.cluster_law.proofs.Serving.{deed_at}
+
+-- ---- sites that differ in what waits alone
+
+abbrev SameSite : Site → Site → Type 0
+SameSite (Down c) (Down d) = c ≡ d
+SameSite (Down c) (Up t v) = ⊥
+SameSite (Up s w) (Down d) = ⊥
+SameSite (Up s w) (Up t v) = s ≡ t
+
+same_self : (a : Site) → SameSite a a
+same_self (Down c) = refl
+same_self (Up s w) = refl
+
+down_after : (setting : Setting) (e e' : ℕ) (d : Deed) (c : Content) → SameSite (site_after setting e d (Down c)) (site_after setting e' d (Down c))
+down_after setting e e' (Opens i) c = same_self (site_opened c)
+down_after setting e e' (FailsToOpen i raised) c = same_self (site_half_opened raised c)
+down_after setting e e' (Takes i input) c = refl
+down_after setting e e' (Offers i) c = refl
+down_after setting e e' (Stops i) c = refl
+down_after setting e e' (StopsIn i kept input) c = refl
+
+up_after : (setting : Setting) (e e' : ℕ) (d : Deed) (s : NodeState) (w v : List Handout) → SameSite (site_after setting e d (Up s w)) (site_after setting e' d (Up s v))
+up_after setting e e' (Opens i) s w v = refl
+up_after setting e e' (FailsToOpen i raised) s w v = refl
+up_after setting e e' (Takes i input) s w v = refl
+up_after setting e e' (Offers i) s [] [] = refl
+up_after setting e e' (Offers i) s [] (h ∷ v) = refl
+up_after setting e e' (Offers i) s (h ∷ w) [] = refl
+up_after setting e e' (Offers i) s (h ∷ w) (k ∷ v) = refl
+up_after setting e e' (Stops i) s w v = refl
+up_after setting e e' (StopsIn i false input) s w v = refl
+up_after setting e e' (StopsIn i true input) s w v = refl
+
+same_after : (setting : Setting) (e e' : ℕ) (d : Deed) (a b : Site) → SameSite a b → SameSite (site_after setting e d a) (site_after setting e' d b)
+same_after setting e e' d (Down c) (Down c') h = subst (λ z. SameSite (site_after setting e d (Down c)) (site_after setting e' d (Down z))) h (down_after setting e e' d c)
+same_after setting e e' d (Down c) (Up t v) h = absurd h
+same_after setting e e' d (Up s w) (Down c') h = absurd h
+same_after setting e e' d (Up s w) (Up t v) h = subst (λ z. SameSite (site_after setting e d (Up s w)) (site_after setting e' d (Up z v))) h (up_after setting e e' d s w v)
+
+offered_same : (setting : Setting) (e i : ℕ) (a b : Site) → SameSite a b → SameSite (site_after setting e (Offers i) a) b
+offered_same setting e i (Down c) b h = h
+offered_same setting e i (Up s []) b h = h
+offered_same setting e i (Up s (x ∷ w)) (Down d) h = h
+offered_same setting e i (Up s (x ∷ w)) (Up t v) h = h
+
+offer_same : (setting : Setting) (e : ℕ) (d : Deed) (a b : Site) → is_offer d ≡ true → SameSite a b → SameSite (site_after setting e d a) b
+offer_same setting e (Opens i) a b is h = absurd (false≢true is)
+offer_same setting e (FailsToOpen i raised) a b is h = absurd (false≢true is)
+offer_same setting e (Takes i input) a b is h = absurd (false≢true is)
+offer_same setting e (Offers i) a b is h = offered_same setting e i a b h
+offer_same setting e (Stops i) a b is h = absurd (false≢true is)
+offer_same setting e (StopsIn i kept input) a b is h = absurd (false≢true is)
+
+-- ---- scenes that are alike at live members
+
+abbrev Members : Setting → List ℕ → Type 0
+Members setting live = (j : ℕ) → is_live live j ≡ true → is_member (nodes_of setting) j ≡ true
+
+abbrev Like : List ℕ → Scene → Scene → Type 0
+Like live x y = (j : ℕ) → is_live live j ≡ true → SameSite (x.sites j) (y.sites j)
+
+same_either : (b : Bool) (a a' c c' : Site) → SameSite a a' → SameSite c c' → SameSite (cond b a c) (cond b a' c')
+same_either true a a' c c' h k = h
+same_either false a a' c c' h k = k
+
+like_kept : (setting : Setting) (live : List ℕ) (e e' : ℕ) (d : Deed) (x y : Scene) → Members setting live → Like live x y → Like live (scene_after_deed setting e d x) (scene_after_deed setting e' d y)
+like_kept setting live e e' d x y members h j is =
+    let member = members j is in
+    let same = same_either (eqb j (node_of_deed d)) (site_after setting e d (x.sites j)) (site_after setting e' d (y.sites j)) (x.sites j) (y.sites j) (same_after setting e e' d (x.sites j) (y.sites j) (h j is)) (h j is) in
+    subst (λ a. SameSite a ((scene_after_deed setting e' d y).sites j)) (sym (deed_at setting e j d x member))
+    (subst (λ b. SameSite (cond (eqb j (node_of_deed d)) (site_after setting e d (x.sites j)) (x.sites j)) b) (sym (deed_at setting e' j d y member)) same)
+
+is_offered : (live b : Bool) → (live && not b) ≡ false → live ≡ true → b ≡ true
+is_offered true true h is = refl
+is_offered true false h is = absurd (false≢true (sym h))
+is_offered false b h is = absurd (false≢true is)
+
+like_skipped : (setting : Setting) (live : List ℕ) (e : ℕ) (d : Deed) (x y : Scene) → is_step_of live d ≡ false → Members setting live → Like live x y → Like live (scene_after_deed setting e d x) y
+like_skipped setting live e d x y skipped members h j is =
+    subst (λ a. SameSite a (y.sites j)) (sym (deed_at setting e j d x (members j is)))
+    (cond_both (eqb j (node_of_deed d)) (site_after setting e d (x.sites j)) (x.sites j) (λ a. SameSite a (y.sites j))
+    (λ q.
+    let here : is_live live (node_of_deed d) ≡ true = subst (λ m. is_live live m ≡ true) (eqb-true j (node_of_deed d) q) is in
+    offer_same setting e d (x.sites j) (y.sites j) (is_offered (is_live live (node_of_deed d)) (is_offer d) skipped here) (h j is))
+    (λ _. h j is))
+
+like_filter : (setting : Setting) (live : List ℕ) (e e' : ℕ) (ds : List Deed) (x y : Scene) → Members setting live → Like live x y → Like live (scene_after setting e ds x) (scene_after setting e' (filter (is_step_of live) ds) y)
+unfolding scene_after
+like_filter setting live e e' [] x y members h = h
+like_filter setting live e e' (d ∷ ds) x y members h =
+    let rest = filter (is_step_of live) ds in
+    cond_both (is_step_of live d) (d ∷ rest) rest (λ l. Like live (scene_after setting (suc e) ds (scene_after_deed setting e d x)) (scene_after setting e' l y))
+    (λ _. like_filter setting live (suc e) (suc e') ds (scene_after_deed setting e d x) (scene_after_deed setting e' d y) members (like_kept setting live e e' d x y members h))
+    (λ skipped. like_filter setting live (suc e) e' ds (scene_after_deed setting e d x) y members (like_skipped setting live e d x y skipped members h))
+
+scenes_append : (setting : Setting) (e : ℕ) (xs ys : List Deed) (scene : Scene) → scene_after setting e (xs ++ ys) scene ≡ scene_after setting (length xs + e) ys (scene_after setting e xs scene)
+unfolding scene_after
+scenes_append setting e [] ys scene = let same : e ≡ 0 + e = omega arith in ap (λ n. scene_after setting n ys scene) same
+scenes_append setting e (x ∷ xs) ys scene =
+    scenes_append setting (suc e) xs ys (scene_after_deed setting e x scene)
+    ∙ ap (λ n. scene_after setting n ys (scene_after setting (suc e) xs (scene_after_deed setting e x scene))) (omega arith)
+
+run_append : (config : Config) (xs ys : List WorldEvent) (e : ℕ) (w : World) → world_after_events config e (xs ++ ys) w ≡ world_after_events config (length xs + e) ys (world_after_events config e xs w)
+unfolding world_after_events
+run_append config [] ys e w = let same : e ≡ 0 + e = omega arith in ap (λ n. world_after_events config n ys w) same
+run_append config (x ∷ xs) ys e w =
+    run_append config xs ys (suc e) (world_after_event config e x w)
+    ∙ ap (λ n. world_after_events config n ys (world_after_events config (suc e) xs (world_after_event config e x w))) (omega arith)
+
+-- each of these is one of them
+each_live : (js live : List ℕ) → ((i : ℕ) → is_live js i ≡ true → is_live live i ≡ true) → Each (λ i. is_live live i ≡ true) js
+each_live [] live h = tt
+each_live (j ∷ js) live h = (h j (or_left (eqb j j) (is_live js j) (eq-eqb j j refl)), each_live js live (λ i q. h i (or_right (eqb j i) (is_live js i) q)))
+
+-- ---- the world beside it
+
+abbrev Holds : Site → NodeState → Type 0
+Holds (Down c) x = ⊥
+Holds (Up s w) x = s ≡ x
+
+record Beside (setting : Setting) (live : List ℕ) (w : World) (scene : Scene) : Type 0 where
+  n : w.n ≡ nodes_of setting
+  members : Members setting live
+  sites : (j : ℕ) → is_live live j ≡ true → Holds (scene.sites j) (w.nodes j)
+
+takes_holds : (setting : Setting) (e i : ℕ) (input : Input) (a : Site) (x : NodeState) → Holds a x → Holds (site_after setting e (Takes i input) a) (made_by_input setting i input x).state
+takes_holds setting e i input (Down c) x h = absurd h
+takes_holds setting e i input (Up s w) x h = ap (λ z. (made_by_input setting i input z).state) h
+
+holds_either : (b : Bool) (a c : Site) (x y : NodeState) → (b ≡ true → Holds a x) → (b ≡ false → Holds c y) → Holds (cond b a c) (cond b x y)
+holds_either true a c x y h k = h refl
+holds_either false a c x y h k = k refl
+
+take_beside : (setting : Setting) (live : List ℕ) (e e' i : ℕ) (act : Act) (input : Input) (w : World) (scene : Scene) → Beside setting live w scene → is_live live i ≡ true → acting_node act ≡ i → node_event_of w.sent act ≡ Some (event_of setting.key input)
+    → Beside setting live (world_after_act setting.config e act w) (scene_after_deed setting e' (Takes i input) scene)
+unfolding world_with_made
+take_beside setting live e e' i act input w scene b is at what =
+    let made = made_by_input setting i input (w.nodes i) in
+    let member = ap (λ n. is_member n i) b.n ∙ b.members i is in
+    let v : World = world_with_made e i made w in
+    subst (λ z. Beside setting live z (scene_after_deed setting e' (Takes i input) scene)) (sym (acts setting e i act input (w.nodes i) w b.n member refl at what))
+    (record {
+      n = b.n;
+      members = b.members;
+      sites = λ j live_j.
+          subst (λ a. Holds a (v.nodes j)) (sym (deed_at setting e' j (Takes i input) scene (b.members j live_j)))
+          (holds_either (eqb j i) (site_after setting e' (Takes i input) (scene.sites j)) (scene.sites j) made.state (w.nodes j)
+          (λ q. subst (λ m. Holds (site_after setting e' (Takes i input) (scene.sites j)) (made_by_input setting i input (w.nodes m)).state) (eqb-true j i q) (takes_holds setting e' i input (scene.sites j) (w.nodes j) (b.sites j live_j)))
+          (λ _. b.sites j live_j));
+    })
+
+-- each of these envelopes was sent, from number k on
+abbrev WereSent : ℕ → List Envelope → World → Type 0
+WereSent k es w = (m : ℕ) (y : Envelope) → slice_get es m ≡ Some y → slice_get w.sent (k + m) ≡ Some y
+
+sent_rest : (k : ℕ) (x : Envelope) (es : List Envelope) (w : World) → WereSent k (x ∷ es) w → WereSent (suc k) es w
+sent_rest k x es w h = λ m y at. subst (λ n. slice_get w.sent n ≡ Some y) (omega arith) (h (suc m) y at)
+
+sent_grows : (setting : Setting) (e i : ℕ) (act : Act) (input : Input) (k : ℕ) (es : List Envelope) (w : World) → w.n ≡ nodes_of setting → is_member w.n i ≡ true → acting_node act ≡ i → node_event_of w.sent act ≡ Some (event_of setting.key input)
+    → WereSent k es w → WereSent k es (world_after_act setting.config e act w)
+unfolding world_with_made
+sent_grows setting e i act input k es w n member at what h = λ m y there.
+    let made = made_by_input setting i input (w.nodes i) in
+    subst (λ (z : World). slice_get z.sent (k + m) ≡ Some y) (sym (acts setting e i act input (w.nodes i) w n member refl at what))
+    (get_more w.sent (map (envelope_from i) made.sends) (k + m) y (h m y there))
+
+-- deliveries of the Floors among these envelopes, and that they are taken
+abbrev Delivers : Setting → List ℕ → ℕ → List Envelope → Type 0
+Delivers setting live node es =
+    (e e' k : ℕ) (w : World) (scene : Scene) (taken : List Deed) → Beside setting live w scene → WereSent k es w → AreTaken setting.key node (filter (is_floor_to live) es) taken
+    → Beside setting live (world_after_events setting.config e (deliveries (is_floor_to live) k es) w) (scene_after setting e' taken scene)
+
+deliver_one : (setting : Setting) (live : List ℕ) (node : ℕ) (x : Envelope) (es : List Envelope) (e e' k : ℕ) (w : World) (scene : Scene) (taken : List Deed) (b : Bool) → is_floor_to live x ≡ b → x.sender ≡ node → Delivers setting live node es → Beside setting live w scene → WereSent k (x ∷ es) w
+    → AreTaken setting.key node (cond b (x ∷ filter (is_floor_to live) es) (filter (is_floor_to live) es)) taken
+    → Beside setting live (world_after_events setting.config e (cond b (Happens (Deliver x.receiver k) ∷ deliveries (is_floor_to live) (suc k) es) (deliveries (is_floor_to live) (suc k) es)) w) (scene_after setting e' taken scene)
+unfolding scene_after world_after_events world_after_event
+deliver_one setting live node x es e e' k w scene taken false is own rest b sent t = rest e e' (suc k) w scene taken b (sent_rest k x es w sent) t
+deliver_one setting live node x es e e' k w scene taken true is own rest b sent t =
+    let r = x.receiver in
+    let act = Deliver r k in
+    let input = Datagram node t.0 in
+    let is_at : is_live live r ≡ true = (and_parts (is_floor x.message) (is_live live r) is).1 in
+    let member = ap (λ n. is_member n r) b.n ∙ b.members r is_at in
+    let there : slice_get w.sent k ≡ Some x = subst (λ n. slice_get w.sent n ≡ Some x) (omega arith) (sent zero x refl) in
+    let what : node_event_of w.sent act ≡ Some (event_of setting.key input) = ap delivered_event there ∙ ap (λ s. Some (Peer s (Some x))) own ∙ ap (λ o. Some (Peer node o)) (sym t.2) in
+    let v = world_after_act setting.config e act w in
+    let next = scene_after_deed setting e' (Takes r input) scene in
+    let more = sent_grows setting e r act input (suc k) es w b.n member refl what (sent_rest k x es w sent) in
+    subst (λ l. Beside setting live (world_after_events setting.config (suc e) (deliveries (is_floor_to live) (suc k) es) v) (scene_after setting e' l scene)) (sym t.3)
+    (rest (suc e) (suc e') (suc k) v next t.1 (take_beside setting live e e' r act input w scene b is_at refl what) more t.4)
+
+deliver_all : (setting : Setting) (live : List ℕ) (node : ℕ) (es : List Envelope) → Each (λ (x : Envelope). x.sender ≡ node) es → Delivers setting live node es
+unfolding scene_after world_after_events
+deliver_all setting live node [] own = λ e e' k w scene taken b sent t. subst (λ l. Beside setting live w (scene_after setting e' l scene)) (sym t) b
+deliver_all setting live node (x ∷ es) own = λ e e' k w scene taken b sent t.
+    deliver_one setting live node x es e e' k w scene taken (is_floor_to live x) refl own.0 (deliver_all setting live node es own.1) b sent t
+
+get_behind : {A : Type 0} (xs ys : List A) (m : ℕ) → slice_get (xs ++ ys) (length xs + m) ≡ slice_get ys m
+get_behind [] ys m = let same : 0 + m ≡ m = omega arith in ap (λ n. slice_get ys n) same
+get_behind (x ∷ xs) ys m = let same : suc (length xs) + m ≡ suc (length xs + m) = omega arith in ap (λ n. slice_get (x ∷ xs ++ ys) n) same ∙ get_behind xs ys m
+
+ticks_send : (setting : Setting) (node : ℕ) (a : Site) (x : NodeState) → Holds a x → sent_by_tick setting node a ≡ map (envelope_from node) (made_by_input setting node Time x).sends
+ticks_send setting node (Down c) x h = absurd h
+ticks_send setting node (Up s w) x h = ap (λ z. map (envelope_from node) (made_by_input setting node Time z).sends) h
+
+tick_beside : (setting : Setting) (live : List ℕ) (e e' node : ℕ) (w : World) (scene : Scene) (deeds : List Deed) → Beside setting live w scene → is_live live node ≡ true → IsTick setting live scene node deeds
+    → Beside setting live (world_after_events setting.config e (tick_events setting.config live e w node) w) (scene_after setting e' deeds scene)
+unfolding scene_after world_after_events world_after_event world_with_made
+tick_beside setting live e e' node w scene deeds b is t =
+    let config = setting.config in
+    let made = made_by_input setting node Time (w.nodes node) in
+    let es = map (envelope_from node) made.sends in
+    let v = world_after_act config e (Ticks node) w in
+    let member = ap (λ n. is_member n node) b.n ∙ b.members node is in
+    let ticked : v ≡ world_with_made e node made w = acts setting e node (Ticks node) Time (w.nodes node) w b.n member refl refl refl in
+    let sent : v.sent ≡ w.sent ++ es = ap (λ (z : World). z.sent) ticked in
+    let fresh : drop (length w.sent) v.sent ≡ es = ap (λ s. drop (length w.sent) s) sent ∙ drop-append_seam w.sent es in
+    let were : WereSent (length w.sent) es v = λ m y at. ap (λ s. slice_get s (length w.sent + m)) sent ∙ get_behind w.sent es m ∙ at in
+    let taken : AreTaken setting.key node (filter (is_floor_to live) es) t.0 =
+    subst (λ l. AreTaken setting.key node (filter (is_floor_to live) l) t.0) (ticks_send setting node (scene.sites node) (w.nodes node) (b.sites node is)) t.2 in
+    let next = scene_after_deed setting e' (Takes node Time) scene in
+    let own : Each (λ (x : Envelope). x.sender ≡ node) es = each_map (λ (x : Envelope). x.sender ≡ node) (envelope_from node) made.sends (each_all (λ (send : ℕ × Message). (envelope_from node send).sender ≡ node) (λ send. refl) made.sends) in
+    let done = deliver_all setting live node es own (suc e) (suc e') (length w.sent) v next t.0 (take_beside setting live e e' node (Ticks node) Time w scene b is refl refl) were taken in
+    subst (λ l. Beside setting live (world_after_events config (suc e) (deliveries (is_floor_to live) (length w.sent) (drop (length w.sent) v.sent)) v) (scene_after setting e' l scene)) (sym t.1)
+    (subst (λ l. Beside setting live (world_after_events config (suc e) (deliveries (is_floor_to live) (length w.sent) l) v) (scene_after setting (suc e') t.0 next)) (sym fresh) done)
+
+-- one after the other
+both_beside : (setting : Setting) (live : List ℕ) (e e' : ℕ) (xs ys : List WorldEvent) (one rest deeds : List Deed) (w : World) (scene : Scene) → deeds ≡ one ++ rest
+    → Beside setting live (world_after_events setting.config (length xs + e) ys (world_after_events setting.config e xs w)) (scene_after setting (length one + e') rest (scene_after setting e' one scene))
+    → Beside setting live (world_after_events setting.config e (xs ++ ys) w) (scene_after setting e' deeds scene)
+both_beside setting live e e' xs ys one rest deeds w scene split h =
+    subst (λ l. Beside setting live (world_after_events setting.config e (xs ++ ys) w) (scene_after setting e' l scene)) (sym split)
+    (subst (λ z. Beside setting live (world_after_events setting.config e (xs ++ ys) w) z) (sym (scenes_append setting e' one rest scene))
+    (subst (λ z. Beside setting live z (scene_after setting (length one + e') rest (scene_after setting e' one scene))) (sym (run_append setting.config xs ys e w)) h))
+
+turn_beside : (setting : Setting) (live : List ℕ) (ticks e e' node : ℕ) (w : World) (scene : Scene) (deeds : List Deed) → Beside setting live w scene → is_live live node ≡ true → IsTurn setting live ticks e' scene node deeds
+    → Beside setting live (world_after_events setting.config e (turn_events setting.config live ticks e w node) w) (scene_after setting e' deeds scene)
+unfolding scene_after world_after_events
+turn_beside setting live zero e e' node w scene deeds b is t = subst (λ l. Beside setting live w (scene_after setting e' l scene)) (sym t) b
+turn_beside setting live (suc ticks) e e' node w scene deeds b is t =
+    let xs = tick_events setting.config live e w node in
+    let v = world_after_events setting.config e xs w in
+    let next = scene_after setting e' t.0 scene in
+    both_beside setting live e e' xs (turn_events setting.config live ticks (length xs + e) v node) t.0 t.1 deeds w scene t.2
+    (turn_beside setting live ticks (length xs + e) (length t.0 + e') node v next t.1 (tick_beside setting live e e' node w scene t.0 b is t.3) is t.4)
+
+turns_beside : (setting : Setting) (live js : List ℕ) (e e' : ℕ) (w : World) (scene : Scene) (deeds : List Deed) → Beside setting live w scene → Each (λ j. is_live live j ≡ true) js → AreTurns setting live e' scene js deeds
+    → Beside setting live (world_after_events setting.config e (turns_events setting.config live e w js) w) (scene_after setting e' deeds scene)
+unfolding scene_after world_after_events
+turns_beside setting live [] e e' w scene deeds b are t = subst (λ l. Beside setting live w (scene_after setting e' l scene)) (sym t) b
+turns_beside setting live (j ∷ js) e e' w scene deeds b are t =
+    let ticks = max (length setting.config.book) 8 in
+    let xs = turn_events setting.config live ticks e w j in
+    let v = world_after_events setting.config e xs w in
+    let next = scene_after setting e' t.0 scene in
+    both_beside setting live e e' xs (turns_events setting.config live (length xs + e) v js) t.0 t.1 deeds w scene t.2
+    (turns_beside setting live js (length xs + e) (length t.0 + e') v next t.1 (turn_beside setting live ticks e e' j w scene t.0 b are.0 t.3) are.1 t.4)
+
+-- ---- a sweep
+
+site_holds : (w : World) (a : Site) (s : NodeState) (waiting : List Handout) (x : NodeState) → a ≡ Up s waiting → IsSiteIn w a x → Holds a x
+site_holds w a s waiting x up h =
+    let here : IsSiteIn w (Up s waiting) x = subst (λ z. IsSiteIn w z x) up h in
+    subst (λ z. Holds z x) (sym up) (sym here.0)
+
+held : (a : Site) (x : NodeState) → Holds a x → (waiting : List Handout) × (a ≡ Up x waiting)
+held (Down c) x h = absurd h
+held (Up s w) x h = (w, ap (λ z. Up z w) h)
+
+same_holds : (a b : Site) (x : NodeState) → SameSite a b → Holds b x → Holds a x
+same_holds (Down c) (Down d) x h k = absurd k
+same_holds (Down c) (Up t v) x h k = absurd h
+same_holds (Up s w) (Down d) x h k = absurd k
+same_holds (Up s w) (Up t v) x h k = h ∙ k
+
+next_held : (a : Site) (x : NodeState) (token : ℕ) → Holds a x → (row (content_at a) token).next ≡ (row x.content token).next
+next_held (Down c) x token h = absurd h
+next_held (Up s w) x token h = ap (λ (z : NodeState). (row z.content token).next) h
+
+greatest_held : (live js : List ℕ) (w : World) (scene : Scene) (token : ℕ) → Each (λ j. is_live live j ≡ true) js → ((j : ℕ) → is_live live j ≡ true → Holds (scene.sites j) (w.nodes j)) → greatest js w token ≡ greatest_in js scene token
+greatest_held live [] w scene token are h = refl
+greatest_held live (j ∷ js) w scene token are h =
+    ap (λ n. max n (greatest js w token)) (sym (next_held (scene.sites j) (w.nodes j) token (h j are.0)))
+    ∙ ap (λ n. max (next_in scene j token) n) (greatest_held live js w scene token are.1 h)
+
+pub sweeps_level : SweepLevels → SweepsLevel
+sweeps_level law setting before stretch live g are sweep node is =
+    let config = setting.config in
+    let old = scene_of setting before in
+    let x = whole_run setting before g in
+    let w = world_of config setting.floors x.events in
+    let first = length x.events in
+    let start : Beside setting live w old = record {
+      n = x.matches.n;
+      members = λ j live_j. (are j live_j).member;
+      sites = λ j live_j. site_holds w (old.sites j) (are j live_j).state (are j live_j).waiting (w.nodes j) (are j live_j).is_up (x.matches.sites j);
+    } in
+    let up : AreUp live w = λ j live_j.
+    let l = are j live_j in
+    let h = held (old.sites j) (w.nodes j) (start.sites j live_j) in
+    let same : l.state ≡ w.nodes j = same_up l.state l.waiting (w.nodes j) h.0 (sym l.is_up ∙ h.1) in
+    (ap (λ n. is_member n j) x.matches.n ∙ l.member, subst (λ (s : NodeState). s.running ≡ true) same l.running) in
+    let v = world_after_events config first (sweep_events config live first w) w in
+    let steps = filter (is_step_of live) stretch in
+    let after : Beside setting live v (scene_after setting 0 steps old) = turns_beside setting live live first 0 w old steps start (each_live live live (λ i h. h)) sweep in
+    let new = scene_of setting (before ++ stretch) in
+    let whole : new ≡ scene_after setting (length before + 0) stretch old = scenes_append setting 0 before stretch (first_scene setting) in
+    let like = like_filter setting live (length before + 0) 0 stretch old old start.members (λ j live_j. same_self (old.sites j)) in
+    let there : Holds (new.sites node) (v.nodes node) =
+    subst (λ (z : Scene). Holds (z.sites node) (v.nodes node)) (sym whole) (same_holds ((scene_after setting (length before + 0) stretch old).sites node) ((scene_after setting 0 steps old).sites node) (v.nodes node) (like node is) (after.sites node is)) in
+    let at = held (new.sites node) (v.nodes node) there in
+    let l = law config setting.floors x.events live up in
+    let none = l.1 node is in
+    record {
+      is_live = record { member = start.members node is; state = v.nodes node; waiting = at.0; is_up = at.1; running = (l.0 node is).1 };
+      pending = none.0.0;
+      owners = none.0.1;
+      next = λ token low. next_held (new.sites node) (v.nodes node) token there ∙ none.1 token low ∙ greatest_held live live w old token (each_live live live (λ i h. h)) start.sites;
+    }
+  where
+    same_up : (s : NodeState) (w : List Handout) (t : NodeState) (v : List Handout) → Up s w ≡ Up t v → s ≡ t
+    same_up s w t v e = cc
