@@ -9,7 +9,7 @@ use Rattle.floor_store.specs.Range.{IsCount}
 use Rattle.floor_store.specs.declared.fault.StoreFault.{StoreFault}
 use Rattle.vote_core.specs.Schedule.{Envelope, envelope_from, last_boot}
 use Rattle.vote_core.specs.declared.message.Message.{Message}
-use Rattle.oath_node.specs.Calls.{Handles, IsOpened}
+use Rattle.oath_node.specs.Calls.{Handles, IsMade, IsOpened, Takes as TakesEvent}
 use Rattle.oath_node.specs.Hosted.{Hosted, made_of, state_of}
 use Rattle.oath_node.specs.Machine.{Made, Reply, made_by_event, opened_node}
 use Rattle.oath_node.specs.Outputs.{OutputsRecord, datagram_item, outputs_of, reply_item}
@@ -68,24 +68,59 @@ same_made held setting i input old m =
     ap (λ c. made_by_event c old.voter.place (event_of setting.key input) (state_of held old)) m.config
     ∙ ap (λ p. made_by_event setting.config p (event_of setting.key input) (state_of held old)) m.place
 
-pub takes_state : {S : Type 0} (held : S → Held) (setting : Setting) (i : ℕ) (input : Input) (old new : Hosted S) (outputs : OutputsRecord) → IsMemberIn setting i old → Handles held old new (event_of setting.key input) (Ok outputs) → (held new.store).is_clean
-    → state_of held new ≡ (made_by_input setting i input (state_of held old)).state
-takes_state held setting i input old new outputs m h clean = (h.made clean).left ∙ ap (λ (x : Made). x.state) (same_made held setting i input old m)
+left_is : {S : Type 0} (held : S → Held) (setting : Setting) (i : ℕ) (input : Input) (old new : Hosted S) (outputs : OutputsRecord) → IsMemberIn setting i old
+    → IsMade old.key old.voter.place (made_of held old (event_of setting.key input)) outputs (state_of held new) → state_of held new ≡ (made_by_input setting i input (state_of held old)).state
+left_is held setting i input old new outputs m h = h.left ∙ ap (λ (x : Made). x.state) (same_made held setting i input old m)
 
-pub takes_items : {S : Type 0} (held : S → Held) (setting : Setting) (e i : ℕ) (input : Input) (old new : Hosted S) (outputs : OutputsRecord) → IsMemberIn setting i old → Handles held old new (event_of setting.key input) (Ok outputs) → (held new.store).is_clean
-    → outputs.items ≡ map (item_of setting.key) (handouts_of e i (made_by_input setting i input (state_of held old)))
-takes_items held setting e i input old new outputs m h clean =
-    ap (λ (o : OutputsRecord). o.items) (h.made clean).told
+told_is : {S : Type 0} (held : S → Held) (setting : Setting) (e i : ℕ) (input : Input) (old new : Hosted S) (outputs : OutputsRecord) → IsMemberIn setting i old
+    → IsMade old.key old.voter.place (made_of held old (event_of setting.key input)) outputs (state_of held new) → outputs.items ≡ map (item_of setting.key) (handouts_of e i (made_by_input setting i input (state_of held old)))
+told_is held setting e i input old new outputs m h =
+    ap (λ (o : OutputsRecord). o.items) h.told
     ∙ ap (λ k. (outputs_of k old.voter.place (made_of held old (event_of setting.key input))).items) m.key
     ∙ ap (λ p. (outputs_of setting.key p (made_of held old (event_of setting.key input))).items) m.place
     ∙ ap (λ x. (outputs_of setting.key (place_in setting i) x).items) (same_made held setting i input old m)
     ∙ put_out setting e i (made_by_input setting i input (state_of held old))
 
-pub stops_inside : {S : Type 0} (held : S → Held) (setting : Setting) (i : ℕ) (input : Input) (old new : Hosted S) (result : Result OutputsRecord NodeFault) (c : Content) → IsMemberIn setting i old → Handles held old new (event_of setting.key input) result
-    → (held old.store).is_clean → IsSettled (held old.store) → (held new.store).leaves c
+cut_is : {S : Type 0} (held : S → Held) (setting : Setting) (i : ℕ) (input : Input) (old : Hosted S) (c : Content) → IsMemberIn setting i old → IsSettled (held old.store)
+    → (held old.store).leaves c ⊎ (c ≡ (made_of held old (event_of setting.key input)).state.content)
     → (site_cut setting i false input (state_of held old) ≡ Down c) ⊎ (site_cut setting i true input (state_of held old) ≡ Down c)
-stops_inside held setting i input old new result c m h clean settled leaves =
+cut_is held setting i input old c m settled left =
     ⊎_elim
     (λ (was : (held old.store).leaves c). inl (ap (λ x. Down x) (sym (settled c was))))
     (λ (is : c ≡ (made_of held old (event_of setting.key input)).state.content). inr (ap (λ x. Down x) (sym (is ∙ ap (λ (x : Made). x.state.content) (same_made held setting i input old m)))))
-    (h.writes.left clean c leaves)
+    left
+
+-- ---- an event that is handled: taken and committed
+
+pub handles_state : {S : Type 0} (held : S → Held) (setting : Setting) (i : ℕ) (input : Input) (old new : Hosted S) (outputs : OutputsRecord) → IsMemberIn setting i old → Handles held old new (event_of setting.key input) (Ok outputs) → (held new.store).is_clean
+    → state_of held new ≡ (made_by_input setting i input (state_of held old)).state
+handles_state held setting i input old new outputs m h clean = left_is held setting i input old new outputs m (h.made clean)
+
+pub handles_items : {S : Type 0} (held : S → Held) (setting : Setting) (e i : ℕ) (input : Input) (old new : Hosted S) (outputs : OutputsRecord) → IsMemberIn setting i old → Handles held old new (event_of setting.key input) (Ok outputs) → (held new.store).is_clean
+    → outputs.items ≡ map (item_of setting.key) (handouts_of e i (made_by_input setting i input (state_of held old)))
+handles_items held setting e i input old new outputs m h clean = told_is held setting e i input old new outputs m (h.made clean)
+
+pub stops_inside : {S : Type 0} (held : S → Held) (setting : Setting) (i : ℕ) (input : Input) (old new : Hosted S) (result : Result OutputsRecord NodeFault) (c : Content) → IsMemberIn setting i old → Handles held old new (event_of setting.key input) result
+    → (held new.store).is_clean → IsSettled (held old.store) → (held new.store).leaves c
+    → (site_cut setting i false input (state_of held old) ≡ Down c) ⊎ (site_cut setting i true input (state_of held old) ≡ Down c)
+stops_inside held setting i input old new result c m h clean settled leaves = cut_is held setting i input old c m settled (h.writes.left clean c leaves)
+
+-- ---- an event that is taken, and a commit
+
+pub takes_state : {S : Type 0} (held : S → Held) (setting : Setting) (i : ℕ) (input : Input) (old new : Hosted S) (outputs : OutputsRecord) → IsMemberIn setting i old → TakesEvent held old new (event_of setting.key input) (Ok outputs) → (held new.store).is_clean
+    → state_of held new ≡ (made_by_input setting i input (state_of held old)).state
+takes_state held setting i input old new outputs m h clean = left_is held setting i input old new outputs m (h.made clean)
+
+pub takes_items : {S : Type 0} (held : S → Held) (setting : Setting) (e i : ℕ) (input : Input) (old new : Hosted S) (outputs : OutputsRecord) → IsMemberIn setting i old → TakesEvent held old new (event_of setting.key input) (Ok outputs) → (held new.store).is_clean
+    → outputs.items ≡ map (item_of setting.key) (handouts_of e i (made_by_input setting i input (state_of held old)))
+takes_items held setting e i input old new outputs m h clean = told_is held setting e i input old new outputs m (h.made clean)
+
+-- what a stop before the commit leaves: what one before the event could leave, or what the step makes
+pub stops_before : {S : Type 0} (held : S → Held) (setting : Setting) (i : ℕ) (input : Input) (old new : Hosted S) (result : Result OutputsRecord NodeFault) (c : Content) → IsMemberIn setting i old → TakesEvent held old new (event_of setting.key input) result
+    → (held new.store).is_clean → (held new.store).leaves c
+    → (held old.store).leaves c ⊎ (site_cut setting i true input (state_of held old) ≡ Down c)
+stops_before held setting i input old new result c m h clean leaves =
+    ⊎_elim
+    (λ (was : (held old.store).leaves c). inl was)
+    (λ (is : c ≡ (made_of held old (event_of setting.key input)).state.content). inr (ap (λ x. Down x) (sym (is ∙ ap (λ (x : Made). x.state.content) (same_made held setting i input old m)))))
+    (h.puts.left (h.puts.makes.clean clean) c leaves)

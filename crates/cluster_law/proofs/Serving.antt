@@ -1,22 +1,26 @@
 -- A process among all that happens, by itself: its site, and what its turns come to.
-use Rattle.std.proofs.Common.{◌≡◌, ℕ, suc, ⊎_elim, Bool, true, false, cond, List, [], ◌∷◌, ◌++◌, map, Option, Some, None, refl, sym, ap, ◌∙◌, subst, eqb}
-use Rattle.std.proofs.lemmas.Bool.{cond_both, cond-true, cond-false, cases_Bool, eqb-true}
+use Rattle.std.proofs.Common.{◌≡◌, ℕ, suc, ◌≤◌, ⊎_elim, Bool, true, false, cond, List, [], ◌∷◌, ◌++◌, length, map, take, Option, Some, None, refl, sym, ap, ◌∙◌, subst, eqb}
+use Rattle.std.proofs.lemmas.Bool.{cond_both, cond-true, cond-false, cases_Bool, eq-eqb, eqb-true}
 use Rattle.std.proofs.lemmas.List.{append-nil, append_assoc, map-append}
 use Rattle.vote_core.specs.Schedule.{is_member}
 use Rattle.oath_node.specs.Machine.{Made, NodeState}
-use Rattle.floor_store.specs.Held.{Held}
+use Rattle.floor_store.specs.Content.{Content}
+use Rattle.floor_store.specs.Held.{Held, IsSettled}
+use Rattle.oath_node.specs.declared.fault.NodeFault.{NodeFault}
 use Rattle.oath_node.specs.Hosted.{Hosted, state_of}
 use Rattle.oath_node.specs.Outputs.{outputs_of}
-use Rattle.node_turns.specs.Serving.{Serves, Stands}
+use Rattle.node_turns.specs.Serving.{EndsSettled, FailsAfter, IsAmong, Serves, Stands, run_over as run_of}
 use Rattle.node_turns.specs.declared.turns.Served.{Served}
 use Rattle.std.proofs.lemmas.Option.{same_Some}
-use Rattle.std.specs.Prelude.{Ok}
+use Rattle.std.specs.Prelude.{Result, Ok, Err}
+use Rattle.node_turns.specs.declared.fault.ServeFault.{ServeFault}
+use Rattle.node_turns.specs.declared.fault.ServeFault.TheVariants.{Clock, Node, Port}
 use Rattle.node_turns.specs.Port.{PortEvent}
-use Rattle.node_turns.specs.Turns.{Member, Receipt, Run, entry_of, member_of, offer_of, receives_in, run_at, offers_in, run_with_event, run_with_events, run_with_turns}
-use Rattle.cluster_law.specs.Lives.{Deed, Opens, FailsToOpen, Takes, Offers, Stops, StopsIn, Handout, Input, Scene, Setting, Site, Up, event_of, handouts_of, made_by_input, node_of_deed, nodes_of, offers_by, own_offers, own_site, place_in, scene_after, scene_after_deed, scene_at, site_after}
-use Rattle.cluster_law.specs.Processes.{AreServing, IsEndedNode, IsMemberIn, IsServed, IsServedNode, IsServing, TakesTurns, events_of_turns, input_of, inputs_at, item_of, member_in, offer_of_handout, run_over}
+use Rattle.node_turns.specs.Turns.{Member, Receipt, Run, entry_of, events_of_turns, member_of, offer_of, offers_in, receipts_in, receives_in, run_at, run_with_batches, run_with_event, run_with_events, run_with_receipts}
+use Rattle.cluster_law.specs.Lives.{Deed, Opens, FailsToOpen, Takes, Offers, Stops, StopsIn, Handout, Input, Scene, Setting, Site, Down, Up, event_of, handouts_of, made_by_input, node_of_deed, nodes_of, offers_by, own_offers, own_site, place_in, scene_after, scene_after_deed, scene_at, site_after}
+use Rattle.cluster_law.specs.Processes.{AreServing, IsEndedNode, IsFailedNode, IsMemberIn, IsNoFaultOfNode, IsServed, IsServedNode, IsServing, IsStopped, TakesSome, TakesTurns, events_after, input_of, inputs_at, item_of, member_in, offer_of_handout, run_over}
 use Rattle.cluster_law.proofs.Calls.{put_out}
-use Rattle.cluster_law.proofs.Events.{Does, all_end, are_events}
+use Rattle.cluster_law.proofs.Events.{Does, all_done, all_end, append_events, events_add, events_do, receipts_do, receipts_end}
 
 -- ---- a node's site is its own deeds'
 
@@ -151,19 +155,24 @@ serves setting node e ds s g =
     let t = goes_on setting node e ds s [] [] (run_at s) g refl refl in
     record { left = t.left; site = t.site; offered = t.entries }
 
-pub serves_turns : (setting : Setting) (node e : ℕ) (ds : List Deed) (s : NodeState) (receipts : List Receipt) → AreServing node ds → TakesTurns setting node ds receipts
-    → (run_with_turns (member_in setting node) receipts (run_at s)).end ≡ None
-    → IsServed setting node e ds s (run_with_turns (member_in setting node) receipts (run_at s)).node (offers_in (run_with_turns (member_in setting node) receipts (run_at s)).entries)
-serves_turns setting node e ds s receipts g takes end =
+-- a run that does what the run over the node's events does
+served_run : (setting : Setting) (node e : ℕ) (ds : List Deed) (s : NodeState) (receipts : List Receipt) (run : Run) → AreServing node ds → TakesTurns setting node ds receipts
+    → Does run (run_with_events (member_in setting node) (events_of_turns setting.key 0 receipts) (run_at s)) → IsServed setting node e ds s run.node (offers_in run.entries)
+served_run setting node e ds s receipts run g takes does =
     let t = serves setting node e ds s g in
-    let m = member_in setting node in
-    let are = are_events m receipts s end in
-    let same : run_over setting node ds s ≡ run_with_events m (events_of_turns setting.key 0 receipts) (run_at s) = ap (λ es. run_with_events m es (run_at s)) takes in
+    let same : run_over setting node ds s ≡ run_with_events (member_in setting node) (events_of_turns setting.key 0 receipts) (run_at s) = ap (λ es. run_with_events (member_in setting node) es (run_at s)) takes in
     record {
       left = t.left;
-      site = t.site ∙ ap (λ x. Up x t.left) (ap (λ (r : Run). r.node) same ∙ sym are.node);
-      offered = are.offers ∙ ap (λ (r : Run). r.entries) (sym same) ∙ t.offered;
+      site = t.site ∙ ap (λ x. Up x t.left) (ap (λ (r : Run). r.node) same ∙ sym does.node);
+      offered = does.offers ∙ ap (λ (r : Run). r.entries) (sym same) ∙ t.offered;
     }
+
+pub serves_turns : (setting : Setting) (node e : ℕ) (ds : List Deed) (s : NodeState) (batches : List (List Receipt)) → AreServing node ds → TakesTurns setting node ds (receipts_in batches)
+    → (run_with_batches (member_in setting node) batches (run_at s)).end ≡ None
+    → IsServed setting node e ds s (run_with_batches (member_in setting node) batches (run_at s)).node (offers_in (run_with_batches (member_in setting node) batches (run_at s)).entries)
+serves_turns setting node e ds s batches g takes end =
+    let run = run_with_batches (member_in setting node) batches (run_at s) in
+    served_run setting node e ds s (receipts_in batches) run g takes (all_done (member_in setting node) batches s end).does
 
 -- ---- a call of run_turns
 
@@ -174,60 +183,130 @@ same_member setting node process m =
     ∙ ap (λ x. record { config = setting.config; key = x; place = process.voter.place }) k
     ∙ ap (λ x. record { config = setting.config; key = setting.key; place = x }) p
 
+-- the run of a process is that of its node
+over_member : {S : Type 0} (held : S → Held) (setting : Setting) (node : ℕ) (old : Hosted S) (batches : List (List Receipt)) → IsMemberIn setting node old
+    → run_of held old batches ≡ run_with_batches (member_in setting node) batches (run_at (state_of held old))
+over_member held setting node old batches m = ap (λ n. run_with_batches n batches (run_at (state_of held old))) (same_member setting node old m)
+
 pub serves_node : {S : Type 0} (held : S → Held) (setting : Setting) (node e : ℕ) (ds : List Deed) (old new : Hosted S) (entries : List PortEvent) (asked told : Option (List (Option ℕ))) (turns : ℕ) (served : Served)
     → IsMemberIn setting node old → Serves held old new (Some []) (Some entries) asked told turns (Ok served) → (held new.store).is_clean
     → IsServedNode setting node e ds (state_of held old) (state_of held new) entries
 serves_node held setting node e ds old new entries asked told turns served m s clean =
     let x = s.exact clean in
     let state = state_of held old in
-    let run = run_with_turns (member_of old) s.receipts (run_at state) in
-    let all : run.entries ≡ entries = same_Some run.entries entries x.0.entries in
-    let same = same_member setting node old m in
+    let batches = s.batches in
+    let run = run_with_batches (member_in setting node) batches (run_at state) in
+    let is : run_of held old batches ≡ run = over_member held setting node old batches m in
+    let all : run.entries ≡ entries = sym (ap (λ (r : Run). r.entries) is) ∙ same_Some (run_of held old batches).entries entries x.0.entries in
+    let left : state_of held new ≡ run.node = x.0.state ∙ ap (λ (r : Run). r.node) is in
+    let going : run.end ≡ None = sym (ap (λ (r : Run). r.end) is) ∙ x.1 in
     record {
-      receipts = s.receipts;
-      received = same_Some (map entry_of s.receipts) (receives_in entries) s.receives;
+      batches = batches;
+      received = same_Some (map entry_of (receipts_in batches)) (receives_in entries) s.receives;
       served = λ serving takes.
-          let of_run : (n : Member) → n ≡ member_in setting node → (run_with_turns n s.receipts (run_at state)).end ≡ None
-          → IsServed setting node e ds state (run_with_turns n s.receipts (run_at state)).node (offers_in (run_with_turns n s.receipts (run_at state)).entries) =
-          λ n q end. subst (λ (z : Member). (run_with_turns z s.receipts (run_at state)).end ≡ None → IsServed setting node e ds state (run_with_turns z s.receipts (run_at state)).node (offers_in (run_with_turns z s.receipts (run_at state)).entries)) (sym q)
-          (λ end2. serves_turns setting node e ds state s.receipts serving takes end2) end in
           subst (λ es. IsServed setting node e ds state (state_of held new) (offers_in es)) all
-          (subst (λ z. IsServed setting node e ds state z (offers_in run.entries)) (sym x.0.state) (of_run (member_of old) same x.1));
+          (subst (λ z. IsServed setting node e ds state z (offers_in run.entries)) (sym left) (serves_turns setting node e ds state batches serving takes going));
     }
 
--- a call that ended by the port or the clock
-ended_run : (setting : Setting) (node e : ℕ) (ds : List Deed) (s : NodeState) (receipts gone : List Receipt) → AreServing node ds → TakesTurns setting node ds gone
-    → Does (run_with_turns (member_in setting node) receipts (run_at s)) (run_with_events (member_in setting node) (events_of_turns setting.key 0 gone) (run_at s))
-    → IsServed setting node e ds s (run_with_turns (member_in setting node) receipts (run_at s)).node (offers_in (run_with_turns (member_in setting node) receipts (run_at s)).entries)
-ended_run setting node e ds s receipts gone g takes does =
-    let t = serves setting node e ds s g in
-    let m = member_in setting node in
-    let same : run_over setting node ds s ≡ run_with_events m (events_of_turns setting.key 0 gone) (run_at s) = ap (λ es. run_with_events m es (run_at s)) takes in
-    record {
-      left = t.left;
-      site = t.site ∙ ap (λ x. Up x t.left) (ap (λ (r : Run). r.node) same ∙ sym does.node);
-      offered = does.offers ∙ ap (λ (r : Run). r.entries) (sym same) ∙ t.offered;
-    }
-
-pub ends_node : {S : Type 0} (held : S → Held) (setting : Setting) (node e : ℕ) (ds : List Deed) (old new : Hosted S) (entries : List PortEvent) (receipts : List Receipt)
-    → IsMemberIn setting node old → map entry_of receipts ≡ receives_in entries → Stands held (Some []) new (Some entries) (run_with_turns (member_of old) receipts (run_at (state_of held old)))
+pub ends_node : {S : Type 0} (held : S → Held) (setting : Setting) (node e : ℕ) (ds : List Deed) (old new : Hosted S) (entries : List PortEvent) (batches : List (List Receipt))
+    → IsMemberIn setting node old → map entry_of (receipts_in batches) ≡ receives_in entries → Stands held (Some []) new (Some entries) (run_of held old batches)
     → IsEndedNode setting node e ds (state_of held old) (state_of held new) entries
-ends_node held setting node e ds old new entries receipts m received stands =
+ends_node held setting node e ds old new entries batches m received stands =
     let state = state_of held old in
-    let n = member_in setting node in
-    let same = same_member setting node old m in
-    let here : Stands held (Some []) new (Some entries) (run_with_turns n receipts (run_at state)) =
-    subst (λ (z : Member). Stands held (Some []) new (Some entries) (run_with_turns z receipts (run_at state))) same stands in
-    let run = run_with_turns n receipts (run_at state) in
-    let all : run.entries ≡ entries = same_Some run.entries entries here.entries in
-    let x = all_end n receipts state in
+    let run = run_with_batches (member_in setting node) batches (run_at state) in
+    let is : run_of held old batches ≡ run = over_member held setting node old batches m in
+    let all : run.entries ≡ entries = sym (ap (λ (r : Run). r.entries) is) ∙ same_Some (run_of held old batches).entries entries stands.entries in
+    let left : state_of held new ≡ run.node = stands.state ∙ ap (λ (r : Run). r.node) is in
+    let x = all_end (member_in setting node) batches state in
     record {
-      receipts = receipts;
+      batches = batches;
       received = received;
       gone = x.gone;
       later = x.later;
       split = x.split;
       served = λ serving takes.
           subst (λ es. IsServed setting node e ds state (state_of held new) (offers_in es)) all
-          (subst (λ z. IsServed setting node e ds state z (offers_in run.entries)) (sym here.state) (ended_run setting node e ds state receipts x.gone serving takes x.does));
+          (subst (λ z. IsServed setting node e ds state z (offers_in run.entries)) (sym left) (served_run setting node e ds state (receipts_in x.gone) run serving takes x.does.does));
     }
+
+-- ---- a call that a fault of the node ended
+
+-- one deed more
+own_stop : (setting : Setting) (node e : ℕ) (ds : List Deed) (a : Site) (s : NodeState) (waiting : List Handout) → own_site setting node e ds a ≡ Up s waiting → own_site setting node e (ds ++ Stops node ∷ []) a ≡ Down s.content
+unfolding own_site
+own_stop setting node e [] a s waiting is =
+    cond-true (eqb node node) (site_after setting e (Stops node) a) a (eq-eqb node node refl) ∙ ap (λ z. site_after setting e (Stops node) z) is
+own_stop setting node e (d ∷ ds) a s waiting is = own_stop setting node (suc e) ds (cond (eqb node (node_of_deed d)) (site_after setting e d a) a) s waiting is
+
+-- the node that took what was served, and the first events of a batch
+stopped_run : (setting : Setting) (node e : ℕ) (ds : List Deed) (s : NodeState) (before last : List Receipt) (count : ℕ) (run : Run) (content : Content) → AreServing node ds → TakesSome setting node ds before last count
+    → Does run (run_with_events (member_in setting node) (events_of_turns setting.key 0 before) (run_at s))
+    → content ≡ (run_with_events (member_in setting node) (take count (events_after setting.key before last)) run).node.content
+    → IsStopped setting node e ds s (offers_in run.entries) content
+stopped_run setting node e ds s before last count run content g takes does is =
+    let m = member_in setting node in
+    let first = events_of_turns setting.key 0 before in
+    let some = take count (events_after setting.key before last) in
+    let base = run_with_events m first (run_at s) in
+    let whole = run_over setting node ds s in
+    let same : whole ≡ run_with_events m some base = ap (λ es. run_with_events m es (run_at s)) takes ∙ append_events m first some (run_at s) in
+    let more = events_add m some base in
+    let t = serves setting node e ds s g in
+    let end = events_do m some run base does in
+    let left : content ≡ whole.node.content = is ∙ ap (λ (x : NodeState). x.content) (end.node ∙ sym (ap (λ (r : Run). r.node) same)) in
+    record {
+      new = whole.node;
+      rest = more.0;
+      served = record {
+        left = t.left;
+        site = t.site;
+        offered = ap (λ es. es ++ more.0) does.offers ∙ sym more.1 ∙ ap (λ (r : Run). r.entries) (sym same) ∙ t.offered;
+      };
+      stops = own_stop setting node e ds (Up s []) whole.node t.left t.site ∙ ap (λ c. Down c) (sym left);
+    }
+
+pub fails_node : {S : Type 0} (held : S → Held) (setting : Setting) (node e : ℕ) (ds : List Deed) (old new : Hosted S) (entries : List PortEvent) (batches : List (List Receipt)) (fault : NodeFault) (content : Content)
+    → IsMemberIn setting node old → map entry_of (receipts_in batches) ≡ receives_in entries → FailsAfter held old new (Some []) (Some entries) batches fault → IsSettled (held old.store) → (held new.store).leaves content
+    → IsFailedNode setting node e ds (state_of held old) entries content
+fails_node held setting node e ds old new entries batches fault content m received f settled leaves =
+    let state = state_of held old in
+    let n = member_in setting node in
+    let before = receipts_in f.before in
+    let run = run_with_batches n f.before (run_at state) in
+    let is : run_of held old f.before ≡ run = over_member held setting node old f.before m in
+    let going : run.end ≡ None = sym (ap (λ (r : Run). r.end) is) ∙ f.going in
+    let done = all_done n f.before state going in
+    let key : old.key ≡ setting.key = m.key in
+    -- the events of the last batch
+    let events : events_of_turns old.key (run_of held old f.before).tally.received f.last ≡ events_after setting.key before f.last =
+    ap (λ k. events_of_turns k (run_of held old f.before).tally.received f.last) key
+    ∙ ap (λ (r : Run). events_of_turns setting.key r.tally.received f.last) is
+    ∙ ap (λ k. events_of_turns setting.key k f.last) done.count in
+    let among : IsAmong (member_of old) (run_of held old f.before) (events_of_turns old.key (run_of held old f.before).tally.received f.last) content = f.left settled content leaves in
+    let content_is : content ≡ (run_with_events n (take among.count (events_after setting.key before f.last)) run).node.content =
+    among.is
+    ∙ ap (λ es. (run_with_events (member_of old) (take among.count es) (run_of held old f.before)).node.content) events
+    ∙ ap (λ z. (run_with_events z (take among.count (events_after setting.key before f.last)) (run_of held old f.before)).node.content) (same_member setting node old m)
+    ∙ ap (λ r. (run_with_events n (take among.count (events_after setting.key before f.last)) r).node.content) is in
+    -- what was offered
+    let kept : (run_with_receipts f.last (run_of held old f.before)).entries ≡ entries = same_Some (run_with_receipts f.last (run_of held old f.before)).entries entries f.fails.kept in
+    let does : Does (run_with_receipts f.last run) (run_with_events n (events_of_turns setting.key 0 before) (run_at state)) =
+    receipts_do f.last run (run_with_events n (events_of_turns setting.key 0 before) (run_at state)) done.does in
+    let offers : offers_in entries ≡ offers_in run.entries =
+    sym (ap (λ es. offers_in es) kept) ∙ ap (λ r. offers_in (run_with_receipts f.last r).entries) is ∙ does.offers ∙ sym done.does.offers in
+    record {
+      before = f.before;
+      last = f.last;
+      received = ap (λ l. map entry_of l) (sym (receipts_end f.before f.last)) ∙ ap (λ l. map entry_of (receipts_in l)) (sym f.batches_are) ∙ received;
+      count = among.count;
+      within = subst (λ es. among.count ≤ length es) events among.within;
+      served = λ serving takes.
+          subst (λ os. IsStopped setting node e ds state os content) (sym offers) (stopped_run setting node e ds state before f.last among.count run content serving takes done.does content_is);
+    }
+
+-- what a stop leaves after any other end
+pub leaves_content : {S : Type 0} (held : S → Held) (new : Hosted S) (result : Result Served ServeFault) (content : Content) → IsNoFaultOfNode result → EndsSettled (held new.store) result → (held new.store).leaves content → content ≡ (state_of held new).content
+leaves_content held new (Ok served) content other settled leaves = settled content leaves
+leaves_content held new (Err (Node fault)) content other settled leaves = absurd other
+leaves_content held new (Err Port) content other settled leaves = settled content leaves
+leaves_content held new (Err Clock) content other settled leaves = settled content leaves

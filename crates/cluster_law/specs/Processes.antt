@@ -1,5 +1,5 @@
 -- What a process of a node is in a history: a node over a store, opened by `Node::open` and served by `run_turns`.
-use Rattle.std.specs.Prelude.{◌≡◌, ℕ, ◌+◌, ◌==◌, Bool, if◌then◌else◌, List, [], ◌∷◌, ◌++◌, map}
+use Rattle.std.specs.Prelude.{◌≡◌, ℕ, ◌==◌, ◌≤◌, Bool, if◌then◌else◌, List, [], ◌∷◌, ◌++◌, length, map, take, Result, Err}
 use Rattle.floor_store.specs.Content.{Content}
 use Rattle.vote_wire.specs.Datagram.{datagram_bytes}
 use Rattle.oath_node.specs.Hosted.{Hosted, config_of}
@@ -7,7 +7,10 @@ use Rattle.oath_node.specs.Machine.{NodeEvent, NodeState}
 use Rattle.oath_node.specs.declared.item.Item.{Item}
 use Rattle.oath_node.specs.declared.item.Item.TheVariants.{Datagram as DatagramItem, Reply}
 use Rattle.node_turns.specs.Port.{PortEvent}
-use Rattle.node_turns.specs.Turns.{Member, Receipt, Run, FromPeer, FromClient, Nothing, Failure, entry_of, events_of_turn, offer_of, offers_in, receives_in, run_at, run_with_events, run_with_turns}
+use Rattle.node_turns.specs.Turns.{Member, Receipt, Run, entry_of, events_of_turns, offer_of, offers_in, receipts_in, received_after, receives_in, run_at, run_with_batches, run_with_events}
+use Rattle.node_turns.specs.declared.fault.ServeFault.{ServeFault}
+use Rattle.node_turns.specs.declared.fault.ServeFault.TheVariants.{Node}
+use Rattle.node_turns.specs.declared.turns.Served.{Served}
 use Rattle.cluster_law.specs.Lives.{Deed, Opens, FailsToOpen, Takes, Offers, Stops, StopsIn, Handout, Post, Answer, Input, Setting, Down, Up, event_of, node_of_deed, own_offers, own_site, place_in, site_half_opened}
 
 -- ---- The node
@@ -84,50 +87,74 @@ abbrev pub run_over : Setting → ℕ → List Deed → NodeState → Run
 run_over setting node deeds state =
     run_with_events (member_in setting node) (map (event_of setting.key) (inputs_at node deeds)) (run_at state)
 
--- the datagrams that were received so far, with this receipt
-abbrev pub received_with : Receipt → ℕ → ℕ
-received_with (FromPeer from bytes) received = received + 1
-received_with (FromClient client bytes moment) received = received + 1
-received_with Nothing received = received
-received_with Failure received = received
-
--- the events of turns with these receipts, after this number of datagrams
-abbrev pub events_of_turns : List ℕ → ℕ → List Receipt → List NodeEvent
-events_of_turns key received [] = []
-events_of_turns key received (receipt ∷ receipts) =
-    let count = received_with receipt received in
-    events_of_turn key count receipt ++ events_of_turns key count receipts
-
--- turns that go on come to the run over their events: the same node, and the same offers in the same order
-pub record AreEvents (member : Member) (receipts : List Receipt) (state : NodeState) : Type 0 where
-  pub node : (run_with_turns member receipts (run_at state)).node
-      ≡ (run_with_events member (events_of_turns member.key 0 receipts) (run_at state)).node
-  pub offers : offers_in (run_with_turns member receipts (run_at state)).entries
-      ≡ (run_with_events member (events_of_turns member.key 0 receipts) (run_at state)).entries
+-- batches that go on come to the run over their events: the same node, and the same offers in the same order
+pub record AreEvents (member : Member) (batches : List (List Receipt)) (state : NodeState) : Type 0 where
+  pub node : (run_with_batches member batches (run_at state)).node
+      ≡ (run_with_events member (events_of_turns member.key 0 (receipts_in batches)) (run_at state)).node
+  pub offers : offers_in (run_with_batches member batches (run_at state)).entries
+      ≡ (run_with_events member (events_of_turns member.key 0 (receipts_in batches)) (run_at state)).entries
 
 -- what the node takes in these deeds is what turns with these receipts hand in
 abbrev pub TakesTurns : Setting → ℕ → List Deed → List Receipt → Type 0
 TakesTurns setting node deeds receipts =
     map (event_of setting.key) (inputs_at node deeds) ≡ events_of_turns setting.key 0 receipts
 
--- What a call of `run_turns` that ended by Ok was to its port, whose record was empty before: some receives; and where
--- the deeds of its node are those of a process that goes on and takes turns with these, its state and what it offered,
--- with what is left to offer, is the history's.
+-- ---- A call that serves it, over a port whose record was empty before
+
+-- It ended by Ok: there were some receives; and where the deeds of its node are those of a process that goes on and
+-- takes turns with these, its state and what it offered, with what is left to offer, is the history's.
 pub record IsServedNode (setting : Setting) (node first : ℕ) (deeds : List Deed) (state new : NodeState)
     (entries : List PortEvent) : Type 0 where
-  pub receipts : List Receipt
-  pub received : map entry_of receipts ≡ receives_in entries
-  pub served : AreServing node deeds → TakesTurns setting node deeds receipts
+  pub batches : List (List Receipt)
+  pub received : map entry_of (receipts_in batches) ≡ receives_in entries
+  pub served : AreServing node deeds → TakesTurns setting node deeds (receipts_in batches)
       → IsServed setting node first deeds state new (offers_in entries)
 
--- The same of a call that ended by a fault of the port or the clock: the turns are those up to that fault, which hands
--- in nothing.
+-- It ended by a fault of the port or the clock: the same, with the batches up to the one that had that fault.
 pub record IsEndedNode (setting : Setting) (node first : ℕ) (deeds : List Deed) (state new : NodeState)
     (entries : List PortEvent) : Type 0 where
-  pub receipts : List Receipt
-  pub received : map entry_of receipts ≡ receives_in entries
-  pub gone : List Receipt
-  pub later : List Receipt
-  pub split : receipts ≡ gone ++ later
-  pub served : AreServing node deeds → TakesTurns setting node deeds gone
+  pub batches : List (List Receipt)
+  pub received : map entry_of (receipts_in batches) ≡ receives_in entries
+  pub gone : List (List Receipt)
+  pub later : List (List Receipt)
+  pub split : batches ≡ gone ++ later
+  pub served : AreServing node deeds → TakesTurns setting node deeds (receipts_in gone)
       → IsServed setting node first deeds state new (offers_in entries)
+
+-- the events of a batch with these receipts, which comes after those
+abbrev pub events_after : List ℕ → List Receipt → List Receipt → List NodeEvent
+events_after key before batch = events_of_turns key (received_after before 0) batch
+
+-- What the node takes in these deeds is what turns with these receipts hand in, and the first so many events of a batch
+-- after them.
+abbrev pub TakesSome : Setting → ℕ → List Deed → List Receipt → List Receipt → ℕ → Type 0
+TakesSome setting node deeds before batch count =
+    map (event_of setting.key) (inputs_at node deeds)
+    ≡ events_of_turns setting.key 0 before ++ take count (events_after setting.key before batch)
+
+-- Among all that happens, in which its own deeds are those of a process that goes on and then stops, a process that was
+-- in this state leaves this content. Of what it has offered, with what was left to offer, this is a beginning.
+pub record IsStopped (setting : Setting) (node first : ℕ) (deeds : List Deed) (state : NodeState)
+    (offers : List PortEvent) (content : Content) : Type 0 where
+  pub new : NodeState
+  pub rest : List PortEvent
+  pub served : IsServed setting node first deeds state new (offers ++ rest)
+  pub stops : own_site setting node first (deeds ++ Stops node ∷ []) (Up state []) ≡ Down content
+
+-- It ended by a fault of the node, and a stop leaves this content: the batches before the last are served. Where the
+-- process takes turns with those, and then the first so many events of the last, and stops, it leaves that content; and
+-- nothing was offered for those events.
+pub record IsFailedNode (setting : Setting) (node first : ℕ) (deeds : List Deed) (state : NodeState)
+    (entries : List PortEvent) (content : Content) : Type 0 where
+  pub before : List (List Receipt)
+  pub last : List Receipt
+  pub received : map entry_of (receipts_in before ++ last) ≡ receives_in entries
+  pub count : ℕ
+  pub within : count ≤ length (events_after setting.key (receipts_in before) last)
+  pub served : AreServing node deeds → TakesSome setting node deeds (receipts_in before) last count
+      → IsStopped setting node first deeds state (offers_in entries) content
+
+-- it didn't end by a fault of the node
+abbrev pub IsNoFaultOfNode : Result Served ServeFault → Type 0
+IsNoFaultOfNode (Err (Node fault)) = ⊥
+IsNoFaultOfNode _ = Unit {0}

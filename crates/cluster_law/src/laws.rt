@@ -11,24 +11,25 @@ ghost use Rattle.floor_store.specs.Held.{IsSettled, RaisesBoot};
 ghost use Rattle.floor_store.specs.Range.{IsCount};
 ghost use Rattle.floor_store.specs.declared.fault.StoreFault.{StoreFault};
 ghost use Rattle.vote_core.specs.Schedule.{is_member};
-ghost use Rattle.oath_node.specs.Calls.{Handles, IsOpened};
+ghost use Rattle.oath_node.specs.Calls.{CommitsNode, Handles, IsOpened, Takes as TakesEvent};
 ghost use Rattle.oath_node.specs.Hosted.{Hosted, state_of};
 ghost use Rattle.oath_node.specs.Machine.{Config, NodeState, opened_node};
 ghost use Rattle.oath_node.specs.Outputs.{OutputsRecord};
 ghost use Rattle.oath_node.specs.declared.fault.NodeFault.{NodeFault};
-ghost use Rattle.node_turns.specs.Turns.{Receipt, offers_in, run_at, run_with_turns};
+ghost use Rattle.node_turns.specs.Turns.{Receipt, offers_in, receipts_in, run_at, run_with_batches};
 ghost use Rattle.vote_wire.specs.declared.answer.Outcome.TheVariants.{Accepted, Invalid};
 ghost use Rattle.cluster_sim.specs.Examples.{acceptance, told_outcome};
 ghost use Rattle.node_turns.specs.Port.{PortEvent};
 ghost use Rattle.node_turns.specs.Serving.{Serves};
-ghost use Rattle.node_turns.specs.declared.fault.ServeFault.TheVariants.{Clock, Port};
+ghost use Rattle.node_turns.specs.declared.fault.ServeFault.{ServeFault};
+ghost use Rattle.node_turns.specs.declared.fault.ServeFault.TheVariants.{Clock, Node, Port};
 ghost use Rattle.node_turns.specs.declared.turns.Served.{Served};
 ghost use Rattle.cluster_law.specs.Answered.{AnswersAll, EndsProcess, HasYetToOffer, IsAnsweredInDeed, IsLost, IsOfferedOrEnds};
 ghost use Rattle.cluster_law.specs.Bytes.{IsSized, IsUnforgedHistory};
 ghost use Rattle.cluster_law.specs.Examples.{among_strangers, answer_out, answers_once, clock_node, comes_to_nobody, content_of_boot, ends_after_the_answer, ends_before_the_answer, ends_behind, ends_in_the_step, first_ok, first_pass, floor_comes, floor_out, grant_before_its_offer, grant_from, granted_by_two, one_node, one_open, opens_twice, quiet_node, right_line, stop_in_a_forged_grant, strangers, takes_behind, takes_twice, tells_both, three_nodes, told_by_reference, two_open};
 ghost use Rattle.cluster_law.specs.Justified.{IsJustifiedInDeed, JustifiesAll, drift_in, moment_in_deed, results_held};
 ghost use Rattle.cluster_law.specs.Lives.{Deed, Down, Input, IsHistory, Offers, Opens, Scene, Setting, Site, Stops, StopsIn, Takes, Time, Up, accepted_in, answered_in, answers_among, content_at, event_of, first_scene, floor_in, handouts_of, made_by_input, nodes_of, offers_by, own_site, scene_after, scene_of, site_after, site_cut, site_half_opened, site_offered, site_opened};
-ghost use Rattle.cluster_law.specs.Processes.{AreServing, IsHalfOpened, IsEndedNode, IsMemberIn, IsServed, IsServedNode, TakesTurns, item_of, member_in, run_over};
+ghost use Rattle.cluster_law.specs.Processes.{AreServing, IsEndedNode, IsFailedNode, IsHalfOpened, IsMemberIn, IsNoFaultOfNode, IsServed, IsServedNode, TakesTurns, item_of, member_in, run_over};
 ghost use Rattle.cluster_law.specs.Promises.{AnswerTruly, IsExplained, IsRunOf};
 ghost use Rattle.cluster_law.specs.SingleNode.{IsPartOf, reference_of, setting_of_one};
 ghost use Rattle.cluster_law.specs.Sweeps.{IsSweep, IsTick, SweepsLevel, greatest_in, is_step_of};
@@ -112,35 +113,54 @@ pub fn calls_are_deeds<S: FloorStore>()
     ensures half_opens { (store left : S) (result : Result S StoreFault) (content : Content)
         → RaisesBoot S.held store left result → IsSettled (S.held store) → (S.held left).leaves content
         → IsCount content.boot → IsHalfOpened (S.held store).content content }
-    // A node that `Node::handle` took through an event is the site that took it, and hands out the same.
+    // A node that took an event is the site that took it, and hands out the same; after the commit it is so still, and a
+    // stop leaves its content and nothing else.
     ensures takes { (setting : Setting) (place : ℕ) (input : Input) (old new : Hosted S) (outputs : OutputsRecord)
-        → IsMemberIn setting place old → Handles S.held old new (event_of setting.key input) (Ok outputs)
+        → IsMemberIn setting place old → TakesEvent S.held old new (event_of setting.key input) (Ok outputs)
         → (S.held new.store).is_clean
         → state_of S.held new ≡ (made_by_input setting place input (state_of S.held old)).state }
     ensures hands_out { (setting : Setting) (event place : ℕ) (input : Input) (old new : Hosted S)
         (outputs : OutputsRecord)
-        → IsMemberIn setting place old → Handles S.held old new (event_of setting.key input) (Ok outputs)
+        → IsMemberIn setting place old → TakesEvent S.held old new (event_of setting.key input) (Ok outputs)
         → (S.held new.store).is_clean
         → let made = made_by_input setting place input (state_of S.held old) in
         outputs.items ≡ map (item_of setting.key) (handouts_of event place made) }
-    // What a stop leaves of its store in that call, however it ends, is what a process leaves that ended inside the
-    // step: what was there, or what the step makes.
+    ensures commits { (old new : Hosted S) (done : Unit {0}) → CommitsNode S.held old new (Ok done)
+        → (S.held new.store).is_clean
+        → (state_of S.held new ≡ state_of S.held old) × IsSettled (S.held new.store) }
+    // What a stop before the commit leaves of its store, however the call ends, is what one before the event could
+    // leave, or what the step makes.
+    ensures stops_before { (setting : Setting) (place : ℕ) (input : Input) (old new : Hosted S)
+        (result : Result OutputsRecord NodeFault) (content : Content)
+        → IsMemberIn setting place old → TakesEvent S.held old new (event_of setting.key input) result
+        → (S.held new.store).is_clean → (S.held new.store).leaves content
+        → (S.held old.store).leaves content
+        ⊎ (site_cut setting place true input (state_of S.held old) ≡ Down content) }
+    // The same of a node that `Node::handle` took through an event and committed: it is one that took it; and what a
+    // stop leaves of its store in that call is what a process leaves that ended inside the step.
+    ensures handles { (setting : Setting) (event place : ℕ) (input : Input) (old new : Hosted S)
+        (outputs : OutputsRecord)
+        → IsMemberIn setting place old → Handles S.held old new (event_of setting.key input) (Ok outputs)
+        → (S.held new.store).is_clean
+        → let made = made_by_input setting place input (state_of S.held old) in
+        (state_of S.held new ≡ made.state)
+        × (outputs.items ≡ map (item_of setting.key) (handouts_of event place made)) }
     ensures stops_inside { (setting : Setting) (place : ℕ) (input : Input) (old new : Hosted S)
         (result : Result OutputsRecord NodeFault) (content : Content)
         → IsMemberIn setting place old → Handles S.held old new (event_of setting.key input) result
-        → (S.held old.store).is_clean → IsSettled (S.held old.store) → (S.held new.store).leaves content
+        → (S.held new.store).is_clean → IsSettled (S.held old.store) → (S.held new.store).leaves content
         → (site_cut setting place false input (state_of S.held old) ≡ Down content)
         ⊎ (site_cut setting place true input (state_of S.held old) ≡ Down content) }
     // After each call that is answered by Ok a stop leaves what the node's content is, and nothing else.
     ensures opens_settled { (store : S) (node : Hosted S) → IsOpened S.held store node
         → (S.held node.store).is_clean → IsSettled (S.held node.store) }
-    ensures takes_settled { (setting : Setting) (input : Input) (old new : Hosted S) (outputs : OutputsRecord)
+    ensures handles_settled { (setting : Setting) (input : Input) (old new : Hosted S) (outputs : OutputsRecord)
         → Handles S.held old new (event_of setting.key input) (Ok outputs)
         → (S.held new.store).is_clean → IsSettled (S.held old.store) → IsSettled (S.held new.store) }
 {}
 
 /// Among all that happens in a history, a node is what its own deeds make of it; and where these are those of a process
-/// that goes on, it is the run of its turns, and offers what that offers.
+/// that goes on, it is the run of its turns, and offers what that offers, however these came in batches.
 pub fn turns_are_deeds()
     ensures own { (setting : Setting) (node first : ℕ) (deeds : List Deed) (scene : Scene)
         → is_member (nodes_of setting) node ≡ true
@@ -151,8 +171,8 @@ pub fn turns_are_deeds()
         → let run = run_over setting node deeds state in
         IsServed setting node first deeds state run.node run.entries }
     ensures turns { (setting : Setting) (node first : ℕ) (deeds : List Deed) (state : NodeState)
-        (receipts : List Receipt) → AreServing node deeds → TakesTurns setting node deeds receipts
-        → let run = run_with_turns (member_in setting node) receipts (run_at state) in
+        (batches : List (List Receipt)) → AreServing node deeds → TakesTurns setting node deeds (receipts_in batches)
+        → let run = run_with_batches (member_in setting node) batches (run_at state) in
         run.end ≡ None → IsServed setting node first deeds state run.node (offers_in run.entries) }
 {}
 
@@ -172,6 +192,20 @@ pub fn served_nodes_are_deeds<S: FloorStore>()
         (entries : List PortEvent) (asked told : Option (List (Option ℕ))) (turns : ℕ) → IsMemberIn setting place old
         → Serves S.held old new (Some []) (Some entries) asked told turns (Err Clock) → (S.held new.store).is_clean
         → IsEndedNode setting place first deeds (state_of S.held old) (state_of S.held new) entries }
+    // A fault of the node: whatever a stop leaves then is what a process leaves that took the first so many events of
+    // the last batch, and stopped before it offered anything of it.
+    ensures node { (setting : Setting) (place first : ℕ) (deeds : List Deed) (old new : Hosted S)
+        (entries : List PortEvent) (asked told : Option (List (Option ℕ))) (turns : ℕ) (fault : NodeFault)
+        (content : Content) → IsMemberIn setting place old
+        → Serves S.held old new (Some []) (Some entries) asked told turns (Err (Node fault))
+        → (S.held new.store).is_clean → IsSettled (S.held old.store) → (S.held new.store).leaves content
+        → IsFailedNode setting place first deeds (state_of S.held old) entries content }
+    // After all other ends a stop leaves the content of the node that the call left, and nothing else.
+    ensures stops { (old new : Hosted S) (entries : List PortEvent) (asked told : Option (List (Option ℕ)))
+        (turns : ℕ) (result : Result Served ServeFault) (content : Content)
+        → Serves S.held old new (Some []) (Some entries) asked told turns result
+        → (S.held new.store).is_clean → IsSettled (S.held old.store) → (S.held new.store).leaves content
+        → IsNoFaultOfNode result → content ≡ (state_of S.held new).content }
 {}
 
 /// Some histories, worked through: a line is accepted once, whatever ends when; what is not offered is not answered;
