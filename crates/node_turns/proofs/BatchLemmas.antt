@@ -1,27 +1,27 @@
 -- The receives of a batch, one after the other, and what a batch comes to.
-use Rattle.std.proofs.Common.{◌≡◌, ℕ, ◌+◌, ◌*◌, ◌%◌, ◌^◌, ◌<◌, ◌≤◌, Bool, true, false, List, [], ◌∷◌, ◌++◌, length, map, refl, sym, ap, ◌∙◌, subst, arith, eq-eqb, length-append}
+use Rattle.std.proofs.Common.{◌≡◌, ℕ, ◌+◌, ◌*◌, ◌%◌, ◌^◌, ◌<◌, ◌≤◌, Bool, true, false, List, [], ◌∷◌, ◌++◌, length, map, refl, sym, ap, ◌∙◌, subst, arith, length-append}
 use Rattle.std.specs.Prelude.{if◌then◌else◌, nat_eq, Option, Some, None, Result, Ok, Err, OnOk}
 use Rattle.std.specs.Option.{option_map}
 use Rattle.std.proofs.lemmas.List.{append_assoc, append-nil, map-append}
 use Rattle.std.proofs.lemmas.Bool.Decides.{nat_tests}
 use Rattle.floor_store.specs.Held.{Held, IsSettled}
 use Rattle.oath_node.specs.Calls.{CommitsNode}
-use Rattle.oath_node.specs.Hosted.{Hosted, state_of}
-use Rattle.oath_node.specs.Machine.{NodeEvent, NodeState, Tick}
+use Rattle.oath_node.specs.Hosted.{Hosted}
+use Rattle.oath_node.specs.Machine.{NodeEvent, Tick}
 use Rattle.oath_node.specs.Outputs.{OutputsRecord}
 use Rattle.oath_node.specs.declared.fault.NodeFault.{NodeFault}
 use Rattle.oath_node.specs.declared.item.Item.{Item}
 use Rattle.node_turns.specs.Port.{Grows, PortEvent}
-use Rattle.node_turns.specs.Serving.{EndsSettled, FailsAmong, LeavesAmong, Stands}
+use Rattle.node_turns.specs.Serving.{EndsSettled}
 use Rattle.node_turns.specs.Steps.{BatchEnds, FailsIn, Gathers, GathersBatch, HasMade, IsOf, Scene, SettlesBatch, StepsBatch, TakesAll, TakesBatch, TakesReceipt, TakesReceived, TakesTick, datagram_events, end_of, items_in, reply_count, tally_after, ticks_of}
-use Rattle.node_turns.specs.Turns.{GoesOn, IsBatch, Member, Receipt, Run, FromPeer, FromClient, Nothing, Failure, end_with, ends_batch, entry_of, events_of_turn, events_of_turns, member_of, moments_for, moments_in, offer_of, received_after, received_with, receives_in, run_with_batch, run_with_events, run_with_receipt, run_with_receipts, tally_with, tick_at, with_replies}
+use Rattle.node_turns.specs.Turns.{GoesOn, IsBatch, Member, Receipt, Run, FromPeer, FromClient, Nothing, Failure, end_with, ends_batch, entry_of, events_of_turn, events_of_turns, member_of, moments_for, moments_in, offer_of, received_after, received_with, receives_in, run_with_batch, run_with_receipt, run_with_receipts, tally_with, with_replies}
 use Rattle.node_turns.specs.declared.fault.ServeFault.{ServeFault}
 use Rattle.node_turns.specs.declared.fault.ServeFault.TheVariants.{Node, Port, Clock}
 use Rattle.node_turns.specs.declared.turns.BatchEnd.{BatchEnd}
 use Rattle.node_turns.specs.declared.turns.BatchEnd.TheVariants as ends
 use Rattle.node_turns.specs.declared.turns.Gathered.{Gathered}
 use Rattle.node_turns.specs.declared.turns.Tally.{Tally}
-use Rattle.node_turns.proofs.GrowLemmas.{grows_receives, grows_refl, grows_trans, receives_in-append, receives_in-offers, reply_count-append, reply_count-few}
+use Rattle.node_turns.proofs.GrowLemmas.{AreOffered, grows_receives, grows_refl, grows_trans, receives_in-append, receives_in-offers, reply_count-append, reply_count-few}
 use Rattle.node_turns.proofs.StepLemmas.{fails_among, fails_clean, fails_first, fails_last, fails_more, fails_same, left_among, run_with_events-end, same_trans, takes_more, takes_none}
 
 -- ---- Receives one after the other
@@ -391,12 +391,11 @@ steps_fault {A} held old new batch asked told fault f moments entries received r
           let here : FailsIn held old.node new.node (events_of_turns key run.tally.received batch) fault =
           subst (λ (t : Tally). FailsIn held old.node new.node (events_of_turns key t.received batch) fault) of.tally f in
           let events = events_of_turns key run.tally.received batch in
-          let rest = run_with_receipts batch run in
-          (
+          let rest = run_with_receipts batch run in (
             fails_among held first old.node new.node events fault rest new.entries here clean
-            (of.stands.state ∙ sym (receipts_node batch run))
-            (subst (Grows first new.entries) (sym (receipts_entries batch run))
-            (grows_trans first old.entries new.entries run.entries (map entry_of batch) of.stands.entries entries)),
+                (of.stands.state ∙ sym (receipts_node batch run))
+                (subst (Grows first new.entries) (sym (receipts_entries batch run))
+                (grows_trans first old.entries new.entries run.entries (map entry_of batch) of.stands.entries entries)),
             λ settled. left_among held old.node new.node events fault run here clean of.stands.state settled,
           );
     }
@@ -817,15 +816,13 @@ batch_ungathered held old new asked told waits turns fault g =
 
 -- the tick that is due is taken, the commit is answered by Ok, and then all is offered
 pub settles_ok : {S : Type 0} (held : S → Held) (n0 n1 n2 : Hosted S) (e0 e1 e2 : Option (List PortEvent)) (t : Tally)
-    (ticks : List NodeEvent) (waits : List Item) (last : Option OutputsRecord) (total : ℕ)
+    (ticks : List NodeEvent) (waits : List Item) (last : Option OutputsRecord) (first second total : ℕ)
     → TakesTick held n0 n1 ticks (Ok last) → CommitsNode {A = Unit {0}} held n1 n2 (Ok tt)
-    → Grows e0 e1 (map offer_of waits) → Grows e1 e2 (map offer_of (items_in (last ∷ [])))
-    → total ≤ t.replied + reply_count waits + reply_count (items_in (last ∷ []))
-    → (t.replied + reply_count waits + reply_count (items_in (last ∷ [])) < 2 ^ 64
-    → total ≡ t.replied + reply_count waits + reply_count (items_in (last ∷ [])))
+    → AreOffered e0 e1 waits first → AreOffered e1 e2 (items_in (last ∷ [])) second
+    → total ≤ t.replied + first + second → (t.replied + first + second < 2 ^ 64 → total ≡ t.replied + first + second)
     → SettlesBatch held (record { node = n0; entries = e0; tally = t })
     (record { node = n2; entries = e2; tally = record { received = t.received; replied = total; faults = t.faults } }) ticks waits (Ok tt)
-settles_ok held n0 n1 n2 e0 e1 e2 t ticks waits last total takes commits first second few exact =
+settles_ok held n0 n1 n2 e0 e1 e2 t ticks waits last first second total takes commits h k few exact =
     let items = items_in (last ∷ []) in
     let sum = reply_count-append waits items in
     record {
@@ -836,9 +833,13 @@ settles_ok held n0 n1 n2 e0 e1 e2 t ticks waits last total takes commits first s
         items = items;
         takes = takes;
         commits = commits;
-        entries = subst (Grows e0 e2) (sym (map-append offer_of waits items)) (grows_trans e0 e1 e2 (map offer_of waits) (map offer_of items) first second);
-        few = omega (arith, few, sum);
-        replies = λ small. exact (omega (arith, small, sum)) ∙ (let e : t.replied + reply_count waits + reply_count items ≡ t.replied + reply_count (waits ++ items) = omega (arith, sum) in e);
+        entries = subst (Grows e0 e2) (sym (map-append offer_of waits items)) (grows_trans e0 e1 e2 (map offer_of waits) (map offer_of items) h.0 k.0);
+        few = omega (arith, few, sum, h.1, k.1);
+        replies = λ small.
+            let a : first ≡ reply_count waits = h.2 (omega (arith, small, sum)) in
+            let b : second ≡ reply_count items = k.2 (omega (arith, small, sum)) in
+            let d : total ≡ t.replied + first + second = exact (omega (arith, small, sum, a, b)) in
+            omega (arith, sum, a, b, d);
       };
     }
 
@@ -849,8 +850,12 @@ pub settles_no_tick : {S : Type 0} (held : S → Held) (old new : Hosted S) (ent
 settles_no_tick held old new entries t ticks waits fault h = record {
   received = refl;
   faults = refl;
-  settles = (refl, refl, subst (λ (es : List NodeEvent). FailsIn held old new es fault) (append-nil ticks)
-      (fails_first held old new ticks [] h.0 fault h.1 h.2));
+  settles = (
+    refl,
+    refl,
+    subst (λ (es : List NodeEvent). FailsIn held old new es fault) (append-nil ticks)
+        (fails_first held old new ticks [] h.0 fault h.1 h.2),
+  );
 }
 
 -- the commit is answered by a fault

@@ -1,16 +1,16 @@
 -- How records grow, and what they then hold.
-use Rattle.std.proofs.Common.{◌≡◌, ℕ, ◌+◌, ◌≤◌, List, [], ◌∷◌, ◌++◌, length, map, refl, sym, ap, ◌∙◌, subst, arith}
+use Rattle.std.proofs.Common.{◌≡◌, ℕ, ◌+◌, ◌^◌, ◌<◌, ◌≤◌, List, [], ◌∷◌, ◌++◌, length, get_or, map, take, refl, sym, ap, ◌∙◌, subst, arith}
 use Rattle.std.specs.Prelude.{Option, Some, None, Result, Ok, Err, IsErrAnd}
 use Rattle.arrayvec.specs.ArrayVec.{ArrayVec}
 use Rattle.std.specs.Option.{option_map}
-use Rattle.std.proofs.lemmas.List.{append_assoc, append-nil, map-append}
+use Rattle.std.proofs.lemmas.List.{append_assoc, append-nil, map-append, take_more}
 use Rattle.oath_node.specs.declared.item.Item.{Item}
 use Rattle.oath_node.specs.declared.item.Item.TheVariants.{Datagram, Reply}
 use Rattle.node_turns.specs.Port.{Grows, PortEvent, Received, Quiet, Faulted, Offered}
 use Rattle.oath_node.specs.Machine.{Reply as ReplyRecord}
-use Rattle.oath_node.specs.Outputs.{datagram_item, items_of, reply_item}
+use Rattle.oath_node.specs.Outputs.{OutputsRecord, datagram_item, items_of, reply_item}
 use Rattle.vote_core.specs.declared.message.Message.{Message}
-use Rattle.node_turns.specs.Steps.{reply_count}
+use Rattle.node_turns.specs.Steps.{items_in, reply_count}
 use Rattle.node_turns.specs.declared.port.Sender.TheVariants.{Client, Peer}
 use Rattle.node_turns.specs.Turns.{offer_of, receives_in}
 
@@ -96,3 +96,56 @@ offered_reply x y item client bytes sent is same h =
 pub err_is : {A E : Type 0} (result : Result A E) (fault : E) → IsErrAnd result (λ made. made ≡ fault) → result ≡ Err fault
 err_is (Ok value) fault h = absurd h
 err_is (Err made) fault h = ap Err h
+
+-- ---- What waits, offered in order
+
+-- these items are offered, and so many of them are replies
+abbrev pub AreOffered : Option (List PortEvent) → Option (List PortEvent) → List Item → ℕ → Type 0
+AreOffered x y items replies =
+    Grows x y (map offer_of items) × (replies ≤ reply_count items) × (reply_count items < 2 ^ 64 → replies ≡ reply_count items)
+
+-- the items of one that waits
+abbrev items_of_one : Option OutputsRecord → List Item
+items_of_one None = []
+items_of_one (Some outputs) = outputs.items
+
+items_one_more : (xs : List (Option OutputsRecord)) (x : Option OutputsRecord) → items_in (xs ++ x ∷ []) ≡ items_in xs ++ items_of_one x
+items_one_more [] None = refl
+items_one_more [] (Some outputs) = append-nil outputs.items
+items_one_more (None ∷ xs) x = items_one_more xs x
+items_one_more (Some first ∷ xs) x =
+    ap (λ (items : List Item). first.items ++ items) (items_one_more xs x)
+    ∙ sym (append_assoc first.items (items_in xs) (items_of_one x))
+
+items_next : (xs : List (Option OutputsRecord)) (i : ℕ) (x y : Option OutputsRecord) → i < length xs → x ≡ get_or xs i x → x ≡ y
+    → items_in (take (i + 1) xs) ≡ items_in (take i xs) ++ items_of_one y
+items_next xs i x y within is same =
+    ap items_in (take_more xs i x within)
+    ∙ ap (λ (z : Option OutputsRecord). items_in (take i xs ++ z ∷ [])) (sym is ∙ same)
+    ∙ items_one_more (take i xs) y
+
+-- after one that waits
+pub offered_next : (x y z : Option (List PortEvent)) (xs : List (Option OutputsRecord)) (i : ℕ) (item : Option OutputsRecord)
+    (outputs : OutputsRecord) (replies more total : ℕ) → i < length xs → item ≡ get_or xs i item → item ≡ Some outputs
+    → AreOffered x y (items_in (take i xs)) replies → AreOffered y z outputs.items more → total ≤ replies + more
+    → (replies + more < 2 ^ 64 → total ≡ replies + more) → AreOffered x z (items_in (take (i + 1) xs)) total
+offered_next x y z xs i item outputs replies more total within is some h k few exact =
+    let items = items_in (take i xs) in
+    let sum = reply_count-append items outputs.items in
+    subst (λ (all : List Item). AreOffered x z all total) (sym (items_next xs i item (Some outputs) within is some)) (
+      subst (Grows x z) (sym (map-append offer_of items outputs.items)) (grows_trans x y z (map offer_of items) (map offer_of outputs.items) h.0 k.0),
+      omega (arith, sum, h.1, k.1, few),
+      λ small.
+          let a : replies ≡ reply_count items = h.2 (omega (arith, small, sum)) in
+          let b : more ≡ reply_count outputs.items = k.2 (omega (arith, small, sum)) in
+          let d : total ≡ replies + more = exact (omega (arith, small, sum, a, b)) in
+          omega (arith, sum, a, b, d),
+    )
+
+-- after nothing that waits
+pub offered_none : (x y : Option (List PortEvent)) (xs : List (Option OutputsRecord)) (i : ℕ) (item : Option OutputsRecord)
+    (replies : ℕ) → i < length xs → item ≡ get_or xs i item → item ≡ None → AreOffered x y (items_in (take i xs)) replies
+    → AreOffered x y (items_in (take (i + 1) xs)) replies
+offered_none x y xs i item replies within is none h =
+    subst (λ (all : List Item). AreOffered x y all replies)
+    (sym (items_next xs i item None within is none ∙ append-nil (items_in (take i xs)))) h

@@ -1,12 +1,12 @@
 -- Batches come to what their turns come to one by one.
-use Rattle.std.proofs.Common.{◌≡◌, ℕ, ◌+◌, List, [], ◌∷◌, ◌++◌, length, map, refl, sym, ap, ◌∙◌, subst, arith}
+use Rattle.std.proofs.Common.{◌≡◌, ℕ, List, [], ◌∷◌, ◌++◌, length, map, refl, sym, ap, ◌∙◌, subst}
 use Rattle.std.specs.Prelude.{false, Option, None, Some}
-use Rattle.std.proofs.lemmas.List.{append_assoc, append-nil}
+use Rattle.std.proofs.lemmas.List.{append-nil}
 use Rattle.oath_node.specs.Machine.{NodeEvent, NodeState, made_by_event}
 use Rattle.oath_node.specs.Outputs.{outputs_of}
 use Rattle.oath_node.specs.declared.item.Item.{Item}
 use Rattle.node_turns.specs.Port.{PortEvent}
-use Rattle.node_turns.specs.Turns.{AreBatches, ComesToTheSame, DoesTheSame, GoesOn, IsBatch, Member, Receipt, Run, FromPeer, FromClient, Nothing, Failure, end_with, ends_batch, entry_of, events_of_turn, events_of_turns, offer_of, offers_in, received_after, received_with, receipts_in, receives_in, run_with_batch, run_with_batches, run_with_event, run_with_events, run_with_receipt, run_with_receipts, run_with_turn, run_with_turns, tally_with, while_going, with_replies, without_failures}
+use Rattle.node_turns.specs.Turns.{AreBatches, ComesToTheSame, DoesTheSame, GoesOn, Member, Receipt, Run, FromPeer, FromClient, Nothing, Failure, end_with, ends_batch, entry_of, events_of_turn, events_of_turns, offer_of, offers_in, received_after, received_with, receipts_in, receives_in, run_with_batch, run_with_batches, run_with_event, run_with_events, run_with_receipt, run_with_receipts, run_with_turn, run_with_turns, tally_with, while_going, with_replies, without_failures}
 use Rattle.node_turns.specs.declared.fault.ServeFault.{ServeFault}
 use Rattle.node_turns.specs.declared.turns.Tally.{Tally}
 use Rattle.node_turns.proofs.BatchLemmas.{end_of_datagram, events_more, received_after_is, received_is, receipts_tally}
@@ -214,8 +214,7 @@ turns_going member (x ∷ xs) a h going =
     ∙ ap (λ (m : ℕ). run_with_events member (events_of_turn key m x ++ later) here) (received_is x a.tally)
     ∙ ap (λ (m : ℕ). run_with_events member (events_of_turn key count x ++ events_of_turns key m xs) here) n in
     let whole = comes_on (run_with_turns member xs next) (run_with_batch member xs next) (run_with_batch member (x ∷ xs) a) rest.0
-    (subst (λ (r : Run). ComesToTheSame (run_with_batch member xs next) r) joined moved) in
-    (
+    (subst (λ (r : Run). ComesToTheSame (run_with_batch member xs next) r) joined moved) in (
       subst (λ (r : Run). ComesToTheSame (run_with_turns member xs r) (run_with_batch member (x ∷ xs) a)) (sym (step member x a going)) whole,
       ap (λ (r : Run). (run_with_turns member xs r).end) (step member x a going) ∙ rest.1,
     )

@@ -1,6 +1,6 @@
 -- What a node makes of a receive.
-use Rattle.std.proofs.Common.{◌≡◌, ◌≢◌, ℕ, ◌+◌, ◌%◌, Bool, true, false, List, [], ◌∷◌, ◌++◌, refl, sym, ap, ◌∙◌, subst, arith, eq-eqb}
-use Rattle.std.specs.Prelude.{if◌then◌else◌, nat_eq, Option, Some, None, Result, Ok, Err}
+use Rattle.std.proofs.Common.{◌≡◌, ◌≢◌, ℕ, ◌+◌, ◌%◌, Bool, true, false, List, [], ◌∷◌, ◌++◌, refl, sym, ap, ◌∙◌, arith, eq-eqb}
+use Rattle.std.specs.Prelude.{if◌then◌else◌, nat_eq, Option, Some, None, Ok, Err}
 use Rattle.std.proofs.lemmas.List.{append_assoc, append-nil}
 use Rattle.std.proofs.lemmas.Bool.Decides.{nat_tests}
 use Rattle.floor_store.specs.Held.{Held}
@@ -11,8 +11,8 @@ use Rattle.oath_node.specs.Outputs.{OutputsRecord}
 use Rattle.oath_node.specs.declared.fault.NodeFault.{NodeFault}
 use Rattle.oath_node.specs.declared.item.Item.{Item}
 use Rattle.node_turns.specs.Port.{Grows, Received, Quiet, Faulted}
-use Rattle.node_turns.specs.Steps.{DatagramEnds, IsDatagram, TakesDatagram, TakesReceived, end_after, end_of, items_in, tally_with_datagram}
-use Rattle.node_turns.specs.Turns.{FromPeer, FromClient, Nothing, Failure, entry_of, moments_for, tally_with}
+use Rattle.node_turns.specs.Steps.{TakesDatagram, TakesReceived, end_after, end_of, items_in, tally_with_datagram}
+use Rattle.node_turns.specs.Turns.{FromPeer, FromClient, Nothing, Failure, tally_with}
 use Rattle.node_turns.specs.declared.port.Sender.{Sender}
 use Rattle.node_turns.specs.declared.port.Sender.TheVariants.{Client as ToClient, Peer as ToPeer}
 use Rattle.node_turns.specs.declared.turns.BatchEnd.{BatchEnd}

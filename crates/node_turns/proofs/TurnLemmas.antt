@@ -1,14 +1,14 @@
 -- What batches do, one after the other.
 use Rattle.std.proofs.Common.{◌≡◌, ℕ, ◌+◌, ◌*◌, ◌^◌, ◌<◌, ◌≤◌, List, [], ◌∷◌, ◌++◌, length, map, refl, sym, ap, ◌∙◌, subst, arith, length-append}
-use Rattle.std.specs.Prelude.{Option, None, Result, Ok, Err, OnOk}
+use Rattle.std.specs.Prelude.{Option, None, Result, Ok, Err}
 use Rattle.std.specs.Option.{option_map}
 use Rattle.std.proofs.lemmas.List.{append_assoc, append-nil, map-append}
 use Rattle.floor_store.specs.Held.{Held, IsSettled}
 use Rattle.oath_node.specs.Hosted.{Hosted, IsSameNode, state_of}
 use Rattle.node_turns.specs.Port.{Grows, PortEvent}
 use Rattle.node_turns.specs.Serving.{EndsByClock, EndsSettled, EndsSo, Serves, Stands, run_over, served_in}
-use Rattle.node_turns.specs.Steps.{BatchEnds, EndsAtClock, IsClean, IsOf, Scene, StepsBatch, TakesBatch, tally_after}
-use Rattle.node_turns.specs.Turns.{AreBatches, GoesOn, IsBatch, Member, Receipt, Run, entry_of, events_of_turns, member_of, moments_for, moments_in, received_after, received_with, receipts_in, receives_in, run_at, run_with_batch, run_with_batches, while_going}
+use Rattle.node_turns.specs.Steps.{BatchEnds, IsClean, IsOf, Scene, StepsBatch, TakesBatch}
+use Rattle.node_turns.specs.Turns.{AreBatches, GoesOn, IsBatch, Member, Receipt, Run, entry_of, member_of, moments_for, moments_in, received_after, received_with, receipts_in, receives_in, run_at, run_with_batch, run_with_batches, while_going}
 use Rattle.node_turns.specs.declared.fault.ServeFault.{ServeFault}
 use Rattle.node_turns.specs.declared.fault.ServeFault.TheVariants.{Node, Port, Clock}
 use Rattle.node_turns.specs.declared.turns.Served.{Served}
@@ -88,9 +88,11 @@ receipts_more (c ∷ bs) b =
 formed_more : (n : ℕ) (bs : List (List Receipt)) (b : List Receipt) → AreBatches n bs
     → IsBatch (received_after (receipts_in bs) n) b → AreBatches n (bs ++ b ∷ [])
 formed_more n [] b h k = (k, tt)
-formed_more n (c ∷ bs) b h k =
-    (h.0, formed_more (received_after c n) bs b h.1
-    (subst (λ (m : ℕ). IsBatch m b) (received_after-append c (receipts_in bs) n) k))
+formed_more n (c ∷ bs) b h k = (
+  h.0,
+  formed_more (received_after c n) bs b h.1
+      (subst (λ (m : ℕ). IsBatch m b) (received_after-append c (receipts_in bs) n) k),
+)
 
 moments-append : (xs ys : List Receipt) → moments_in (xs ++ ys) ≡ moments_in xs ++ moments_in ys
 moments-append [] ys = refl

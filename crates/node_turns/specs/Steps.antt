@@ -122,7 +122,8 @@ DatagramEnds held old new receipt (Ok (Some outputs)) =
 DatagramEnds held old new receipt (Ok None) =
     IsDatagram receipt false × TakesAll held old new (datagram_events old.key receipt) []
 DatagramEnds held old new receipt (Err fault) =
-    IsDatagram receipt true × ((event : NodeEvent) × (datagram_events old.key receipt ≡ event ∷ []) × Takes held old new event (Err fault))
+    IsDatagram receipt true
+    × ((event : NodeEvent) × (datagram_events old.key receipt ≡ event ∷ []) × Takes held old new event (Err fault))
 
 -- A node takes a datagram of this sender.
 pub record TakesDatagram {S : Type 0} (held : S → Held) (old new : Hosted S) (sender : Sender) (bytes : List ℕ)
@@ -285,7 +286,8 @@ pub record EndsAtClock {S : Type 0} (held : S → Held) (old : Scene S) (new : H
   pub kept : Option (List PortEvent)
   pub tally : Tally
   pub said : Option (List (Option ℕ))
-  pub steps : StepsBatch {A = Unit {0}} held old (record { node = new; entries = kept; tally = tally }) before asked said (Ok tt)
+  pub steps : StepsBatch {A = Unit {0}} held old (record { node = new; entries = kept; tally = tally }) before asked
+      said (Ok tt)
 
 -- so it is where the clock ended it
 abbrev pub ByClock : {A S : Type 0} → (S → Held) → Scene S → Hosted S → Option (List (Option ℕ)) → List Receipt

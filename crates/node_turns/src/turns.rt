@@ -296,7 +296,15 @@ pub fn run_turns<'b, S: FloorStore, P: Port, C: Clock>(
     let mut tally = Tally::default();
     let mut left = turns;
     while left > 0 {
-        left -= take_batch(node, port, clock, &mut scratch, &mut outbox, &mut tally, left)?;
+        left -= take_batch(
+            node,
+            port,
+            clock,
+            &mut scratch,
+            &mut outbox,
+            &mut tally,
+            left,
+        )?;
     }
     Ok(Served {
         received: tally.received,

@@ -1,10 +1,9 @@
-use Rattle.std.proofs.Common.{◌≡◌, ◌+◌, [], ◌∷◌, ◌++◌, length, arith, refl, sym, ap, subst}
-use Rattle.std.specs.Prelude.{Result, Ok, Err}
+use Rattle.std.proofs.Common.{◌+◌, List, [], ◌∷◌, ◌++◌, arith, refl, sym, ap, subst}
+use Rattle.std.specs.Prelude.{Result, Ok}
 use Rattle.oath_node.specs.declared.fault.NodeFault.{NodeFault}
 use Rattle.oath_node.specs.declared.item.Item.{Item}
 use Rattle.node_turns.specs.Port.{event_of_receive}
 use Rattle.node_turns.specs.Steps.{Gathers, GathersBatch, items_in, scene}
-use Rattle.node_turns.specs.declared.turns.BatchEnd.TheVariants as ends
 use Rattle.node_turns.specs.declared.turns.Gathered.{Gathered}
 use Rattle.node_turns.proofs.BatchLemmas.{gathers_failed, gathers_few, gathers_more, gathers_next, gathers_none, gathers_still, one_more}
 use Rattle.node_turns.proofs.GrowLemmas.{err_is}

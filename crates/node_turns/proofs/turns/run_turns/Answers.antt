@@ -6,7 +6,7 @@ use Rattle.node_turns.specs.declared.fault.ServeFault.{ServeFault}
 use Rattle.node_turns.specs.declared.turns.Served.{Served}
 use Rattle.node_turns.specs.declared.turns.Tally.{Tally}
 use Rattle.node_turns.proofs.GrowLemmas.{err_is}
-use Rattle.node_turns.proofs.TurnLemmas.{IsSoFar, ends_by_clock, serves_all, serves_less, so_far_few, so_far_next, so_far_start, zero_tally}
+use Rattle.node_turns.proofs.TurnLemmas.{IsSoFar, ends_by_clock, serves_less, so_far_few, so_far_next, so_far_start, zero_tally}
 use Rattle.node_turns.proofs.turns.run_turns.Goals as goal
 
 pub loop-left-init : goal.loop-left-init
@@ -14,12 +14,11 @@ loop-left-init g c =
     let held = g.S.FloorStore.held in
     let first = g.P.Port.events c.args.port.now in
     let asked = g.C.Clock.moments c.args.clock.now in
-    let zeros = c.default-tally.ensures in
-    (
+    let zeros = c.default-tally.ensures in (
       0,
       omega arith,
       subst (λ (t : Tally). IsSoFar held c.args.node.now first asked 0 (scene g.P.Port.events c.args.node.now c.args.port.now t) asked)
-      (sym (zero_tally c.default-tally.result zeros.0 zeros.1.0 zeros.1.1)) (so_far_start held c.args.node.now first asked),
+          (sym (zero_tally c.default-tally.result zeros.0 zeros.1.0 zeros.1.1)) (so_far_start held c.args.node.now first asked),
     )
 
 pub take_batch-requires-clause-few : goal.take_batch-requires-clause-few
@@ -59,12 +58,11 @@ pub loop-left-preserved : goal.loop-left-preserved
 loop-left-preserved g c =
     let h = c.loop-left.invariant in
     let b = c.in_ok-left.ensures in
-    let taken = b.count in
-    (
+    let taken = b.count in (
       h.0 + length b.batch,
       omega (arith, h.1, taken, b.most),
       so_far_next ℕ g.S.FloorStore.held c.args.node.now (g.P.Port.events c.args.port.now) (g.C.Clock.moments c.args.clock.now) h.0
-      (scene g.P.Port.events c.loop-left.node c.loop-left.port c.loop-left.tally)
-      (scene g.P.Port.events c.take_batch.new.node c.take_batch.new.port c.take_batch.new.tally) b.batch (g.C.Clock.moments c.loop-left.clock)
-      (g.C.Clock.moments c.take_batch.new.clock) c.in_ok-left.field-0 h.2 b.is_batch b.steps,
+          (scene g.P.Port.events c.loop-left.node c.loop-left.port c.loop-left.tally)
+          (scene g.P.Port.events c.take_batch.new.node c.take_batch.new.port c.take_batch.new.tally) b.batch (g.C.Clock.moments c.loop-left.clock)
+          (g.C.Clock.moments c.take_batch.new.clock) c.in_ok-left.field-0 h.2 b.is_batch b.steps,
     )

@@ -1,5 +1,5 @@
 use Rattle.std.proofs.Common.{ℕ, sym, subst}
-use Rattle.std.specs.Prelude.{Result, Err}
+use Rattle.std.specs.Prelude.{Result}
 use Rattle.node_turns.specs.Steps.{TakesBatch, items_in, scene}
 use Rattle.node_turns.specs.declared.fault.ServeFault.{ServeFault}
 use Rattle.node_turns.specs.declared.fault.ServeFault.TheVariants.{Node}

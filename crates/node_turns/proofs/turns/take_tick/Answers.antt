@@ -1,4 +1,4 @@
-use Rattle.std.proofs.Common.{◌++◌, ◌∷◌, [], List, sym, subst}
+use Rattle.std.proofs.Common.{◌∷◌, [], List, sym, subst}
 use Rattle.std.specs.Prelude.{Ok, Some}
 use Rattle.std.proofs.lemmas.List.{append-nil}
 use Rattle.oath_node.specs.Machine.{Tick}
