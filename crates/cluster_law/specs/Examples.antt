@@ -1,5 +1,5 @@
 -- Histories to reckon with: one node, and three, with the one token of RFC 4226, Appendix D.
-use Rattle.std.specs.Prelude.{ℕ, Bool, true, false, List, [], ◌∷◌, replicate, None, codes}
+use Rattle.std.specs.Prelude.{ℕ, Bool, true, false, List, [], ◌∷◌, replicate, Some, None, codes}
 use Rattle.floor_store.specs.Content.{Content}
 use Rattle.floor_store.specs.Records.{ProposalRecord}
 use Rattle.vote_core.specs.Schedule.{Envelope}
@@ -8,6 +8,7 @@ use Rattle.vote_wire.specs.Datagram.{datagram_bytes}
 use Rattle.oath_node.specs.Machine.{Made, NodeState, opened_node, quiet_made}
 use Rattle.otp_core.specs.Acceptance.{Acceptance}
 use Rattle.vote_wire.specs.declared.answer.Outcome.TheVariants.{Accepted}
+use Rattle.node_turns.specs.Turns.{FromClient, Receipt}
 use Rattle.cluster_sim.specs.Examples.{acceptance, alone, clock_alone, clock_config, config, three, told_outcome}
 use Rattle.cluster_sim.specs.World.{Told}
 use Rattle.cluster_law.specs.Lives.{Answer, Datagram, Deed, FailsToOpen, Handout, Input, Line, Offers, Opens, Post, Scene, Setting, Stops, StopsIn, Takes, scene_of}
@@ -22,6 +23,10 @@ one_node = record { config = config; key = []; floors = alone }
 -- a right line of client 7
 abbrev pub right_line : Input
 right_line = Line 7 100 (codes "CHECK 1 silver 755224 -")
+
+-- as the receipt of a turn
+abbrev pub right_receipt : Receipt
+right_receipt = FromClient 7 (codes "CHECK 1 silver 755224 -") (Some 100)
 
 -- a process takes it, and answers
 abbrev pub answers_once : List Deed

@@ -99,6 +99,12 @@ abbrev pub TakesTurns : Setting → ℕ → List Deed → List Receipt → Type 
 TakesTurns setting node deeds receipts =
     map (event_of setting.key) (inputs_at node deeds) ≡ events_of_turns setting.key 0 receipts
 
+-- there are deeds of a process that goes on and takes such turns
+pub record CanTakeTurns (setting : Setting) (node : ℕ) (receipts : List Receipt) : Type 0 where
+  pub deeds : List Deed
+  pub serving : AreServing node deeds
+  pub takes : TakesTurns setting node deeds receipts
+
 -- ---- A call that serves it, over a port whose record was empty before
 
 -- It ended by Ok: there were some receives; and where the deeds of its node are those of a process that goes on and
@@ -131,6 +137,12 @@ abbrev pub TakesSome : Setting → ℕ → List Deed → List Receipt → List R
 TakesSome setting node deeds before batch count =
     map (event_of setting.key) (inputs_at node deeds)
     ≡ events_of_turns setting.key 0 before ++ take count (events_after setting.key before batch)
+
+-- there are deeds of a process that goes on and takes so
+pub record CanTakeSome (setting : Setting) (node : ℕ) (before batch : List Receipt) (count : ℕ) : Type 0 where
+  pub deeds : List Deed
+  pub serving : AreServing node deeds
+  pub takes : TakesSome setting node deeds before batch count
 
 -- Among all that happens, in which its own deeds are those of a process that goes on and then stops, a process that was
 -- in this state leaves this content. Of what it has offered, with what was left to offer, this is a beginning.

@@ -16,7 +16,7 @@ ghost use Rattle.oath_node.specs.Hosted.{Hosted, state_of};
 ghost use Rattle.oath_node.specs.Machine.{Config, NodeState, opened_node};
 ghost use Rattle.oath_node.specs.Outputs.{OutputsRecord};
 ghost use Rattle.oath_node.specs.declared.fault.NodeFault.{NodeFault};
-ghost use Rattle.node_turns.specs.Turns.{Receipt, offers_in, receipts_in, run_at, run_with_batches};
+ghost use Rattle.node_turns.specs.Turns.{Nothing, Receipt, offers_in, receipts_in, run_at, run_with_batches};
 ghost use Rattle.vote_wire.specs.declared.answer.Outcome.TheVariants.{Accepted, Invalid};
 ghost use Rattle.cluster_sim.specs.Examples.{acceptance, told_outcome};
 ghost use Rattle.node_turns.specs.Port.{PortEvent};
@@ -26,10 +26,10 @@ ghost use Rattle.node_turns.specs.declared.fault.ServeFault.TheVariants.{Clock, 
 ghost use Rattle.node_turns.specs.declared.turns.Served.{Served};
 ghost use Rattle.cluster_law.specs.Answered.{AnswersAll, EndsProcess, HasYetToOffer, IsAnsweredInDeed, IsLost, IsOfferedOrEnds};
 ghost use Rattle.cluster_law.specs.Bytes.{IsSized, IsUnforgedHistory};
-ghost use Rattle.cluster_law.specs.Examples.{among_strangers, answer_out, answers_once, clock_node, comes_to_nobody, content_of_boot, ends_after_the_answer, ends_before_the_answer, ends_behind, ends_in_the_step, first_ok, first_pass, floor_comes, floor_out, grant_before_its_offer, grant_from, granted_by_two, one_node, one_open, opens_twice, quiet_node, right_line, stop_in_a_forged_grant, strangers, takes_behind, takes_twice, tells_both, three_nodes, told_by_reference, two_open};
+ghost use Rattle.cluster_law.specs.Examples.{among_strangers, answer_out, answers_once, clock_node, comes_to_nobody, content_of_boot, ends_after_the_answer, ends_before_the_answer, ends_behind, ends_in_the_step, first_ok, first_pass, floor_comes, floor_out, grant_before_its_offer, grant_from, granted_by_two, one_node, one_open, opens_twice, quiet_node, right_line, right_receipt, stop_in_a_forged_grant, strangers, takes_behind, takes_twice, tells_both, three_nodes, told_by_reference, two_open};
 ghost use Rattle.cluster_law.specs.Justified.{IsJustifiedInDeed, JustifiesAll, drift_in, moment_in_deed, results_held};
 ghost use Rattle.cluster_law.specs.Lives.{Deed, Down, Input, IsHistory, Offers, Opens, Scene, Setting, Site, Stops, StopsIn, Takes, Time, Up, accepted_in, answered_in, answers_among, content_at, event_of, first_scene, floor_in, handouts_of, made_by_input, nodes_of, offers_by, own_site, scene_after, scene_of, site_after, site_cut, site_half_opened, site_offered, site_opened};
-ghost use Rattle.cluster_law.specs.Processes.{AreServing, IsEndedNode, IsFailedNode, IsHalfOpened, IsMemberIn, IsNoFaultOfNode, IsServed, IsServedNode, TakesTurns, item_of, member_in, run_over};
+ghost use Rattle.cluster_law.specs.Processes.{AreServing, CanTakeSome, CanTakeTurns, IsEndedNode, IsFailedNode, IsHalfOpened, IsMemberIn, IsNoFaultOfNode, IsServed, IsServedNode, TakesSome, TakesTurns, item_of, member_in, run_over};
 ghost use Rattle.cluster_law.specs.Promises.{AnswerTruly, IsExplained, IsRunOf};
 ghost use Rattle.cluster_law.specs.SingleNode.{IsPartOf, reference_of, setting_of_one};
 ghost use Rattle.cluster_law.specs.Sweeps.{IsSweep, IsTick, SweepsLevel, greatest_in, is_step_of};
@@ -113,8 +113,8 @@ pub fn calls_are_deeds<S: FloorStore>()
     ensures half_opens { (store left : S) (result : Result S StoreFault) (content : Content)
         → RaisesBoot S.held store left result → IsSettled (S.held store) → (S.held left).leaves content
         → IsCount content.boot → IsHalfOpened (S.held store).content content }
-    // A node that took an event is the site that took it, and hands out the same; after the commit it is so still, and a
-    // stop leaves its content and nothing else.
+    // A node that took an event is the site that took it, and hands out the same; after the commit it is so still, and
+    // a stop leaves its content and nothing else.
     ensures takes { (setting : Setting) (place : ℕ) (input : Input) (old new : Hosted S) (outputs : OutputsRecord)
         → IsMemberIn setting place old → TakesEvent S.held old new (event_of setting.key input) (Ok outputs)
         → (S.held new.store).is_clean
@@ -174,6 +174,10 @@ pub fn turns_are_deeds()
         (batches : List (List Receipt)) → AreServing node deeds → TakesTurns setting node deeds (receipts_in batches)
         → let run = run_with_batches (member_in setting node) batches (run_at state) in
         run.end ≡ None → IsServed setting node first deeds state run.node (offers_in run.entries) }
+    // There are such deeds for any turns, and for any part of a batch after them.
+    ensures can_take { (setting : Setting) (node : ℕ) (receipts : List Receipt) → CanTakeTurns setting node receipts }
+    ensures can_take_some { (setting : Setting) (node : ℕ) (before batch : List Receipt) (count : ℕ)
+        → CanTakeSome setting node before batch count }
 {}
 
 /// What `run_turns` promises of a call over any store and a port that keeps a record, is what a history says of such a
@@ -316,6 +320,23 @@ pub fn reference_is_worked()
     ensures order { IsPartOf (record first_ok { event = 2 } ∷ first_ok ∷ [])
         (first_ok ∷ record first_ok { event = 2 } ∷ []) → ⊥ }
     ensures number { IsPartOf (first_ok ∷ first_ok ∷ []) (first_ok ∷ []) → ⊥ }
+{}
+
+/// What a node takes, worked through: turns come to it as lines, datagrams and ticks, in order, with as many events of a
+/// last batch as it kept; what other nodes take is none of it, and neither is what a process ended in.
+pub fn takes_are_worked()
+    ensures turns { TakesTurns one_node 1 (Takes 1 right_line ∷ Offers 1 ∷ Takes 2 Time ∷ Takes 1 Time ∷ [])
+        (right_receipt ∷ Nothing ∷ []) }
+    ensures order { TakesTurns one_node 1 (Takes 1 Time ∷ Takes 1 right_line ∷ []) (right_receipt ∷ Nothing ∷ []) → ⊥ }
+    ensures stop { TakesTurns one_node 1 (StopsIn 1 true right_line ∷ []) [] }
+    ensures none_of_a_batch { TakesSome one_node 1 (Takes 1 Time ∷ []) (Nothing ∷ []) (right_receipt ∷ []) 0 }
+    ensures one_of_a_batch { TakesSome one_node 1 (Takes 1 Time ∷ Takes 1 right_line ∷ []) (Nothing ∷ [])
+        (right_receipt ∷ Nothing ∷ []) 1 }
+    ensures too_few { TakesSome one_node 1 (Takes 1 Time ∷ []) (Nothing ∷ []) (right_receipt ∷ []) 1 → ⊥ }
+    ensures offers { AreServing 1 (Takes 1 Time ∷ Offers 1 ∷ Stops 2 ∷ []) }
+    ensures stops { AreServing 1 (Takes 1 Time ∷ Stops 1 ∷ []) → ⊥ }
+    ensures stops_in_a_step { AreServing 1 (StopsIn 1 false Time ∷ []) → ⊥ }
+    ensures opens { AreServing 1 (Opens 1 ∷ []) → ⊥ }
 {}
 
 /// Parts of a sweep, worked through: a tick whose first free factor the other live member takes is one, and one that it
