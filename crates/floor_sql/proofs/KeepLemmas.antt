@@ -1,5 +1,6 @@
 -- The rule of a store over SQLite, before and after a write.
-use Rattle.std.proofs.Common.{◌≡◌, ◌⊎◌, inl, inr, ℕ, ◌+◌, ◌^◌, ◌<◌, ◌≤◌, pos, false, List, ◌++◌, length, Option, Some, None, Result, Ok, Err, OnOk, IsTrue, IsSome, sym, ap, ◌∙◌, subst, arith, length-append, refl}
+use Rattle.std.proofs.Common.{◌≡◌, ◌⊎◌, inl, inr, ℕ, ◌+◌, ◌^◌, ◌<◌, ◌≤◌, pos, false, List, ◌++◌, length, Option, Some, None, Result, Ok, Err, OnOk, IsTrue, IsSome, sym, ap, ◌∙◌, subst, arith, length-append, append-nil, subst₂, refl, [], ◌∷◌, slice_get}
+use Rattle.std.specs.Option.{ForSome}
 use Rattle.std.proofs.lemmas.Option.{slice_get-get_or}
 use Rattle.sqlite.specs.Store.{Ghosts}
 use Rattle.sqlite.specs.Held.{Held, state}
@@ -12,17 +13,19 @@ use Rattle.sqlite.specs.Tree.{Trees, rowid, has_rowid}
 use Rattle.sqlite_rules.proofs.ListLemmas.{has_found}
 use Rattle.floor_store.specs.declared.fault.StoreFault.{StoreFault}
 use Rattle.floor_store.specs.declared.fault.StoreFault.TheVariants.{Spent}
-use Rattle.floor_store.specs.Content.{Content, opening_row, with_next_boot}
+use Rattle.floor_store.specs.Content.{Content, opening_row, with_next_boot, with_row}
 use Rattle.floor_store.specs.Fault.{is_failure}
 use Rattle.floor_store.specs.Records.{PassRecord}
-use Rattle.floor_sql.specs.Stored.{HasRow, HasKey, floor_columns, drift_columns, HasFloor, HasSelf, Holds, Commits, MayCommit, KeepsCommit}
-use Rattle.floor_store.specs.Held.{RaisesBoot, Writes}
-use Rattle.floor_sql.specs.Held.{SqlHeld, Mirrors, IsKept, Leaves, sql_held}
-use Rattle.floor_sql.proofs.ContentLemmas.{Alters, one_content}
+use Rattle.floor_sql.specs.Stored.{HasRow, HasKey, floor_columns, drift_columns, HasFloor, HasSelf, Holds, Raises, Commits, MayCommit, KeepsCommit}
+use Rattle.floor_store.specs.Held.{RaisesBoot, Writes, Commits as CommitsAll}
+use Rattle.floor_sql.specs.Held.{SqlHeld, Mirrors, IsKept, IsStaged, HasAudit, Leaves, sql_held}
+use Rattle.floor_sql.specs.Staged.{MakesAll, MakesPuts, passes_in, with_boot, with_puts}
+use Rattle.floor_sql.specs.declared.put.Put.{Put}
+use Rattle.floor_sql.proofs.ContentLemmas.{Alters, one_content, raises}
 use Rattle.floor_sql.proofs.PassLemmas.{same_passes}
 
 -- a row that is found under a key has that key
-has_key : (rows : List Row) (key : ℕ) (columns : Row → Row) (values : Row) (it : HasRow rows key columns values) → (columns it.found ≡ values → rowid it.found ≡ Int (pos key)) → HasKey rows key
+pub has_key : (rows : List Row) (key : ℕ) (columns : Row → Row) (values : Row) (it : HasRow rows key columns values) → (columns it.found ≡ values → rowid it.found ≡ Int (pos key)) → HasKey rows key
 has_key rows key columns values it keyed = record { was = it.found; there = (has_found (has_rowid (pos key)) rows it.found it.place).0; keyed = keyed it.shows }
 
 pub has_floor : (s : State) (c : Content) (count token : ℕ) → token < length c.rows → Mirrors s c count → HasFloor s.now token
@@ -54,8 +57,29 @@ leaves_mirror g conn mirror count kept law c it =
     let trees : (state g conn).now.trees ≡ it.trees = ap (λ (d : Database). d.trees) was.settled ∙ sym (law it.trees is_open it.left) in
     one_content it.trees c mirror it.passes was.passes it.holds (subst (λ (t : Trees). Holds t mirror was.passes) trees was.holds)
 
-abbrev pub stored : {S : Type 0} → Held S → Content → ℕ → Option StoreFault → SqlHeld S
-stored conn mirror count fault = record { conn = conn; mirror = mirror; passes = count; fault = fault }
+abbrev pub stored : {S : Type 0} → Held S → Content → List Put → ℕ → Option StoreFault → SqlHeld S
+stored conn mirror staged count fault = record { conn = conn; mirror = mirror; staged = staged; passes = count; fault = fault }
+
+-- where nothing waits for a commit the tables hold the mirror
+pub idle_kept : {S : Type 0} (g : Ghosts S) (conn : Held S) (mirror : Content) (staged : List Put) (count : ℕ) (fault : Option StoreFault)
+    → IsStaged g conn mirror staged count fault → staged ≡ [] → IsKept g conn mirror count fault
+idle_kept g conn mirror staged count fault it none =
+    subst (λ (c : Content). IsKept g conn c count fault) (sym (it.replayed ∙ ap (with_puts it.base) none)) it.kept
+
+pub idle_staged : {S : Type 0} (g : Ghosts S) (conn : Held S) (mirror : Content) (staged : List Put) (count : ℕ) (fault : Option StoreFault)
+    → IsKept g conn mirror count fault → staged ≡ [] → IsStaged g conn mirror staged count fault
+idle_staged g conn mirror staged count fault kept none = record {
+  base = mirror;
+  kept = kept;
+  replayed = sym (ap (with_puts mirror) none);
+  known = λ i put is. (let got : slice_get {X = Put} [] i ≡ Some put = subst (λ (l : List Put). slice_get l i ≡ Some put) none is in absurd (cc));
+  room = let few : length (passes_in staged) ≡ 0 = ap (λ (l : List Put). length (passes_in l)) none in let numbers = kept.numbers in omega arith;
+}
+
+pub idle_invariant : {S : Type 0} (g : Ghosts S) (conn : Held S) (mirror : Content) (staged : List Put) (count : ℕ) (fault : Option StoreFault) (more : ℕ)
+    → IsKept g conn mirror count fault → staged ≡ [] → more ≡ 0 → IsStaged g conn mirror staged count fault × (more ≡ length (passes_in staged))
+idle_invariant g conn mirror staged count fault more kept none few =
+    (idle_staged g conn mirror staged count fault kept none, few ∙ sym (ap (λ (l : List Put). length (passes_in l)) none))
 
 module _ {S : Type 0} (g : Ghosts S) (old new : Held S) (mirror : Content) (count : ℕ) (kept : IsKept g old mirror count None) where
   mirrored : doubt (state g old).is_clean ≤ doubt (state g new).is_clean → HasCleanDisk (state g new) → Mirrors (state g old) mirror count
@@ -122,31 +146,74 @@ module _ {S : Type 0} (g : Ghosts S) (old new : Held S) (mirror : Content) (coun
               one_content it.trees c after it.passes (was.passes ++ more) it.holds (subst (λ (t : Trees). Holds t after (was.passes ++ more)) (sym done.2) made.1))
         ]
 
-    -- a write that failed may be found done after a stop all the same
-    pub failed_writes : {A : Type 0} (was : Option StoreFault) (e : StoreFault) → was ≡ None
-        → Survives (state g old) (state g new) (MayCommit IsChange (state g old))
-        → Writes {A = A} {E = StoreFault} (sql_held g) (stored old mirror count was) (stored new mirror count (Some e)) after (Err e)
-    failed_writes was e none s = record {
-      makes = record {
-        ok = λ _. tt;
-        err = λ _. inl refl;
-        stays = λ broken. let some = subst IsSome none broken in absurd (cc);
-        count = rw none (omega arith);
-        clean = λ now. let clean = s.clean in omega arith;
-        tokens = refl;
-      };
-      left = left_changed s;
-      settled = λ _. tt;
-      intact = tt;
-    }
+-- a change of tables that makes the puts
+makes_puts : (base : Content) (count : ℕ) (staged : List Put) → Alters (MakesPuts count staged) base count (with_puts base staged) (passes_in staged)
+makes_puts base count staged old new passes schema holds counted change = change base passes schema holds counted
 
-    -- a write that is done
-    pub done_writes : {A : Type 0} (was : Option StoreFault) (a : A) (now : Content) (total : ℕ) → was ≡ None → now ≡ after
-        → total ≡ count + length more → length after.rows ≡ length mirror.rows → new.in_transaction ≡ false
-        → total ≤ 2 ^ 62 → (HasCleanDisk (state g new) → Commits IsChange (state g old) (state g new))
-        → Survives (state g old) (state g new) (MayCommit IsChange (state g old)) → IsSettledWhileOpen g new
-        → Writes {A = A} {E = StoreFault} (sql_held g) (stored old mirror count was) (stored new now total was) after (Ok a)
-    done_writes was a now total none made counted tokens idle room done s law = record {
+boot_with_puts : (c : Content) (puts : List Put) → (with_puts c puts).boot ≡ c.boot
+boot_with_puts c [] = refl
+boot_with_puts c (put ∷ puts) = boot_with_puts (with_row c put.token put.row put.pass) puts
+
+-- one that makes the puts and raises the boot
+pub makes_all : (base : Content) (count : ℕ) (staged : List Put) (boot : Option ℕ) → ForSome boot (λ b. b ≡ base.boot + 1)
+    → Alters (MakesAll count staged boot) base count (with_boot boot (with_puts base staged)) (passes_in staged)
+makes_all base count staged None next old new passes schema holds counted change = change base passes schema holds counted
+makes_all base count staged (Some boot) next old new passes schema holds counted change =
+    let c = with_puts base staged in
+    let number : boot ≡ c.boot + 1 = next boot refl ∙ ap (λ (n : ℕ). n + 1) (sym (boot_with_puts base staged)) in
+    let first = makes_puts base count staged old change.0 passes schema holds counted change.1 in
+    let all = passes ++ passes_in staged in
+    let raised : Raises (c.boot + 1) change.0 new = subst (λ (n : ℕ). Raises n change.0 new) number change.2 in
+    let made = raises (length all) c change.0 new all first.0 first.1 refl raised in
+    let content : with_next_boot c ≡ with_boot (Some boot) c = ap (λ (n : ℕ). with_boot (Some n) c) (sym number) in
+    (made.0, subst₂ (λ (d : Content) (l : List PassRecord). Holds new.trees d l) content (append-nil all) made.1)
+
+-- A write of all that waits, with the number of the boot where one is given.
+module _ {S : Type 0} (g : Ghosts S) (old new : Held S) (base mirror : Content) (staged : List Put) (count : ℕ) (boot : Option ℕ) (kept : IsKept g old base count None)
+    (replayed : mirror ≡ with_puts base staged) (next : ForSome boot (λ b. b ≡ mirror.boot + 1))
+    (s : Survives (state g old) (state g new) (MayCommit (MakesAll count staged boot) (state g old))) where
+  same_boot : mirror.boot ≡ base.boot
+  same_boot = ap (λ (c : Content). c.boot) replayed ∙ boot_with_puts base staged
+
+  alters : Alters (MakesAll count staged boot) base count (with_boot boot (with_puts base staged)) (passes_in staged)
+  alters = makes_all base count staged boot (λ b is. next b is ∙ ap (λ (n : ℕ). n + 1) same_boot)
+
+  after_is : with_boot boot (with_puts base staged) ≡ with_boot boot mirror
+  after_is = sym (ap (with_boot boot) replayed)
+
+  all_left : (c : Content) → Leaves g new c → Leaves g old c ⊎ (c ≡ with_boot boot mirror)
+  all_left c it = elim (left_changed g old new base count kept (MakesAll count staged boot) (with_boot boot (with_puts base staged)) (passes_in staged) alters s c it) [
+    | inl was ↦ inl was
+    | inr is ↦ inr (is ∙ after_is)
+  ]
+
+  -- one that failed may be found done after a stop all the same
+  pub failed_writes : {A : Type 0} (was : Option StoreFault) (e : StoreFault) → was ≡ None
+      → Writes {A = A} {E = StoreFault} (sql_held g) (stored old mirror staged count was) (stored new mirror staged count (Some e)) (with_boot boot mirror) (Err e)
+  failed_writes was e none = record {
+    makes = record {
+      ok = λ _. tt;
+      err = λ _. inl refl;
+      stays = λ broken. let some = subst IsSome none broken in absurd (cc);
+      count = rw none (omega arith);
+      clean = λ now. let clean = s.clean in omega arith;
+      tokens = refl;
+    };
+    left = all_left;
+    settled = λ _. tt;
+    intact = tt;
+  }
+
+  module _ (room : count + length (passes_in staged) ≤ 2 ^ 62) (idle : new.in_transaction ≡ false)
+      (done : HasCleanDisk (state g new) → Commits (MakesAll count staged boot) (state g old) (state g new)) where
+    kept_after : IsKept g new (with_boot boot (with_puts base staged)) (count + length (passes_in staged)) None
+    kept_after = kept_changed g old new base count kept (MakesAll count staged boot) (with_boot boot (with_puts base staged)) (passes_in staged) alters idle s.clean room done
+
+    -- one that is done
+    pub done_writes : {A : Type 0} (left_staged : List Put) (was : Option StoreFault) (a : A) (now : Content) (total : ℕ) → was ≡ None → now ≡ with_boot boot mirror
+        → length (with_boot boot mirror).rows ≡ length mirror.rows → IsSettledWhileOpen g new
+        → Writes {A = A} {E = StoreFault} (sql_held g) (stored old mirror staged count was) (stored new now left_staged total was) (with_boot boot mirror) (Ok a)
+    done_writes left_staged was a now total none made tokens law = record {
       makes = record {
         ok = λ _. made;
         err = λ _. tt;
@@ -155,11 +222,53 @@ module _ {S : Type 0} (g : Ghosts S) (old new : Held S) (mirror : Content) (coun
         clean = λ now. let clean = s.clean in omega arith;
         tokens = ap (λ (c : Content). length c.rows) made ∙ tokens;
       };
-      left = left_changed s;
-      settled = λ _ c left. leaves_mirror g new after (count + length more)
-          (kept_changed idle s.clean (omega arith) done) law c left ∙ sym made;
+      left = all_left;
+      settled = λ _ c left. leaves_mirror g new (with_boot boot (with_puts base staged)) (count + length (passes_in staged)) kept_after law c left ∙ after_is ∙ sym made;
       intact = (none, none);
     }
+
+    -- the tables hold the mirror after it
+    pub done_staged : (now : Content) (left_staged : List Put) (total : ℕ) → now ≡ with_boot boot mirror → left_staged ≡ [] → total ≡ count + length (passes_in staged)
+        → IsStaged g new now left_staged total None
+    done_staged now left_staged total made none counted =
+        let plain = subst (λ (c : Content). IsKept g new c (count + length (passes_in staged)) None) (after_is ∙ sym made) kept_after in
+        idle_staged g new now left_staged total None (subst (λ (n : ℕ). IsKept g new now n None) (sym counted) plain) none
+
+    -- the passes that waited are behind the others
+    pub done_audit : (now : Content) (left_staged : List Put) (total : ℕ) (was : Option StoreFault) → now ≡ with_boot boot mirror → left_staged ≡ [] → HasCleanDisk (state g new)
+        → (all : List PassRecord) → HasAudit g (stored old mirror staged count was) all → HasAudit g (stored new now left_staged total was) all
+    done_audit now left_staged total was made none clean all had =
+        let it = had.committed in
+        let mirrored : Mirrors (state g old) base count = (let worse = s.clean in let before : HasCleanDisk (state g old) = omega arith in kept.tables before (kept.is_open refl before)) in
+        let trees : (state g old).committed.trees ≡ (state g old).now.trees = ap (λ (d : Database). d.trees) (sym mirrored.settled) in
+        let same : it.base ≡ base = one_content (state g old).now.trees it.base base had.passes mirrored.passes (subst (λ (t : Trees). Holds t it.base had.passes) trees it.holds) mirrored.holds in
+        let held : Holds (state g old).committed.trees base had.passes = subst (λ (c : Content). Holds (state g old).committed.trees c had.passes) same it.holds in
+        let holds = audit_changed g old new base count kept (MakesAll count staged boot) (with_boot boot (with_puts base staged)) (passes_in staged) alters s.clean clean (done clean) had.passes held in
+        record {
+          passes = had.passes ++ passes_in staged;
+          committed = record {
+            base = now;
+            replayed = sym (ap (with_puts now) none);
+            holds = subst (λ (c : Content). Holds (state g new).committed.trees c (had.passes ++ passes_in staged)) (after_is ∙ sym made) holds;
+          };
+          waiting = had.waiting ∙ sym (ap (λ (l : List Put). (had.passes ++ passes_in staged) ++ passes_in l) none ∙ append-nil (had.passes ++ passes_in staged));
+        }
+
+-- the boot changes no row
+pub rows_with_boot : (boot : Option ℕ) (c : Content) → length (with_boot boot c).rows ≡ length c.rows
+rows_with_boot None c = refl
+rows_with_boot (Some boot) c = refl
+
+-- where nothing was put a commit does nothing
+pub idle_commits : {S A : Type 0} (g : Ghosts S) (conn : Held S) (mirror : Content) (staged : List Put) (count : ℕ) (was : Option StoreFault) (a : A) → was ≡ None
+    → IsKept g conn mirror count None → IsSettledWhileOpen g conn
+    → CommitsAll {A = A} {E = StoreFault} (sql_held g) (stored conn mirror staged count was) (stored conn mirror staged count was) (Ok a)
+idle_commits g conn mirror staged count was a none kept law = record {
+  makes = record { ok = λ _. refl; err = λ _. tt; stays = λ _. refl; count = omega arith; clean = λ clean. clean; tokens = refl };
+  left = λ c left. inl left;
+  settled = λ _ c left. leaves_mirror g conn mirror count kept law c left;
+  intact = (none, none);
+}
 
 module _ {S : Type 0} (g : Ghosts S) where
   -- a store that is broken raises no boot

@@ -19,7 +19,7 @@ use Rattle.floor_sql.proofs.TextLemmas.{by_param, by_one, changed_query, floor_t
 use Rattle.floor_sql.proofs.UpdateLemmas.{picks, updated}
 use Rattle.floor_sql.proofs.ReadLemmas.{by_param_picks, by_one_picks}
 use Rattle.floor_sql.proofs.UsableLemmas.{only_shown, filter_same}
-use Rattle.floor_sql.proofs.RefusalLemmas.{not_of_text, never_of_text, inside_free, commit_free}
+use Rattle.floor_sql.proofs.RefusalLemmas.{not_of_text, never_of_text, commit_free}
 
 -- ---- one row is changed
 
@@ -45,7 +45,7 @@ drift_counted old new token more count has h it =
     let one = filter_same (picks by_param params) (has_rowid (pos token)) (by_param_picks (pos token) more) (db 3) ∙ it.only in
     u.counted ∙ ap length (only_shown by_param drift_terms params 3 db u.shown it.found refl u.answer one)
 
-pub self_counted : (old new : State) (params : Row) (count : ℕ) → old.now.schema ≡ floor_schema
+self_counted : (old new : State) (params : Row) (count : ℕ) → old.now.schema ≡ floor_schema
     → Executes update_boot params old new (Ok count) → HasOneRow (old.now.trees 0) 1 → count ≡ 1
 self_counted old new params count has h it =
     let db = old.now.trees in
@@ -78,11 +78,12 @@ module _ (old new : State) (fault : StoreFault) (has : old.now.schema ≡ floor_
   version_unusable params (inl cause) is one = never_of_text update_version params old new floor_schema has (Update 0 (plain_program version_query)) update_version_is update_version_plain tt fault cause is
   version_unusable params (inr ran) is one = ran.1 (version_counted old new params ran.0 has ran.2 one)
 
+  pub boot_unusable : (params : Row) → ChangesNotOne update_boot params old new fault → fault ≡ Unusable → ¬ HasOneRow (old.now.trees 0) 1
+  boot_unusable params (inl cause) is one = never_of_text update_boot params old new floor_schema has (Update 0 (plain_program boot_query)) update_boot_is update_boot_plain tt fault cause is
+  boot_unusable params (inr ran) is one = ran.1 (self_counted old new params ran.0 has ran.2 one)
+
   pub pass_kept : (params : Row) → IsFaultOf (λ error. ExecutesInside 0 insert_pass params old new (Err error)) fault → fault ≢ Unusable
   pass_kept params cause = never_of_text insert_pass params old new floor_schema has (Insert 2 (Values pass_terms 7)) insert_pass_is insert_pass_plain tt fault cause
-
-pub boot_refused : (params : Row) (old new : State) (e : Error) → old.now.schema ≡ floor_schema → ExecutesInside 0 update_boot params old new (Err e) → fault_of e ≢ Unusable
-boot_refused params old new e has h = not_of_text e (inside_free update_boot params old new floor_schema has (Update 0 (plain_program boot_query)) update_boot_is update_boot_plain tt e h)
 
 pub commit_refused : (old new : State) (e : Error) → FailsToCommit old new e → fault_of e ≢ Unusable
 commit_refused old new e h = not_of_text e (commit_free old new e h)

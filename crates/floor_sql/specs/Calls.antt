@@ -1,5 +1,5 @@
 -- What the calls of a store over SQLite do, beside what any store's do.
-use Rattle.std.specs.Prelude.{◌≡◌, ℕ, pos, false, List, find, None, Some, Result, IsSome, OnOk}
+use Rattle.std.specs.Prelude.{◌≡◌, ℕ, ◌+◌, ◌<◌, ◌≤◌, pos, false, List, [], ◌∷◌, ◌++◌, length, find, None, Some, Result, IsSome, OnOk}
 use Rattle.sqlite.specs.declared.types.Value.TheVariants.{Int}
 use Rattle.sqlite.specs.Store.{Ghosts}
 use Rattle.sqlite.specs.Order.{Row, column}
@@ -14,6 +14,7 @@ use Rattle.floor_sql.specs.Schema.{floor_schema}
 use Rattle.floor_sql.specs.Shown.{IsRead}
 use Rattle.floor_sql.specs.Stored.{Commits, MayCommit}
 use Rattle.floor_sql.specs.Created.{Opens}
+use Rattle.floor_sql.specs.declared.put.Put.{Put}
 use Rattle.floor_sql.specs.Held.{SqlHeld, HasTables, HasSame, sql_held}
 
 module _ {S : Type 0} (g : Ghosts S) where
@@ -30,9 +31,10 @@ module _ {S : Type 0} (g : Ghosts S) where
     pub tables : HasCleanDisk (sql.state g new) → HasSame (sql.state g old) (sql.state g new)
     pub survives : Survives (sql.state g old) (sql.state g new) Commit
 
-  -- a store that works, and of which a stop leaves just its content
+  -- a store that works, in which nothing waits for a commit, and of which a stop leaves just its content
   pub record IsSound (store : SqlHeld S) : Type 0 where
     pub works : store.fault ≡ None
+    pub idle : store.staged ≡ []
     pub settled : IsSettled (sql_held g store)
 
   -- a new store of this node, with these first free factors, made in one commit
@@ -55,9 +57,14 @@ module _ {S : Type 0} (g : Ghosts S) where
   pub record ReadsAudit {A : Type 0} (old new : SqlHeld S) (result : Result A StoreFault) : Type 0 where
     pub intact : OnOk result ((old.fault ≡ None) × (new.fault ≡ None))
     pub stays : IsSome old.fault → new ≡ old
-    pub content : (new.mirror ≡ old.mirror) × (new.passes ≡ old.passes)
+    pub content : (new.mirror ≡ old.mirror) × (new.staged ≡ old.staged) × (new.passes ≡ old.passes)
     pub tables : HasCleanDisk (sql.state g new.conn) → HasSame (sql.state g old.conn) (sql.state g new.conn)
     pub survives : Survives (sql.state g old.conn) (sql.state g new.conn) (λ _. ⊥)
+
+-- A put waits for its commit, and the connection is as it was; the one that fills the list is committed too.
+pub record Stages {S : Type 0} (old new : SqlHeld S) (put : Put) : Type 0 where
+  pub waits : length old.staged + 1 < 80 → (new.conn ≡ old.conn) × (new.staged ≡ old.staged ++ put ∷ [])
+  pub commits : 80 ≤ length old.staged + 1 → new.staged ≡ []
 
 -- the tables are those of a store of version 2, and name this node
 pub record IsOfNode (db : Database) (node : ℕ) : Type 0 where

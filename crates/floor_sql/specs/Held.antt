@@ -1,7 +1,7 @@
 -- What a store over SQLite holds, and its rule.
-use Rattle.std.specs.Prelude.{◌≡◌, ℕ, ◌^◌, ◌≤◌, false, List, length, Option, None, Some, IsTrue, refl}
+use Rattle.std.specs.Prelude.{◌≡◌, ℕ, ◌+◌, ◌^◌, ◌<◌, ◌≤◌, false, List, ◌++◌, length, Option, None, Some, IsTrue, refl, slice_get}
 use Rattle.std.specs.Option.{ForSome}
-use Rattle.std.specs.Coded.{Coded, code_by, coded×, coded_ℕ, coded_option}
+use Rattle.std.specs.Coded.{Coded, code_by, coded×, coded_ℕ, coded_list, coded_option}
 use Rattle.sqlite.specs.Store.{Ghosts}
 use Rattle.sqlite.specs.Tree.{Trees}
 use Rattle.sqlite.specs.Held as sql
@@ -15,24 +15,29 @@ use Rattle.floor_store.specs.Content.{Content}
 use Rattle.floor_store.specs.Fault.{is_failure}
 use Rattle.floor_store.specs.Held.{Held}
 use Rattle.floor_sql.specs.Schema.{floor_schema}
+use Rattle.floor_sql.specs.Staged.{passes_in, with_puts}
 use Rattle.floor_sql.specs.Stored.{Holds}
+use Rattle.floor_sql.specs.contracts.put.Put as put
+use Rattle.floor_sql.specs.declared.put.Put.{Put}
 
 -- what contracts see of a store over SQLite
 pub record SqlHeld (S : Type 0) : Type 0 where
   pub conn : sql.Held S
-  -- what was last committed, and how many passes
+  -- what it holds, and what of it waits for the commit
   pub mirror : Content
+  pub staged : List Put
+  -- how many passes were last committed
   pub passes : ℕ
   pub fault : Option StoreFault
 
 -- a store by its parts
 abbrev pub held_code : {S : Type 0} → Coded S → Coded (SqlHeld S)
 held_code {S} store =
-    code_by (sql.Held S × (Content × (ℕ
-    × Option StoreFault))) (coded× (sql.held_code store) (coded× memory.the_row.coded (coded× coded_ℕ
-    (coded_option fault.the_row.coded))))
-    (λ h. (h.conn, (h.mirror, (h.passes, h.fault))))
-    (λ p. record { conn = p.0; mirror = p.1.0; passes = p.1.1.0; fault = p.1.1.1 }) (λ _. refl)
+    code_by (sql.Held S × (Content × (List Put × (ℕ × Option StoreFault))))
+    (coded× (sql.held_code store) (coded× memory.the_row.coded (coded× (coded_list put.the_row.coded)
+    (coded× coded_ℕ (coded_option fault.the_row.coded)))))
+    (λ h. (h.conn, (h.mirror, (h.staged, (h.passes, h.fault)))))
+    (λ p. record { conn = p.0; mirror = p.1.0; staged = p.1.1.0; passes = p.1.1.1.0; fault = p.1.1.1.1 }) (λ _. refl)
 
 -- outside a transaction the tables are those of a store, with this content and so many passes
 pub record Mirrors (s : State) (c : Content) (count : ℕ) : Type 0 where
@@ -51,6 +56,22 @@ pub record IsKept {S : Type 0} (g : Ghosts S) (conn : sql.Held S) (mirror : Cont
       → Mirrors (sql.state g conn) mirror passes
   pub numbers : passes ≤ 2 ^ 62
   pub failing : ForSome fault (λ e. IsTrue (is_failure e))
+
+-- While the disk is honest and the connection is open, its tables hold the content to which the staged puts make the
+-- mirror.
+pub record IsStaged {S : Type 0} (g : Ghosts S) (conn : sql.Held S) (mirror : Content) (staged : List Put) (passes : ℕ)
+    (fault : Option StoreFault) : Type 0 where
+  pub base : Content
+  pub kept : IsKept g conn base passes fault
+  pub replayed : mirror ≡ with_puts base staged
+  pub known : (i : ℕ) (put : Put) → slice_get staged i ≡ Some put → put.token < length base.rows
+  pub room : passes + length (passes_in staged) ≤ 2 ^ 62
+
+-- outside a transaction the tables hold the content to which the staged puts make the mirror, with so many passes
+pub record MirrorsLast (s : State) (mirror : Content) (staged : List Put) (count : ℕ) : Type 0 where
+  pub base : Content
+  pub replayed : mirror ≡ with_puts base staged
+  pub tables : Mirrors s base count
 
 -- a store fails once, since it is broken from then on
 abbrev pub failures_of : Option StoreFault → ℕ
@@ -90,5 +111,13 @@ pub record HasSame (old new : State) : Type 0 where
   pub committed : IsTrue new.is_open → new.committed ≡ old.committed
 
 -- the committed passes of a store, in order
-abbrev pub HasAudit : {S : Type 0} → Ghosts S → SqlHeld S → List PassRecord → Type 0
-HasAudit g store passes = Holds (sql.state g store.conn).committed.trees store.mirror passes
+pub record HasCommitted {S : Type 0} (g : Ghosts S) (store : SqlHeld S) (passes : List PassRecord) : Type 0 where
+  pub base : Content
+  pub replayed : store.mirror ≡ with_puts base store.staged
+  pub holds : Holds (sql.state g store.conn).committed.trees base passes
+
+-- all passes of a store, in order: the committed ones, and behind them those that wait for their commit
+pub record HasAudit {S : Type 0} (g : Ghosts S) (store : SqlHeld S) (all : List PassRecord) : Type 0 where
+  pub passes : List PassRecord
+  pub committed : HasCommitted g store passes
+  pub waiting : all ≡ passes ++ passes_in store.staged

@@ -1,4 +1,4 @@
-ghost use Rattle.std.specs.Prelude.{◌≡◌, ◌≢◌, ◌≤◌, ℕ, length, true, false, None, Err, IsErr, IsErrAnd, IsTrue, IfOk, IfErr, OnOk};
+ghost use Rattle.std.specs.Prelude.{◌≡◌, ◌≢◌, ◌≤◌, ℕ, [], length, true, false, None, Err, IsErr, IsErrAnd, IsTrue, IfOk, IfErr, OnOk};
 ghost use Rattle.sqlite.specs.Held.{state};
 ghost use Rattle.sqlite.specs.State.{HasCleanDisk};
 ghost use Rattle.floor_store.specs.Fault.{is_failure};
@@ -7,47 +7,64 @@ ghost use Rattle.std.specs.Option.{option_to_list};
 use crate::create::write_opening;
 use crate::migrate::migrate_tables;
 use crate::mirror::Mirror;
+use crate::put::{MAX_STAGED, Put, pass_count};
 use crate::read::{Refusal, list_passes, read_own_node};
 use crate::schema::{has_own_table, is_floor_schema, is_no_schema};
 use crate::tables::{read_node, read_tables};
-use crate::write::{write_boot, write_put};
+use crate::write::write_all;
+use arrayvec::ArrayVec;
 use floor_store::{FloorStore, Pass, Row, StoreFault};
 use otp_core::Next;
 use sqlite::{Alter, Connection};
 use std::alloc::Global;
 use std::marker::Model;
 
-/// A store in tables of SQLite, with a mirror of what was last committed. A call that fails breaks
-/// it, but for `Spent`: from then on each call but `tokens`, `is_broken` and `close` answers that
-/// fault, until the connection is opened again.
+/// A store in tables of SQLite, with a mirror of what it holds. What is put waits in memory for its commit, which
+/// writes all of it in one transaction. A call that fails breaks the store, but for `Spent`: from then on each call but
+/// `tokens`, `is_broken` and `close` answers that fault, until the connection is opened again.
 #[derive(Drop)]
 pub struct SqlStore<S: Alter> {
     conn: Connection<S>,
     mirror: Mirror,
+    staged: ArrayVec<Put, MAX_STAGED>,
+    // the committed passes, and those among the staged puts
     passes: u64,
+    staged_passes: u64,
     fault: Option<StoreFault>,
 }
 
 impl<S: Alter> Model for SqlStore<S> {
-    ghost use Rattle.floor_sql.specs.Held.{SqlHeld, held_code, IsKept};
+    ghost use Rattle.std.specs.Prelude.{◌≡◌, length};
+    ghost use Rattle.floor_sql.specs.Held.{SqlHeld, held_code, IsStaged};
+    ghost use Rattle.floor_sql.specs.Staged.{passes_in};
 
     ghost Value = { SqlHeld S };
 
     ghost coded = { held_code S.code };
 
-    ghost view = { λ s. record { conn = s.conn; mirror = s.mirror; passes = s.passes; fault = s.fault } };
+    ghost view = { λ s. record {
+      conn = s.conn;
+      mirror = s.mirror;
+      staged = s.staged.items;
+      passes = s.passes;
+      fault = s.fault;
+    } };
 
-    ghost invariant = { λ s. IsKept S.Store s.conn s.mirror s.passes s.fault };
+    ghost invariant = { λ s. IsStaged S.Store s.conn s.mirror s.staged.items s.passes s.fault
+        × (s.staged_passes ≡ length (passes_in s.staged.items)) };
 }
 
 impl<S: Alter> SqlStore<S> {
-    ghost use Rattle.floor_store.specs.Held.{Breaks};
+    ghost use Rattle.std.specs.Prelude.{◌+◌, ◌^◌, ◌<◌, Some};
+    ghost use Rattle.std.specs.Option.{ForSome};
+    ghost use Rattle.floor_store.specs.Held.{Breaks, Writes};
     ghost use Rattle.floor_store.specs.declared.fault.StoreFault.TheVariants.{AlreadyThere, Unusable};
     ghost use Rattle.floor_sql.specs.Created.{IsForeign, Opens, has_own_table};
     ghost use Rattle.floor_sql.specs.Migrate.{IsMigrated, IsUsableUndrifted, Migrates};
     ghost use Rattle.floor_sql.specs.Schema.{floor_schema};
     ghost use Rattle.floor_sql.specs.Stored.{MayCommit};
-    ghost use Rattle.floor_sql.specs.Held.{Mirrors, HasAudit, sql_held};
+    ghost use Rattle.floor_sql.specs.Held.{MirrorsLast, HasAudit, HasCommitted, sql_held};
+    ghost use Rattle.floor_sql.specs.Staged.{LacksRow, with_boot};
     ghost use Rattle.floor_sql.specs.Usable.{HasUsableNode, HasUsablePasses, IsNode, IsUsable};
     ghost use Rattle.floor_sql.specs.Calls.{HandsBack, IsMade, IsOfNode, IsOpened, KeepsTables, ReadsAudit};
 
@@ -90,7 +107,9 @@ impl<S: Alter> SqlStore<S> {
             Ok(()) => Ok(SqlStore {
                 conn,
                 mirror,
+                staged: ArrayVec::new(),
                 passes: 0,
+                staged_passes: 0,
                 fault: None,
             }),
             Err(Refusal(fault)) => Err((conn, fault)),
@@ -124,7 +143,9 @@ impl<S: Alter> SqlStore<S> {
         Ok(SqlStore {
             conn,
             mirror,
+            staged: ArrayVec::new(),
             passes,
+            staged_passes: 0,
             fault: None,
         })
     }
@@ -188,17 +209,19 @@ impl<S: Alter> SqlStore<S> {
         }
     }
 
-    /// The connection, as it stands.
+    /// The connection, as it stands: its tables hold what was last committed, and what waits for its commit is lost.
     pub fn close(self) -> Connection<S>
         ensures same { result ≡ self.conn }
         ensures tables { HasCleanDisk (state S.Store result) → IsTrue (state S.Store result).is_open
-            → Mirrors (state S.Store result) self.mirror self.passes }
+            → MirrorsLast (state S.Store result) self.mirror self.staged self.passes }
         ensures idle { result.in_transaction ≡ false }
     {
         let SqlStore {
             conn,
             mirror: _,
+            staged: _,
             passes: _,
+            staged_passes: _,
             fault: _,
         } = self;
         conn
@@ -208,7 +231,7 @@ impl<S: Alter> SqlStore<S> {
     /// takes it.
     pub fn passes(&mut self, alloc: Global) -> Result<Vec<Pass>, StoreFault>
         ensures list { HasCleanDisk (state S.Store self.new.conn)
-            → IfOk result (λ list. HasAudit S.Store self.new list.items) }
+            → IfOk result (λ list. HasCommitted S.Store self.new list.items) }
         ensures reads { ReadsAudit S.Store self.old self.new result }
         ensures breaks { IfErr result (Breaks (sql_held S.Store) self.old self.new) }
         ensures unusable { HasCleanDisk (state S.Store self.new.conn) → result ≡ Err StoreFault.Unusable
@@ -225,27 +248,42 @@ impl<S: Alter> SqlStore<S> {
             }
         }
     }
-}
 
-/// How many passes a put appends.
-fn pass_count(pass: &Option<Pass>) -> u64
-    ensures value { result ≡ length (option_to_list pass.now) }
-    ensures in_range { result ≤ 1 }
-{
-    match pass {
-        Some(_) => 1,
-        None => 0,
+    /// Writes what was put in one transaction with the number of the boot, where one is given, and empties the list.
+    fn write(&mut self, boot: Option<u64>) -> Result<(), StoreFault>
+        requires works { self.old.fault ≡ None }
+        requires next { ForSome boot (λ b. (b ≡ self.old.mirror.boot + 1) × b < 2 ^ 62) }
+        ensures writes { Writes (sql_held S.Store) self.old self.new (with_boot boot self.old.mirror) result }
+        ensures breaks { IfErr result (λ fault. (self.new.fault ≡ Some fault) × IsTrue (is_failure fault)) }
+        ensures idle { OnOk result (self.new.staged ≡ []) }
+        ensures mirror { OnOk result (self.new.mirror ≡ with_boot boot self.old.mirror) }
+        ensures unusable { HasCleanDisk (state S.Store self.new.conn) → result ≡ Err StoreFault.Unusable
+            → LacksRow (state S.Store self.old.conn).now.trees self.old.staged boot }
+        ensures audit { HasCleanDisk (state S.Store self.new.conn) → OnOk result ((all : _)
+            → HasAudit S.Store self.old all → HasAudit S.Store self.new all) }
+    {
+        if let Err(fault) = write_all(&mut self.conn, self.staged.as_slice(), self.passes, boot) {
+            self.fault = Some(fault);
+            return Err(fault);
+        }
+        self.passes += self.staged_passes;
+        self.staged_passes = 0;
+        self.staged.clear();
+        self.mirror.set_boot(boot);
+        Ok(())
     }
 }
 
 impl<S: Alter> FloorStore for SqlStore<S> {
-    ghost use Rattle.std.specs.Prelude.{◌+◌, ◌^◌, ◌<◌, ◌++◌, Some, IsOk, slice_get};
+    ghost use Rattle.std.specs.Prelude.{◌+◌, ◌^◌, ◌<◌, ◌++◌, ◌∷◌, [], Some, IsOk, slice_get};
     ghost use Rattle.floor_store.specs.declared.fault.StoreFault.TheVariants.{Unusable};
     ghost use Rattle.floor_sql.specs.Stored.{HasOneRow};
     ghost use Rattle.floor_store.specs.Content.{with_row};
-    ghost use Rattle.floor_store.specs.Held.{Breaks, RaisesBoot, Reads, Writes};
+    ghost use Rattle.floor_store.specs.Held.{Breaks, Commits, Puts, RaisesBoot, Reads};
     ghost use Rattle.floor_store.specs.Range.{IsCount};
+    ghost use Rattle.floor_sql.specs.Calls.{Stages};
     ghost use Rattle.floor_sql.specs.Held.{sql_held, HasAudit};
+    ghost use Rattle.floor_sql.specs.Staged.{HasRows, passes_in};
 
     ghost held = { sql_held S.Store };
 
@@ -257,7 +295,7 @@ impl<S: Alter> FloorStore for SqlStore<S> {
         self.fault.is_some()
     }
 
-    /// The row of a token, as it was last committed. It runs no statement.
+    /// The row of a token, as it was last put. It runs no statement.
     fn row(&self, token: u32) -> Result<Row, StoreFault>
         requires { token < length self.now.mirror.rows }
         ensures reads { Reads (sql_held S.Store self.now)
@@ -270,7 +308,7 @@ impl<S: Alter> FloorStore for SqlStore<S> {
         Ok(self.mirror.row(token))
     }
 
-    /// The number of the boot, as it was last committed. It runs no statement.
+    /// The number of the boot, as it was last raised. It runs no statement.
     fn boot(&self) -> Result<u64, StoreFault>
         ensures reads { Reads (sql_held S.Store self.now) (λ content boot. boot ≡ content.boot) result }
         ensures range { IfOk result IsCount }
@@ -282,47 +320,76 @@ impl<S: Alter> FloorStore for SqlStore<S> {
         Ok(self.mirror.boot())
     }
 
-    /// Keeps the row of a token and, where one is given, appends the pass, in one transaction.
-    /// `Unusable` where its number would be beyond 2^62, or the token has not just one row of floors and one of drifts.
+    /// Puts the row of a token and, where one is given, the pass. They wait for their commit, and no statement is run,
+    /// but for the put that fills the list. `Unusable` where the number of the pass would be beyond 2^62, or a token
+    /// that the commit of a full list writes has not just one row of floors and one of drifts.
     fn put(&mut self, token: u32, row: Row, pass: Option<Pass>) -> Result<(), StoreFault>
         requires { token < length self.old.mirror.rows }
-        ensures writes { Writes (sql_held S.Store) self.old self.new (with_row self.old.mirror token row pass) result }
+        ensures puts { Puts (sql_held S.Store) self.old self.new (with_row self.old.mirror token row pass) result }
         ensures breaks { IfErr result (Breaks (sql_held S.Store) self.old self.new) }
+        ensures stages { OnOk result (Stages self.old self.new (record { token = token; row = row; pass = pass })) }
         ensures unusable { HasCleanDisk (state S.Store self.new.conn) → result ≡ Err StoreFault.Unusable
-            → self.old.fault ≡ None → HasOneRow ((state S.Store self.old.conn).now.trees 1) token
-            → HasOneRow ((state S.Store self.old.conn).now.trees 3) token
-            → 2 ^ 62 < self.old.passes + length (option_to_list pass) }
-        ensures audit { HasCleanDisk (state S.Store self.new.conn) → OnOk result ((passes : _)
-            → HasAudit S.Store self.old passes → HasAudit S.Store self.new (passes ++ option_to_list pass)) }
+            → self.old.fault ≡ None → HasRows (state S.Store self.old.conn).now.trees
+            (self.old.staged ++ record { token = token; row = row; pass = pass } ∷ [])
+            → 2 ^ 62 < self.old.passes + length (passes_in self.old.staged) + length (option_to_list pass) }
+        ensures audit { HasCleanDisk (state S.Store self.new.conn) → OnOk result ((all : _)
+            → HasAudit S.Store self.old all → HasAudit S.Store self.new (all ++ option_to_list pass)) }
     {
         if let Some(fault) = self.fault {
             return Err(fault);
         }
-        let more = pass_count(&pass);
-        if self.passes + more > 1 << 62 {
+        let passes = self.staged_passes + pass_count(&pass);
+        if self.passes + passes > 1 << 62 {
             self.fault = Some(StoreFault::Unusable);
             return Err(StoreFault::Unusable);
         }
-        if let Err(fault) = write_put(&mut self.conn, token, row, self.passes + 1, pass) {
-            self.fault = Some(fault);
-            return Err(fault);
+        // There is room: the put that fills the list commits it.
+        if self.staged.try_push(Put { token, row, pass }).is_err() {
+            self.fault = Some(StoreFault::Memory);
+            return Err(StoreFault::Memory);
         }
-        self.passes += more;
+        self.staged_passes = passes;
         self.mirror.put(token, row, pass);
+        if self.staged.is_full() {
+            return self.write(None);
+        }
         Ok(())
     }
 
-    /// Raises the number of the boot by one, in a transaction, and answers it. `Unusable` where
-    /// `self` has not just one row.
+    /// Writes what was put in one transaction, and appends its passes in order. Where nothing was put it runs no
+    /// statement. `Unusable` where a token that was put has not just one row of floors and one of drifts.
+    fn commit(&mut self) -> Result<(), StoreFault>
+        ensures commits { Commits (sql_held S.Store) self.old self.new result }
+        ensures breaks { IfErr result (Breaks (sql_held S.Store) self.old self.new) }
+        ensures idle { OnOk result (self.new.staged ≡ []) }
+        ensures same { self.old.staged ≡ [] → self.new ≡ self.old }
+        ensures unusable { HasCleanDisk (state S.Store self.new.conn) → result ≡ Err StoreFault.Unusable
+            → self.old.fault ≡ None → ¬ HasRows (state S.Store self.old.conn).now.trees self.old.staged }
+        ensures audit { HasCleanDisk (state S.Store self.new.conn) → OnOk result ((all : _)
+            → HasAudit S.Store self.old all → HasAudit S.Store self.new all) }
+    {
+        if let Some(fault) = self.fault {
+            return Err(fault);
+        }
+        if self.staged.is_empty() {
+            return Ok(());
+        }
+        self.write(None)
+    }
+
+    /// Raises the number of the boot by one, in one transaction with what was put, and answers it. `Unusable` where
+    /// `self` has not just one row, or a token that was put has not just one of floors and one of drifts.
     fn raise_boot(&mut self) -> Result<u64, StoreFault>
         ensures raises { RaisesBoot (sql_held S.Store) self.old self.new result }
         ensures value { IfOk result (λ boot. HasCleanDisk (state S.Store self.new.conn)
             → boot ≡ self.new.mirror.boot) }
         ensures range { IfOk result IsCount }
+        ensures idle { OnOk result (self.new.staged ≡ []) }
         ensures unusable { HasCleanDisk (state S.Store self.new.conn) → result ≡ Err StoreFault.Unusable
-            → self.old.fault ≡ None → ¬ HasOneRow ((state S.Store self.old.conn).now.trees 0) 1 }
-        ensures audit { HasCleanDisk (state S.Store self.new.conn) → OnOk result ((passes : _)
-            → HasAudit S.Store self.old passes → HasAudit S.Store self.new passes) }
+            → self.old.fault ≡ None → HasRows (state S.Store self.old.conn).now.trees self.old.staged
+            → ¬ HasOneRow ((state S.Store self.old.conn).now.trees 0) 1 }
+        ensures audit { HasCleanDisk (state S.Store self.new.conn) → OnOk result ((all : _)
+            → HasAudit S.Store self.old all → HasAudit S.Store self.new all) }
     {
         if let Some(fault) = self.fault {
             return Err(fault);
@@ -331,11 +398,9 @@ impl<S: Alter> FloorStore for SqlStore<S> {
         if boot == 1 << 62 {
             return Err(StoreFault::Spent);
         }
-        if let Err(fault) = write_boot(&mut self.conn, boot) {
-            self.fault = Some(fault);
-            return Err(fault);
+        match self.write(Some(boot)) {
+            Ok(()) => Ok(boot),
+            Err(fault) => Err(fault),
         }
-        self.mirror.raise_boot();
-        Ok(boot)
     }
 }

@@ -1,0 +1,38 @@
+-- What a stop leaves of a store in files, and what the next opening finds there.
+use Rattle.std.specs.Prelude.{◌≡◌, ℕ, IsTrue}
+use Rattle.sqlite_disk.specs.declared.Disk.{Ghosts}
+use Rattle.sqlite_wal.specs.Recovery.{Image}
+use Rattle.sqlite_store.specs.declared.store.FileStore.{FileStore}
+use Rattle.sqlite_store.specs.FileStore.{state, view, recovers}
+use Rattle.sqlite.specs.Held as sql
+use Rattle.sqlite.specs.Files.{file_state, over_files}
+use Rattle.sqlite.specs.Start.{FindsIn}
+use Rattle.sqlite.specs.State.{HasCleanDisk, Opens}
+use Rattle.floor_store.specs.Held.{IsSettled}
+use Rattle.floor_sql.specs.Calls.{IsOpened}
+use Rattle.floor_sql.specs.Held.{SqlHeld, sql_held}
+
+module _ {D E : Type 0} {g : Ghosts D} {h : Ghosts E} where
+  -- A stop of a store in two files, which leaves them with this content, and the store that is opened on them then.
+  pub record IsNextLife (store : SqlHeld (FileStore D g)) (left : Image)
+      (again : SqlHeld (FileStore E h)) : Type 0 where
+    -- so far the disk had returned what was written
+    pub clean : HasCleanDisk (file_state store.conn)
+    -- what each connection keeps: its files recover to databases alone
+    pub numbered : IsTrue (view store.conn.store).is_numbered
+    pub databases : sql.AreDatabases (recovers store.conn.store)
+    -- the disk may leave this
+    pub may : (state store.conn.store).may_leave left
+    -- a connection finds it, with no transaction open, and the store is opened over that
+    pub conn : sql.Held (FileStore E h)
+    pub found : FindsIn left (file_state conn)
+    pub fresh : Opens (file_state conn)
+    pub node : ℕ
+    pub tokens : ℕ
+    pub opened : IsOpened over_files conn node tokens again
+    pub honest : HasCleanDisk (file_state again.conn)
+
+  -- The content that is found is one that the stop could leave; where the store was settled it is its content.
+  pub record FindsWhatIsLeft (store : SqlHeld (FileStore D g)) (again : SqlHeld (FileStore E h)) : Type 0 where
+    pub left : ∥ (sql_held over_files store).leaves again.mirror ∥₁
+    pub settled : IsSettled (sql_held over_files store) → again.mirror ≡ store.mirror
