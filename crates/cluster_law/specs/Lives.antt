@@ -1,6 +1,6 @@
 -- The lives of the nodes of a cluster: processes that open a store, take what comes, offer what they send and reply,
 -- and end at any moment; and one history of all that they do. It knows no world: what it says of a node is what the
--- contracts of `Node::open` and `Node::handle` say of a process over any store.
+-- contracts of `Node::open` and of the calls by which a node takes events say of a process over any store.
 use Rattle.std.specs.Prelude.{◌≡◌, ℕ, suc, ◌==◌, nat_lt, Bool, true, false, if◌then◌else◌, List, [], ◌∷◌, ◌++◌, length, map, take, Some, None, slice_get}
 use Rattle.otp_core.specs.Acceptance.{Acceptance}
 use Rattle.floor_store.specs.Content.{Content, with_next_boot}
@@ -84,7 +84,8 @@ first_scene setting = record { sites = λ node. Down (made_content setting node)
 -- What happens at a node.
 --   Opens: a process opens the store that the node's last process left (or that the node was made with).
 --   FailsToOpen: a process ends before it serves; the boot is raised in its store, or not.
---   Takes: its process takes this input: one step of its machine, whose change is kept before anything goes out.
+--   Takes: its process takes this input: one step of its machine. The deed stands where the change is kept, before
+--   anything of it goes out. Where one commit keeps several, they are deeds one after the other, in order.
 --   Offers: its process offers the next of what it has to offer. Whether the network takes it is nowhere asked.
 --   Stops: its process ends, whatever it has yet to offer: killed, by a fault, or by its own end.
 --   StopsIn: its process ends inside the step that takes this input, also by a fault of the store; the change is kept
