@@ -5,7 +5,7 @@ use crate::steps::{
     count_of_node, count_steps, memory, settings, zeros,
 };
 use floor_store::{FloorStore, FuseStore, MemStore, StoreFault};
-use oath_node::{Event, Node, NodeFault, OpenFault, Scratch};
+use oath_node::{Event, Node, NodeFault, OpenFault, Outputs, Scratch};
 use std::alloc::Global;
 use token_file::Book;
 use vote_core::Place;
@@ -118,17 +118,95 @@ const WRITES: &[(u64, bool, bool, u64)] = &[
     (0, true, true, 2),
     (1, false, true, 2),
     (1, true, true, 2),
-    (2, false, false, 2),
-    (2, true, false, 2),
+    (2, false, true, 2),
+    (2, true, true, 2),
+    (3, false, true, 2),
+    (3, true, true, 2),
+    (4, false, true, 2),
+    (4, true, true, 2),
+    (5, false, false, 2),
+    (5, true, false, 2),
 ];
 
-/// Each write of node 3 fails in turn, lost or kept: that of its boot, and that of its Grant. It has no third one.
-/// It grants the code to node 1 alone in each run, which tells its client so, and node 2 doesn't.
+/// Each write of node 3 fails in turn, lost or kept: that of its boot, the put of its Grant, and the commit of each
+/// step. It has no sixth one. It grants the code to node 1 alone in each run, which tells its client so, and node 2
+/// doesn't.
 #[test]
 fn each_write_fails(rt: HostRuntime) {
     assert!(rt; count_of_node(rt.alloc(), 1, 3, FIRST) == Some(2));
     assert!(rt; count_of_node(rt.alloc(), 2, 3, SECOND) == Some(2));
     for &(writes, after, blows, boot) in WRITES {
         assert!(rt; boot_of_fresh_third(rt.alloc(), writes, after, blows) == Some(boot));
+    }
+}
+
+/// Three lines of one batch, with the first three codes of the token. Their outputs are handed out once all is kept.
+fn take_batch<'b, S: FloorStore>(node: &mut Node<'b, S>) -> Result<[Outputs<'b>; 3], NodeFault> {
+    let first = node.take_line(7, 1000, b"CHECK a silver 755224 -")?;
+    let second = node.take_line(8, 1000, b"CHECK b silver 287082 -")?;
+    let third = node.take_line(9, 1000, b"CHECK c silver 359152 -")?;
+    node.commit()?;
+    Ok([first, second, third])
+}
+
+/// The store of a node that is alone, after the batch, and how many outputs were handed out.
+fn store_of_batch(
+    alloc: Global,
+    book: &Book,
+    key: &ClusterKey,
+    store: Fuse,
+) -> Option<(Fuse, usize)> {
+    let settings = settings()?;
+    let place = Place::new(1, 1)?;
+    if store.tokens() as usize != book.len() {
+        return None;
+    }
+    let mut node = Node::open(alloc, book, settings, place, key, store).ok()?;
+    let count = match take_batch(&mut node) {
+        Ok(outputs) => outputs.len(),
+        Err(_) => 0,
+    };
+    Some((node.close(), count))
+}
+
+/// The first free factor of the one token, once a node was opened over what the fuse left.
+fn next_after_restart(alloc: Global, book: &Book, key: &ClusterKey, store: Fuse) -> Option<u64> {
+    let store = FuseStore::new(store.mend(), 1, false);
+    let (store, _) = steps_of_third(alloc, book, key, store, &[])?;
+    if store.tokens() == 0 {
+        return None;
+    }
+    Some(store.row(0).ok()?.next().value())
+}
+
+/// That factor after the batch over a fresh store, and how many outputs were handed out.
+fn left_by_batch(alloc: Global, writes: u64, after: bool) -> Option<(u64, usize)> {
+    let key = zeros()?;
+    let (book, floors) = book_of(alloc, SILVER)?;
+    let store = FuseStore::new(memory(alloc, &floors)?, writes, after);
+    let (store, count) = store_of_batch(alloc, &book, &key, store)?;
+    Some((next_after_restart(alloc, &book, &key, store)?, count))
+}
+
+/// How many writes pass, whether the change of the next one is kept, how many lines of the batch are kept then, and how
+/// many outputs are handed out.
+const BATCHES: &[(u64, bool, u64, usize)] = &[
+    (1, false, 0, 0),
+    (1, true, 1, 0),
+    (2, false, 1, 0),
+    (2, true, 2, 0),
+    (3, false, 2, 0),
+    (3, true, 3, 0),
+    (4, false, 3, 0),
+    (4, true, 3, 0),
+    (5, false, 3, 3),
+];
+
+/// Each put of a batch of three lines fails in turn, and its commit. The first few of the lines are kept, and no output
+/// is handed out but after the commit.
+#[test]
+fn each_write_of_a_batch_fails(rt: HostRuntime) {
+    for &(writes, after, kept, count) in BATCHES {
+        assert!(rt; left_by_batch(rt.alloc(), writes, after) == Some((kept, count)));
     }
 }
