@@ -1,6 +1,6 @@
 //! A port over a UDP socket.
 
-ghost use Rattle.std.specs.Prelude.{◌≡◌, ◌≤◌, true, false, length, IfOk, IfSome};
+ghost use Rattle.std.specs.Prelude.{◌≡◌, ◌≤◌, true, false, length, IfOk, IfSome, IsTrue};
 ghost use Rattle.node_turns.specs.Port.{IsWithin};
 ghost use Rattle.udp_port.specs.Receipt.{failure_of, is_answer, is_passed_over, receipt_of};
 
@@ -26,6 +26,7 @@ pub struct UdpPort<R: TimeSource + Drop> {
     clock: R,
     pace: Pace,
     skips_answers: bool,
+    waits: bool,
     ghost few: { length members.items ≤ 9 },
 }
 
@@ -102,6 +103,7 @@ impl<R: TimeSource + Drop> UdpPort<R> {
             clock,
             pace: Pace::default(),
             skips_answers: true,
+            waits: true,
         }
     }
 }
@@ -120,7 +122,25 @@ impl UdpPort<NoClock> {
             clock: NoClock,
             pace: Pace::default(),
             skips_answers: false,
+            waits: true,
         }
+    }
+}
+
+impl<R: TimeSource + Drop> UdpPort<R> {
+    /// Makes the calls of the socket wait, or not. Whether they do so now.
+    fn set_waits(&mut self, waits: bool) -> bool
+        ensures waits { IsTrue result → self.new.waits ≡ waits }
+        ensures same { self.new ≡ record self.old { waits = self.new.waits } }
+    {
+        if self.waits == waits {
+            return true;
+        }
+        if self.socket.set_nonblocking(!waits).is_err() {
+            return false;
+        }
+        self.waits = waits;
+        true
     }
 }
 
@@ -129,6 +149,9 @@ impl<R: TimeSource + Drop> Port for UdpPort<R> {
         for _ in 0..MAX_PASSED_OVER {
             if self.pace.begin(millis_of(&self.clock)) {
                 return Received::Quiet;
+            }
+            if !self.set_waits(true) {
+                return Received::Fault;
             }
             let received = self.socket.recv_from(buffer);
             match receipt_of(self.skips_answers, &self.members, &received, buffer) {
@@ -143,7 +166,24 @@ impl<R: TimeSource + Drop> Port for UdpPort<R> {
         Received::Quiet
     }
 
+    fn poll(&mut self, buffer: &mut [u8; 512]) -> Option<Received> {
+        if !self.set_waits(false) {
+            return None;
+        }
+        for _ in 0..MAX_PASSED_OVER {
+            let received = self.socket.recv_from(buffer);
+            match receipt_of(self.skips_answers, &self.members, &received, buffer) {
+                Some(Received::Quiet) => return None,
+                Some(received) => return Some(received),
+                None => {}
+            }
+        }
+        None
+    }
+
     fn send(&mut self, to: Sender, bytes: &[u8]) -> bool {
+        // where the socket takes no more just now, what is sent waits, and is not lost
+        let _waits = self.set_waits(true);
         match address_of(&self.members, to) {
             Some(address) => self.socket.send_to(bytes, SocketAddr::V4(address)).is_ok(),
             None => false,
