@@ -93,6 +93,25 @@ fn is_quiet_where_nothing_comes(rt: HostRuntime) -> Result<(), Fail> {
     Ok(())
 }
 
+/// A poll hands in what is there, and waits for nothing: here over a socket that waits for ever.
+#[test]
+fn polls_wait_for_nothing(rt: HostRuntime) -> Result<(), Fail> {
+    let any = SocketAddrV4::new(Ipv4Addr::LOCALHOST, 0);
+    let (own, stranger) = (UdpSocket::bind(&rt, SocketAddr::V4(any))?, socket(&rt)?);
+    let (at, client) = (address(&own)?, client_number(address(&stranger)?));
+    let sender = Sender::Client(client);
+    let mut port = UdpPort::new(own, Vec::new(rt.alloc()), NoClock);
+    let mut buffer = [0; 512];
+    assert!(rt; port.poll(&mut buffer).is_none());
+    for text in ["OK 1 0", "first", "next"] {
+        stranger.send_to(text.as_bytes(), SocketAddr::V4(at))?;
+    }
+    assert!(rt; port.poll(&mut buffer) == Some(Received::Datagram { sender, len: 5 }));
+    assert!(rt; hands_in(&mut port, sender, b"next"));
+    assert!(rt; port.poll(&mut buffer).is_none());
+    Ok(())
+}
+
 /// Whether a port that says `NO - BADLINE` to whatever it is handed says so to what comes next.
 fn refuses<P: Port>(port: &mut P) -> bool {
     let mut buffer = [0; 512];

@@ -1,6 +1,6 @@
 //! Turns over a port in memory.
 
-use floor_store::MemStore;
+use floor_store::{FloorStore, FuseStore, MemStore};
 use node_turns::{Coming, ListClock, ListPort, PortEntry, Sender, Served, run_turns};
 use oath_node::Node;
 use otp_core::{Next, Settings};
@@ -21,18 +21,25 @@ fn silver(alloc: Global) -> Result<(Book, Vec<Next>), Fail> {
     }
 }
 
-/// A node alone, over a fresh store in memory.
-fn node_alone<'b>(
-    alloc: Global,
-    book: &'b Book,
-    key: &'b ClusterKey,
-    floors: &[Next],
-) -> Result<Node<'b, MemStore>, Fail> {
-    let place = Place::new(1, 1).ok_or("a place")?;
+/// A fresh store in memory.
+fn store_of(alloc: Global, book: &Book, floors: &[Next]) -> Result<MemStore, Fail> {
     if floors.len() > 10_000 || floors.len() != book.len() {
         return Err("another number of tokens".into());
     }
-    let store = MemStore::new(alloc, floors)?;
+    Ok(MemStore::new(alloc, floors)?)
+}
+
+/// A node alone over a store.
+fn node_alone<'b, S: FloorStore + Drop>(
+    alloc: Global,
+    book: &'b Book,
+    key: &'b ClusterKey,
+    store: S,
+) -> Result<Node<'b, S>, Fail> {
+    let place = Place::new(1, 1).ok_or("a place")?;
+    if usize::try_from(store.tokens()) != Ok(book.len()) {
+        return Err("another number of tokens".into());
+    }
     match Node::open(alloc, book, Settings::default(), place, key, store) {
         Ok(node) => Ok(node),
         Err((_, fault)) => Err(fault.into()),
@@ -47,7 +54,8 @@ fn served(
 ) -> Result<Served, Fail> {
     let key = ClusterKey::new(&[0; 32]).ok_or("a key")?;
     let (book, floors) = silver(alloc)?;
-    let mut node = node_alone(alloc, &book, &key, &floors)?;
+    let store = store_of(alloc, &book, &floors)?;
+    let mut node = node_alone(alloc, &book, &key, store)?;
     match run_turns(&mut node, port, clock, 5) {
         Ok(served) => Ok(served),
         Err(fault) => Err(fault.into()),
@@ -115,5 +123,82 @@ fn lines_are_answered_once(rt: HostRuntime) -> Result<(), Fail> {
         assert!(rt; has_answered(port.record().ok_or("no record")?));
         assert!(rt; clock.record().ok_or("no record")? == [Some(100), Some(101)].as_slice());
     }
+    Ok(())
+}
+
+/// What three lines of a client that come together at once come to, at a node alone whose store lets this many writes
+/// pass: what was served, where no fault ended it, and the writes that passed.
+fn batch_of_three(
+    alloc: Global,
+    port: &mut ListPort<'_>,
+    writes: u64,
+) -> Result<(Option<Served>, u64), Fail> {
+    let key = ClusterKey::new(&[0; 32]).ok_or("a key")?;
+    let (book, floors) = silver(alloc)?;
+    let store = FuseStore::new(store_of(alloc, &book, &floors)?, writes, false);
+    let mut node = node_alone(alloc, &book, &key, store)?;
+    let mut clock = ListClock::new(alloc, &[100, 100, 100]);
+    let end = run_turns(&mut node, port, &mut clock, 3);
+    Ok((end.ok(), node.close().passed()))
+}
+
+/// Three lines that come together are kept by one write of the disk, and answered behind it: where it fails nothing
+/// is answered.
+#[test]
+fn lines_that_come_together_are_kept_at_once(rt: HostRuntime) -> Result<(), Fail> {
+    let alloc = rt.alloc();
+    let line = |bytes| Coming::Datagram {
+        sender: Sender::Client(7),
+        bytes,
+    };
+    let comings = [
+        line(b"CHECK 1 silver 755224 -".as_slice()),
+        line(b"CHECK".as_slice()),
+        line(b"CHECK 2 silver 287082 -".as_slice()),
+    ];
+    // the boot, two acceptances and their commit
+    let mut port = ListPort::new(alloc, &comings);
+    let (served, passed) = batch_of_three(alloc, &mut port, 4)?;
+    assert!(rt;
+        served
+            == Some(Served {
+                received: 3,
+                replied: 3
+            })
+            && passed == 4
+    );
+    let entries = port.record().ok_or("no record")?;
+    assert!(rt; entries.len() == 6 && is_answer(entries.get(3), b"OK 1 0"));
+    assert!(rt; is_answer(entries.get(5), b"OK 2 1"));
+    // the commit fails
+    let mut port = ListPort::new(alloc, &comings);
+    let (served, passed) = batch_of_three(alloc, &mut port, 3)?;
+    assert!(rt; served == None && passed == 3);
+    assert!(rt; port.record().ok_or("no record")?.len() == 3);
+    Ok(())
+}
+
+/// A pause ends a batch: what comes behind it is kept by a write of its own.
+#[test]
+fn lines_that_come_apart_are_kept_apart(rt: HostRuntime) -> Result<(), Fail> {
+    let alloc = rt.alloc();
+    let line = Coming::Datagram {
+        sender: Sender::Client(7),
+        bytes: b"CHECK".as_slice(),
+    };
+    let comings = [line, Coming::Pause, line, line];
+    let mut port = ListPort::new(alloc, &comings);
+    let (served, passed) = batch_of_three(alloc, &mut port, 9)?;
+    assert!(rt;
+        served
+            == Some(Served {
+                received: 3,
+                replied: 3
+            })
+            && passed == 3
+    );
+    let entries = port.record().ok_or("no record")?;
+    assert!(rt; is_answer(entries.get(1), b"NO - BADLINE"));
+    assert!(rt; entries.len() == 6 && is_answer(entries.get(5), b"NO - BADLINE"));
     Ok(())
 }
