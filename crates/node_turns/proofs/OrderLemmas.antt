@@ -1,15 +1,16 @@
 -- Batches come to what their turns come to one by one.
-use Rattle.std.proofs.Common.{◌≡◌, ℕ, List, [], ◌∷◌, ◌++◌, length, map, refl, sym, ap, ◌∙◌, subst}
-use Rattle.std.specs.Prelude.{false, Option, None, Some}
+use Rattle.std.proofs.Common.{◌≡◌, ◌≢◌, ℕ, ◌+◌, ◌%◌, ◌≤◌, Bool, true, eq-eqb, arith, List, [], ◌∷◌, ◌++◌, length, map, refl, sym, ap, ◌∙◌, subst}
+use Rattle.std.specs.Prelude.{false, nat_eq, Option, None, Some}
+use Rattle.std.proofs.lemmas.Bool.{false≢true}
 use Rattle.std.proofs.lemmas.List.{append-nil}
 use Rattle.oath_node.specs.Machine.{NodeEvent, NodeState, made_by_event}
 use Rattle.oath_node.specs.Outputs.{outputs_of}
 use Rattle.oath_node.specs.declared.item.Item.{Item}
 use Rattle.node_turns.specs.Port.{PortEvent}
-use Rattle.node_turns.specs.Turns.{AreBatches, ComesToTheSame, DoesTheSame, GoesOn, Member, Receipt, Run, FromPeer, FromClient, Nothing, Failure, end_with, ends_batch, entry_of, events_of_turn, events_of_turns, offer_of, offers_in, received_after, received_with, receipts_in, receives_in, run_with_batch, run_with_batches, run_with_event, run_with_events, run_with_receipt, run_with_receipts, run_with_turn, run_with_turns, tally_with, while_going, with_replies, without_failures}
+use Rattle.node_turns.specs.Turns.{AreBatches, ComesToTheSame, DoesTheSame, GoesOn, IsBatch, Member, Receipt, Run, FromPeer, FromClient, Nothing, Failure, end_with, ends_batch, entry_of, events_of_turn, events_of_turns, offer_of, offers_in, received_after, received_with, receipts_in, receives_in, run_with_batch, run_with_batches, run_with_event, run_with_events, run_with_receipt, run_with_receipts, run_with_turn, run_with_turns, tally_with, while_going, with_replies, without_failures}
 use Rattle.node_turns.specs.declared.fault.ServeFault.{ServeFault}
 use Rattle.node_turns.specs.declared.turns.Tally.{Tally}
-use Rattle.node_turns.proofs.BatchLemmas.{end_of_datagram, events_more, received_after_is, received_is, receipts_tally}
+use Rattle.node_turns.proofs.BatchLemmas.{end_of_datagram, events_more, one_more, received_after_is, received_is, receipts_tally}
 use Rattle.node_turns.proofs.FailureLemmas.{faults_out, offers-append, same_run}
 use Rattle.node_turns.proofs.GrowLemmas.{receives_in-append, receives_in-offers}
 use Rattle.node_turns.proofs.StepLemmas.{run_with_events-append, run_with_events-end}
@@ -308,3 +309,25 @@ faults_out_of_batches member bs a formed going end =
       received = ap (λ (t : Tally). t.received) h.tally ∙ k.received;
       replied = ap (λ (t : Tally). t.replied) h.tally ∙ k.replied;
     }
+
+next_few : (xs : List Receipt) (n : ℕ) (b : Bool) → nat_eq ((n + 1) % 64) 0 ≡ b → b ≡ false → length xs + (n + 1) % 64 ≤ 63
+    → (length xs + 1) + n % 64 ≤ 63
+next_few xs n true is other few = absurd (false≢true (sym other))
+next_few xs n false is other few =
+    let unequal : (n + 1) % 64 ≢ 0 = λ h. false≢true (sym is ∙ eq-eqb ((n + 1) % 64) 0 h) in omega (arith, unequal, few)
+
+-- behind fewer than 64 receipts in a row no batch ends
+going_few : (xs : List Receipt) (n : ℕ) → GoesOn n xs → length xs + n % 64 ≤ 63
+going_few [] n h = omega arith
+going_few (FromPeer from bytes ∷ xs) n h =
+    omega (arith, next_few xs n (nat_eq ((n + 1) % 64) 0) refl h.0 (going_few xs (n + 1) h.1))
+going_few (FromClient client bytes (Some moment) ∷ xs) n h =
+    omega (arith, next_few xs n (nat_eq ((n + 1) % 64) 0) refl h.0 (going_few xs (n + 1) h.1))
+going_few (FromClient client bytes None ∷ xs) n h = absurd (false≢true (sym h.0))
+going_few (Nothing ∷ xs) n h = absurd (false≢true (sym h.0))
+going_few (Failure ∷ xs) n h = absurd (false≢true (sym h.0))
+
+pub batch_few : (n : ℕ) (xs : List Receipt) → IsBatch n xs → length xs ≤ 64
+batch_few n xs h =
+    let few = going_few h.before n h.goes_on in
+    let is = ap (λ (zs : List Receipt). length zs) h.is ∙ one_more h.before h.last in omega (arith, few, is)

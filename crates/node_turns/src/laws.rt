@@ -1,4 +1,4 @@
-ghost use Rattle.std.specs.Prelude.{◌≡◌, ◌∷◌, [], ◌++◌, List, Some, None, false, replicate, true};
+ghost use Rattle.std.specs.Prelude.{◌≡◌, ℕ, ◌≤◌, length, ◌∷◌, [], ◌++◌, List, Some, None, false, replicate, true};
 ghost use Rattle.node_turns.specs.TurnExamples.{batches_of, going_with, line_without_moment, no_line, noise, order_of, run_of};
 ghost use Rattle.oath_node.specs.Cases.{idle_node};
 ghost use Rattle.node_turns.specs.Port.{Faulted, Offered, Quiet, Received};
@@ -40,6 +40,8 @@ pub fn batches_are_turns()
         (run_with_turns member (receipts_in batches) start) }
     ensures one { (member : Member) (receipt : Receipt) (start : Run)
         → run_with_batch member (receipt ∷ []) start ≡ run_with_turn member receipt start }
+    // A batch has at most 64 receives.
+    ensures few { (received : ℕ) (batch : List Receipt) → IsBatch received batch → length batch ≤ 64 }
     // So faults of the port change nothing of batches either.
     ensures failures { (member : Member) (batches : List (List Receipt)) (start : Run)
         → AreBatches start.tally.received batches → start.end ≡ None

@@ -268,7 +268,7 @@ fn take_batch<'b, S: FloorStore, P: Port, C: Clock>(
     }
 }
 
-/// Serves a node over a port for so many turns. Each turn is one receive.
+/// Serves a node over a port for so many turns. Each turn is a receive, or a poll that finds something.
 ///
 /// A datagram is handed to the node, a client's at the moment that the clock tells then. After a quiet turn, and
 /// after each 64th datagram, some time has passed for the node. What is there already behind a datagram is handed in

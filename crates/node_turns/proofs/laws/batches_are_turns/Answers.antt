@@ -1,5 +1,5 @@
 use Rattle.std.proofs.Common.{refl}
-use Rattle.node_turns.proofs.OrderLemmas.{batch_of_one, batches_order, comes, faults_out_of_batches}
+use Rattle.node_turns.proofs.OrderLemmas.{batch_few, batch_of_one, batches_order, comes, faults_out_of_batches}
 use Rattle.node_turns.proofs.laws.batches_are_turns.Goals as goal
 
 pub returns-clause-order : goal.returns-clause-order
@@ -10,3 +10,6 @@ returns-clause-one c = λ member receipt start. batch_of_one member receipt star
 
 pub returns-clause-failures : goal.returns-clause-failures
 returns-clause-failures c = λ member batches start formed going end. faults_out_of_batches member batches start formed going end
+
+pub returns-clause-few : goal.returns-clause-few
+returns-clause-few c = λ received batch is. batch_few received batch is
