@@ -1,16 +1,16 @@
 -- What becomes of an answer that was made.
-use Rattle.std.proofs.Common.{◌≡◌, ℕ, zero, suc, ◌⊎◌, inl, inr, ⊎_elim, Bool, true, false, cond, List, [], ◌∷◌, ◌++◌, map, take, Option, Some, None, refl, sym, ap, ◌∙◌, subst, eqb}
+use Rattle.std.proofs.Common.{◌≡◌, ℕ, zero, suc, ◌⊎◌, inl, inr, ⊎_elim, Bool, true, false, cond, List, [], ◌∷◌, ◌++◌, map, take, Option, Some, refl, sym, ap, ◌∙◌, subst, eqb}
 use Rattle.std.specs.List.{slice_get}
-use Rattle.std.proofs.lemmas.Bool.{cond_both, cond-true, cond-false, cases_Bool, eqb-true, eq-eqb}
+use Rattle.std.proofs.lemmas.Bool.{cond-true, cond-false, cases_Bool, eqb-true, eq-eqb}
 use Rattle.std.proofs.lemmas.Option.{same_Some, none-some}
 use Rattle.otp_core.specs.Acceptance.{Acceptance}
 use Rattle.vote_core.specs.Schedule.{Envelope, envelope_from, is_member}
-use Rattle.oath_node.specs.Machine.{Made, NodeState, Reply}
+use Rattle.oath_node.specs.Machine.{NodeState, Reply}
 use Rattle.cluster_sim.proofs.Owners.{get_more}
 use Rattle.cluster_sim.specs.Answered.{HasAnswer, IsAnsweredIn, IsAskedIn}
-use Rattle.cluster_sim.specs.World.{Told, WorldEvent, Happens, Cut, Restart, told_reply, world_of}
+use Rattle.cluster_sim.specs.World.{Told, WorldEvent, Happens, Restart, told_reply, world_of}
 use Rattle.cluster_law.specs.Answered.{AnswersAll, EndsProcess, HasOk, HasYetToOffer, IsAnsweredInDeed, IsLost, IsOfferedOrEnds}
-use Rattle.cluster_law.specs.Lives.{Deed, Opens, FailsToOpen, Takes, Offers, Stops, StopsIn, Handout, Post, Answer, Input, IsHistory, Scene, Setting, Site, Down, Up, answers_among, first_scene, handouts_of, made_by_input, node_of_deed, nodes_of, offers_by, scene_after, scene_after_deed, scene_at, site_after}
+use Rattle.cluster_law.specs.Lives.{Deed, Opens, FailsToOpen, Takes, Offers, Stops, StopsIn, Handout, Post, Answer, IsHistory, Scene, Setting, Site, Down, Up, answers_among, first_scene, handouts_of, made_by_input, node_of_deed, nodes_of, offers_by, scene_after, scene_after_deed, scene_at, site_after}
 use Rattle.cluster_law.specs.Promises.{HasAct, IsAskedInDeed, IsEventOf, IsToldAmong, nothing}
 use Rattle.cluster_law.proofs.Follow.{answers_by, answers_made, get_after}
 use Rattle.cluster_law.proofs.Histories.{AnsweredLaw, Whole, answers_in, whole_run}

@@ -1,11 +1,11 @@
 -- There are deeds for any turns.
-use Rattle.std.proofs.Common.{◌≡◌, ℕ, zero, suc, ◌%◌, Bool, true, false, cond, List, [], ◌∷◌, ◌++◌, map, take, Option, Some, None, refl, sym, ap, ◌∙◌, eqb}
+use Rattle.std.proofs.Common.{◌≡◌, ℕ, zero, suc, ◌%◌, Bool, true, false, cond, List, [], ◌∷◌, ◌++◌, map, take, Some, None, refl, ap, ◌∙◌, eqb}
 use Rattle.std.proofs.lemmas.Bool.{cond-true, eq-eqb}
 use Rattle.std.proofs.lemmas.List.{map-append}
 use Rattle.oath_node.specs.Machine.{NodeEvent, Tick}
 use Rattle.node_turns.specs.Turns.{Receipt, FromPeer, FromClient, Nothing, Failure, events_of_turn, events_of_turns, received_after, received_with}
 use Rattle.cluster_law.specs.Lives.{Deed, Takes, Input, Line, Datagram, Time, Setting, event_of}
-use Rattle.cluster_law.specs.Processes.{AreServing, CanTakeSome, CanTakeTurns, TakesSome, TakesTurns, events_after, inputs_at}
+use Rattle.cluster_law.specs.Processes.{AreServing, CanTakeSome, CanTakeTurns, inputs_at}
 
 -- the inputs of turns
 abbrev tick_inputs : ℕ → List Input

@@ -1,20 +1,18 @@
 -- What justifies an acceptance in the world, in the words of the history.
 use Rattle.std.proofs.Common.{◌≡◌, ℕ, zero, suc, ⊎_elim, true, false, cond, ◌&&◌, List, [], ◌∷◌, take, Option, Some, None, refl, sym, ap, ◌∙◌, subst, eqb}
 use Rattle.std.specs.Prelude.{ℤ, pos}
-use mathlib.Core.Path.{fun_ext}
 use Rattle.std.specs.List.{slice_get}
 use Rattle.otp_core.specs.Acceptance.{Acceptance}
 use Rattle.admit_core.specs.Throttle.{Result}
 use Rattle.vote_core.proofs.Basics.{Each}
-use Rattle.oath_node.specs.Hosted.{envelope_at}
 use Rattle.oath_node.specs.Machine.{Config}
 use Rattle.cluster_sim.specs.Drifts.{drift_after, drift_before, drift_by, moment_in, moment_of}
-use Rattle.cluster_sim.specs.Justified.{AreJustified, IsGroundIn, IsGroundOf}
+use Rattle.cluster_sim.specs.Justified.{IsGroundIn, IsGroundOf}
 use Rattle.cluster_sim.specs.Results.{results_before, results_in}
-use Rattle.cluster_sim.specs.World.{Act, Says, Deliver, Ticks, Noise, WorldEvent, Happens, Cut, Restart, floor_before, passes_in, passes_of, world_before}
-use Rattle.cluster_law.specs.Justified.{IsGroundInDeed, IsJustifiedInDeed, JustifiesAll, drift_in, drift_of_pass, drift_with, moment_in_deed, results_held}
-use Rattle.cluster_law.specs.Lives.{Deed, Opens, FailsToOpen, Takes, Offers, Stops, StopsIn, Input, Line, Datagram, Time, IsHistory, Setting, accepted_in, floor_in}
-use Rattle.cluster_law.specs.Promises.{HasAct, IsActOf, IsEventOf, IsRunOf, nothing}
+use Rattle.cluster_sim.specs.World.{Act, WorldEvent, Happens, Cut, Restart, floor_before, passes_in, passes_of}
+use Rattle.cluster_law.specs.Justified.{IsGroundInDeed, JustifiesAll, drift_in, drift_of_pass, drift_with, moment_in_deed, results_held}
+use Rattle.cluster_law.specs.Lives.{Deed, Opens, FailsToOpen, Takes, Offers, Stops, StopsIn, IsHistory, Setting}
+use Rattle.cluster_law.specs.Promises.{HasAct, IsEventOf, IsRunOf, nothing}
 use Rattle.cluster_law.proofs.Histories.{JustifiedLaw, is_run}
 use Rattle.cluster_law.proofs.Told.{at_place, by_line}
 

@@ -1,5 +1,5 @@
 -- A cluster of one node answers as the server with one front end does.
-use Rattle.std.proofs.Common.{◌≡◌, ℕ, zero, suc, ◌+◌, ◌^◌, ◌<◌, ◌≤◌, ◌⊎◌, inl, inr, ⊎_elim, Bool, true, false, cond, List, [], ◌∷◌, ◌++◌, length, map, Option, Some, None, refl, sym, ap, ◌∙◌, subst, arith, eqb, leb, ltb}
+use Rattle.std.proofs.Common.{◌≡◌, ℕ, suc, ◌+◌, ◌^◌, ◌<◌, ◌≤◌, ◌⊎◌, inl, inr, ⊎_elim, Bool, true, false, cond, List, [], ◌∷◌, ◌++◌, length, map, refl, sym, ap, ◌∙◌, subst, arith, eqb, leb, ltb}
 use mathlib.Core.Path.{fun_ext}
 use Rattle.std.proofs.lemmas.Bool.{cond_both, cond-true, cond-false, cases_Bool, eqb-true, eqb-false, eq-eqb, and_parts, leb-true}
 use Rattle.std.proofs.lemmas.List.{append-nil, append_assoc}
@@ -8,12 +8,12 @@ use Rattle.vote_core.specs.Schedule.{Envelope, envelope_from, is_member, last_bo
 use Rattle.oath_node.specs.Hosted.{envelope_at}
 use Rattle.oath_node.specs.Machine.{Config, Made, NodeState, opened_node}
 use Rattle.cluster_sim.proofs.BelowLaws.{GateLaw, RulingLaw}
-use Rattle.cluster_sim.proofs.Lone.{Lone, LoneStep, happens_lone, lone, start_lone}
+use Rattle.cluster_sim.proofs.Lone.{Lone, LoneStep, happens_lone, start_lone}
 use Rattle.cluster_sim.specs.FrontEnds.{Front, Server, served_line, server_with_restarted}
-use Rattle.cluster_sim.specs.SingleNode.{answers_to_act, answers_to_event, front_of, opening_server, server_after_act, server_after_event, server_after_restart, told_answer}
-use Rattle.cluster_sim.specs.World.{Act, Says, Deliver, Ticks, Noise, Told, World, WorldEvent, Happens, Cut, Restart, opening_world, told_reply, world_after_event}
-use Rattle.cluster_law.specs.Lives.{AreGenuine, Deed, Opens, FailsToOpen, Takes, Offers, Stops, StopsIn, Input, Line, Datagram, Time, Handout, Post, Answer, IsHistory, Scene, Setting, Site, Down, Up, answered_in, answers_among, first_scene, handouts_of, made_by_input, node_of_deed, nodes_of, offers_by, scene_after, scene_after_deed, scene_at, scene_of, site_after, site_cut, site_half_opened, site_offered, site_opened}
-use Rattle.cluster_law.specs.Promises.{HasAct, IsActOf, nothing}
+use Rattle.cluster_sim.specs.SingleNode.{answers_to_event, opening_server, server_after_event, server_after_restart, told_answer}
+use Rattle.cluster_sim.specs.World.{Act, Deliver, Noise, Told, World, WorldEvent, Happens, Cut, Restart, opening_world, told_reply, world_after_event}
+use Rattle.cluster_law.specs.Lives.{AreGenuine, Deed, Opens, FailsToOpen, Takes, Offers, Stops, StopsIn, Input, Line, Datagram, Time, Handout, Post, Answer, IsHistory, Scene, Setting, Site, Down, Up, answered_in, answers_among, first_scene, handouts_of, made_by_input, node_of_deed, nodes_of, offers_by, scene_after, scene_after_deed, scene_at, scene_of, site_after}
+use Rattle.cluster_law.specs.Promises.{IsActOf, nothing}
 use Rattle.cluster_law.specs.SingleNode.{IsPartOf, answers_to_deed, answers_to_deeds, reference_of, server_after_deed, setting_of_one}
 use Rattle.cluster_law.proofs.Follow.{IsFollowed, IsFull, IsOneAt, IsSiteIn, Matches, answers_by, answers_made, follows}
 use Rattle.cluster_law.proofs.Histories.{answers_in, starts}

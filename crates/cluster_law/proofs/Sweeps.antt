@@ -1,23 +1,21 @@
 -- A sweep of a history does what a sweep of the world does.
-use Rattle.std.proofs.Common.{◌≡◌, ℕ, zero, suc, ◌+◌, ◌<◌, ◌⊎◌, ⊎_elim, max, Bool, true, false, not, cond, ◌&&◌, List, [], ◌∷◌, ◌++◌, length, map, Option, Some, None, refl, sym, ap, ◌∙◌, subst, arith, eqb, drop}
+use Rattle.std.proofs.Common.{◌≡◌, ℕ, zero, suc, ◌+◌, max, Bool, true, false, not, cond, ◌&&◌, List, [], ◌∷◌, ◌++◌, length, map, Some, refl, sym, ap, ◌∙◌, subst, arith, eqb, drop}
 use Rattle.std.specs.List.{filter, slice_get}
 use Rattle.std.proofs.Math.Seq.{drop-append_seam}
-use Rattle.std.proofs.lemmas.Bool.{cond_both, cond-true, cond-false, cases_Bool, eq-eqb, eqb-true, and_parts, false≢true, or_left, or_right}
-use Rattle.std.proofs.lemmas.Option.{none-some, same_Some}
+use Rattle.std.proofs.lemmas.Bool.{cond_both, eq-eqb, eqb-true, and_parts, false≢true, or_left, or_right}
 use Rattle.floor_store.specs.Content.{Content}
 use Rattle.vote_core.proofs.Basics.{Each, each_all, each_map}
 use Rattle.vote_core.specs.Rows.{row}
 use Rattle.vote_core.specs.Schedule.{Envelope, envelope_from, is_member}
 use Rattle.vote_core.specs.declared.message.Message.{Message}
-use Rattle.oath_node.specs.Hosted.{envelope_at}
-use Rattle.oath_node.specs.Machine.{Config, Made, NodeState, Peer}
+use Rattle.oath_node.specs.Machine.{Config, NodeState, Peer}
 use Rattle.cluster_sim.proofs.Owners.{get_more}
-use Rattle.cluster_sim.specs.Rounds.{AreUp, SweepLevels, deliveries, greatest, is_floor, is_floor_to, is_live, next_at, sweep_events, tick_events, turn_events, turns_events}
-use Rattle.cluster_sim.specs.World.{Act, Deliver, Ticks, World, WorldEvent, Happens, acting_node, delivered_event, node_event_of, with_state, world_after_act, world_after_event, world_after_events, world_of, world_with_made}
-use Rattle.cluster_law.specs.Lives.{Deed, Opens, FailsToOpen, Takes, Offers, Stops, StopsIn, Handout, Input, Datagram, Time, IsHistory, Scene, Setting, Site, Down, Up, content_at, event_of, first_scene, made_by_input, node_of_deed, nodes_of, scene_after, scene_after_deed, scene_of, site_after, site_half_opened, site_opened}
-use Rattle.cluster_law.specs.Sweeps.{AreLive, AreTaken, AreTurns, IsLive, IsSweep, IsSwept, IsTick, IsTurn, SweepsLevel, greatest_in, is_offer, is_step_of, next_in, sent_by_tick}
-use Rattle.cluster_law.proofs.Follow.{IsSiteIn, Matches, acts}
-use Rattle.cluster_law.proofs.Histories.{Whole, whole_run}
+use Rattle.cluster_sim.specs.Rounds.{AreUp, SweepLevels, deliveries, greatest, is_floor, is_floor_to, is_live, sweep_events, tick_events, turn_events, turns_events}
+use Rattle.cluster_sim.specs.World.{Act, Deliver, Ticks, World, WorldEvent, Happens, acting_node, delivered_event, node_event_of, world_after_act, world_after_event, world_after_events, world_of, world_with_made}
+use Rattle.cluster_law.specs.Lives.{Deed, Opens, FailsToOpen, Takes, Offers, Stops, StopsIn, Handout, Input, Datagram, Time, Scene, Setting, Site, Down, Up, content_at, event_of, first_scene, made_by_input, node_of_deed, nodes_of, scene_after, scene_after_deed, scene_of, site_after, site_half_opened, site_opened}
+use Rattle.cluster_law.specs.Sweeps.{AreTaken, AreTurns, IsTick, IsTurn, SweepsLevel, greatest_in, is_offer, is_step_of, next_in, sent_by_tick}
+use Rattle.cluster_law.proofs.Follow.{IsSiteIn, acts}
+use Rattle.cluster_law.proofs.Histories.{whole_run}
 use Rattle.cluster_law.proofs.Serving.{deed_at}
 
 -- ---- sites that differ in what waits alone

@@ -1,5 +1,5 @@
 -- What becomes of the answer to an acceptance: in the words of the history alone.
-use Rattle.std.specs.Prelude.{◌≡◌, ◌⊎◌, ℕ, true, List, length, take, Option, Some, slice_get}
+use Rattle.std.specs.Prelude.{◌≡◌, ◌⊎◌, ℕ, true, List, take, Option, Some, slice_get}
 use Rattle.otp_core.specs.Acceptance.{Acceptance}
 use Rattle.oath_node.specs.Machine.{NodeState}
 use Rattle.cluster_sim.specs.Answered.{ok_bytes}

@@ -350,8 +350,8 @@ pub fn sweeps_are_worked()
         ≡ Takes 1 Time ∷ Stops 1 ∷ [] }
     ensures sweep { IsSweep one_node (1 ∷ []) one_open (Offers 1 ∷ Stops 2 ∷ replicate 8 (Takes 1 Time)) }
     ensures short { IsSweep one_node (1 ∷ []) one_open (replicate 7 (Takes 1 Time)) → ⊥ }
-    ensures greatest { greatest_in (1 ∷ 2 ∷ []) (scene_of three_nodes (take 5 granted_by_two)) 0 ≡ 1 }
-    ensures greatest_of_the_first { greatest_in (2 ∷ 1 ∷ []) (scene_of three_nodes (take 5 granted_by_two)) 0 ≡ 1 }
+    ensures greatest { greatest_in (3 ∷ 2 ∷ []) (scene_of three_nodes (take 5 granted_by_two)) 0 ≡ 1 }
+    ensures greatest_of_the_first { greatest_in (2 ∷ 3 ∷ []) (scene_of three_nodes (take 5 granted_by_two)) 0 ≡ 1 }
 {}
 
 /// Parts of deeds, worked through: boots, and what is handed out in which order.

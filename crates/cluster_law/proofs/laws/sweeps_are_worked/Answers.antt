@@ -1,6 +1,5 @@
 -- The ticks are computed, and the tags.
-use Rattle.std.proofs.Common.{◌≡◌, ℕ, zero, suc, ◌+◌, ◌≤◌, List, [], ◌∷◌, ◌++◌, length, Some, refl, sym, ap, ◌∙◌, arith}
-use Rattle.std.specs.Prelude.{max}
+use Rattle.std.proofs.Common.{◌≡◌, ℕ, zero, suc, ◌+◌, ◌≤◌, List, [], ◌∷◌, length, refl, ap, ◌∙◌, arith}
 use Rattle.std.specs.List.{filter}
 use Rattle.std.proofs.lemmas.List.{length-append}
 use Rattle.admit_core.specs.Fit.{code_at}
@@ -13,9 +12,9 @@ use Rattle.vote_wire.specs.Datagram.{datagram_at, datagram_bytes}
 use Rattle.vote_wire.specs.Key.{tag_of}
 use Rattle.oath_node.specs.Machine.{made_by_proposal, made_by_ruling, made_by_datagram, made_while_running, made_by_event}
 use Rattle.cluster_sim.specs.Rounds.{is_floor_to}
-use Rattle.cluster_law.specs.Examples.{bytes_of, floor_comes, one_node, right_line, three_nodes, two_open}
-use Rattle.cluster_law.specs.Lives.{Deed, Opens, FailsToOpen, Takes, Offers, Stops, StopsIn, Datagram, Line, Scene, Setting, Time, node_of_deed, scene_after, scene_after_deed}
-use Rattle.cluster_law.specs.Sweeps.{AreTaken, IsTick, IsTurn, sent_by_tick}
+use Rattle.cluster_law.specs.Examples.{bytes_of, floor_comes, one_node, three_nodes, two_open}
+use Rattle.cluster_law.specs.Lives.{Deed, Takes, Datagram, Scene, Setting, Time, node_of_deed, scene_after, scene_after_deed}
+use Rattle.cluster_law.specs.Sweeps.{AreTaken, IsTurn, sent_by_tick}
 use Rattle.cluster_law.proofs.laws.sweeps_are_worked.Goals as goal
 
 -- ---- a tick of node 1 of two live members

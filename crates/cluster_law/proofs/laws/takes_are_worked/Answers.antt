@@ -1,5 +1,5 @@
-use Rattle.std.proofs.Common.{◌≡◌, ℕ, List, [], ◌∷◌, length, refl, ap, arith}
-use Rattle.oath_node.specs.Machine.{NodeEvent, Client, Peer, Tick}
+use Rattle.std.proofs.Common.{◌≡◌, ℕ, List, ◌∷◌, length, refl, ap, arith}
+use Rattle.oath_node.specs.Machine.{NodeEvent, Tick}
 use Rattle.cluster_law.proofs.laws.takes_are_worked.Goals as goal
 
 -- how many of the first event are ticks
