@@ -117,10 +117,10 @@ takes_items held setting e i input old new outputs m h clean = told_is held sett
 
 -- what a stop before the commit leaves: what one before the event could leave, or what the step makes
 pub stops_before : {S : Type 0} (held : S → Held) (setting : Setting) (i : ℕ) (input : Input) (old new : Hosted S) (result : Result OutputsRecord NodeFault) (c : Content) → IsMemberIn setting i old → TakesEvent held old new (event_of setting.key input) result
-    → (held new.store).is_clean → (held new.store).leaves c
+    → (held old.store).is_clean → (held new.store).leaves c
     → (held old.store).leaves c ⊎ (site_cut setting i true input (state_of held old) ≡ Down c)
 stops_before held setting i input old new result c m h clean leaves =
     ⊎_elim
     (λ (was : (held old.store).leaves c). inl was)
     (λ (is : c ≡ (made_of held old (event_of setting.key input)).state.content). inr (ap (λ x. Down x) (sym (is ∙ ap (λ (x : Made). x.state.content) (same_made held setting i input old m)))))
-    (h.puts.left (h.puts.makes.clean clean) c leaves)
+    (h.puts.left clean c leaves)

@@ -133,7 +133,7 @@ pub fn calls_are_deeds<S: FloorStore>()
     ensures stops_before { (setting : Setting) (place : ℕ) (input : Input) (old new : Hosted S)
         (result : Result OutputsRecord NodeFault) (content : Content)
         → IsMemberIn setting place old → TakesEvent S.held old new (event_of setting.key input) result
-        → (S.held new.store).is_clean → (S.held new.store).leaves content
+        → (S.held old.store).is_clean → (S.held new.store).leaves content
         → (S.held old.store).leaves content
         ⊎ (site_cut setting place true input (state_of S.held old) ≡ Down content) }
     // The same of a node that `Node::handle` took through an event and committed: it is one that took it; and what a
@@ -322,8 +322,8 @@ pub fn reference_is_worked()
     ensures number { IsPartOf (first_ok ∷ first_ok ∷ []) (first_ok ∷ []) → ⊥ }
 {}
 
-/// What a node takes, worked through: turns come to it as lines, datagrams and ticks, in order, with as many events of a
-/// last batch as it kept; what other nodes take is none of it, and neither is what a process ended in.
+/// What a node takes, worked through: turns come to it as lines, datagrams and ticks, in order, with as many events of
+/// a last batch as it kept; what other nodes take is none of it, and neither is what a process ended in.
 pub fn takes_are_worked()
     ensures turns { TakesTurns one_node 1 (Takes 1 right_line ∷ Offers 1 ∷ Takes 2 Time ∷ Takes 1 Time ∷ [])
         (right_receipt ∷ Nothing ∷ []) }
