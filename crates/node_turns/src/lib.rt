@@ -1,11 +1,11 @@
 //! A node's turns over a port: what comes in is handed to the node, and what the node sends and replies goes out.
 //!
-//! A [`Port`] hands in datagrams, one for each receive or poll, and takes datagrams to be sent. A receive waits for one,
-//! and a poll doesn't. A [`Clock`] tells the moment at which a client's datagram came. [`run_turns`] goes on for so many
-//! datagrams, quiet receives and faults, or until the node, the port or the clock fails for good.
+//! A [`Port`] hands in datagrams, one for each receive or poll, and takes datagrams to be sent. A receive waits for
+//! one, and a poll doesn't. A [`Clock`] tells the moment at which a client's datagram came. [`run_turns`] goes on for
+//! so many datagrams, quiet receives and faults, or until the node, the port or the clock fails for good.
 //!
-//! Turns come in batches: a receive, and polls for what is there already behind it, 64 at most. The node commits once for
-//! a batch, and nothing that it sends or replies is offered before.
+//! Turns come in batches: a receive, and polls for what is there already behind it, 64 at most. The node commits once
+//! for a batch, and nothing that it sends or replies is offered before.
 #![tactic(auto)]
 
 mod clock;
