@@ -19,6 +19,7 @@ fn keeps<S: FloorStore>(store: &mut S, row: Row, pass: Option<Pass>) -> Option<b
     }
     let other = store.row(1).ok()?;
     store.put(0, row, pass).ok()?;
+    store.commit().ok()?;
     let raised = store.raise_boot().ok()?;
     let is_kept = store.row(0).ok()? == row && store.row(1).ok()? == other;
     Some(is_kept && raised == 1 && store.boot().ok()? == 1)
@@ -44,12 +45,13 @@ fn each_call_in_memory(rt: HostRuntime) {
     assert!(rt; keeps_a_grant(rt.alloc()) == Some(true));
 }
 
-/// The faults of a put, of a raise of the boot, of a second put, and of the two reads.
-fn faults<S: FloorStore>(store: &mut S, first: Row, second: Row) -> [Option<StoreFault>; 5]
+/// The faults of a put, of its commit, of a raise of the boot, of a second put, and of the two reads.
+fn faults<S: FloorStore>(store: &mut S, first: Row, second: Row) -> [Option<StoreFault>; 6]
     requires { 0 < length (S.held store.old).content.rows }
 {
     [
         store.put(0, first, None).err(),
+        store.commit().err(),
         store.raise_boot().err(),
         store.put(0, second, None).err(),
         store.row(0).err(),
@@ -65,7 +67,7 @@ fn held(store: &MemStore) -> Option<(u64, u64)> {
     Some((store.row(0).ok()?.next().value(), store.boot().ok()?))
 }
 
-/// The first of five calls that fails, where this many writes pass, and what the mended store holds then. All after it
+/// The first of six calls that fails, where this many writes pass, and what the mended store holds then. All after it
 /// fail too.
 fn blown(alloc: Global, writes: u64, after: bool) -> Option<(usize, (u64, u64))> {
     let (first, second) = (Row::opening(Next::new(1)?), Row::opening(Next::new(2)?));
@@ -87,14 +89,16 @@ fn blown(alloc: Global, writes: u64, after: bool) -> Option<(usize, (u64, u64))>
     Some((place, held(&fuse.mend())?))
 }
 
-/// Each of three writes fails, with its change lost or kept: the first call that fails, and what is left.
+/// Each of four writes fails, with its change lost or kept: the first call that fails, and what is left.
 const WRITES: &[(u64, bool, usize, (u64, u64))] = &[
     (0, false, 0, (0, 0)),
     (0, true, 0, (1, 0)),
     (1, false, 1, (1, 0)),
-    (1, true, 1, (1, 1)),
-    (2, false, 2, (1, 1)),
-    (2, true, 2, (2, 1)),
+    (1, true, 1, (1, 0)),
+    (2, false, 2, (1, 0)),
+    (2, true, 2, (1, 1)),
+    (3, false, 3, (1, 1)),
+    (3, true, 3, (2, 1)),
 ];
 
 #[test]
