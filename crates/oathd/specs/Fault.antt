@@ -1,15 +1,11 @@
 -- What ends the program before its time.
 use Rattle.std.specs.Prelude.{ℕ}
-use Rattle.oathd_core.specs.Fault as core
-use Rattle.oathd_cluster.specs.Fault as cluster
+use Rattle.oathd_memory.specs.Fault as memory
 use Rattle.oathd_store.specs.Fault as store
 use Rattle.oathd.specs.declared.fault.Fault.{Fault}
-use Rattle.oathd.specs.declared.fault.Fault.TheVariants.{Run, Sim, Cluster, Store, CannotReadFile}
+use Rattle.oathd.specs.declared.fault.Fault.TheVariants.{Memory, Store}
 
--- the exit status: that of a run, a cluster or a command over a database, or 1
+-- the exit status: that of a command that keeps nothing, or of one over a database
 abbrev pub status_of : Fault → ℕ
-status_of (Run fault) = core.status_of fault
-status_of (Sim fault) = 1
-status_of (Cluster fault) = cluster.status_of fault
+status_of (Memory fault) = memory.status_of fault
 status_of (Store fault) = store.status_of fault
-status_of (CannotReadFile path) = 1

@@ -4,21 +4,12 @@ use thiserror::Error;
 /// What ends the program before its time. The text lacks the program's name.
 #[derive(Clone, Copy, Debug, PartialEq, Eq, Error)]
 pub(crate) enum Fault<'a> {
-    /// A run over the input ends so, or the words can't be had, or the key is bad.
+    /// A command that keeps nothing ends so, or the words can't be had, or a file that they name.
     #[error("{0}")]
-    Run(oathd_core::Fault),
-    /// A simulation ends so.
-    #[error("{0}")]
-    Sim(oathd_sim::Fault),
-    /// A cluster ends so.
-    #[error("{0}")]
-    Cluster(oathd_cluster::Fault),
+    Memory(oathd_memory::Fault<'a>),
     /// A command over a database ends so.
     #[error("{0}")]
     Store(oathd_store::Fault),
-    /// The file with this path can't be read.
-    #[error("cannot read {0}")]
-    CannotReadFile(&'a str),
 }
 
 impl ProgramFault for Fault<'_> {
@@ -28,23 +19,21 @@ impl ProgramFault for Fault<'_> {
 
     fn status(self) -> u8 {
         match self {
-            Fault::Run(fault) => fault.status(),
-            Fault::Cluster(fault) => fault.status(),
+            Fault::Memory(fault) => fault.status(),
             Fault::Store(fault) => fault.status(),
-            Fault::Sim(_) | Fault::CannotReadFile(_) => 1,
         }
     }
 }
 
 impl From<OutsideFault> for Fault<'_> {
     fn from(fault: OutsideFault) -> Self {
-        Fault::Run(oathd_core::Fault::from(fault))
+        Fault::Memory(oathd_memory::Fault::from(fault))
     }
 }
 
-impl From<oathd_core::Fault> for Fault<'_> {
-    fn from(fault: oathd_core::Fault) -> Self {
-        Fault::Run(fault)
+impl<'a> From<oathd_memory::Fault<'a>> for Fault<'a> {
+    fn from(fault: oathd_memory::Fault<'a>) -> Self {
+        Fault::Memory(fault)
     }
 }
 

@@ -2,12 +2,11 @@
 #![tactic(auto)]
 
 mod fault;
-mod key;
-mod serve;
+mod run;
 mod store;
 
 use command_line::process_words;
-use serve::serve;
+use run::run;
 use std::io;
 use std::process::ExitCode;
 
@@ -15,7 +14,7 @@ fn main(rt: HostRuntime) -> ExitCode {
     let alloc = rt.alloc();
     let words = process_words(&rt, alloc);
     let errors = rt.stderr();
-    ExitCode::from(serve(
+    ExitCode::from(run(
         alloc,
         &rt,
         words,

@@ -5,9 +5,9 @@ ghost use Rattle.otp_core.specs.Range.{IsMoment};
 ghost use Rattle.oathd_words.specs.StoreWords.{IsActionInRange};
 
 use crate::fault::Fault;
-use crate::key::read_key;
 use node_turns::Clock;
 use oathd_files::{Serving, audit_file, export_file, init_file, migrate_file, serve_file};
+use oathd_memory::read_key;
 use oathd_words::Action;
 use otp_core::MOMENTS_END;
 use std::alloc::Global;
@@ -31,7 +31,7 @@ fn present_moment<'a, T: TimeSource>(source: &T) -> Result<u64, Fault<'a>>
 fn open_users<'a, F: Files>(files: &F, path: &'a str) -> Result<F::File, Fault<'a>> {
     match fs::open(files, path) {
         Ok(file) => Ok(file),
-        Err(_) => Err(Fault::CannotReadFile(path)),
+        Err(_) => Err(Fault::Memory(oathd_memory::Fault::CannotReadFile(path))),
     }
 }
 

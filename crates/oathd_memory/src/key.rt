@@ -3,7 +3,7 @@ ghost use Rattle.std.specs.Result.{result_err};
 ghost use Rattle.hex.specs.Hex.{decode_of};
 ghost use Rattle.vote_wire.specs.Key.{key_refusal_of};
 ghost use Rattle.vote_wire.specs.Request.{without_lf};
-ghost use Rattle.oathd.specs.Nodes.{IsKeyOf, IsOfKey};
+ghost use Rattle.oathd_memory.specs.Nodes.{IsKeyOf, IsOfKey};
 
 use crate::fault::Fault;
 use secret_text::SecretFault;
@@ -17,7 +17,7 @@ use vote_wire::{ClusterKey, without_lf};
 const MAX_KEY_FILE_LEN: u32 = 65_536;
 
 /// The key that the text of a file says: hexadecimal digits, and at most one LF behind them.
-pub(crate) fn key_of(text: &[u8]) -> Result<ClusterKey, SecretFault>
+fn key_of(text: &[u8]) -> Result<ClusterKey, SecretFault>
     ensures fault { result_err result ≡ key_refusal_of (without_lf text.now) }
     ensures value { IfOk result (λ key. decode_of (without_lf text.now) ≡ Ok key) }
 {
@@ -52,7 +52,11 @@ fn file_text<'a, F: Files>(alloc: Global, files: &F, path: &'a str) -> Result<Ve
 }
 
 /// The key of the file with this path, or 32 zeros where none is named. A file of more than 65,536 bytes is too long.
-pub(crate) fn read_key<'a, F: Files>(
+///
+/// # Errors
+/// `CannotReadFile` where the file can't be opened or read, `Run(Memory)` where no memory is left for its text, and
+/// `Run(BadKey)` where that is no key of 16 to 64 bytes in hexadecimal, with at most one LF at its end.
+pub fn read_key<'a, F: Files>(
     alloc: Global,
     files: &F,
     path: Option<&'a str>,

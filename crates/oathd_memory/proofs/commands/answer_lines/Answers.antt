@@ -1,5 +1,5 @@
-use Rattle.oathd.proofs.LinesLemmas.{lines_without_key}
-use Rattle.oathd.proofs.serve.answer_lines.Goals as goal
+use Rattle.oathd_memory.proofs.LinesLemmas.{lines_without_key}
+use Rattle.oathd_memory.proofs.commands.answer_lines.Goals as goal
 
 pub returns-in-Err : goal.returns-in-Err
 returns-in-Err g c = record {

@@ -1,6 +1,6 @@
 use Rattle.std.proofs.Common.{Ok, Err, refl}
-use Rattle.oathd.proofs.LinesLemmas.{lines_flushed}
-use Rattle.oathd.proofs.serve.answer_under.Goals as goal
+use Rattle.oathd_memory.proofs.LinesLemmas.{lines_flushed}
+use Rattle.oathd_memory.proofs.commands.answer_under.Goals as goal
 
 pub returns-in-Ok : goal.returns-in-Ok
 returns-in-Ok g c = record {

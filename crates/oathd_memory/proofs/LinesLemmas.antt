@@ -8,10 +8,10 @@ use Rattle.oathd_core.specs.Run.{Answered, EndsSo, Refused, Run, WritesFirst, en
 use Rattle.oathd_core.specs.declared.fault.Fault.{Fault}
 use Rattle.oathd_core.specs.declared.fault.Fault.TheVariants.{BadKey, CannotRead, CannotWrite, InputLine, Memory, NotText, Users}
 use Rattle.oathd_core.proofs.ServeLemmas.{memory_ends_any}
-use Rattle.oathd.specs.Nodes.{IsOfKey, LinesEndSo}
-use Rattle.oathd.specs.declared.fault.Fault as program
-use Rattle.oathd.specs.declared.fault.Fault.TheVariants as program_fault
-use Rattle.oathd.proofs.FlushLemmas.{appends_kept}
+use Rattle.oathd_memory.specs.Nodes.{IsOfKey, LinesEndSo}
+use Rattle.oathd_memory.specs.declared.fault.Fault as program
+use Rattle.oathd_memory.specs.declared.fault.Fault.TheVariants as program_fault
+use Rattle.oathd_memory.proofs.FlushLemmas.{appends_kept}
 
 first_kept : (run : Run) (old mid new : Option (List ℕ)) → WritesFirst run old mid → Keeps mid new → WritesFirst run old new
 first_kept run old mid new h k = record { count = h.count; written = appends_kept old mid new _ h.written k }
@@ -94,4 +94,4 @@ lines_without_key limits moment input (program_fault.Run NotText) out is = absur
 lines_without_key limits moment input (program_fault.CannotReadFile path) out is = refl
 lines_without_key limits moment input (program_fault.Sim fault) out is = absurd is
 lines_without_key limits moment input (program_fault.Cluster fault) out is = absurd is
-lines_without_key limits moment input (program_fault.Store fault) out is = absurd is
+lines_without_key limits moment input program_fault.NoDatabases out is = absurd is

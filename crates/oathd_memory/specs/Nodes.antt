@@ -1,14 +1,17 @@
--- How the commands end that run nodes in this process.
-use Rattle.std.specs.Prelude.{◌≡◌, ℕ, ◌+◌, List, replicate, take, Option, Result, Ok, Err, IfNone, IfSome}
+-- How the commands end that keep nothing.
+use Rattle.std.specs.Prelude.{◌≡◌, ◌⊎◌, ℕ, ◌+◌, List, replicate, take, Option, Result, Ok, Err, IfNone, IfSome}
 use Rattle.otp_core.specs.Limits.{Limits}
 use Rattle.oathd_core.specs.Run.{EndsSo, run_of_input}
+use Rattle.oathd_core.specs.Secret.{EndsWithText}
 use Rattle.oathd_core.specs.declared.fault.Fault.TheVariants as core
 use Rattle.oathd_cluster.specs.Run as cluster
 use Rattle.oathd_cluster.specs.Line.{LinesRead, node_lines}
 use Rattle.oathd_sim.specs.Sim as sim
+use Rattle.oathd_words.specs.declared.words.Task.{Task}
+use Rattle.oathd_words.specs.declared.words.Task.TheVariants.{Lines, Sim as SimTask, Cluster as ClusterTask, Store, Secret}
 use Rattle.users_input.specs.Input.{lines_of}
-use Rattle.oathd.specs.declared.fault.Fault.{Fault}
-use Rattle.oathd.specs.declared.fault.Fault.TheVariants.{Run, Sim, Cluster, Store, CannotReadFile}
+use Rattle.oathd_memory.specs.declared.fault.Fault.{Fault}
+use Rattle.oathd_memory.specs.declared.fault.Fault.TheVariants.{Run, Sim, Cluster, CannotReadFile, NoDatabases}
 
 -- A key is that of the file that is named, of which nothing is said; where none is named it is 32 zeros.
 abbrev pub IsKeyOf : {A : Type 0} → Option A → List ℕ → Type 0
@@ -60,3 +63,19 @@ ClusterEndsSo nodes input (Ok done) old new =
 ClusterEndsSo nodes input (Err (Cluster fault)) old new =
     IfSome input (λ text. cluster.EndsSo (lines_read nodes text) (Err fault) old new)
 ClusterEndsSo nodes input (Err fault) old new = new ≡ old
+
+-- The command `secret` ends so over its output: with the text of the secret, or with its fault; or the output failed.
+abbrev pub SecretEndsSo : List ℕ → Result Unit Fault → Option (List ℕ) → Option (List ℕ) → Type 0
+SecretEndsSo hex (Ok done) old new = EndsWithText hex (Ok tt) old new
+SecretEndsSo hex (Err (Run fault)) old new = (fault ≡ core.CannotWrite) ⊎ EndsWithText hex (Err fault) old new
+SecretEndsSo hex (Err fault) old new = ⊥
+
+-- What is asked for ends so. Nothing is done with a database.
+abbrev pub EndsAsAsked : Task → Option (List ℕ) → Result Unit Fault → Option (List ℕ) → Option (List ℕ) → Type 0
+EndsAsAsked (Lines settings moment key) input result old new = LinesEndSo settings moment input result old new
+EndsAsAsked (SimTask nodes settings moment key) input result old new =
+    SimEndsSo nodes settings moment key input result old new
+EndsAsAsked (ClusterTask users nodes settings moment key) input result old new =
+    ClusterEndsSo nodes input result old new
+EndsAsAsked (Store database users action) input result old new = (result ≡ Err NoDatabases) × (new ≡ old)
+EndsAsAsked (Secret hex) input result old new = SecretEndsSo hex.now result old new

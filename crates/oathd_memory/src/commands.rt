@@ -2,20 +2,20 @@ ghost use Rattle.std.specs.Prelude.{◌≡◌, ◌≤◌, ◌⊎◌, Err};
 ghost use Rattle.otp_core.specs.Range.{IsMoment};
 ghost use Rattle.oathd_core.specs.declared.fault.Fault.TheVariants.{CannotWrite};
 ghost use Rattle.oathd_core.specs.Secret.{EndsWithText};
-ghost use Rattle.oathd.specs.Nodes.{ClusterEndsSo, LinesEndSo, SimEndsSo};
+ghost use Rattle.oathd_memory.specs.Nodes.{ClusterEndsSo, EndsAsAsked, LinesEndSo, SimEndsSo};
+ghost use Rattle.oathd_words.specs.Words.{IsInRange};
 
 use crate::fault::Fault;
 use crate::key::read_key;
-use crate::store::perform_action;
-use command_line::{OutsideFault, exit_status, explain, flushed};
+use command_line::flushed;
 use oathd_cluster::run_cluster;
 use oathd_core::{print_secret, serve_lines};
 use oathd_sim::run_sim;
-use oathd_words::{Task, read_words};
+use oathd_words::Task;
 use otp_core::Settings;
 use std::alloc::Global;
 use std::fs;
-use std::io::{BufWriter, Read, Write};
+use std::io::{Read, Write};
 use std::net::Net;
 use std::rt::Files;
 use token_file::MAX_FILE_LEN;
@@ -147,34 +147,32 @@ fn run_nodes<'a, F: Files + Net, R: Read, O: Write>(
     }
 }
 
-/// Does what the words ask for, or writes what clap has to say of them. Gives the exit status.
-fn follow<'a, R: Read, O: Write, E: Write>(
+/// Does what is asked for, but nothing with a database. The output holds back what it is given until it is flushed.
+///
+/// # Errors
+/// What ends the command before its time, and `NoDatabases` where a command over a database is asked for.
+pub fn perform<'a, F: Files + Net, R: Read, O: Write>(
     alloc: Global,
-    rt: &HostRuntime,
-    words: &'a [String],
+    files: &F,
+    task: &Task<'a>,
     reader: &mut R,
-    output: &mut O,
-    errors: &mut E,
-) -> Result<u8, Fault<'a>> {
-    let task = match read_words(alloc, words) {
-        Ok(task) => task,
-        Err(error) => return Ok(explain(output, errors, &error)?),
-    };
-    let Ok(mut held) = BufWriter::new(alloc, &mut *output) else {
-        return Err(Fault::Run(oathd_core::Fault::Memory));
-    };
+    held: &mut O,
+) -> Result<(), Fault<'a>>
+    requires { IsInRange task.now }
+    ensures ends { EndsAsAsked task.now (R.remaining reader.old) result (O.contents held.old) (O.contents held.new) }
+{
     match task {
         Task::Lines {
             settings,
             moment,
             key,
-        } => answer_lines(alloc, rt, settings, moment, key, reader, &mut held)?,
+        } => answer_lines(alloc, files, *settings, *moment, *key, reader, held),
         Task::Sim {
             nodes,
             settings,
             moment,
             key,
-        } => simulate(alloc, rt, nodes, settings, moment, key, reader, &mut held)?,
+        } => simulate(alloc, files, *nodes, *settings, *moment, *key, reader, held),
         Task::Cluster {
             users,
             nodes,
@@ -182,33 +180,12 @@ fn follow<'a, R: Read, O: Write, E: Write>(
             moment,
             key,
         } => run_nodes(
-            alloc, rt, users, nodes, settings, moment, key, reader, &mut held,
-        )?,
-        Task::Store {
-            database,
-            users,
-            action,
-        } => perform_action(alloc, rt, database, users, action, &mut held)?,
-        Task::Secret { hex } => print(hex, &mut held)?,
-    }
-    Ok(0)
-}
-
-/// Does what the words of the process ask for, where they could be had. The text of a fault goes to the errors,
-/// behind the program's name. Gives the exit status.
-pub(crate) fn serve<R: Read, O: Write, E: Write>(
-    alloc: Global,
-    rt: &HostRuntime,
-    words: Result<Vec<String>, OutsideFault>,
-    reader: &mut R,
-    output: &mut O,
-    errors: &mut E,
-) -> u8 {
-    match words {
-        Ok(words) => {
-            let end = follow(alloc, rt, &words, reader, output, errors);
-            exit_status(errors, "oathd", end)
-        }
-        Err(fault) => exit_status(errors, "oathd", Err(Fault::from(fault))),
+            alloc, files, users, *nodes, *settings, *moment, *key, reader, held,
+        ),
+        Task::Secret { hex } => match print(hex, held) {
+            Ok(()) => Ok(()),
+            Err(fault) => Err(Fault::Run(fault)),
+        },
+        Task::Store { .. } => Err(Fault::NoDatabases),
     }
 }

@@ -1,7 +1,7 @@
 use Rattle.std.proofs.Common.{subst}
 use Rattle.oathd_core.specs.Secret.{EndsWithText}
-use Rattle.oathd.proofs.FlushLemmas.{flush_kept, text_kept}
-use Rattle.oathd.proofs.serve.print.Goals as goal
+use Rattle.oathd_memory.proofs.FlushLemmas.{flush_kept, text_kept}
+use Rattle.oathd_memory.proofs.commands.print.Goals as goal
 
 pub returns : goal.returns
 returns g c =

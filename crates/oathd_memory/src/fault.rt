@@ -1,0 +1,48 @@
+use command_line::{OutsideFault, ProgramFault};
+use thiserror::Error;
+
+/// What ends a command that keeps nothing before its time. The text lacks the program's name.
+#[derive(Clone, Copy, Debug, PartialEq, Eq, Error)]
+pub enum Fault<'a> {
+    /// A run over the input ends so, or the words can't be had, or the key is bad.
+    #[error("{0}")]
+    Run(oathd_core::Fault),
+    /// A simulation ends so.
+    #[error("{0}")]
+    Sim(oathd_sim::Fault),
+    /// A cluster ends so.
+    #[error("{0}")]
+    Cluster(oathd_cluster::Fault),
+    /// The file with this path can't be read.
+    #[error("cannot read {0}")]
+    CannotReadFile(&'a str),
+    /// A command over a database is asked of a program that has none.
+    #[error("no databases")]
+    NoDatabases,
+}
+
+impl ProgramFault for Fault<'_> {
+    ghost use Rattle.oathd_memory.specs.Fault.{status_of};
+
+    ghost status_of = { status_of };
+
+    fn status(self) -> u8 {
+        match self {
+            Fault::Run(fault) => fault.status(),
+            Fault::Cluster(fault) => fault.status(),
+            Fault::Sim(_) | Fault::CannotReadFile(_) | Fault::NoDatabases => 1,
+        }
+    }
+}
+
+impl From<OutsideFault> for Fault<'_> {
+    fn from(fault: OutsideFault) -> Self {
+        Fault::Run(oathd_core::Fault::from(fault))
+    }
+}
+
+impl From<oathd_core::Fault> for Fault<'_> {
+    fn from(fault: oathd_core::Fault) -> Self {
+        Fault::Run(fault)
+    }
+}

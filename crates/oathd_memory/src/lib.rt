@@ -1,0 +1,13 @@
+//! The commands of `oathd` that keep nothing between two runs: `lines`, `sim`, `cluster` and `secret`.
+//!
+//! [`perform`] does what the words of the program ask for, over an input and an output; a [`Fault`] ends it before its
+//! time. The commands over a database are none of this crate, so that a program without them needs none of SQLite.
+#![tactic(auto)]
+
+mod commands;
+mod fault;
+mod key;
+
+pub use commands::perform;
+pub use fault::Fault;
+pub use key::read_key;
