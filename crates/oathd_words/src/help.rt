@@ -3,10 +3,10 @@
 /// What the help of the program says besides its commands.
 pub(crate) const PROGRAM_HELP: &str = "\
 oathd init makes a database with what a node keeps, and oathd serve serves the
-node: no password is accepted twice, whichever members are asked, and whenever
-nodes stop and start again. The commands lines, sim and cluster keep nothing
-between two runs: first free factors and the throttle begin anew with each users
-file.
+node: no moving factor of a token (counter or time step) is accepted twice,
+whichever members are asked, and whenever nodes stop and start again. The
+commands lines, sim and cluster keep nothing between two runs: first free
+factors and the throttle begin anew with each users file.
 
 The status is 0 where all is done, 1 where a fault of the input, memory, clock
 or output, which standard error names, ended the run, 2 where the words are
@@ -41,9 +41,9 @@ seconds since 1970-01-01 00:00:00 UTC, and one of
 A line that a client sends again is told its old answer: each submission has a
 NONCE of its own.
 
-No password is accepted twice within a run. Nothing is kept between two runs:
-first free factors and the throttle begin anew with each users file, so one
-run is one server.
+No factor of a token is accepted twice within a run. Nothing is kept between two
+runs: first free factors and the throttle begin anew with each users file, so
+one run is one server.
 
 Example, which prints OK 1 0 and OK 2 8:
     printf '%s\\n' \\
@@ -112,7 +112,7 @@ DB is made where it isn't there, and then holds the store of node I: the first
 free factor of each token of the users file, its throttle and the node's votes,
 and the passes of the node. Where a store is there it stays as it is. All
 members of a cluster begin with the same users file, each with a DB of its own,
-which only oathd init, serve, export and audit open, one at a time.
+which only oathd init, serve, export, audit and migrate open, one at a time.
 
 The status is 3 where a store is there, or the database fails.
 
@@ -136,9 +136,9 @@ What comes from the address of another member is that member's vote. The moment
 is the system's. It ends after T receives, each of which waits 200 milliseconds
 at most, and prints nothing.
 
-No password is accepted twice, whichever members are asked, and whenever nodes
-stop and start again. An answer comes as long as more than half of the members
-run and hear each other.
+No factor of a token is accepted twice, whichever members are asked, and
+whenever nodes stop and start again. An answer comes as long as more than half
+of the members run and hear each other.
 
 The status is 3 where the database fails, and 4 where the socket does.
 
