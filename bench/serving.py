@@ -76,10 +76,59 @@ def ask(client, line):
     return hear(client, line)
 
 
+class Limits:
+    """Control groups in which each process makes so many writes a second to the disk of a folder at most, as root alone
+    may have them. None is no limit."""
+
+    def __init__(self, folder, writes):
+        self.folder, self.writes, self.groups = folder, writes, []
+
+    def disk(self):
+        """The numbers of the disk, not of its partition."""
+        device = os.stat(self.folder).st_dev
+        place = os.path.realpath("/sys/dev/block/%d:%d" % (os.major(device), os.minor(device)))
+        if os.path.exists(os.path.join(place, "partition")):
+            place = os.path.dirname(place)
+        with open(os.path.join(place, "dev")) as numbers:
+            return numbers.read().strip()
+
+    def next(self):
+        """What a new process calls before it becomes the program, so that it has a limit of its own."""
+        if self.writes is None:
+            return None
+        name = "oathd-bench-%d-%d" % (os.getpid(), len(self.groups))
+        if os.path.exists("/sys/fs/cgroup/blkio"):
+            group, file, text = "/sys/fs/cgroup/blkio/" + name, "blkio.throttle.write_iops_device", "%s %d"
+        else:
+            group, file, text = "/sys/fs/cgroup/" + name, "io.max", "%s wiops=%d"
+        os.mkdir(group)
+        self.groups.append(group)
+        with open(os.path.join(group, file), "w") as limit:
+            limit.write(text % (self.disk(), self.writes))
+
+        def enter():
+            with open(os.path.join(group, "cgroup.procs"), "w") as processes:
+                processes.write(str(os.getpid()))
+
+        return enter
+
+    def close(self):
+        """Takes the groups away, whose processes have ended."""
+        for group in self.groups:
+            for _ in range(100):
+                try:
+                    os.rmdir(group)
+                    break
+                except OSError:
+                    time.sleep(0.02)
+        self.groups = []
+
+
 class Nodes:
     """Nodes of a cluster, each a process over a database of its own, in a folder that goes when they go."""
 
-    def __init__(self, rows, count, options=(), moment=0):
+    def __init__(self, rows, count, options=(), moment=0, limits=None):
+        self.limits = limits
         subprocess.run([PROGRAM, "--version"], check=True, stdout=subprocess.DEVNULL)
         self.folder = tempfile.mkdtemp(prefix="oathd-")
         self.users, self.key = self.path("users"), self.path("key")
@@ -92,6 +141,8 @@ class Nodes:
         # of each node the addresses by which it knows the members
         self.members = [list(addresses) for _ in self.ports]
         self.options = list(options)
+        # that of the nodes' processes; None is that of this one
+        self.environment = None
         self.processes = [None] * count
         for node in range(count):
             self.run("init", node, "--node", str(node + 1), "--moment", str(moment))
@@ -118,9 +169,12 @@ class Nodes:
 
     def start(self, node):
         """Starts a node, and waits until it answers."""
-        self.processes[node] = subprocess.Popen(self.serving_words(node, "--turns", "4294967295"))
+        limit = self.limits.next() if self.limits else None
+        self.processes[node] = subprocess.Popen(self.serving_words(node, "--turns", "4294967295"), preexec_fn=limit,
+                                                env=self.environment)
         if not self.answers(node):
-            raise RuntimeError("node %d does not answer" % (node + 1))
+            status = self.processes[node].poll()
+            raise RuntimeError("node %d %s" % (node + 1, "does not answer" if status is None else "ended, %d" % status))
 
     def start_in(self, node, room):
         """Starts a node whose files may not grow past so many bytes, and waits until it answers or has ended."""
@@ -135,7 +189,8 @@ class Nodes:
     def answers(self, node):
         """Whether a node answers, which is waited for as long as it runs."""
         with client_of(self.ports[node], 0.1) as client:
-            for _ in range(600):
+            end = time.monotonic() + 120
+            while time.monotonic() < end:
                 if ask(client, "CHECK up nobody 000000 -") == "NO up UNKNOWN":
                     return True
                 if self.processes[node].poll() is not None:
