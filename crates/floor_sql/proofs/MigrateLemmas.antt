@@ -60,7 +60,7 @@ version_raised old new it h =
     }
 
 -- the row of `self` stays as the table of drifts is filled
-pub version_stays : (old mid new : Database) (tokens : ℕ) → HasVersion old undrifted_schema 1 → AddsTable old mid → AddsDrifts mid new tokens → HasVersion new floor_schema 1
+pub version_stays : (old mid new : Database) (tokens : ℕ) → HasVersion old undrifted_schema 1 → AddsTable old mid → AddsDrifts tokens mid new → HasVersion new floor_schema 1
 version_stays old mid new tokens it made added = record {
   schema = added.schema;
   node = it.node;
@@ -69,7 +69,7 @@ version_stays old mid new tokens it made added = record {
   held = row_stays (old.trees 0) (new.trees 0) 1 self_columns (version_values 1 it.node it.tokens it.boot) (added.self ∙ made.self) it.held;
 }
 
-pub version_added : (old mid last new : Database) (tokens : ℕ) → HasVersion old undrifted_schema 1 → AddsTable old mid → AddsDrifts mid last tokens → RaisesVersion last new → AddsVersion tokens old new
+pub version_added : (old mid last new : Database) (tokens : ℕ) → HasVersion old undrifted_schema 1 → AddsTable old mid → AddsDrifts tokens mid last → RaisesVersion last new → AddsVersion tokens old new
 version_added old mid last new tokens it made added raised =
     let was = raised.was in
     let held : HasRow (last.trees 0) 1 self_columns (version_values 1 it.node it.tokens it.boot) = row_stays (old.trees 0) (last.trees 0) 1 self_columns _ (added.self ∙ made.self) it.held in

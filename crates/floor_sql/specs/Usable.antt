@@ -19,6 +19,12 @@ pub record IsNode (node : ℕ) : Type 0 where
   pub first : 1 ≤ node
   pub last : node ≤ 9
 
+-- the node, the number of tokens and the boot of a store
+pub record IsOwn (own : ℕ × ℕ × ℕ) : Type 0 where
+  pub node : IsNode own.0
+  pub tokens : own.1 ≤ 10000
+  pub boot : IsCount own.2
+
 -- the columns of a grant, one by one
 pub record IsGrant (grant : ProposalRecord × ℕ × ℕ) : Type 0 where
   pub proposal : IsProposal grant.0
@@ -66,6 +72,14 @@ pub record HasUsableVersion (trees : Trees) (version node tokens : ℕ) : Type 0
   pub boot : ℕ
   pub range : IsCount boot
   pub only : HasOnly (trees 0) 1 self_columns (version_values version node tokens boot)
+
+-- it is of some node and number of tokens in range
+pub record HasUsableSelf (trees : Trees) (version : ℕ) : Type 0 where
+  pub node : ℕ
+  pub of_node : IsNode node
+  pub tokens : ℕ
+  pub of_tokens : tokens ≤ 10000
+  pub self : HasUsableVersion trees version node tokens
 
 -- the token has one row of floors, with values in range
 pub record HasUsableFloor (trees : Trees) (token : ℕ) : Type 0 where

@@ -2,12 +2,13 @@
 
 ghost use Rattle.std.specs.Prelude.{◌≡◌, ◌<◌, ◌≤◌, ℕ, false, IsTrue, IfErr, OnOk, OnErr};
 ghost use Rattle.sqlite.specs.Held.{state};
-ghost use Rattle.sqlite.specs.State.{HasCleanDisk, Survives, KeepsCommit};
+ghost use Rattle.sqlite.specs.State.{HasCleanDisk, Survives};
 ghost use Rattle.floor_store.specs.Fault.{is_failure};
 ghost use Rattle.floor_store.specs.declared.fault.StoreFault.TheVariants.{Unusable};
 ghost use Rattle.floor_sql.specs.Schema.{undrifted_schema, floor_schema, IsOfStore};
-ghost use Rattle.floor_sql.specs.Shown.{IsRead, IsLeft};
-ghost use Rattle.floor_sql.specs.Stored.{HasOneRow, HasVersion, Commits, MayCommit, KeepsCommit as KeepsLast};
+ghost use Rattle.floor_sql.specs.Shown.{IsLeft};
+ghost use Rattle.floor_sql.specs.Steps.{Changes, ReadsTables, Transacts};
+ghost use Rattle.floor_sql.specs.Stored.{HasOneRow, HasVersion, Commits, MayCommit};
 ghost use Rattle.floor_sql.specs.Usable.{HasUsableFloor};
 ghost use Rattle.floor_sql.specs.Migrate.{HasUndrifted, IsUndrifted, IsUsableUndrifted, RaisesVersion, AddsVersion, Migrates};
 
@@ -23,16 +24,8 @@ use sqlite::{Alter, Connection, Transaction};
 /// Reads the rows of floors of so many tokens.
 fn check_floors<S: Alter>(conn: &mut Connection<S>, tokens: u32) -> Result<(), Refusal>
     requires { HasCleanDisk (state S.Store conn.old) → IsOfStore conn.old.schema }
-    ensures value { HasCleanDisk (state S.Store conn.new)
-        → OnOk result (HasUndrifted (state S.Store conn.old).now.trees tokens) }
-    ensures read { HasCleanDisk (state S.Store conn.new)
-        → OnOk result (IsRead (state S.Store conn.old) (state S.Store conn.new)) }
-    ensures left { HasCleanDisk (state S.Store conn.new) → IsLeft (state S.Store conn.old) (state S.Store conn.new) }
-    ensures failure { IfErr result (λ e. IsTrue (is_failure e.0)) }
-    ensures unusable { HasCleanDisk (state S.Store conn.new) → IfErr result (λ e. e.0 ≡ Unusable
-        → ¬ ((token : ℕ) → token < tokens → HasUsableFloor (state S.Store conn.old).now.trees token)) }
-    ensures idle { conn.old.in_transaction ≡ false → conn.new.in_transaction ≡ false }
-    ensures crash { Survives (state S.Store conn.old) (state S.Store conn.new) (λ _. ⊥) }
+    ensures { ReadsTables S.Store conn.old conn.new (λ db _. HasUndrifted db.trees tokens)
+        (λ db. (token : ℕ) → token < tokens → HasUsableFloor db.trees token) result }
 {
     for token in 0..tokens {
         let _row = read_floor(conn, token, Drift::default())?;
@@ -43,16 +36,8 @@ fn check_floors<S: Alter>(conn: &mut Connection<S>, tokens: u32) -> Result<(), R
 /// Reads the tables of a store of version 1, of this node with so many tokens.
 fn check_tables<S: Alter>(conn: &mut Connection<S>, node: u8, tokens: u32) -> Result<(), Refusal>
     requires { tokens ≤ 10000 }
-    ensures value { HasCleanDisk (state S.Store conn.new)
-        → OnOk result (IsUndrifted (state S.Store conn.old).now node tokens) }
-    ensures read { HasCleanDisk (state S.Store conn.new)
-        → OnOk result (IsRead (state S.Store conn.old) (state S.Store conn.new)) }
-    ensures left { HasCleanDisk (state S.Store conn.new) → IsLeft (state S.Store conn.old) (state S.Store conn.new) }
-    ensures failure { IfErr result (λ e. IsTrue (is_failure e.0)) }
-    ensures unusable { HasCleanDisk (state S.Store conn.new) → IfErr result (λ e. e.0 ≡ Unusable
-        → ¬ IsUsableUndrifted (state S.Store conn.old).now node tokens) }
-    ensures idle { conn.old.in_transaction ≡ false → conn.new.in_transaction ≡ false }
-    ensures crash { Survives (state S.Store conn.old) (state S.Store conn.new) (λ _. ⊥) }
+    ensures { ReadsTables S.Store conn.old conn.new (λ db _. IsUndrifted db node tokens)
+        (λ db. IsUsableUndrifted db node tokens) result }
 {
     if !is_undrifted_schema(conn.schema()) {
         return Err(Refusal(StoreFault::Unusable));
@@ -72,17 +57,7 @@ fn update_version<S: Alter>(tx: &mut Transaction<'_, S>) -> Result<(), Refusal>
         → IsTrue (state S.Store tx.old.conn.now).in_transaction }
     requires there { HasCleanDisk (state S.Store tx.old.conn.now)
         → HasVersion (state S.Store tx.old.conn.now).now floor_schema 1 }
-    ensures updated { HasCleanDisk (state S.Store tx.new.conn.now)
-        → OnOk result (RaisesVersion (state S.Store tx.old.conn.now).now (state S.Store tx.new.conn.now).now) }
-    ensures same_reference { tx.new.conn.ghost_name ≡ tx.old.conn.ghost_name }
-    ensures goes { HasCleanDisk (state S.Store tx.new.conn.now)
-        → OnOk result (IsTrue (state S.Store tx.new.conn.now).in_transaction) }
-    ensures kept { HasCleanDisk (state S.Store tx.new.conn.now)
-        → KeepsCommit (state S.Store tx.old.conn.now) (state S.Store tx.new.conn.now) }
-    ensures failure { IfErr result (λ e. IsTrue (is_failure e.0)) }
-    ensures unusable { HasCleanDisk (state S.Store tx.new.conn.now) → IfErr result (λ e. e.0 ≡ Unusable
-        → ¬ HasOneRow ((state S.Store tx.old.conn.now).now.trees 0) 1) }
-    ensures crash { Survives (state S.Store tx.old.conn.now) (state S.Store tx.new.conn.now) (λ _. ⊥) }
+    ensures { Changes S.Store tx.old tx.new RaisesVersion (λ db. ¬ HasOneRow (db.trees 0) 1) result }
 {
     change_one(tx, UPDATE_VERSION, &[])?;
     Ok(())
@@ -94,17 +69,7 @@ fn add_version<S: Alter>(tx: &mut Transaction<'_, S>, tokens: u32) -> Result<(),
         → IsTrue (state S.Store tx.old.conn.now).in_transaction }
     requires there { HasCleanDisk (state S.Store tx.old.conn.now)
         → HasVersion (state S.Store tx.old.conn.now).now undrifted_schema 1 }
-    ensures added { HasCleanDisk (state S.Store tx.new.conn.now)
-        → OnOk result (AddsVersion tokens (state S.Store tx.old.conn.now).now (state S.Store tx.new.conn.now).now) }
-    ensures same_reference { tx.new.conn.ghost_name ≡ tx.old.conn.ghost_name }
-    ensures goes { HasCleanDisk (state S.Store tx.new.conn.now)
-        → OnOk result (IsTrue (state S.Store tx.new.conn.now).in_transaction) }
-    ensures kept { HasCleanDisk (state S.Store tx.new.conn.now)
-        → KeepsCommit (state S.Store tx.old.conn.now) (state S.Store tx.new.conn.now) }
-    ensures failure { IfErr result (λ e. IsTrue (is_failure e.0)) }
-    ensures unusable { HasCleanDisk (state S.Store tx.new.conn.now) → IfErr result (λ e. e.0 ≡ Unusable
-        → ¬ HasOneRow ((state S.Store tx.old.conn.now).now.trees 0) 1) }
-    ensures crash { Survives (state S.Store tx.old.conn.now) (state S.Store tx.new.conn.now) (λ _. ⊥) }
+    ensures { Changes S.Store tx.old tx.new (AddsVersion tokens) (λ db. ¬ HasOneRow (db.trees 0) 1) result }
 {
     create_drift(tx)?;
     insert_drifts(tx, tokens)?;
@@ -117,16 +82,8 @@ fn write_version<S: Alter>(conn: &mut Connection<S>, tokens: u32) -> Result<(), 
     requires idle { conn.old.in_transaction ≡ false }
     requires there { HasCleanDisk (state S.Store conn.old)
         → HasVersion (state S.Store conn.old).now undrifted_schema 1 }
-    ensures idle { conn.new.in_transaction ≡ false }
-    ensures ok { HasCleanDisk (state S.Store conn.new)
-        → OnOk result (Commits (AddsVersion tokens) (state S.Store conn.old) (state S.Store conn.new)) }
-    ensures err { HasCleanDisk (state S.Store conn.new)
-        → OnErr result (KeepsLast (state S.Store conn.old) (state S.Store conn.new)) }
-    ensures failure { IfErr result (λ e. IsTrue (is_failure e.0)) }
-    ensures unusable { HasCleanDisk (state S.Store conn.new) → IfErr result (λ e. e.0 ≡ Unusable
-        → ¬ HasOneRow ((state S.Store conn.old).now.trees 0) 1) }
-    ensures crash { Survives (state S.Store conn.old) (state S.Store conn.new) (MayCommit (AddsVersion tokens)
-        (state S.Store conn.old)) }
+    ensures { Transacts S.Store (λ e. e.0) conn.old conn.new (AddsVersion tokens)
+        (λ db. ¬ HasOneRow (db.trees 0) 1) result }
 {
     let mut tx = conn.transaction();
     match add_version(&mut tx, tokens) {

@@ -1,11 +1,11 @@
 //! One statement of a transaction.
 
-ghost use Rattle.std.specs.Prelude.{◌≡◌, Ok, Err, IsTrue, IfOk, IfErr, OnOk};
+ghost use Rattle.std.specs.Prelude.{Ok, Err, IsTrue, IfOk, IfErr, OnOk};
 ghost use Rattle.sqlite.specs.Values.{bound};
 ghost use Rattle.sqlite.specs.Held.{state};
-ghost use Rattle.sqlite.specs.State.{HasCleanDisk, Survives, Executes, ExecutesInside, KeepsCommit};
-ghost use Rattle.floor_store.specs.Fault.{is_failure};
+ghost use Rattle.sqlite.specs.State.{HasCleanDisk, Executes, ExecutesInside};
 ghost use Rattle.floor_sql.specs.Refusals.{IsFaultOf, ChangesNotOne};
+ghost use Rattle.floor_sql.specs.Steps.{StepsInside};
 
 use crate::read::Refusal;
 use floor_store::StoreFault;
@@ -22,16 +22,10 @@ pub fn run<S: Alter>(
     ensures ran { HasCleanDisk (state S.Store tx.new.conn.now) → IfOk result
         (λ count. Executes sql.now (bound params.now) (state S.Store tx.old.conn.now) (state S.Store tx.new.conn.now)
         (Ok count)) }
-    ensures same_reference { tx.new.conn.ghost_name ≡ tx.old.conn.ghost_name }
-    ensures goes { HasCleanDisk (state S.Store tx.new.conn.now)
-        → OnOk result (IsTrue (state S.Store tx.new.conn.now).in_transaction) }
-    ensures kept { HasCleanDisk (state S.Store tx.new.conn.now)
-        → KeepsCommit (state S.Store tx.old.conn.now) (state S.Store tx.new.conn.now) }
-    ensures failure { IfErr result (λ e. IsTrue (is_failure e.0)) }
+    ensures steps { StepsInside S.Store tx.old tx.new result }
     ensures cause { HasCleanDisk (state S.Store tx.new.conn.now) → IfErr result (λ e. IsFaultOf (λ error.
         ExecutesInside 0 sql.now (bound params.now) (state S.Store tx.old.conn.now) (state S.Store tx.new.conn.now)
         (Err error)) e.0) }
-    ensures crash { Survives (state S.Store tx.old.conn.now) (state S.Store tx.new.conn.now) (λ _. ⊥) }
 {
     let count = tx.execute(sql, params)?;
     Ok(count)
@@ -46,15 +40,9 @@ pub fn change_one<S: Alter>(
     requires { HasCleanDisk (state S.Store tx.old.conn.now) → IsTrue (state S.Store tx.old.conn.now).in_transaction }
     ensures ran { HasCleanDisk (state S.Store tx.new.conn.now) → OnOk result
         (Executes sql.now (bound params.now) (state S.Store tx.old.conn.now) (state S.Store tx.new.conn.now) (Ok 1)) }
-    ensures same_reference { tx.new.conn.ghost_name ≡ tx.old.conn.ghost_name }
-    ensures goes { HasCleanDisk (state S.Store tx.new.conn.now)
-        → OnOk result (IsTrue (state S.Store tx.new.conn.now).in_transaction) }
-    ensures kept { HasCleanDisk (state S.Store tx.new.conn.now)
-        → KeepsCommit (state S.Store tx.old.conn.now) (state S.Store tx.new.conn.now) }
-    ensures failure { IfErr result (λ e. IsTrue (is_failure e.0)) }
+    ensures steps { StepsInside S.Store tx.old tx.new result }
     ensures cause { HasCleanDisk (state S.Store tx.new.conn.now) → IfErr result (λ e. ChangesNotOne sql.now
         (bound params.now) (state S.Store tx.old.conn.now) (state S.Store tx.new.conn.now) e.0) }
-    ensures crash { Survives (state S.Store tx.old.conn.now) (state S.Store tx.new.conn.now) (λ _. ⊥) }
 {
     let changed = run(tx, sql, params)?;
     if changed != 1 {

@@ -1,7 +1,8 @@
-use Rattle.std.proofs.Common.{◌≡◌, IsTrue}
+use Rattle.std.proofs.Common.{ℕ, Ok}
 use Rattle.sqlite.specs.Held.{state}
-use Rattle.sqlite.specs.State.{HasCleanDisk, Survives, KeepsCommit}
+use Rattle.sqlite.specs.State.{HasCleanDisk}
 use Rattle.floor_sql.specs.Created.{AddsDrifts}
+use Rattle.floor_sql.specs.Steps.{StepsInside}
 use Rattle.floor_sql.proofs.create.insert_drifts.Given as goal
 
 abbrev pub invariant-loop-token : goal.invariant-loop-token
@@ -9,9 +10,6 @@ invariant-loop-token g l =
     let old = state g.S.Store l.fn.tx.conn.now in
     let now = state g.S.Store l.tx.conn.now in
     record {
-      reference : l.tx.conn.ghost_name ≡ l.fn.tx.conn.ghost_name;
-      survives : Survives old now (λ _. ⊥);
-      kept : HasCleanDisk now → KeepsCommit old now;
-      goes : HasCleanDisk now → IsTrue now.in_transaction;
-      added : HasCleanDisk now → AddsDrifts old.now now.now l.token;
+      steps : StepsInside g.S.Store {A = ℕ} l.fn.tx l.tx (Ok 0);
+      added : HasCleanDisk now → AddsDrifts l.token old.now now.now;
     }

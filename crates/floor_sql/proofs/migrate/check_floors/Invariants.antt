@@ -1,8 +1,8 @@
-use Rattle.std.proofs.Common.{◌≡◌, false}
-use Rattle.sqlite.specs.State.{HasCleanDisk, Survives}
+use Rattle.std.proofs.Common.{ℕ, Ok}
+use Rattle.sqlite.specs.State.{HasCleanDisk}
 use Rattle.sqlite.specs.Held.{state}
 use Rattle.floor_sql.specs.Migrate.{HasUndrifted}
-use Rattle.floor_sql.specs.Shown.{IsRead}
+use Rattle.floor_sql.specs.Steps.{ReadsOnly}
 use Rattle.floor_sql.proofs.migrate.check_floors.Given as goal
 
 abbrev pub invariant-loop-token : goal.invariant-loop-token
@@ -10,8 +10,6 @@ invariant-loop-token g l =
     let old = state g.S.Store l.fn.conn in
     let now = state g.S.Store l.conn in
     record {
-      survives : Survives old now (λ _. ⊥);
-      idle : l.fn.conn.in_transaction ≡ false → l.conn.in_transaction ≡ false;
-      read : HasCleanDisk now → IsRead old now;
+      reads : ReadsOnly g.S.Store {A = ℕ} l.fn.conn l.conn (Ok 0);
       held : HasCleanDisk now → HasUndrifted old.now.trees l.token;
     }

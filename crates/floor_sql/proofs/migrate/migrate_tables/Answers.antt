@@ -10,7 +10,7 @@ returns-in_err-write_version-clause-crash g c =
     let mid = state g.S.Store c.check_tables.new.conn in
     let new = state g.S.Store c.write_version.new.conn in
     let read = c.in_ok-check_tables.ensures in
-    migrated_survives old mid new c.args.node c.args.tokens (λ clean. (read.read clean).now) read.value read.crash c.write_version.ensures.crash
+    migrated_survives old mid new c.args.node c.args.tokens (λ clean. (read.only.read clean).now) read.value read.only.crash c.write_version.ensures.crash
 
 pub returns-clause-ok : goal.returns-clause-ok
 returns-clause-ok g c clean =
@@ -19,7 +19,7 @@ returns-clause-ok g c clean =
     let new = state g.S.Store c.write_version.new.conn in
     let early : HasCleanDisk mid = omega (arith, c.write_version.ensures.crash.clean) in
     let read = c.in_ok-check_tables.ensures in
-    commits_migrated old mid new c.args.node c.args.tokens (read.read early).now (read.value early) (c.in_ok-write_version.ensures.ok clean)
+    commits_migrated old mid new c.args.node c.args.tokens (read.only.read early).now (read.value early) (c.in_ok-write_version.ensures.ok clean)
 
 pub returns-clause-crash : goal.returns-clause-crash
 returns-clause-crash g c =
@@ -27,4 +27,4 @@ returns-clause-crash g c =
     let mid = state g.S.Store c.check_tables.new.conn in
     let new = state g.S.Store c.write_version.new.conn in
     let read = c.in_ok-check_tables.ensures in
-    migrated_survives old mid new c.args.node c.args.tokens (λ clean. (read.read clean).now) read.value read.crash c.write_version.ensures.crash
+    migrated_survives old mid new c.args.node c.args.tokens (λ clean. (read.only.read clean).now) read.value read.only.crash c.write_version.ensures.crash

@@ -1,0 +1,82 @@
+-- What the calls on a connection do, each said once.
+--
+-- Each record below is read as a sentence about one call: `Changes g old new IsChange Lacks result` says that the call
+-- which took a transaction from `old` to `new` and answered `result` makes `IsChange` of the tables. All that is said of
+-- values holds while the disk has returned what was written.
+use Rattle.std.specs.Prelude.{◌≡◌, Result, IsTrue, IfOk, IfErr, OnOk, OnErr, false}
+use Rattle.sqlite.specs.Store.{Ghosts}
+use Rattle.sqlite.specs.Effect.{Database}
+use Rattle.sqlite.specs.Held.{Held, state}
+use Rattle.sqlite.specs.State.{HasCleanDisk, KeepsCommit, Survives}
+use Rattle.sqlite.specs.declared.transaction.Transaction.{Transaction}
+use Rattle.floor_store.specs.Fault.{is_failure}
+use Rattle.floor_store.specs.declared.fault.StoreFault.{StoreFault}
+use Rattle.floor_store.specs.declared.fault.StoreFault.TheVariants.{Unusable}
+use Rattle.floor_sql.specs.declared.read.Refusal.{Refusal}
+use Rattle.floor_sql.specs.Shown.{IsRead, IsLeft}
+use Rattle.floor_sql.specs.Stored.{Commits, MayCommit, KeepsCommit as KeepsLast}
+
+module _ {S : Type 0} (g : Ghosts S) where
+  -- ---- in a transaction
+
+  -- A step of a transaction, whatever it changes: nothing is committed.
+  pub record StepsInside {A : Type 0} (old new : Transaction S) (result : Result A Refusal) : Type 0 where
+    -- it is the transaction of the same connection
+    pub same_reference : new.conn.ghost_name ≡ old.conn.ghost_name
+    -- after Ok the transaction goes on
+    pub goes : HasCleanDisk (state g new.conn.now) → OnOk result (IsTrue (state g new.conn.now).in_transaction)
+    -- the last commit stays
+    pub kept : HasCleanDisk (state g new.conn.now) → KeepsCommit (state g old.conn.now) (state g new.conn.now)
+    -- the error is one that breaks a store
+    pub failure : IfErr result (λ e. IsTrue (is_failure e.0))
+    -- a stop leaves what a stop before it could leave
+    pub crash : Survives (state g old.conn.now) (state g new.conn.now) (λ _. ⊥)
+
+  -- A step that changes the tables. `Unusable` says what of them was not as it has to be.
+  pub record Changes {A : Type 0} (old new : Transaction S) (IsChange : Database → Database → Type 0)
+      (Lacks : Database → Type 0) (result : Result A Refusal) : Type 0 where
+    pub steps : StepsInside old new result
+    -- after Ok the change is made
+    pub made : HasCleanDisk (state g new.conn.now)
+        → OnOk result (IsChange (state g old.conn.now).now (state g new.conn.now).now)
+    pub unusable : HasCleanDisk (state g new.conn.now)
+        → IfErr result (λ e. e.0 ≡ Unusable → Lacks (state g old.conn.now).now)
+
+  -- ---- outside of a transaction
+
+  -- A read, whatever it reads: the tables stay.
+  pub record ReadsOnly {A : Type 0} (old new : Held S) (result : Result A Refusal) : Type 0 where
+    -- after Ok the database is as it was
+    pub read : HasCleanDisk (state g new) → OnOk result (IsRead (state g old) (state g new))
+    -- after Err it is as it was, or as it was last committed
+    pub left : HasCleanDisk (state g new) → IsLeft (state g old) (state g new)
+    -- the error is one that breaks a store
+    pub failure : IfErr result (λ e. IsTrue (is_failure e.0))
+    -- no transaction is begun
+    pub idle : old.in_transaction ≡ false → new.in_transaction ≡ false
+    -- a stop leaves what a stop before it could leave
+    pub crash : Survives (state g old) (state g new) (λ _. ⊥)
+
+  -- A read of the tables. `Unusable` says that they are not as they have to be.
+  pub record ReadsTables {A : Type 0} (old new : Held S) (IsRight : Database → A → Type 0)
+      (IsUsable : Database → Type 0) (result : Result A Refusal) : Type 0 where
+    pub only : ReadsOnly old new result
+    -- the value is right for the tables
+    pub value : HasCleanDisk (state g new) → IfOk result (IsRight (state g old).now)
+    pub unusable : HasCleanDisk (state g new) → IfErr result (λ e. e.0 ≡ Unusable → ¬ IsUsable (state g old).now)
+
+  -- A change that is made in one transaction, whole or not at all. `fault` is the fault that an error tells.
+  pub record Transacts {A E : Type 0} (fault : E → StoreFault) (old new : Held S)
+      (IsChange : Database → Database → Type 0) (Lacks : Database → Type 0) (result : Result A E) : Type 0 where
+    -- the transaction has ended
+    pub idle : new.in_transaction ≡ false
+    -- after Ok the change is committed
+    pub ok : HasCleanDisk (state g new) → OnOk result (Commits IsChange (state g old) (state g new))
+    -- after Err the tables are as they were last committed
+    pub err : HasCleanDisk (state g new) → OnErr result (KeepsLast (state g old) (state g new))
+    -- the error is one that breaks a store
+    pub failure : IfErr result (λ e. IsTrue (is_failure (fault e)))
+    -- `Unusable` says what of them was not as it has to be
+    pub unusable : HasCleanDisk (state g new) → IfErr result (λ e. fault e ≡ Unusable → Lacks (state g old).now)
+    -- a stop leaves what a stop before it could leave, or the change
+    pub crash : Survives (state g old) (state g new) (MayCommit IsChange (state g old))
