@@ -1,0 +1,4 @@
+pub mod AddressLemmas
+pub mod ReadingLemmas
+pub mod WritingLemmas
+pub mod SharedLemmas

@@ -1,0 +1,82 @@
+-- What a cluster file says. The first fault of the first faulty line decides, and then what is missing at the end.
+use Rattle.std.specs.Prelude.{ℕ, ◌+◌, ◌==◌, nat_le, Bool, true, false, List, [], ◌∷◌, length, map, take, Option, Some, None, Result, Ok, Err, unwrap_or, if◌then◌else◌}
+use Rattle.otp_core.specs.Limits.{Limits}
+use Rattle.token_file.specs.Fields.{fields_of, lines_of}
+use Rattle.cluster_file.specs.declared.cluster.Cluster.{Cluster}
+use Rattle.cluster_file.specs.declared.fault.LineFault.{LineFault}
+use Rattle.cluster_file.specs.declared.fault.LineFault.TheVariants.{NoMember, NoKey, NoLife, TooLong, Memory}
+use Rattle.cluster_file.specs.Address.{Address, address_value}
+use Rattle.cluster_file.specs.Fields.{◌>>=◌}
+use Rattle.cluster_file.specs.Said.{KeyPlace, Said, after_fields, key_place, nothing_said}
+
+-- what a whole file says
+pub record ClusterRecord : Type 0 where
+  pub members : List Address
+  pub settings : Limits
+  pub key : KeyPlace
+  pub life : List ℕ
+
+-- what a cluster of the code is
+abbrev pub cluster_value : Cluster → ClusterRecord
+cluster_value cluster =
+    record {
+      members = map address_value cluster.members.items;
+      settings = cluster.settings;
+      key = key_place cluster.key;
+      life = cluster.life.now;
+    }
+
+-- the settings that were given, and the usual ones in place of the others
+abbrev pub settings_of : Said → Limits
+settings_of said =
+    record {
+      look_ahead = unwrap_or said.look_ahead 10;
+      skew = unwrap_or said.skew 1;
+      range = unwrap_or said.range 100;
+      drift = unwrap_or said.drift 0;
+    }
+
+-- the cluster of what was said, with a key, and a life if there is one
+abbrev pub cluster_with_life : Said → KeyPlace → Option (List ℕ) → Result ClusterRecord LineFault
+cluster_with_life said key None = Err NoLife
+cluster_with_life said key (Some life) =
+    Ok (record { members = said.members; settings = settings_of said; key = key; life = life })
+
+-- the cluster of what was said, with a key if there is one
+abbrev pub cluster_with_key : Said → Option KeyPlace → Result ClusterRecord LineFault
+cluster_with_key said None = Err NoKey
+cluster_with_key said (Some key) = cluster_with_life said key said.life
+
+-- the cluster of what was said by all lines, or what is missing
+abbrev pub finished : Said → Result ClusterRecord LineFault
+finished said = if length said.members == 0 then Err NoMember else cluster_with_key said said.key
+
+-- an outcome with the number of the line that a fault is at
+abbrev pub at_line : {A : Type 0} → ℕ → Result A LineFault → Result A (ℕ × LineFault)
+at_line number (Ok value) = Ok value
+at_line number (Err fault) = Err (number, fault)
+
+-- what is said by lines from a number on, after what was said before
+abbrev pub after_lines : ℕ → Said → List (List ℕ) → Result Said (ℕ × LineFault)
+after_lines number said [] = Ok said
+after_lines number said (line ∷ lines) = do
+  new ← at_line number (after_fields said (fields_of line))
+  after_lines (number + 1) new lines
+
+-- What a text of at most so many bytes says, or the line of its first fault and the fault. What is missing is told at
+-- the line behind the last LF. A text that is too long is not read: its fault is at the line that passes the limit.
+abbrev pub outcome_of : ℕ → List ℕ → Result ClusterRecord (ℕ × LineFault)
+outcome_of limit text =
+    if nat_le (length text) limit then (do
+      said ← after_lines 1 nothing_said (lines_of text)
+      at_line (length (lines_of text)) (finished said))
+    else Err (length (lines_of (take limit text)), TooLong)
+
+-- what a cluster file says, of at most 65,536 bytes
+abbrev pub cluster_of : List ℕ → Result ClusterRecord (ℕ × LineFault)
+cluster_of text = outcome_of 65536 text
+
+-- whether a fault is for want of memory, and not one of the text
+abbrev pub is_memory : LineFault → Bool
+is_memory Memory = true
+is_memory fault = false

@@ -1,0 +1,15 @@
+-- The key under which members tag their datagrams, and a print of it that people compare.
+use Rattle.std.specs.Prelude.{ℕ, List, take, codes}
+use Rattle.hex.specs.Hex.{encode_lower}
+use Rattle.hmac_core.specs.Hash.{mac_of}
+use Rattle.hmac_core.specs.declared.hash.Hash.TheVariants.{Sha256}
+use Rattle.cluster_file.specs.Shared.{Shared, shared_text}
+
+-- the shared key: HMAC-SHA-256 (RFC 2104) under the cluster's key over the shared text, all 32 bytes
+abbrev pub shared_key_of : List ℕ → Shared → List ℕ
+shared_key_of key shared = mac_of Sha256 key (shared_text shared)
+
+-- the fingerprint of a shared key: the first 8 bytes of HMAC-SHA-256 under it over the word `fingerprint`, in
+-- hexadecimal
+abbrev pub fingerprint_of : List ℕ → List ℕ
+fingerprint_of shared_key = encode_lower (take 8 (mac_of Sha256 shared_key (codes "fingerprint")))

@@ -1,0 +1,7 @@
+pub mod Address
+pub mod Fields
+pub mod Said
+pub mod ClusterFile
+pub mod Shared
+pub mod Key
+pub mod Examples

@@ -1,0 +1,61 @@
+-- What must be equal at all members of a cluster, as one text.
+use Rattle.std.specs.Prelude.{ℕ, ◌+◌, List, [], ◌∷◌, ◌++◌, codes, IsTrue}
+use Rattle.std.specs.Fmt.{decimal}
+use Rattle.std.specs.List.{flat_map, AllByRecursion}
+use Rattle.otp_core.specs.Limits.{Limits, AreLimits}
+use Rattle.token_file.specs.Credential.{Credential, is_word}
+use Rattle.token_file.specs.Writing.{IsCredential, row_text}
+use Rattle.cluster_file.specs.Address.{Address, IsAddress, address_text}
+use Rattle.cluster_file.specs.ClusterFile.{ClusterRecord}
+
+-- the life, the members in order, the settings, and the tokens in order. What a token has counted is not among it.
+pub record Shared : Type 0 where
+  pub life : List ℕ
+  pub members : List Address
+  pub settings : Limits
+  pub book : List Credential
+
+-- what the members of a cluster with a book share
+abbrev pub shared_of : ClusterRecord → List Credential → Shared
+shared_of cluster book =
+    record { life = cluster.life; members = cluster.members; settings = cluster.settings; book = book }
+
+-- what every cluster file and users file give
+pub record IsShared (shared : Shared) : Type 0 where
+  pub life : IsTrue (is_word shared.life)
+  pub members : AllByRecursion IsAddress shared.members
+  pub settings : AreLimits shared.settings
+  pub book : AllByRecursion IsCredential shared.book
+
+-- a word, a space, a text and an LF
+unfoldable pub word_line : List ℕ → List ℕ → List ℕ
+word_line word text = word ++ 32 ∷ text ++ 10 ∷ []
+
+-- the line of a member with its number
+unfoldable pub member_line : ℕ → Address → List ℕ
+member_line number member = codes "member " ++ decimal number ++ 32 ∷ address_text member ++ 10 ∷ []
+
+-- the lines of members, from a number on
+abbrev pub members_text : ℕ → List Address → List ℕ
+members_text number [] = []
+members_text number (member ∷ members) = member_line number member ++ members_text (number + 1) members
+
+-- the four settings, each on a line
+unfoldable pub settings_text : Limits → List ℕ
+settings_text settings =
+    word_line (codes "look-ahead") (decimal settings.look_ahead) ++ word_line (codes "skew") (decimal settings.skew)
+    ++ word_line (codes "range") (decimal settings.range) ++ word_line (codes "drift") (decimal settings.drift)
+
+-- the row of a token, an event token's with the counter 0
+abbrev pub untaken_row : Credential → List ℕ
+untaken_row credential = row_text credential 0
+
+-- the rows of the tokens
+unfoldable pub book_text : List Credential → List ℕ
+book_text book = flat_map untaken_row book
+
+-- the whole text: the version, the life, the members, the settings and the rows
+abbrev pub shared_text : Shared → List ℕ
+shared_text shared =
+    word_line (codes "wakdulg") (codes "1") ++ word_line (codes "life") shared.life ++ members_text 1 shared.members
+    ++ settings_text shared.settings ++ book_text shared.book

@@ -1,0 +1,41 @@
+ghost use Rattle.std.specs.Prelude.{◌≡◌, IfOk};
+ghost use Rattle.cluster_file.specs.ClusterFile.{cluster_value};
+ghost use Rattle.cluster_file.specs.Key.{fingerprint_of, shared_key_of};
+ghost use Rattle.cluster_file.specs.Shared.{shared_of};
+
+use crate::cluster::Cluster;
+use crate::shared::shared_text;
+use hmac_core::{Hash, hmac};
+use std::alloc::{AllocError, Global};
+use token_file::Book;
+use vote_wire::ClusterKey;
+
+/// The bytes of a MAC that a fingerprint shows.
+const PRINT_LEN: usize = 8;
+
+/// The key under which the members of a cluster with this book tag their datagrams: HMAC-SHA-256 (RFC 2104) under the
+/// cluster's key over the shared text, all 32 bytes.
+pub fn shared_key(
+    alloc: Global,
+    key: &ClusterKey,
+    cluster: &Cluster,
+    book: &Book,
+) -> Result<ClusterKey, AllocError>
+    ensures { IfOk result (λ shared.
+        shared ≡ shared_key_of key.now (shared_of (cluster_value cluster.now) book.now)) }
+{
+    let text = shared_text(alloc, cluster, book)?;
+    let mac = hmac(Hash::Sha256, key.as_slice(), &text);
+    Ok(ClusterKey::new(mac.as_slice()).unwrap())
+}
+
+/// The fingerprint of a shared key, 16 hexadecimal digits that two sites compare: the first 8 bytes of HMAC-SHA-256
+/// under it over the word `fingerprint`.
+pub fn fingerprint(shared_key: &ClusterKey) -> [u8; 2 * PRINT_LEN]
+    ensures { result ≡ fingerprint_of shared_key.now }
+{
+    let mac = hmac(Hash::Sha256, shared_key.as_slice(), b"fingerprint");
+    let mut print = [0; 2 * PRINT_LEN];
+    hex::encode_to_slice(&mac.as_slice()[..PRINT_LEN], &mut print).unwrap();
+    print
+}

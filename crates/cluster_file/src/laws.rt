@@ -1,0 +1,121 @@
+ghost use Rattle.std.specs.Prelude.{◌≡◌, ◌++◌, ◌∷◌, [], codes, length, map, replicate, true, false, Some, None, Ok, Err};
+ghost use Rattle.std.specs.Net.Grammar.{IsSocketV4Text};
+ghost use Rattle.std.specs.declared.net.socket_addr.SocketAddrV4.{SocketAddrV4 as AnyAddress};
+ghost use Rattle.std.specs.Prelude.{List, ℕ, ◌↔◌};
+ghost use Rattle.cluster_file.specs.Address.{address_of, address_text, address_value, is_among};
+ghost use Rattle.cluster_file.specs.ClusterFile.{cluster_of, is_memory, outcome_of};
+ghost use Rattle.cluster_file.specs.Examples.{address_at, after_each, after_text, all_given, faults, key_of_32, small_cluster, small_file, text_of, three_cluster, three_file, three_key, three_shared, with_members, word_of, zeros};
+ghost use Rattle.cluster_file.specs.Fields.{key_of, life_of, word_of as spec_word_of};
+ghost use Rattle.cluster_file.specs.Key.{fingerprint_of, shared_key_of};
+ghost use Rattle.cluster_file.specs.Said.{Given, InFile, nothing_said};
+ghost use Rattle.cluster_file.specs.Shared.{IsShared, Shared, shared_text};
+ghost use Rattle.cluster_file.specs.declared.fault.LineFault.{LineFault};
+ghost use Rattle.cluster_file.specs.declared.word.Word.{Word};
+
+/// Equal shared texts say equal lives, members, settings and tokens, each in the same order.
+pub fn shared_texts_tell()
+    ensures { (a b : Shared) → IsShared a → IsShared b → shared_text a ≡ shared_text b → a ≡ b }
+{}
+
+/// The fields of lines, worked through.
+pub fn fields_are_worked()
+    ensures words { map spec_word_of (codes "member" ∷ codes "look-ahead" ∷ codes "skew" ∷ codes "range"
+        ∷ codes "drift" ∷ codes "key-file" ∷ codes "key" ∷ codes "life" ∷ [])
+        ≡ Some Word.Member ∷ Some Word.LookAhead ∷ Some Word.Skew ∷ Some Word.Range ∷ Some Word.Drift
+        ∷ Some Word.KeyFile ∷ Some Word.Key ∷ Some Word.Life ∷ [] }
+    ensures no_words { map spec_word_of (codes "members" ∷ codes "Member" ∷ codes "keyfile" ∷ codes "lif" ∷ [] ∷ [])
+        ≡ replicate 5 None }
+    ensures addresses { map address_of (codes "192.0.2.1:7101" ∷ codes "192.0.2.255:07101" ∷ codes "0.0.0.0:65535" ∷ [])
+        ≡ Some (address_at 1) ∷ Some (address_at 255)
+        ∷ Some (record { octets = 0 ∷ 0 ∷ 0 ∷ 0 ∷ []; port = 65535 }) ∷ [] }
+    ensures no_addresses { map address_of (codes "192.0.2.1" ∷ codes "192.0.2.1:" ∷ codes "192.0.2.1:65536"
+        ∷ codes "192.0.2.01:1" ∷ codes "192.0.2.256:1" ∷ codes "192.0.2:1" ∷ codes "host:1" ∷ codes "[::1]:1"
+        ∷ codes "192.0.2.1:1x" ∷ [] ∷ []) ≡ replicate 10 None }
+    ensures address { address_text (address_at 1) ≡ codes "192.0.2.1:7101" }
+    ensures among { map (λ address. is_among address (address_at 1 ∷ address_at 2 ∷ []))
+        (address_at 1 ∷ address_at 2 ∷ address_at 3 ∷ record { octets = 192 ∷ 0 ∷ 2 ∷ 1 ∷ []; port = 7102 } ∷ [])
+        ≡ true ∷ true ∷ false ∷ false ∷ [] }
+    ensures keys { map key_of (zeros 32 ∷ zeros 30 ∷ zeros 33 ∷ zeros 128 ∷ zeros 130 ∷ codes "zz" ∷ [])
+        ≡ Ok (replicate 16 0) ∷ Err LineFault.BadKey ∷ Err LineFault.BadKey ∷ Ok (replicate 64 0)
+        ∷ Err LineFault.BadKey ∷ Err LineFault.BadKey ∷ [] }
+    ensures lives { map life_of (word_of 1 ∷ word_of 64 ∷ word_of 65 ∷ [])
+        ≡ Ok (word_of 1) ∷ Ok (word_of 64) ∷ Err LineFault.BadLife ∷ [] }
+{}
+
+/// Lines of a cluster file, worked through.
+pub fn lines_are_worked()
+    ensures passed_over { after_each nothing_said ([] ∷ codes "  " ∷ codes "# member" ∷ codes " #member" ∷ [])
+        ≡ replicate 4 (Ok nothing_said) }
+    ensures members { after_each (with_members (1 ∷ [])) (codes "member 2 192.0.2.2:7101"
+        ∷ codes " member  2 192.0.2.2:7101 " ∷ codes "member 02 192.0.2.2:7101" ∷ [])
+        ≡ replicate 3 (Ok (with_members (1 ∷ 2 ∷ []))) }
+    ensures last_member { after_text (with_members (1 ∷ 2 ∷ 3 ∷ 4 ∷ 5 ∷ 6 ∷ 7 ∷ 8 ∷ [])) (codes "member 9 192.0.2.9:7101")
+        ≡ Ok (with_members (1 ∷ 2 ∷ 3 ∷ 4 ∷ 5 ∷ 6 ∷ 7 ∷ 8 ∷ 9 ∷ [])) }
+    ensures too_many { after_text (with_members (1 ∷ 2 ∷ 3 ∷ 4 ∷ 5 ∷ 6 ∷ 7 ∷ 8 ∷ 9 ∷ [])) (codes "member 1 host")
+        ≡ Err LineFault.TooManyMembers }
+    ensures member_numbers { after_each (with_members (1 ∷ [])) (codes "member 1 host" ∷ codes "member 3 192.0.2.3:7101"
+        ∷ codes "member x 192.0.2.2:7101" ∷ []) ≡ replicate 3 (Err LineFault.MemberNumber) }
+    ensures bad_addresses { after_each (with_members (1 ∷ [])) (codes "member 2 host:7101" ∷ codes "member 2 192.0.2.2" ∷ [])
+        ≡ replicate 2 (Err LineFault.BadAddress) }
+    ensures twice_address { after_text (with_members (1 ∷ 2 ∷ [])) (codes "member 3 192.0.2.1:7101")
+        ≡ Err LineFault.TwiceAddress }
+    ensures settings { after_each nothing_said (codes "look-ahead 100" ∷ codes "skew 10" ∷ codes "range 1000"
+        ∷ codes "drift 10" ∷ codes "look-ahead 0" ∷ [])
+        ≡ Ok (record nothing_said { look_ahead = Some 100 }) ∷ Ok (record nothing_said { skew = Some 10 })
+        ∷ Ok (record nothing_said { range = Some 1000 }) ∷ Ok (record nothing_said { drift = Some 10 })
+        ∷ Ok (record nothing_said { look_ahead = Some 0 }) ∷ [] }
+    ensures bad_numbers { after_each nothing_said (codes "look-ahead 101" ∷ codes "skew 11" ∷ codes "range 1001"
+        ∷ codes "drift 11" ∷ codes "skew x" ∷ codes "skew -1" ∷ codes "skew +1" ∷ [])
+        ≡ replicate 7 (Err LineFault.BadNumber) }
+    ensures key_and_life { after_each nothing_said (codes "key-file k" ∷ (codes "key " ++ zeros 32) ∷ codes "life a#b" ∷ [])
+        ≡ Ok (record nothing_said { key = Some (InFile (codes "k")) })
+        ∷ Ok (record nothing_said { key = Some (Given (replicate 16 0)) })
+        ∷ Ok (record nothing_said { life = Some (codes "a#b") }) ∷ [] }
+    ensures bad_key_and_life { after_each nothing_said (codes "key 00" ∷ (codes "life " ++ word_of 65) ∷ [])
+        ≡ Err LineFault.BadKey ∷ Err LineFault.BadLife ∷ [] }
+    ensures twice { after_each all_given (codes "look-ahead 101" ∷ codes "skew 1" ∷ codes "range 1" ∷ codes "drift 1"
+        ∷ codes "key-file k" ∷ codes "key 00" ∷ (codes "life " ++ word_of 65) ∷ [])
+        ≡ replicate 7 (Err LineFault.Twice) }
+    ensures unknown { after_each nothing_said (codes "members 1 192.0.2.1:7101" ∷ codes "x" ∷ [])
+        ≡ replicate 2 (Err LineFault.UnknownWord) }
+    ensures missing { after_each all_given (codes "member" ∷ codes "member 1" ∷ codes "look-ahead" ∷ codes "skew"
+        ∷ codes "range" ∷ codes "drift" ∷ codes "key-file" ∷ codes "key" ∷ codes "life" ∷ [])
+        ≡ replicate 9 (Err LineFault.MissingField) }
+    ensures surplus { after_each all_given (codes "member x host #" ∷ codes "look-ahead x #" ∷ codes "skew 1 2"
+        ∷ codes "range 1 2" ∷ codes "drift 1 2" ∷ codes "key-file a b" ∷ codes "key 0 0" ∷ codes "life a b" ∷ [])
+        ≡ replicate 8 (Err LineFault.SurplusField) }
+{}
+
+/// Cluster files, worked through.
+pub fn files_are_worked()
+    ensures small { cluster_of (text_of small_file) ≡ Ok small_cluster }
+    ensures no_last_end { cluster_of (codes "life a" ++ 10 ∷ codes "key-file /etc/k" ++ 13 ∷ 10 ∷
+        codes "member 1 192.0.2.1:7101") ≡ Ok small_cluster }
+    ensures three { cluster_of (text_of three_file) ≡ Ok three_cluster }
+    ensures empty { map cluster_of ([] ∷ (10 ∷ []) ∷ codes "life a" ∷ [])
+        ≡ Err (1, LineFault.NoMember) ∷ Err (2, LineFault.NoMember) ∷ Err (1, LineFault.NoMember) ∷ [] }
+    ensures no_member { cluster_of (text_of (codes "key-file k" ∷ codes "life a" ∷ [])) ≡ Err (3, LineFault.NoMember) }
+    ensures no_key { cluster_of (text_of (codes "member 1 192.0.2.1:7101" ∷ [])) ≡ Err (2, LineFault.NoKey) }
+    ensures no_life { cluster_of (text_of (codes "member 1 192.0.2.1:7101" ∷ codes "key-file k" ∷ []))
+        ≡ Err (3, LineFault.NoLife) }
+    ensures first_fault { cluster_of (text_of (codes "#" ∷ codes "skew 1" ∷ codes "skew 1" ∷ codes "x" ∷ []))
+        ≡ Err (3, LineFault.Twice) }
+    ensures two_keys { cluster_of (text_of ((codes "key " ++ zeros 32) ∷ codes "key-file k" ∷ []))
+        ≡ Err (2, LineFault.Twice) }
+    ensures as_long_as_may_be { outcome_of 47 (text_of small_file) ≡ Ok small_cluster }
+    ensures too_long { map (λ limit. outcome_of limit (text_of small_file)) (46 ∷ 40 ∷ 39 ∷ 23 ∷ 0 ∷ [])
+        ≡ Err (3, LineFault.TooLong) ∷ Err (3, LineFault.TooLong) ∷ Err (2, LineFault.TooLong)
+        ∷ Err (1, LineFault.TooLong) ∷ Err (1, LineFault.TooLong) ∷ [] }
+    ensures faults { map is_memory faults ≡ replicate 15 false ++ true ∷ [] }
+{}
+
+/// A shared text, its key and its fingerprint, worked through.
+pub fn keys_are_worked()
+    ensures text { shared_text three_shared ≡ text_of (codes "wakdulg 1" ∷ codes "life 2026-11a"
+        ∷ codes "member 1 192.0.2.1:7101" ∷ codes "member 2 192.0.2.2:7101" ∷ codes "member 3 192.0.2.3:7101"
+        ∷ codes "look-ahead 10" ∷ codes "skew 2" ∷ codes "range 100" ∷ codes "drift 0"
+        ∷ (codes "HOTP/E/6" ++ 9 ∷ codes "a" ++ 9 ∷ codes "-" ++ 9 ∷ codes "31" ++ 9 ∷ codes "0")
+        ∷ (codes "HOTP/T60/6" ++ 9 ∷ codes "u" ++ 9 ∷ codes "-" ++ 9 ∷ codes "31") ∷ []) }
+    ensures key { shared_key_of key_of_32 three_shared ≡ three_key }
+    ensures fingerprint { fingerprint_of three_key ≡ codes "b1061f3a2d61dfbd" }
+{}
