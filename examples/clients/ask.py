@@ -8,67 +8,27 @@ nonce, and a random one is put into it. The line is the same for each node, so t
 node is sent it twice, the second time where no answer came within a second, and is left after 2.5 seconds, or at once
 where the system tells that nobody is there or no way leads there. TIMEOUT, BUSY and CLOCK are about the node, so the
 next one is asked; any other answer decides. What is no answer to this very line is passed over.
+
+It asks by wakdulg.py, which lies beside it.
 """
-import ipaddress
 import os
 import re
-import secrets
-import socket
 import sys
-import time
 
-# When the second datagram is sent, and when the node is left, in seconds from the first on.
-PAUSES = (1.0, 2.5)
-OF_THE_NODE = b"TIMEOUT|BUSY|CLOCK"
-OF_THE_LINE = b"UNKNOWN|PASSWORD|EXHAUSTED|INVALID|SPENT|THROTTLED [0-9]{1,20}"
-
-
-def read_node(word):
-    """The address and the port. A name isn't taken, since to look it up may take its time."""
-    host, _, port = word.partition(":")
-    if not re.fullmatch("[0-9]{1,5}", port) or not 0 < int(port) < 65536:
-        raise ValueError(word)
-    return str(ipaddress.IPv4Address(host)), int(port)
+sys.dont_write_bytecode = True
+import wakdulg
 
 
 def with_nonce(line):
     """The line, with a nonce of 20 letters and digits where it has none."""
     if re.fullmatch(b"CHECK( [^ ]+){3}|RESYNC( [^ ]+){4}", line):
-        return line.replace(b" ", b" %b " % secrets.token_hex(10).encode(), 1)
+        return line.replace(b" ", b" %b " % wakdulg.new_nonce(), 1)
     return line
-
-
-def is_answer(data, line):
-    """Whether these bytes are a whole answer, and one to the line."""
-    nonce = re.escape(line.split(b" ")[1]) if b" " in line else b""
-    answer = b"OK %b [0-9]{1,20}|NO %b (%b|%b)|NO - BADLINE" % (nonce, nonce, OF_THE_LINE, OF_THE_NODE)
-    return re.fullmatch(answer, data) is not None
-
-
-def ask(node, line):
-    """The answer of a node, or None. A connected socket hears nobody else, and tells where nobody is there."""
-    with socket.socket(socket.AF_INET, socket.SOCK_DGRAM) as client:
-        try:
-            client.connect(node)
-            begin = time.monotonic()
-            for pause in PAUSES:
-                client.send(line)
-                while (left := begin + pause - time.monotonic()) > 0:
-                    client.settimeout(left)
-                    try:
-                        data = client.recv(512)
-                    except socket.timeout:
-                        break
-                    if is_answer(data, line):
-                        return data
-        except OSError:
-            pass
-    return None
 
 
 def main():
     try:
-        line, nodes = with_nonce(os.fsencode(sys.argv[1])), [read_node(word) for word in sys.argv[2:]]
+        line, nodes = with_nonce(os.fsencode(sys.argv[1])), [wakdulg.read_node(word) for word in sys.argv[2:]]
     except (IndexError, ValueError):
         nodes = []
     if not nodes:
@@ -76,8 +36,8 @@ def main():
         sys.exit(2)
     last = None
     for node in nodes:
-        last = ask(node, line) or last
-        if last and not re.search(b" (%b)$" % OF_THE_NODE, last):
+        last = wakdulg.hear(node, line) or last
+        if last and last.decode().split(" ")[2] not in wakdulg.OF_THE_NODE:
             break
     if not last:
         sys.exit(2)

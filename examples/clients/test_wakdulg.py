@@ -1,0 +1,206 @@
+#!/usr/bin/env python3
+"""Tries wakdulg.py beside fake nodes, which lose, repeat, cut, forge and refuse: test_wakdulg.py [TEST..]
+
+tools/clients calls it. It takes some seconds, also on a busy machine: a test that waits for an answer waits long, and
+only those in which nobody answers have short pauses.
+"""
+import socket
+import sys
+import threading
+import time
+import unittest
+from concurrent.futures import ThreadPoolExecutor
+
+sys.dont_write_bytecode = True
+import wakdulg
+
+PATIENT = {"pauses": (0.2, 30.0), "total": 60.0, "avoid": 300.0}
+SHORT = (0.3, 1.5)
+# What is no answer to a line with the nonce {}: cut, of another form, or of another line.
+NO_ANSWERS = [
+    b"", b"OK", b"NO", b"OK {}", b"OK {} ", b"OK {} x", b"OK {} -1", b"OK {} 1 2", b"OK {} 1\n", b"OK  {} 1",
+    b" OK {} 1", b"ok {} 1", b"NO {}", b"NO {} WHAT", b"NO {} OK", b"NO {} INVALI", b"NO {} INVALID ", b"NO -",
+    b"NO {} THROTTLED", b"NO {} THROTTLED x", b"NO - INVALID", b"OK - 1", b"OK {} \xd9\xa1", b"\xff\xfe",
+    b"OK {} " + b"9" * 400, b"OK {}1 1", b"OK 00000000000000000000 1", b"NO 00000000000000000000 INVALID",
+]
+
+
+class FakeNode(threading.Thread):
+    """A node that answers its k-th datagram by the k-th of these lists, the last one for all that follow. Of a datagram
+    it writes {} as the nonce and [] as the user of the line. A function in a list is called with sender and nonce."""
+
+    def __init__(self, *replies):
+        super().__init__(daemon=True)
+        self.port = socket.socket(socket.AF_INET, socket.SOCK_DGRAM)
+        self.port.bind(("127.0.0.1", 0))
+        self.address = self.port.getsockname()
+        self.replies, self.heard = replies, []
+        self.start()
+
+    def run(self):
+        while True:
+            line, sender = self.port.recvfrom(512)
+            if line == b"stop":
+                return
+            self.heard.append((line, sender))
+            _, nonce, user, *_ = line.split(b" ")
+            for reply in self.replies[min(len(self.heard), len(self.replies)) - 1]:
+                if callable(reply):
+                    reply(sender, nonce)
+                else:
+                    data = reply if isinstance(reply, bytes) else reply.encode()
+                    self.port.sendto(data.replace(b"{}", nonce).replace(b"[]", user), sender)
+
+    def stop(self):
+        if self.is_alive():
+            self.port.sendto(b"stop", self.address)
+            self.join()
+            self.port.close()
+
+
+class Tests(unittest.TestCase):
+    def cluster(self, *nodes, **settings):
+        """The client of these nodes, which asks them in this order."""
+        for node in nodes:
+            self.addCleanup(node.stop)
+        made = wakdulg.Cluster(",".join("%s:%d" % node.address for node in nodes), **{**PATIENT, **settings})
+        made.order = lambda user: sorted(made.nodes, key=lambda node: node in made._silent_until)
+        return made
+
+    def refusal(self, cluster, kind=wakdulg.Refused, user="ann", code="123456", password=None):
+        """What a check raised: of this very kind, its text, and whether it is in doubt."""
+        with self.assertRaises(wakdulg.Refused) as caught:
+            cluster.check(user, code, password)
+        self.assertIs(type(caught.exception), kind)
+        return caught.exception
+
+    def test_the_line_and_the_answers(self):
+        for answer, kind in (("INVALID", wakdulg.Refused), ("PASSWORD", wakdulg.Refused), ("UNKNOWN", wakdulg.Refused),
+                             ("EXHAUSTED", wakdulg.Refused), ("THROTTLED 25", wakdulg.Throttled)):
+            first, second = FakeNode(["NO {} " + answer]), FakeNode(["OK {} 3"])
+            refusal = self.refusal(self.cluster(first, second), kind)
+            self.assertEqual((str(refusal), refusal.in_doubt, second.heard), (answer, False, []))
+            self.assertRegex(first.heard[0][0], rb"^CHECK [0-9a-z]{20} ann 123456 -$")
+        self.assertEqual(self.refusal(self.cluster(FakeNode(["NO {} THROTTLED 25"])), wakdulg.Throttled).seconds, 25)
+        self.assertEqual(self.refusal(self.cluster(FakeNode(["NO - BADLINE"]))).reason, "BADLINE")
+        self.assertEqual(str(self.refusal(self.cluster(FakeNode(["NO {} SPENT"])))), "SPENT (in doubt)")
+        node = FakeNode(["OK {} 0"])
+        accepted = self.cluster(node).resync("ann", "123456", "234567", "pw")
+        self.assertTrue(accepted)
+        self.assertEqual((accepted.factor, str(accepted)), (0, "OK 0"))
+        self.assertRegex(node.heard[0][0], rb"^RESYNC [0-9a-z]{20} ann 123456 234567 pw$")
+
+    def test_a_lost_datagram_is_sent_again_byte_for_byte_from_the_same_port(self):
+        node = FakeNode([], ["OK {} 1"])
+        self.assertEqual(self.cluster(node).check("ann", "123456").factor, 1)
+        self.assertEqual((len(node.heard), len(set(node.heard))), (2, 1))
+
+    def test_a_late_answer_is_heard(self):
+        node = FakeNode([lambda *_: time.sleep(0.6), "OK {} 1"], ["OK {} 1"])
+        self.assertEqual(self.cluster(node).check("ann", "123456").factor, 1)
+
+    def test_duplicates_and_answers_to_other_lines_are_passed_over(self):
+        node = FakeNode(["OK 00000000000000000000 1", "NO {} INVALID", "NO {} INVALID"], ["OK {} 2", "OK {} 2"])
+        cluster = self.cluster(node)
+        self.assertEqual(self.refusal(cluster).reason, "INVALID")
+        self.assertEqual(cluster.check("ann", "234567").factor, 2)
+        self.assertEqual(len({line.split(b" ")[1] for line, _ in node.heard}), 2)
+
+    def test_malformed_answers_are_none(self):
+        node = FakeNode(NO_ANSWERS, NO_ANSWERS + ["NO {} SPENT"])
+        self.assertEqual(self.refusal(self.cluster(node)).reason, "SPENT")
+        for data in NO_ANSWERS:
+            self.assertFalse(wakdulg.is_answer(data.replace(b"{}", b"n"), b"n"), data)
+
+    def test_a_foreign_socket_is_not_heard(self):
+        with socket.socket(socket.AF_INET, socket.SOCK_DGRAM) as foreign:
+            forge = lambda sender, nonce: (foreign.sendto(b"OK %b 1" % nonce, sender), time.sleep(0.05))
+            self.assertEqual(self.refusal(self.cluster(FakeNode([forge, "NO {} INVALID"]))).reason, "INVALID")
+
+    def test_a_silent_node_is_left_and_asked_last_from_then_on(self):
+        silent, good = FakeNode([]), FakeNode(["NO {} INVALID"], ["OK {} 3"])
+        cluster = self.cluster(silent, good, pauses=SHORT)
+        begin = time.monotonic()
+        self.assertEqual(str(self.refusal(cluster)), "INVALID (in doubt)")
+        self.assertGreaterEqual(time.monotonic() - begin, SHORT[1])
+        self.assertEqual({line for line, _ in silent.heard}, {line for line, _ in good.heard})
+        heard = len(silent.heard)
+        self.assertEqual(cluster.check("ann", "234567").factor, 3)
+        self.assertEqual((len(silent.heard), cluster.order("ann")[-1]), (heard, silent.address))
+
+    def test_where_nobody_is_there_the_next_is_asked_at_once(self):
+        gone, good = FakeNode([]), FakeNode(["OK {} 3"])
+        cluster = self.cluster(gone, good)
+        gone.stop()
+        begin = time.monotonic()
+        self.assertEqual(cluster.check("ann", "123456").factor, 3)
+        self.assertLess(time.monotonic() - begin, 20)
+
+    def test_answers_about_the_node_go_on(self):
+        for reason in wakdulg.OF_THE_NODE:
+            busy, good = FakeNode(["NO {} " + reason]), FakeNode(["OK {} 3"])
+            self.assertEqual(self.cluster(busy, good).check("ann", "123456").factor, 3)
+            self.assertEqual(busy.heard[0][0], good.heard[0][0])
+            refusal = self.refusal(self.cluster(FakeNode(["NO {} " + reason])), wakdulg.Undecided)
+            self.assertEqual((refusal.reason, refusal.in_doubt), (reason, reason == "TIMEOUT"))
+        busy, gone = FakeNode(["NO {} BUSY"]), FakeNode([])
+        cluster = self.cluster(busy, gone)
+        gone.stop()
+        self.assertEqual(str(self.refusal(cluster, wakdulg.Undecided)), "BUSY (in doubt)")
+
+    def test_silence_of_all_ends_in_time(self):
+        nodes = [FakeNode([]) for _ in range(3)]
+        cluster = self.cluster(*nodes, pauses=(0.3, 0.6), total=0.9)
+        begin = time.monotonic()
+        self.assertEqual(str(self.refusal(cluster, wakdulg.Undecided)), "SILENT (in doubt)")
+        self.assertTrue(0.9 <= time.monotonic() - begin < 20)
+        # The second had less than its time, and the third was not asked: neither is asked last for it.
+        self.assertEqual((list(cluster._silent_until), nodes[2].heard), ([nodes[0].address], []))
+
+    def test_garbage_does_not_hold_a_call_beyond_its_time(self):
+        def flood(sender, _):
+            for _ in range(200):
+                node.port.sendto(b"x", sender)
+
+        node = FakeNode([flood])
+        begin = time.monotonic()
+        self.refusal(self.cluster(node, total=0.3), wakdulg.Undecided)
+        self.assertTrue(0.3 <= time.monotonic() - begin < 20)
+
+    def test_fields_that_cannot_be_asked_for_are_not_sent(self):
+        node = FakeNode(["OK {} 1"])
+        cluster = self.cluster(node)
+        for user, code, password in (
+                ("", "123456", None), ("a b", "123456", None), ("a\n", "123456", None), ("a\t", "123456", None),
+                ("a" * 65, "123456", None), ("\u00e9" * 33, "123456", None), ("\udc80", "123456", None),
+                ("ann", "12345", None), ("ann", "123456789", None), ("ann", "12345\uff16", None),
+                ("ann", "123456\n", None), ("ann", "123456 -", None), ("ann", "123456", ""), ("ann", "123456", "-"),
+                ("ann", "123456", "-\n"), ("ann", "123456", "p w"), ("ann", "123456", "p" * 65)):
+            self.refusal(cluster, wakdulg.BadField, user, code, password)
+        self.assertEqual(node.heard, [])
+        self.assertTrue(cluster.check("\u00e9" * 32, "12345678", "-" + "p" * 63))
+
+    def test_threads_do_not_hear_each_other(self):
+        cluster = self.cluster(FakeNode(["OK {} []"]))
+        with ThreadPoolExecutor(64) as threads:
+            factors = list(threads.map(lambda k: cluster.check(str(k), "123456").factor, range(256)))
+        self.assertEqual(factors, list(range(256)))
+
+    def test_nodes_and_order(self):
+        cluster = wakdulg.Cluster("127.0.0.1:1, 10.0.0.2:65535 127.0.0.1:3")
+        self.assertEqual(cluster.nodes, [("127.0.0.1", 1), ("10.0.0.2", 65535), ("127.0.0.1", 3)])
+        for text in ("", "127.0.0.1", "localhost:1", "127.0.0.1:0", "127.0.0.1:65536", "[::1]:1", "127.0.0.1:x",
+                     "127.1:5"):
+            with self.assertRaises(ValueError, msg=text):
+                wakdulg.Cluster(text)
+        self.assertEqual({cluster.order("u%d" % k)[0] for k in range(20)}, set(cluster.nodes))
+        self.assertEqual(cluster.order("ann"), cluster.order("ann"))
+
+    def test_a_name_forges_no_line_of_a_log(self):
+        for outcome, said in (wakdulg.Accepted(7), "accepted from=192.0.2.9 OK 7"), (wakdulg.Refused("INVALID", True),
+                              "refused from=192.0.2.9 INVALID (in doubt)"):
+            self.assertEqual(wakdulg.log_line("192.0.2.9", 'a" b\n\u00e9', outcome), said + r' user="a\" b\n\u00e9"')
+
+
+if __name__ == "__main__":
+    unittest.main()
