@@ -1,0 +1,146 @@
+# A cluster of three nodes on free ports of 127.0.0.1, for the scripts run-it of examples/ and package/. It is sourced
+# by a script of bash, which has set `site` to the name that its messages have.
+#
+#   need COMMAND..                ends with status 77 where a command isn't there, and names it; need_root likewise
+#   make_cluster                  makes in $work: key, users (u1 to u99, an event token each with the secret of RFC
+#                                 4226; pin with the password hunter2; clock1 and clock2, time tokens), and three
+#                                 databases; and starts the nodes
+#   start_node I; kill_node I     starts node I and waits until it answers; ends it at once
+#   begin STEP                    names what comes next
+#   same WHAT WANTED GOT          ends the script where both differ
+#   await COMMAND..               waits until it succeeds, two minutes at most
+#   code N                        the code of counter N
+#
+# $nodes has the three addresses, $free a fourth port, which nobody has by UDP nor by TCP. What `pids` names is killed
+# at the end, and $work is removed. KEEP=yes leaves $work. OATHD is the program, else ./oathd. At a fault the status is
+# 1, and standard error names the step, after the last lines of the files that `logs` names.
+set -eu
+top=$(cd "$(dirname "${BASH_SOURCE[0]}")/../.." && pwd)
+oathd=${OATHD:-$top/oathd}
+secret=3132333435363738393031323334353637383930
+step='the beginning'
+pids=()
+logs=()
+work=$(mktemp -d)
+export PYTHONDONTWRITEBYTECODE=1
+
+clean_up() {
+    local status=$? pid
+    trap - EXIT
+    {
+        for pid in "${pids[@]}"; do
+            kill -9 "$pid" || true
+        done
+        wait
+    } 2> /dev/null
+    if [ $status != 0 ] && [ $status != 77 ]; then
+        [ ${#logs[@]} = 0 ] || tail -n 20 "${logs[@]}" >&2 2> /dev/null || true
+        echo "$site: failed at: $step" >&2
+    fi
+    [ -n "${KEEP:-}" ] && echo "$site: $work is left" >&2 || rm -rf "$work"
+    exit $status
+}
+trap clean_up EXIT
+trap 'exit 130' INT TERM HUP
+
+begin() {
+    step=$1
+    echo "$site: $step"
+}
+
+same() {
+    step=$1
+    [ "$2" = "$3" ] || { echo "$site: $1: wanted: $2, got: $3" >&2; exit 1; }
+    echo "$site: $1: $3"
+}
+
+await() {
+    local end=$((SECONDS + 120))
+    until "$@"; do
+        [ $SECONDS -lt $end ] || { echo "$site: two minutes, and not yet: $*" >&2; exit 1; }
+        sleep 0.05
+    done
+}
+
+need() {
+    local each
+    for each in "$@"; do
+        [ -n "$(PATH=$PATH:/usr/sbin:/sbin type -P "$each")" ] || { echo "$site: needs $each" >&2; exit 77; }
+    done
+}
+
+need_root() {
+    [ "$(id -u)" = 0 ] || { echo "$site: needs root" >&2; exit 77; }
+}
+
+code() {
+    python3 -c 'import hmac, sys
+digest = hmac.digest(bytes.fromhex(sys.argv[1]), int(sys.argv[2]).to_bytes(8, "big"), "sha1")
+at = digest[19] & 15
+print("%06d" % ((int.from_bytes(digest[at:at + 4], "big") & 0x7fffffff) % 10**6))' "$secret" "$1"
+}
+
+# Four ports, below those that the system gives to a socket that asks for any.
+take_ports() {
+    local ports
+    ports=$(python3 - <<'PY'
+import random, socket
+
+def is_free(port):
+    for kind in socket.SOCK_DGRAM, socket.SOCK_STREAM:
+        with socket.socket(socket.AF_INET, kind) as each:
+            try:
+                each.bind(("0.0.0.0", port))
+            except OSError:
+                return False
+    return True
+
+ports = [port for port in random.sample(range(20000, 32000), 200) if is_free(port)]
+print(*ports[:4])
+PY
+)
+    read -r -a port <<< "$ports"
+    nodes=127.0.0.1:${port[0]},127.0.0.1:${port[1]},127.0.0.1:${port[2]}
+    free=${port[3]}
+}
+
+make_cluster() {
+    local node user
+    begin 'three nodes are made and started'
+    take_ports
+    (
+        umask 077
+        od -An -v -tx1 -N32 /dev/urandom | tr -d ' \n' > "$work/key"
+        {
+            for user in {1..99}; do echo "HOTP u$user - $secret"; done
+            echo "HOTP pin hunter2 $secret"
+            for user in clock1 clock2; do echo "HOTP/T30 $user - $secret"; done
+        } > "$work/users"
+        for node in 1 2 3; do
+            "$oathd" init "$work/node$node.db" "$work/users" --node $node --moment 0
+        done
+    )
+    for node in 1 2 3; do
+        start_node $node
+    done
+}
+
+# Whether a node answers. It has to be running.
+answers() {
+    kill -0 "${pids[$1]}" || { echo "$site: node $1 has ended" >&2; exit 1; }
+    [ "$("$top/examples/clients/ask.py" 'CHECK up nobody 000000 -' "127.0.0.1:${port[$1 - 1]}")" = 'NO up UNKNOWN' ]
+}
+
+start_node() {
+    "$oathd" serve "$work/node$1.db" "$work/users" --node "$1" --key "${2:-$work/key}" --members "$nodes" \
+        --turns 4294967295 &
+    pids[$1]=$!
+    await answers "$1"
+}
+
+# Ends the process that stands at this place of `pids`: 1 to 3 are the nodes.
+kill_node() {
+    kill -9 "${pids[$1]}"
+    wait "${pids[$1]}" 2> /dev/null || true
+    unset "pids[$1]"
+}
