@@ -2,6 +2,9 @@
 # by a script of bash, which has set `site` to the name that its messages have.
 #
 #   need COMMAND..                ends with status 77 where a command isn't there, and names it; need_root likewise
+#   enter_namespace               runs the script once more in a mount namespace of its own, with $work in memory
+#   make_root                     makes a Debian of its own in $root, over that of CHROOT, else by debootstrap
+#   find_programs                 sets oathd and oathtool to program files
 #   make_cluster                  makes in $work: key, users (u1 to u99, an event token each with the secret of RFC
 #                                 4226; pin with the password hunter2; clock1 and clock2, time tokens), and three
 #                                 databases; and starts the nodes
@@ -37,6 +40,7 @@ clean_up() {
         [ ${#logs[@]} = 0 ] || tail -n 20 "${logs[@]}" >&2 2> /dev/null || true
         echo "$site: failed at: $step" >&2
     fi
+    [ -z "${INSIDE:-}" ] || umount -l "$work" 2> /dev/null || true
     [ -n "${KEEP:-}" ] && echo "$site: $work is left" >&2 || rm -rf "$work"
     exit $status
 }
@@ -71,6 +75,48 @@ need() {
 
 need_root() {
     [ "$(id -u)" = 0 ] || { echo "$site: needs root" >&2; exit 77; }
+}
+
+enter_namespace() {
+    need_root
+    if [ -z "${INSIDE:-}" ]; then
+        rm -rf "$work"
+        INSIDE=yes exec unshare --mount "$0"
+    fi
+    step='a mount namespace'
+    mount -t tmpfs -o mode=700 none "$work"
+}
+
+# SUITE and MIRROR are what debootstrap takes, those of this machine if they aren't set.
+make_root() {
+    local base=${CHROOT:-$work/base} suite
+    root=$work/root
+    if [ -z "${CHROOT:-}" ]; then
+        begin 'debootstrap'
+        logs=("$work/debootstrap.log")
+        suite=${SUITE:-$(. /etc/os-release; echo "$VERSION_CODENAME")}
+        debootstrap --include=systemd,dbus,man-db,bash-completion "$suite" "$base" \
+            "${MIRROR:-http://deb.debian.org/debian}" > "$work/debootstrap.log"
+    fi
+    step='a Debian of its own'
+    mkdir "$work/upper" "$work/below" "$root"
+    mount -t overlay overlay -o "lowerdir=$base,upperdir=$work/upper,workdir=$work/below" "$root"
+}
+
+# The program that was built, or the one that was compiled without proof.
+newer_of() {
+    local built=$top/crates/$1/out/$1
+    [ "$built" -nt "$top/.unproved/$1" ] && echo "$built" || echo "$top/.unproved/$1"
+}
+
+# OATHD and OATHTOOL, else the built ones where they are current, else those that are compiled without proof.
+find_programs() {
+    begin 'programs are compiled, where there are no current ones'
+    # A command over a database wants the whole program.
+    [ -n "${OATHD:-}" ] || "$top/oathd" export --help > "$work/out"
+    [ -n "${OATHTOOL:-}" ] || "$top/oathtool" --help > "$work/out"
+    oathd=$(realpath "${OATHD:-$(newer_of oathd)}")
+    oathtool=$(realpath "${OATHTOOL:-$(newer_of oathtool)}")
 }
 
 code() {
