@@ -200,6 +200,8 @@ class Tests(unittest.TestCase):
         for outcome, said in (wakdulg.Accepted(7), "accepted from=192.0.2.9 OK 7"), (wakdulg.Refused("INVALID", True),
                               "refused from=192.0.2.9 INVALID (in doubt)"):
             self.assertEqual(wakdulg.log_line("192.0.2.9", 'a" b\n\u00e9', outcome), said + r' user="a\" b\n\u00e9"')
+        self.assertEqual(wakdulg.log_line("a b\n", "ann", wakdulg.Accepted(7)), 'accepted from=a?b? OK 7 user="ann"')
+        self.assertEqual(wakdulg.log_line(None, "ann", wakdulg.Accepted(7)), 'accepted from=- OK 7 user="ann"')
 
 
 if __name__ == "__main__":

@@ -110,7 +110,8 @@ def new_nonce():
 def log_line(address, user, outcome):
     """A line for a log, of what a call returned or raised. The name is last and quoted, so that it forges no line."""
     word = "accepted" if isinstance(outcome, Accepted) else "refused"
-    return "%s from=%s %s user=%s" % (word, address or "-", outcome, json.dumps(user))
+    address = re.sub("[^0-9A-Za-z.:_-]", "?", address or "-")
+    return "%s from=%s %s user=%s" % (word, address, outcome, json.dumps(user))
 
 
 def _field(text, form, what):

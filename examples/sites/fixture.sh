@@ -15,8 +15,8 @@
 #   code N                        the code of counter N
 #
 # $nodes has the three addresses, $free a fourth port, which nobody has by UDP nor by TCP. What `pids` names is killed
-# at the end, and $work is removed. KEEP=yes leaves $work. OATHD is the program, else ./oathd. At a fault the status is
-# 1, and standard error names the step, after the last lines of the files that `logs` names.
+# at the end, and $work is removed. OATHD is the program, else ./oathd. At a fault the status is 1, and standard error
+# names the step, after the last lines of the files that `logs` names.
 set -eu
 top=$(cd "$(dirname "${BASH_SOURCE[0]}")/../.." && pwd)
 oathd=${OATHD:-$top/oathd}
@@ -30,18 +30,17 @@ export PYTHONDONTWRITEBYTECODE=1
 clean_up() {
     local status=$? pid
     trap - EXIT
-    {
-        for pid in "${pids[@]}"; do
-            kill -9 "$pid" || true
-        done
-        wait
-    } 2> /dev/null
+    for pid in "${pids[@]}"; do
+        kill -9 "$pid" 2> /dev/null || true
+        wait "$pid" 2> /dev/null || true
+    done
     if [ $status != 0 ] && [ $status != 77 ]; then
         [ ${#logs[@]} = 0 ] || tail -n 20 "${logs[@]}" >&2 2> /dev/null || true
         echo "$site: failed at: $step" >&2
     fi
-    [ -z "${INSIDE:-}" ] || umount -l "$work" 2> /dev/null || true
-    [ -n "${KEEP:-}" ] && echo "$site: $work is left" >&2 || rm -rf "$work"
+    # What else is mounted there goes with the namespace.
+    ! mountpoint -q "$work" || umount -l "$work"
+    rm -rf --one-file-system "$work"
     exit $status
 }
 trap clean_up EXIT
