@@ -1,5 +1,5 @@
 -- The content that tables hold, and what a change makes of it.
-use Rattle.std.proofs.Common.{◌≡◌, ℕ, zero, suc, pos, ◌+◌, List, [], ◌∷◌, ◌++◌, length, find, map, slice_set, Option, Some, None, refl, sym, ap, ◌∙◌, subst, subst₂, append-nil}
+use Rattle.std.proofs.Common.{◌≡◌, ℕ, zero, suc, pos, ◌+◌, List, [], ◌∷◌, ◌++◌, length, find, map, slice_set, Option, Some, None, refl, sym, ap, ◌∙◌, subst, subst₂, append-nil, arith}
 use Rattle.std.specs.Option.{option_to_list}
 use Rattle.std.specs.List.Sorted.{IsPermutation}
 use Rattle.std.specs.List.{last_or}
@@ -91,16 +91,17 @@ row_put : (token : ℕ) (row : RowRecord) (c : Content) (old new : Database) (pa
 row_put token row c old new passes it change = record {
   rows = rows_put old new token row c.rows change it.rows;
   node = it.node;
-  self = subst (λ n. HoldsSelf new.trees it.node n c.boot) (sym (length_set c.rows token row)) (self_stays old.trees new.trees it.node (length c.rows) c.boot (change.2.self ∙ change.1.self) it.self);
-  pass = passes_stay old.trees new.trees passes (change.2.pass ∙ change.1.pass) it.pass;
+  self = subst (λ n. HoldsSelf new.trees it.node n c.boot) (sym (length_set c.rows token row))
+      (self_stays old.trees new.trees it.node (length c.rows) c.boot (change.2.others 0 (λ (e : 0 ≡ 3). omega arith) ∙ change.1.others 0 (λ (e : 0 ≡ 1). omega arith)) it.self);
+  pass = passes_stay old.trees new.trees passes (change.2.others 2 (λ (e : 2 ≡ 3). omega arith) ∙ change.1.others 2 (λ (e : 2 ≡ 1). omega arith)) it.pass;
   last = it.last;
 }
 
 pass_put : (number : ℕ) (p : PassRecord) (c : Content) (old new : Database) (passes : List PassRecord) → number ≡ length passes + 1 → Holds old.trees c passes → IsAppended (pass_row number p) old new → Holds new.trees (record c { last = Some p }) (passes ++ p ∷ [])
 pass_put number p c old new passes is it change = record {
-  rows = rows_stay old.trees new.trees c.rows change.floor change.drift it.rows;
+  rows = rows_stay old.trees new.trees c.rows (change.others 1 (λ (e : 1 ≡ 2). omega arith)) (change.others 3 (λ (e : 3 ≡ 2). omega arith)) it.rows;
   node = it.node;
-  self = self_stays old.trees new.trees it.node (length c.rows) c.boot change.self it.self;
+  self = self_stays old.trees new.trees it.node (length c.rows) c.boot (change.others 0 (λ (e : 0 ≡ 2). omega arith)) it.self;
   pass = passes_appended old new number passes p is it.pass change;
   last = sym (last_appended None passes p);
 }
@@ -118,10 +119,10 @@ raises count c old new passes schema it counted change =
     let row = self_row was.node was.tokens (c.boot + 1) in
     let held : HoldsSelf new.trees was.node was.tokens (c.boot + 1) = record { found = row; place = ap (find (has_rowid (pos 1))) change.self ∙ find-put_row (pos 1) row refl (without_rowid (pos 1) (old.trees 0)); shows = refl } in
     let now : Holds new.trees (with_next_boot c) passes = record {
-      rows = rows_stay old.trees new.trees c.rows change.floor change.drift it.rows;
+      rows = rows_stay old.trees new.trees c.rows (change.others 1 (λ (e : 1 ≡ 0). omega arith)) (change.others 3 (λ (e : 3 ≡ 0). omega arith)) it.rows;
       node = it.node;
       self = subst₂ (λ m n. HoldsSelf new.trees m n (c.boot + 1)) same.0 same.1 held;
-      pass = passes_stay old.trees new.trees passes change.pass it.pass;
+      pass = passes_stay old.trees new.trees passes (change.others 2 (λ (e : 2 ≡ 0). omega arith)) it.pass;
       last = it.last;
     } in
     (change.schema, subst (Holds new.trees (with_next_boot c)) (sym (append-nil passes)) now)

@@ -54,9 +54,7 @@ version_raised old new it h =
       schema = u.schema;
       was = it;
       self = u.applies.rows ∙ ap (λ rows. edited db (edit_of db self (ids_of rows) Given 1 rows)) shown ∙ edit;
-      floor = u.applies.others 1 (λ (e : 1 ≡ 0). omega arith) tt;
-      pass = u.applies.others 2 (λ (e : 2 ≡ 0). omega arith) tt;
-      drift = u.applies.others 3 (λ (e : 3 ≡ 0). omega arith) tt;
+      others = λ tree apart. u.applies.others tree apart tt;
     }
 
 -- the row of `self` stays as the table of drifts is filled
@@ -66,13 +64,13 @@ version_stays old mid new tokens it made added = record {
   node = it.node;
   tokens = it.tokens;
   boot = it.boot;
-  held = row_stays (old.trees 0) (new.trees 0) 1 self_columns (version_values 1 it.node it.tokens it.boot) (added.self ∙ made.self) it.held;
+  held = row_stays (old.trees 0) (new.trees 0) 1 self_columns (version_values 1 it.node it.tokens it.boot) (added.others 0 (λ (e : 0 ≡ 3). omega arith) ∙ made.self) it.held;
 }
 
 pub version_added : (old mid last new : Database) (tokens : ℕ) → HasVersion old undrifted_schema 1 → AddsTable old mid → AddsDrifts tokens mid last → RaisesVersion last new → AddsVersion tokens old new
 version_added old mid last new tokens it made added raised =
     let was = raised.was in
-    let held : HasRow (last.trees 0) 1 self_columns (version_values 1 it.node it.tokens it.boot) = row_stays (old.trees 0) (last.trees 0) 1 self_columns _ (added.self ∙ made.self) it.held in
+    let held : HasRow (last.trees 0) 1 self_columns (version_values 1 it.node it.tokens it.boot) = row_stays (old.trees 0) (last.trees 0) 1 self_columns _ (added.others 0 (λ (e : 0 ≡ 3). omega arith) ∙ made.self) it.held in
     let same : version_values 1 was.node was.tokens was.boot ≡ version_values 1 it.node it.tokens it.boot = one_shown (last.trees 0) 1 self_columns _ _ was.held held in
     let node : was.node ≡ it.node = cc in
     let count : was.tokens ≡ it.tokens = cc in
@@ -83,9 +81,9 @@ version_added old mid last new tokens it made added raised =
       schema = raised.schema;
       was = it;
       self = put_in self_columns (without_rowid (pos 1) (last.trees 0)) (new.trees 0) 1 (self_row it.node it.tokens it.boot) (version_values 2 it.node it.tokens it.boot) refl refl row;
-      floor = raised.floor ∙ added.floor ∙ made.floor;
-      pass = raised.pass ∙ added.pass ∙ made.pass;
-      drift = λ token low. subst (λ (rows : List Row). HasRow rows token drift_columns (drift_values token (pos 0))) (sym raised.drift) (added.drift token low);
+      floor = raised.others 1 (λ (e : 1 ≡ 0). omega arith) ∙ added.others 1 (λ (e : 1 ≡ 3). omega arith) ∙ made.floor;
+      pass = raised.others 2 (λ (e : 2 ≡ 0). omega arith) ∙ added.others 2 (λ (e : 2 ≡ 3). omega arith) ∙ made.pass;
+      drift = λ token low. subst (λ (rows : List Row). HasRow rows token drift_columns (drift_values token (pos 0))) (sym (raised.others 3 (λ (e : 3 ≡ 0). omega arith))) (added.drift token low);
     }
 
 -- the content of the old tables is that of the new ones

@@ -1,5 +1,5 @@
 -- A key that just one row has, before and after a put.
-use Rattle.std.proofs.Common.{◌≡◌, ◌≢◌, ℕ, ℤ, pos, Bool, true, false, not, cond, List, [], ◌∷◌, filter, Option, None, Some, Ordering, Less, Equal, Greater, is_eq, refl, sym, ap, ◌∙◌, subst, inl, inr}
+use Rattle.std.proofs.Common.{◌≡◌, ◌≢◌, ℕ, ℤ, pos, Bool, true, false, not, cond, List, [], ◌∷◌, filter, Option, None, Some, Ordering, Less, Equal, Greater, is_eq, refl, sym, ap, ◌∙◌, subst, inl, inr, arith}
 use Rattle.sqlite.specs.declared.types.Value.TheVariants.{Int}
 use Rattle.sqlite.specs.Order.{Row, value_cmp}
 use Rattle.sqlite_trees.specs.Tree.{Trees, rowid, has_rowid, put_row, without_rowid}
@@ -82,11 +82,12 @@ one_updated old new key other row keyed is it =
 row_keeps : (token : ℕ) (row : RowRecord) (old new : Database) → PutsRow token row old new → KeepsOneRows old.trees new.trees
 row_keeps token row old new it =
     let mid = it.0 in
-    let floor : new.trees 1 ≡ put_row (floor_row token row) (without_rowid (pos token) (old.trees 1)) = it.2.floor ∙ it.1.floor in
+    let floor : new.trees 1 ≡ put_row (floor_row token row) (without_rowid (pos token) (old.trees 1)) =
+    it.2.others 1 (λ (e : 1 ≡ 3). omega arith) ∙ it.1.floor in
     let drift : new.trees 3 ≡ put_row (drift_row token row.drift) (without_rowid (pos token) (old.trees 3)) =
-    it.2.drift ∙ ap (λ (rows : List Row). put_row (drift_row token row.drift) (without_rowid (pos token) rows)) it.1.drift in
+    it.2.drift ∙ ap (λ (rows : List Row). put_row (drift_row token row.drift) (without_rowid (pos token) rows)) (it.1.others 3 (λ (e : 3 ≡ 1). omega arith)) in
     record {
-      self = it.2.self ∙ it.1.self;
+      self = it.2.others 0 (λ (e : 0 ≡ 3). omega arith) ∙ it.1.others 0 (λ (e : 0 ≡ 1). omega arith);
       floor = λ other one. one_updated (old.trees 1) (new.trees 1) token other (floor_row token row) refl floor one;
       drift = λ other one. one_updated (old.trees 3) (new.trees 3) token other (drift_row token row.drift) refl drift one;
     }
@@ -97,9 +98,9 @@ put_keeps token row number None old new it = row_keeps token row old new it
 put_keeps token row number (Some p) old new it =
     let first = row_keeps token row old it.0 it.1 in
     record {
-      self = it.2.self ∙ first.self;
-      floor = λ other one. subst (λ (rows : List Row). HasOneRow rows other) (sym it.2.floor) (first.floor other one);
-      drift = λ other one. subst (λ (rows : List Row). HasOneRow rows other) (sym it.2.drift) (first.drift other one);
+      self = it.2.others 0 (λ (e : 0 ≡ 2). omega arith) ∙ first.self;
+      floor = λ other one. subst (λ (rows : List Row). HasOneRow rows other) (sym (it.2.others 1 (λ (e : 1 ≡ 2). omega arith))) (first.floor other one);
+      drift = λ other one. subst (λ (rows : List Row). HasOneRow rows other) (sym (it.2.others 3 (λ (e : 3 ≡ 2). omega arith))) (first.drift other one);
     }
 
 pub none_keeps : (trees : Trees) → KeepsOneRows trees trees

@@ -2,7 +2,7 @@
 use Rattle.std.specs.Prelude.{◌≡◌, ℕ, ◌+◌, ◌<◌, ◌≤◌, pos, false, List, [], ◌∷◌, ◌++◌, length, find, None, Some, Result, IsSome, OnOk}
 use Rattle.sqlite.specs.declared.types.Value.TheVariants.{Int}
 use Rattle.sqlite.specs.Store.{Ghosts}
-use Rattle.sqlite.specs.Order.{Row, column}
+use Rattle.sqlite.specs.Order.{Row}
 use Rattle.sqlite.specs.Tree.{Trees, has_rowid}
 use Rattle.sqlite.specs.Held as sql
 use Rattle.sqlite.specs.State.{HasCleanDisk, Survives}
@@ -10,9 +10,10 @@ use Rattle.sqlite.specs.Effect.{Database}
 use Rattle.floor_store.specs.declared.fault.StoreFault.{StoreFault}
 use Rattle.floor_store.specs.Content.{opening_content}
 use Rattle.floor_store.specs.Held.{IsSettled}
+use Rattle.floor_sql.specs.Schema as tables
 use Rattle.floor_sql.specs.Schema.{floor_schema}
 use Rattle.floor_sql.specs.Shown.{IsRead}
-use Rattle.floor_sql.specs.Stored.{Commits, MayCommit}
+use Rattle.floor_sql.specs.Stored.{Commits, MayCommit, node_in, rows_of, version_in}
 use Rattle.floor_sql.specs.Created.{Opens}
 use Rattle.floor_sql.specs.declared.put.Put.{Put}
 use Rattle.floor_sql.specs.Held.{SqlHeld, HasTables, HasSame, sql_held}
@@ -70,6 +71,6 @@ pub record Stages {S : Type 0} (old new : SqlHeld S) (put : Put) : Type 0 where
 pub record IsOfNode (db : Database) (node : ℕ) : Type 0 where
   pub schema : db.schema ≡ floor_schema
   pub found : Row
-  pub place : find (has_rowid (pos 1)) (db.trees 0) ≡ Some found
-  pub version : column found 2 ≡ Int (pos 2)
-  pub of_node : column found 3 ≡ Int (pos node)
+  pub place : find (has_rowid (pos 1)) (rows_of tables.self db.trees) ≡ Some found
+  pub version : version_in found ≡ Int (pos 2)
+  pub of_node : node_in found ≡ Int (pos node)

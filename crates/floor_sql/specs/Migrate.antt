@@ -8,8 +8,9 @@ use Rattle.sqlite.specs.State.{HasCleanDisk, Survives}
 use Rattle.sqlite.specs.Effect.{Database}
 use Rattle.floor_store.specs.Records.{RowRecord, PassRecord}
 use Rattle.floor_store.specs.Content.{Content}
+use Rattle.floor_sql.specs.Schema as tables
 use Rattle.floor_sql.specs.Schema.{undrifted_schema, floor_schema}
-use Rattle.floor_sql.specs.Stored.{Holds, HoldsDrift, HoldsFloors, HoldsPasses, HoldsVersion, HasVersion, Commits, MayCommit, self_row}
+use Rattle.floor_sql.specs.Stored.{Holds, HoldsDrift, HoldsFloors, HoldsPasses, HoldsVersion, HasVersion, Commits, MayCommit, OthersStay, rows_of, self_row}
 use Rattle.floor_sql.specs.Usable.{IsNode, HasUsableVersion, HasUsableFloor, HasUsablePasses}
 
 -- ---- the tables of version 1
@@ -54,18 +55,17 @@ pub record IsUsableUndrifted (db : Database) (node tokens : ℕ) : Type 0 where
 pub record RaisesVersion (old new : Database) : Type 0 where
   pub schema : new.schema ≡ floor_schema
   pub was : HasVersion old floor_schema 1
-  pub self : new.trees 0 ≡ put_row (self_row was.node was.tokens was.boot) (without_rowid (pos 1) (old.trees 0))
-  pub floor : new.trees 1 ≡ old.trees 1
-  pub pass : new.trees 2 ≡ old.trees 2
-  pub drift : new.trees 3 ≡ old.trees 3
+  pub self : rows_of tables.self new.trees
+      ≡ put_row (self_row was.node was.tokens was.boot) (without_rowid (pos 1) (rows_of tables.self old.trees))
+  pub others : OthersStay tables.self old.trees new.trees
 
 -- the table of drifts is there, with none for each of so many tokens, and the version is raised
 pub record AddsVersion (tokens : ℕ) (old new : Database) : Type 0 where
   pub schema : new.schema ≡ floor_schema
   pub was : HasVersion old undrifted_schema 1
   pub self : HoldsVersion new.trees 2 was.node was.tokens was.boot
-  pub floor : new.trees 1 ≡ old.trees 1
-  pub pass : new.trees 2 ≡ old.trees 2
+  pub floor : rows_of tables.floor new.trees ≡ rows_of tables.floor old.trees
+  pub pass : rows_of tables.pass new.trees ≡ rows_of tables.pass old.trees
   pub drift : (token : ℕ) → token < tokens → HoldsDrift new.trees token (pos 0)
 
 -- The content of a store of version 1 of this node with so many tokens is that of a store of version 2. All drifts are
@@ -77,8 +77,8 @@ pub record Migrates (node tokens : ℕ) (old new : Database) : Type 0 where
   pub schema : new.schema ≡ floor_schema
   pub holds : Holds new.trees content passes
   pub of_node : holds.node ≡ node
-  pub floor : new.trees 1 ≡ old.trees 1
-  pub pass : new.trees 2 ≡ old.trees 2
+  pub floor : rows_of tables.floor new.trees ≡ rows_of tables.floor old.trees
+  pub pass : rows_of tables.pass new.trees ≡ rows_of tables.pass old.trees
 
 -- a connection whose tables were migrated in one commit, outside a transaction
 pub record IsMigrated {S : Type 0} (g : Ghosts S) (node tokens : ℕ) (old new : sql.Held S) : Type 0 where

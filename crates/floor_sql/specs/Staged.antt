@@ -5,8 +5,9 @@ use Rattle.sqlite.specs.Effect.{Database}
 use Rattle.sqlite.specs.Tree.{Trees}
 use Rattle.floor_store.specs.Content.{Content, with_row}
 use Rattle.floor_store.specs.Records.{PassRecord}
+use Rattle.floor_sql.specs.Schema as tables
 use Rattle.floor_sql.specs.Schema.{floor_schema}
-use Rattle.floor_sql.specs.Stored.{HasOneRow, Holds, Raises}
+use Rattle.floor_sql.specs.Stored.{HasOneRow, Holds, Raises, rows_of}
 use Rattle.floor_sql.specs.declared.put.Put.{Put}
 
 -- ---- contents
@@ -33,7 +34,8 @@ with_boot (Some boot) c = record c { boot = boot }
 abbrev pub MakesPuts : ℕ → List Put → Database → Database → Type 0
 MakesPuts count puts old new =
     (c : Content) (passes : List PassRecord) → old.schema ≡ floor_schema → Holds old.trees c passes
-    → length passes ≡ count → (new.schema ≡ floor_schema) × Holds new.trees (with_puts c puts) (passes ++ passes_in puts)
+    → length passes ≡ count
+    → (new.schema ≡ floor_schema) × Holds new.trees (with_puts c puts) (passes ++ passes_in puts)
 
 -- the puts are made and then, where its number is given, the boot is raised
 abbrev pub MakesAll : ℕ → List Put → Option ℕ → Database → Database → Type 0
@@ -51,8 +53,8 @@ pub record CanPut (db : Database) (count : ℕ) (puts : List Put) : Type 0 where
 
 -- the token has just one row of floors and one of drifts
 pub record HasRowOnce (trees : Trees) (token : ℕ) : Type 0 where
-  pub floor : HasOneRow (trees 1) token
-  pub drift : HasOneRow (trees 3) token
+  pub floor : HasOneRow (rows_of tables.floor trees) token
+  pub drift : HasOneRow (rows_of tables.drift trees) token
 
 -- each token that is put has
 abbrev pub HasRows : Trees → List Put → Type 0
@@ -61,10 +63,10 @@ HasRows trees puts = (i : ℕ) (put : Put) → slice_get puts i ≡ Some put →
 -- a row that these puts change, or that the raise of a boot changes, is missing or doubled
 abbrev pub LacksRow : Trees → List Put → Option ℕ → Type 0
 LacksRow trees puts None = ¬ HasRows trees puts
-LacksRow trees puts (Some boot) = HasRows trees puts → ¬ HasOneRow (trees 0) 1
+LacksRow trees puts (Some boot) = HasRows trees puts → ¬ HasOneRow (rows_of tables.self trees) 1
 
 -- who had just one row has just one, and the row of `self` is as it was
 pub record KeepsOneRows (old new : Trees) : Type 0 where
-  pub self : new 0 ≡ old 0
-  pub floor : (token : ℕ) → HasOneRow (old 1) token → HasOneRow (new 1) token
-  pub drift : (token : ℕ) → HasOneRow (old 3) token → HasOneRow (new 3) token
+  pub self : rows_of tables.self new ≡ rows_of tables.self old
+  pub floor : (token : ℕ) → HasOneRow (rows_of tables.floor old) token → HasOneRow (rows_of tables.floor new) token
+  pub drift : (token : ℕ) → HasOneRow (rows_of tables.drift old) token → HasOneRow (rows_of tables.drift new) token

@@ -1,7 +1,7 @@
 -- What the calls on a connection do, each said once.
 --
 -- Each record below is read as a sentence about one call: `Changes g old new IsChange Lacks result` says that the call
--- which took a transaction from `old` to `new` and answered `result` makes `IsChange` of the tables. All that is said of
+-- which took a transaction from `old` to `new` and answered `result` makes `IsChange` of the tables. What is said of
 -- values holds while the disk has returned what was written.
 use Rattle.std.specs.Prelude.{◌≡◌, Result, IsTrue, IfOk, IfErr, OnOk, OnErr, false}
 use Rattle.sqlite.specs.Store.{Ghosts}
@@ -32,13 +32,15 @@ module _ {S : Type 0} (g : Ghosts S) where
     -- a stop leaves what a stop before it could leave
     pub crash : Survives (state g old.conn.now) (state g new.conn.now) (λ _. ⊥)
 
-  -- A step that changes the tables. `Unusable` says what of them was not as it has to be.
+  -- A step that changes the tables.
   pub record Changes {A : Type 0} (old new : Transaction S) (IsChange : Database → Database → Type 0)
       (Lacks : Database → Type 0) (result : Result A Refusal) : Type 0 where
+    -- it is a step
     pub steps : StepsInside old new result
     -- after Ok the change is made
     pub made : HasCleanDisk (state g new.conn.now)
         → OnOk result (IsChange (state g old.conn.now).now (state g new.conn.now).now)
+    -- after `Unusable` the tables lacked what the change needs
     pub unusable : HasCleanDisk (state g new.conn.now)
         → IfErr result (λ e. e.0 ≡ Unusable → Lacks (state g old.conn.now).now)
 
@@ -48,7 +50,7 @@ module _ {S : Type 0} (g : Ghosts S) where
   pub record ReadsOnly {A : Type 0} (old new : Held S) (result : Result A Refusal) : Type 0 where
     -- after Ok the database is as it was
     pub read : HasCleanDisk (state g new) → OnOk result (IsRead (state g old) (state g new))
-    -- after Err it is as it was, or as it was last committed
+    -- it is as it was, or as it was last committed
     pub left : HasCleanDisk (state g new) → IsLeft (state g old) (state g new)
     -- the error is one that breaks a store
     pub failure : IfErr result (λ e. IsTrue (is_failure e.0))
@@ -57,12 +59,14 @@ module _ {S : Type 0} (g : Ghosts S) where
     -- a stop leaves what a stop before it could leave
     pub crash : Survives (state g old) (state g new) (λ _. ⊥)
 
-  -- A read of the tables. `Unusable` says that they are not as they have to be.
+  -- A read of the tables.
   pub record ReadsTables {A : Type 0} (old new : Held S) (IsRight : Database → A → Type 0)
       (IsUsable : Database → Type 0) (result : Result A Refusal) : Type 0 where
+    -- it is a read
     pub only : ReadsOnly old new result
     -- the value is right for the tables
     pub value : HasCleanDisk (state g new) → IfOk result (IsRight (state g old).now)
+    -- after `Unusable` they are not usable
     pub unusable : HasCleanDisk (state g new) → IfErr result (λ e. e.0 ≡ Unusable → ¬ IsUsable (state g old).now)
 
   -- A change that is made in one transaction, whole or not at all. `fault` is the fault that an error tells.
@@ -76,7 +80,7 @@ module _ {S : Type 0} (g : Ghosts S) where
     pub err : HasCleanDisk (state g new) → OnErr result (KeepsLast (state g old) (state g new))
     -- the error is one that breaks a store
     pub failure : IfErr result (λ e. IsTrue (is_failure (fault e)))
-    -- `Unusable` says what of them was not as it has to be
+    -- after `Unusable` the tables lacked what the change needs
     pub unusable : HasCleanDisk (state g new) → IfErr result (λ e. fault e ≡ Unusable → Lacks (state g old).now)
     -- a stop leaves what a stop before it could leave, or the change
     pub crash : Survives (state g old) (state g new) (MayCommit IsChange (state g old))

@@ -2,15 +2,16 @@
 use Rattle.std.specs.Prelude.{◌≡◌, ℕ, ℤ, pos, ◌^◌, ◌<◌, ◌≤◌, List, [], ◌∷◌, filter, slice_get, length, Some}
 use Rattle.std.specs.Option.{ForSome}
 use Rattle.sqlite.specs.declared.types.Value.TheVariants.{Int}
-use Rattle.sqlite.specs.Order.{Row, column}
+use Rattle.sqlite.specs.Order.{Row}
 use Rattle.sqlite.specs.Tree.{Trees, rowid, has_rowid}
 use Rattle.sqlite.specs.Effect.{Database}
 use Rattle.otp_core.specs.Range.{IsDrift, IsFactor, IsNext}
 use Rattle.admit_core.specs.Gate.{IsGate}
 use Rattle.floor_store.specs.Records.{ProposalRecord, RowRecord, PassRecord}
 use Rattle.floor_store.specs.Range.{IsCount, IsProposal, IsSpan, IsPass}
+use Rattle.floor_sql.specs.Schema as tables
 use Rattle.floor_sql.specs.Schema.{floor_schema}
-use Rattle.floor_sql.specs.Stored.{HoldsPasses, self_columns, version_values, floor_columns, floor_values, drift_columns, drift_values}
+use Rattle.floor_sql.specs.Stored.{HoldsPasses, node_in, rows_of, self_columns, version_in, version_values, floor_columns, floor_values, drift_columns, drift_values}
 
 -- ---- ranges
 
@@ -60,18 +61,18 @@ pub record HasOnly (rows : List Row) (key : ℕ) (columns : Row → Row) (values
 pub record HasUsableNode (db : Database) : Type 0 where
   pub schema : db.schema ≡ floor_schema
   pub found : Row
-  pub only : filter (has_rowid (pos 1)) (db.trees 0) ≡ found ∷ []
+  pub only : filter (has_rowid (pos 1)) (rows_of tables.self db.trees) ≡ found ∷ []
   pub keyed : rowid found ≡ Int (pos 1)
-  pub version : column found 2 ≡ Int (pos 2)
+  pub version : version_in found ≡ Int (pos 2)
   pub node : ℕ
-  pub of_node : column found 3 ≡ Int (pos node)
+  pub of_node : node_in found ≡ Int (pos node)
   pub range : IsNode node
 
 -- the one row of `self` is of this version and of this node, with so many tokens and a boot in range
 pub record HasUsableVersion (trees : Trees) (version node tokens : ℕ) : Type 0 where
   pub boot : ℕ
   pub range : IsCount boot
-  pub only : HasOnly (trees 0) 1 self_columns (version_values version node tokens boot)
+  pub only : HasOnly (rows_of tables.self trees) 1 self_columns (version_values version node tokens boot)
 
 -- it is of some node and number of tokens in range
 pub record HasUsableSelf (trees : Trees) (version : ℕ) : Type 0 where
@@ -85,13 +86,13 @@ pub record HasUsableSelf (trees : Trees) (version : ℕ) : Type 0 where
 pub record HasUsableFloor (trees : Trees) (token : ℕ) : Type 0 where
   pub row : RowRecord
   pub range : IsRow row
-  pub only : HasOnly (trees 1) token floor_columns (floor_values token row)
+  pub only : HasOnly (rows_of tables.floor trees) token floor_columns (floor_values token row)
 
 -- the token has one row of drifts, with a drift in range
 pub record HasUsableDrift (trees : Trees) (token : ℕ) : Type 0 where
   pub steps : ℤ
   pub range : IsDrift steps
-  pub only : HasOnly (trees 3) token drift_columns (drift_values token steps)
+  pub only : HasOnly (rows_of tables.drift trees) token drift_columns (drift_values token steps)
 
 -- the token has one row in each of the two tables, with values in range
 pub record HasUsableRow (trees : Trees) (token : ℕ) : Type 0 where

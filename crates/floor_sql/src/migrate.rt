@@ -5,10 +5,11 @@ ghost use Rattle.sqlite.specs.Held.{state};
 ghost use Rattle.sqlite.specs.State.{HasCleanDisk, Survives};
 ghost use Rattle.floor_store.specs.Fault.{is_failure};
 ghost use Rattle.floor_store.specs.declared.fault.StoreFault.TheVariants.{Unusable};
+ghost use Rattle.floor_sql.specs.Schema as tables;
 ghost use Rattle.floor_sql.specs.Schema.{undrifted_schema, floor_schema, IsOfStore};
 ghost use Rattle.floor_sql.specs.Shown.{IsLeft};
 ghost use Rattle.floor_sql.specs.Steps.{Changes, ReadsTables, Transacts};
-ghost use Rattle.floor_sql.specs.Stored.{HasOneRow, HasVersion, Commits, MayCommit};
+ghost use Rattle.floor_sql.specs.Stored.{HasOneRow, HasVersion, Commits, MayCommit, rows_of};
 ghost use Rattle.floor_sql.specs.Usable.{HasUsableFloor};
 ghost use Rattle.floor_sql.specs.Migrate.{HasUndrifted, IsUndrifted, IsUsableUndrifted, RaisesVersion, AddsVersion, Migrates};
 
@@ -57,7 +58,7 @@ fn update_version<S: Alter>(tx: &mut Transaction<'_, S>) -> Result<(), Refusal>
         → IsTrue (state S.Store tx.old.conn.now).in_transaction }
     requires there { HasCleanDisk (state S.Store tx.old.conn.now)
         → HasVersion (state S.Store tx.old.conn.now).now floor_schema 1 }
-    ensures { Changes S.Store tx.old tx.new RaisesVersion (λ db. ¬ HasOneRow (db.trees 0) 1) result }
+    ensures { Changes S.Store tx.old tx.new RaisesVersion (λ db. ¬ HasOneRow (rows_of tables.self db.trees) 1) result }
 {
     change_one(tx, UPDATE_VERSION, &[])?;
     Ok(())
@@ -69,7 +70,8 @@ fn add_version<S: Alter>(tx: &mut Transaction<'_, S>, tokens: u32) -> Result<(),
         → IsTrue (state S.Store tx.old.conn.now).in_transaction }
     requires there { HasCleanDisk (state S.Store tx.old.conn.now)
         → HasVersion (state S.Store tx.old.conn.now).now undrifted_schema 1 }
-    ensures { Changes S.Store tx.old tx.new (AddsVersion tokens) (λ db. ¬ HasOneRow (db.trees 0) 1) result }
+    ensures { Changes S.Store tx.old tx.new (AddsVersion tokens)
+        (λ db. ¬ HasOneRow (rows_of tables.self db.trees) 1) result }
 {
     create_drift(tx)?;
     insert_drifts(tx, tokens)?;
@@ -83,7 +85,7 @@ fn write_version<S: Alter>(conn: &mut Connection<S>, tokens: u32) -> Result<(), 
     requires there { HasCleanDisk (state S.Store conn.old)
         → HasVersion (state S.Store conn.old).now undrifted_schema 1 }
     ensures { Transacts S.Store (λ e. e.0) conn.old conn.new (AddsVersion tokens)
-        (λ db. ¬ HasOneRow (db.trees 0) 1) result }
+        (λ db. ¬ HasOneRow (rows_of tables.self db.trees) 1) result }
 {
     let mut tx = conn.transaction();
     match add_version(&mut tx, tokens) {

@@ -277,7 +277,8 @@ impl<S: Alter> SqlStore<S> {
 impl<S: Alter> FloorStore for SqlStore<S> {
     ghost use Rattle.std.specs.Prelude.{◌+◌, ◌^◌, ◌<◌, ◌++◌, ◌∷◌, [], Some, IsOk, slice_get};
     ghost use Rattle.floor_store.specs.declared.fault.StoreFault.TheVariants.{Unusable};
-    ghost use Rattle.floor_sql.specs.Stored.{HasOneRow};
+    ghost use Rattle.floor_sql.specs.Schema as tables;
+    ghost use Rattle.floor_sql.specs.Stored.{HasOneRow, rows_of};
     ghost use Rattle.floor_store.specs.Content.{with_row};
     ghost use Rattle.floor_store.specs.Held.{Breaks, Commits, Puts, RaisesBoot, Reads};
     ghost use Rattle.floor_store.specs.Range.{IsCount};
@@ -387,7 +388,7 @@ impl<S: Alter> FloorStore for SqlStore<S> {
         ensures idle { OnOk result (self.new.staged ≡ []) }
         ensures unusable { HasCleanDisk (state S.Store self.new.conn) → result ≡ Err StoreFault.Unusable
             → self.old.fault ≡ None → HasRows (state S.Store self.old.conn).now.trees self.old.staged
-            → ¬ HasOneRow ((state S.Store self.old.conn).now.trees 0) 1 }
+            → ¬ HasOneRow (rows_of tables.self (state S.Store self.old.conn).now.trees) 1 }
         ensures audit { HasCleanDisk (state S.Store self.new.conn) → OnOk result ((all : _)
             → HasAudit S.Store self.old all → HasAudit S.Store self.new all) }
     {

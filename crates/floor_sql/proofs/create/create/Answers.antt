@@ -43,12 +43,15 @@ returns-in_err-create_self g c = refuses c.from_residual.ensures.1
 
 pub returns-in_err-create_floor : goal.returns-in_err-create_floor
 returns-in_err-create_floor g c = refuses c.from_residual-in_err-create_floor.ensures.1
-    (steps_then c.in_ok-create_self.ensures.steps c.in_err-create_floor.ensures.steps) c.in_err-create_floor.ensures.unusable
+    (steps_then c.in_ok-create_self.ensures.steps c.in_err-create_floor.ensures.steps)
+    c.in_err-create_floor.ensures.unusable
 
 pub returns-in_err-create_pass : goal.returns-in_err-create_pass
 returns-in_err-create_pass g c = refuses c.from_residual-in_err-create_pass.ensures.1
-    (steps_then (steps_then c.in_ok-create_self.ensures.steps c.in_ok-create_floor.ensures.steps) c.in_err-create_pass.ensures.steps) c.in_err-create_pass.ensures.unusable
+    (steps_then (steps_then c.in_ok-create_self.ensures.steps c.in_ok-create_floor.ensures.steps) c.in_err-create_pass.ensures.steps)
+    c.in_err-create_pass.ensures.unusable
 
 pub returns-in_err-create_drift : goal.returns-in_err-create_drift
 returns-in_err-create_drift g c = refuses c.from_residual-in_err-create_drift.ensures.1
-    (steps_then (steps_then (steps_then c.in_ok-create_self.ensures.steps c.in_ok-create_floor.ensures.steps) c.in_ok-create_pass.ensures.steps) c.in_err-create_drift.ensures.steps) c.in_err-create_drift.ensures.unusable
+    (steps_then (steps_then (steps_then c.in_ok-create_self.ensures.steps c.in_ok-create_floor.ensures.steps) c.in_ok-create_pass.ensures.steps) c.in_err-create_drift.ensures.steps)
+    c.in_err-create_drift.ensures.unusable

@@ -1,4 +1,4 @@
-use Rattle.std.proofs.Common.{List, sym, subst, ◌∙◌, arith}
+use Rattle.std.proofs.Common.{◌≡◌, List, sym, subst, ◌∙◌, arith}
 use Rattle.sqlite.specs.Held.{state}
 use Rattle.sqlite.specs.State.{HasCleanDisk}
 use Rattle.sqlite.specs.Order.{Row}
@@ -56,5 +56,5 @@ returns-in_err-update_version g c =
     (steps_then (steps_then c.in_ok-create_drift.ensures.steps c.in_ok-insert_drifts.ensures.steps) c.in_err-update_version.ensures.steps) (λ clean is one.
     let clean2 : HasCleanDisk s2 = omega (arith, c.update_version.ensures.steps.crash.clean) in
     let clean1 : HasCleanDisk s1 = omega (arith, c.insert_drifts.ensures.steps.crash.clean) in
-    let self = (c.in_ok-insert_drifts.ensures.made clean2).self ∙ (c.in_ok-create_drift.ensures.made clean1).self in
+    let self = (c.in_ok-insert_drifts.ensures.made clean2).others 0 (λ (e : 0 ≡ 3). omega arith) ∙ (c.in_ok-create_drift.ensures.made clean1).self in
     c.in_err-update_version.ensures.unusable clean is (subst (λ (rows : List Row). HasOneRow rows 1) (sym self) one))

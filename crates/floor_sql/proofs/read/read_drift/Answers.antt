@@ -19,9 +19,11 @@ ask-requires g c clean = subst (λ s. IsPlain (understood s select_drift)) (sym 
 pub returns-in-Some : goal.returns-in-Some
 returns-in-Some g c = reads c.in_ok-rows.ensures.reads (λ clean.
     let rows = c.in_ok-rows.rows.items in
-    let one : rows ≡ c.shown-item.result ∷ [] = sym c.as_slice.ensures.value ∙ one_item c.as_slice.result.now c.shown-item.result (omega arith) (omega arith) c.shown-item.is in
+    let one : rows ≡ c.shown-item.result ∷ [] =
+    sym c.as_slice.ensures.value ∙ one_item c.as_slice.result.now c.shown-item.result (omega arith) (omega arith) c.shown-item.is in
     let shown = rw c.token_params-params.ensures at (c.in_ok-rows.ensures.shown clean) in
-    drift_held (state g.S.Store c.args.conn.now) (state g.S.Store c.ask.new.conn) rows c.shown-item.result c.args.token c.in-Some.drift (c.requires (omega (arith, c.ask.ensures.reads.crash.clean))) shown one c.in-Some.ensures.value)
+    drift_held (state g.S.Store c.args.conn.now) (state g.S.Store c.ask.new.conn) rows c.shown-item.result c.args.token c.in-Some.drift
+    (c.requires (omega (arith, c.ask.ensures.reads.crash.clean))) shown one c.in-Some.ensures.value)
 
 pub returns-in_default : goal.returns-in_default
 returns-in_default g c = finds_unusable c.in_ok-rows.ensures.reads refl (λ clean has.
@@ -41,7 +43,8 @@ returns g c = finds_unusable c.in_ok-rows.ensures.reads refl (λ clean has.
     let shown = rw c.token_params-params.ensures at (c.in_ok-rows.ensures.shown clean) in
     let it = drift_shows (state g.S.Store c.args.conn.now) (state g.S.Store c.ask.new.conn) rows c.args.token
     (drift_values c.args.token has.steps) (c.requires (omega (arith, c.ask.ensures.reads.crash.clean))) shown has.only in
-    let one : rows ≡ c.shown-item.result ∷ [] = sym c.as_slice.ensures.value ∙ one_item c.as_slice.result.now c.shown-item.result (omega arith) (omega arith) c.shown-item.is in
+    let one : rows ≡ c.shown-item.result ∷ [] =
+    sym c.as_slice.ensures.value ∙ one_item c.as_slice.result.now c.shown-item.result (omega arith) (omega arith) c.shown-item.is in
     let both = sym it.1 ∙ one in
     let same : it.0 ≡ c.shown-item.result = cc in
     c.drift_in.ensures.none c.in-None.is has.steps has.range (ap drift_shown (sym same) ∙ it.2))

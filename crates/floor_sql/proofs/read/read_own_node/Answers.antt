@@ -17,8 +17,10 @@ ask-requires g c clean = select_self_plain c.args.conn.now.schema (inr (c.requir
 pub returns-in-Some-clause-reads : goal.returns-in-Some-clause-reads
 returns-in-Some-clause-reads g c = reads c.in_ok-rows.ensures.reads (λ clean.
     let rows = c.in_ok-rows.rows.items in
-    let one : rows ≡ c.shown-item.result ∷ [] = sym c.as_slice.ensures.value ∙ one_item c.as_slice.result.now c.shown-item.result (omega arith) (omega arith) c.shown-item.is in
-    node_held (state g.S.Store c.args.conn.now) (state g.S.Store c.ask.new.conn) rows c.shown-item.result c.in-Some.node (c.requires (omega (arith, c.ask.ensures.reads.crash.clean))) (c.in_ok-rows.ensures.shown clean) one
+    let one : rows ≡ c.shown-item.result ∷ [] =
+    sym c.as_slice.ensures.value ∙ one_item c.as_slice.result.now c.shown-item.result (omega arith) (omega arith) c.shown-item.is in
+    node_held (state g.S.Store c.args.conn.now) (state g.S.Store c.ask.new.conn) rows c.shown-item.result c.in-Some.node
+    (c.requires (omega (arith, c.ask.ensures.reads.crash.clean))) (c.in_ok-rows.ensures.shown clean) one
     c.in-Some.ensures.finds.value.of_version c.in-Some.ensures.finds.value.of_node)
 
 pub returns-in_default-clause-reads : goal.returns-in_default-clause-reads
@@ -39,7 +41,8 @@ returns-clause-reads g c = finds_unusable c.in_ok-rows.ensures.reads refl (λ cl
     let it = self_shows (state g.S.Store c.args.conn.now) (state g.S.Store c.ask.new.conn) rows (self_columns has.found)
     (inr (c.requires (omega (arith, c.ask.ensures.reads.crash.clean)))) (c.in_ok-rows.ensures.shown clean)
     (record { found = has.found; only = has.only; shows = refl }) in
-    let one : rows ≡ c.shown-item.result ∷ [] = sym c.as_slice.ensures.value ∙ one_item c.as_slice.result.now c.shown-item.result (omega arith) (omega arith) c.shown-item.is in
+    let one : rows ≡ c.shown-item.result ∷ [] =
+    sym c.as_slice.ensures.value ∙ one_item c.as_slice.result.now c.shown-item.result (omega arith) (omega arith) c.shown-item.is in
     let both = sym it.1 ∙ one in
     let same : it.0 ≡ c.shown-item.result = cc in
     let shows : self_shown c.shown-item.result ≡ self_columns has.found = ap self_shown (sym same) ∙ it.2 in

@@ -1,4 +1,4 @@
-use Rattle.std.proofs.Common.{List, sym, subst, arith}
+use Rattle.std.proofs.Common.{◌≡◌, List, sym, subst, arith}
 use Rattle.sqlite.specs.Order.{Row}
 use Rattle.sqlite.specs.Held.{state}
 use Rattle.sqlite.specs.State.{HasCleanDisk}
@@ -15,7 +15,7 @@ update_drift-requires-clause-schema g c clean = (c.in_ok-update_floor.ensures.ma
 pub update_drift-requires-clause-there : goal.update_drift-requires-clause-there
 update_drift-requires-clause-there g c clean =
     let there = c.requires.there (omega (arith, c.update_floor.ensures.steps.crash.clean)) in
-    subst (λ (rows : List Row). HasKey rows c.args.token) (sym (c.in_ok-update_floor.ensures.made clean).drift) there.drift
+    subst (λ (rows : List Row). HasKey rows c.args.token) (sym ((c.in_ok-update_floor.ensures.made clean).others 3 (λ (e : 3 ≡ 1). omega arith))) there.drift
 
 pub returns : goal.returns
 returns g c =
@@ -35,6 +35,6 @@ returns-in_err-update_drift g c =
     refuses c.from_residual-in_err-update_drift.ensures.1
     (steps_then c.in_ok-update_floor.ensures.steps c.in_err-update_drift.ensures.steps) (λ clean is once.
     let early : HasCleanDisk mid = omega (arith, c.update_drift.ensures.steps.crash.clean) in
-    let same_drifts = (c.in_ok-update_floor.ensures.made early).drift in
+    let same_drifts = (c.in_ok-update_floor.ensures.made early).others 3 (λ (e : 3 ≡ 1). omega arith) in
     c.in_err-update_drift.ensures.unusable clean is
     (subst (λ (rows : List Row). HasOneRow rows c.args.token) (sym same_drifts) once.drift))
