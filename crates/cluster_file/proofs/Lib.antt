@@ -2,3 +2,4 @@ pub mod AddressLemmas
 pub mod ReadingLemmas
 pub mod WritingLemmas
 pub mod SharedLemmas
+pub mod ClusterLemmas

@@ -1,7 +1,6 @@
 -- Worked lines of a cluster file, and what they say.
-use Rattle.std.specs.Prelude.{ℕ, List, [], ◌∷◌, ◌++◌, map, replicate, codes, Option, Some, None, Result, Ok}
+use Rattle.std.specs.Prelude.{ℕ, List, [], ◌∷◌, ◌++◌, map, replicate, codes, Some, Result}
 use Rattle.std.specs.List.{flat_map}
-use Rattle.otp_core.specs.Limits.{Limits}
 use Rattle.token_file.specs.Examples.{event_token, time_token}
 use Rattle.token_file.specs.Fields.{fields_of}
 use Rattle.token_file.specs.declared.token.Kind.TheVariants.{Time60}
@@ -9,7 +8,7 @@ use Rattle.cluster_file.specs.declared.fault.LineFault.{LineFault}
 use Rattle.cluster_file.specs.declared.fault.LineFault.TheVariants.{UnknownWord, MissingField, SurplusField, TooManyMembers, MemberNumber, BadAddress, TwiceAddress, Twice, BadNumber, BadKey, BadLife, NoMember, NoKey, NoLife, TooLong, Memory}
 use Rattle.cluster_file.specs.Address.{Address}
 use Rattle.cluster_file.specs.ClusterFile.{ClusterRecord}
-use Rattle.cluster_file.specs.Said.{Given, InFile, KeyPlace, Said, after_fields, nothing_said}
+use Rattle.cluster_file.specs.Said.{Given, InFile, Said, after_fields, nothing_said}
 use Rattle.cluster_file.specs.Shared.{Shared}
 
 -- the address 192.0.2.N:7101

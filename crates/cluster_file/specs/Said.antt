@@ -1,6 +1,5 @@
 -- What lines of a cluster file say, one after another.
-use Rattle.std.specs.Prelude.{ℕ, ◌+◌, ◌==◌, nat_le, Bool, true, false, not, List, [], ◌∷◌, ◌++◌, length, Option, Some, None, Result, Ok, Err, option_map, if◌then◌else◌}
-use Rattle.std.specs.Borrow.{Bor}
+use Rattle.std.specs.Prelude.{ℕ, ◌+◌, ◌==◌, nat_le, Bool, false, not, List, [], ◌∷◌, ◌++◌, length, Option, Some, None, Result, Ok, Err, if◌then◌else◌}
 use Rattle.field_text.specs.Number.{number_of}
 use Rattle.cluster_file.specs.declared.fault.LineFault.{LineFault}
 use Rattle.cluster_file.specs.declared.fault.LineFault.TheVariants.{UnknownWord, TooManyMembers, MemberNumber, BadAddress, TwiceAddress}

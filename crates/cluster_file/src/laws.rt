@@ -3,18 +3,39 @@ ghost use Rattle.std.specs.Net.Grammar.{IsSocketV4Text};
 ghost use Rattle.std.specs.declared.net.socket_addr.SocketAddrV4.{SocketAddrV4 as AnyAddress};
 ghost use Rattle.std.specs.Prelude.{List, ℕ, ◌↔◌};
 ghost use Rattle.cluster_file.specs.Address.{address_of, address_text, address_value, is_among};
-ghost use Rattle.cluster_file.specs.ClusterFile.{cluster_of, is_memory, outcome_of};
+ghost use Rattle.token_file.specs.Credential.{Credential};
+ghost use Rattle.token_file.specs.Writing.{IsCredential};
+ghost use Rattle.std.specs.List.{AllByRecursion};
+ghost use Rattle.cluster_file.specs.ClusterFile.{ClusterRecord, cluster_of, is_memory, outcome_of};
 ghost use Rattle.cluster_file.specs.Examples.{address_at, after_each, after_text, all_given, faults, key_of_32, small_cluster, small_file, text_of, three_cluster, three_file, three_key, three_shared, with_members, word_of, zeros};
 ghost use Rattle.cluster_file.specs.Fields.{key_of, life_of, word_of as spec_word_of};
-ghost use Rattle.cluster_file.specs.Key.{fingerprint_of, shared_key_of};
+ghost use Rattle.cluster_file.specs.Key.{IsCollision, fingerprint_of, shared_key_of};
 ghost use Rattle.cluster_file.specs.Said.{Given, InFile, nothing_said};
-ghost use Rattle.cluster_file.specs.Shared.{IsShared, Shared, shared_text};
+ghost use Rattle.cluster_file.specs.Shared.{IsShared, Shared, shared_of, shared_text};
 ghost use Rattle.cluster_file.specs.declared.fault.LineFault.{LineFault};
 ghost use Rattle.cluster_file.specs.declared.word.Word.{Word};
 
 /// Equal shared texts say equal lives, members, settings and tokens, each in the same order.
 pub fn shared_texts_tell()
     ensures { (a b : Shared) → IsShared a → IsShared b → shared_text a ≡ shared_text b → a ≡ b }
+{}
+
+/// What a cluster file says, with a book of tokens, is of the kind of which `shared_texts_tell` speaks.
+pub fn clusters_are_shared()
+    ensures { (text : List ℕ) (cluster : ClusterRecord) (book : List Credential) → cluster_of text ≡ Ok cluster →
+        AllByRecursion IsCredential book → IsShared (shared_of cluster book) }
+{}
+
+/// Members that don't share the same have different shared keys, unless their texts collide under HMAC-SHA-256.
+pub fn shared_keys_tell()
+    ensures { (key : List ℕ) (a b : Shared) → IsShared a → IsShared b → (a ≡ b → ⊥) →
+        shared_key_of key a ≡ shared_key_of key b → IsCollision key (shared_text a) (shared_text b) }
+{}
+
+/// An address is read from exactly the texts that std's grammar says spell it.
+pub fn addresses_are_spelled()
+    ensures { (text : List ℕ) (address : AnyAddress) →
+        (address_of text ≡ Some (address_value address)) ↔ IsSocketV4Text text address }
 {}
 
 /// The fields of lines, worked through.
@@ -49,14 +70,14 @@ pub fn lines_are_worked()
     ensures members { after_each (with_members (1 ∷ [])) (codes "member 2 192.0.2.2:7101"
         ∷ codes " member  2 192.0.2.2:7101 " ∷ codes "member 02 192.0.2.2:7101" ∷ [])
         ≡ replicate 3 (Ok (with_members (1 ∷ 2 ∷ []))) }
-    ensures last_member { after_text (with_members (1 ∷ 2 ∷ 3 ∷ 4 ∷ 5 ∷ 6 ∷ 7 ∷ 8 ∷ [])) (codes "member 9 192.0.2.9:7101")
-        ≡ Ok (with_members (1 ∷ 2 ∷ 3 ∷ 4 ∷ 5 ∷ 6 ∷ 7 ∷ 8 ∷ 9 ∷ [])) }
+    ensures last_member { after_text (with_members (1 ∷ 2 ∷ 3 ∷ 4 ∷ 5 ∷ 6 ∷ 7 ∷ 8 ∷ []))
+        (codes "member 9 192.0.2.9:7101") ≡ Ok (with_members (1 ∷ 2 ∷ 3 ∷ 4 ∷ 5 ∷ 6 ∷ 7 ∷ 8 ∷ 9 ∷ [])) }
     ensures too_many { after_text (with_members (1 ∷ 2 ∷ 3 ∷ 4 ∷ 5 ∷ 6 ∷ 7 ∷ 8 ∷ 9 ∷ [])) (codes "member 1 host")
         ≡ Err LineFault.TooManyMembers }
     ensures member_numbers { after_each (with_members (1 ∷ [])) (codes "member 1 host" ∷ codes "member 3 192.0.2.3:7101"
         ∷ codes "member x 192.0.2.2:7101" ∷ []) ≡ replicate 3 (Err LineFault.MemberNumber) }
-    ensures bad_addresses { after_each (with_members (1 ∷ [])) (codes "member 2 host:7101" ∷ codes "member 2 192.0.2.2" ∷ [])
-        ≡ replicate 2 (Err LineFault.BadAddress) }
+    ensures bad_addresses { after_each (with_members (1 ∷ [])) (codes "member 2 host:7101"
+        ∷ codes "member 2 192.0.2.2" ∷ []) ≡ replicate 2 (Err LineFault.BadAddress) }
     ensures twice_address { after_text (with_members (1 ∷ 2 ∷ [])) (codes "member 3 192.0.2.1:7101")
         ≡ Err LineFault.TwiceAddress }
     ensures settings { after_each nothing_said (codes "look-ahead 100" ∷ codes "skew 10" ∷ codes "range 1000"
@@ -67,8 +88,8 @@ pub fn lines_are_worked()
     ensures bad_numbers { after_each nothing_said (codes "look-ahead 101" ∷ codes "skew 11" ∷ codes "range 1001"
         ∷ codes "drift 11" ∷ codes "skew x" ∷ codes "skew -1" ∷ codes "skew +1" ∷ [])
         ≡ replicate 7 (Err LineFault.BadNumber) }
-    ensures key_and_life { after_each nothing_said (codes "key-file k" ∷ (codes "key " ++ zeros 32) ∷ codes "life a#b" ∷ [])
-        ≡ Ok (record nothing_said { key = Some (InFile (codes "k")) })
+    ensures key_and_life { after_each nothing_said (codes "key-file k" ∷ (codes "key " ++ zeros 32)
+        ∷ codes "life a#b" ∷ []) ≡ Ok (record nothing_said { key = Some (InFile (codes "k")) })
         ∷ Ok (record nothing_said { key = Some (Given (replicate 16 0)) })
         ∷ Ok (record nothing_said { life = Some (codes "a#b") }) ∷ [] }
     ensures bad_key_and_life { after_each nothing_said (codes "key 00" ∷ (codes "life " ++ word_of 65) ∷ [])

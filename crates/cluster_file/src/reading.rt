@@ -73,8 +73,8 @@ fn read_up_to(alloc: Global, limit: usize, text: &[u8]) -> Result<Cluster<'_>, C
 /// The cluster that a cluster file says, of at most 65,536 bytes. It borrows the text.
 ///
 /// # Errors
-/// The first fault of the first faulty line, and then what is missing, at the line behind the last LF. `Memory` comes at
-/// any member.
+/// The first fault of the first faulty line, and then what is missing, at the line behind the last LF. `Memory` comes
+/// at any member.
 pub fn read_cluster(alloc: Global, text: &[u8]) -> Result<Cluster<'_>, ClusterFault>
     ensures cluster { IfOk result (λ cluster. cluster_of text.now ≡ Ok (cluster_value cluster)) }
     ensures fault { IfErr result (λ fault. is_memory fault.kind ≡ false →
