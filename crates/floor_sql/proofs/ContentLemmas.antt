@@ -97,7 +97,8 @@ row_put token row c old new passes it change = record {
   last = it.last;
 }
 
-pass_put : (number : ℕ) (p : PassRecord) (c : Content) (old new : Database) (passes : List PassRecord) → number ≡ length passes + 1 → Holds old.trees c passes → IsAppended (pass_row number p) old new → Holds new.trees (record c { last = Some p }) (passes ++ p ∷ [])
+pass_put : (number : ℕ) (p : PassRecord) (c : Content) (old new : Database) (passes : List PassRecord) → number ≡ length passes + 1
+    → Holds old.trees c passes → IsAppended (pass_row number p) old new → Holds new.trees (record c { last = Some p }) (passes ++ p ∷ [])
 pass_put number p c old new passes is it change = record {
   rows = rows_stay old.trees new.trees c.rows (change.others 1 (λ (e : 1 ≡ 2). omega arith)) (change.others 3 (λ (e : 3 ≡ 2). omega arith)) it.rows;
   node = it.node;

@@ -67,10 +67,12 @@ version_stays old mid new tokens it made added = record {
   held = row_stays (old.trees 0) (new.trees 0) 1 self_columns (version_values 1 it.node it.tokens it.boot) (added.others 0 (λ (e : 0 ≡ 3). omega arith) ∙ made.self) it.held;
 }
 
-pub version_added : (old mid last new : Database) (tokens : ℕ) → HasVersion old undrifted_schema 1 → AddsTable old mid → AddsDrifts tokens mid last → RaisesVersion last new → AddsVersion tokens old new
+pub version_added : (old mid last new : Database) (tokens : ℕ) → HasVersion old undrifted_schema 1 → AddsTable old mid → AddsDrifts tokens mid last
+    → RaisesVersion last new → AddsVersion tokens old new
 version_added old mid last new tokens it made added raised =
     let was = raised.was in
-    let held : HasRow (last.trees 0) 1 self_columns (version_values 1 it.node it.tokens it.boot) = row_stays (old.trees 0) (last.trees 0) 1 self_columns _ (added.others 0 (λ (e : 0 ≡ 3). omega arith) ∙ made.self) it.held in
+    let held : HasRow (last.trees 0) 1 self_columns (version_values 1 it.node it.tokens it.boot) =
+    row_stays (old.trees 0) (last.trees 0) 1 self_columns _ (added.others 0 (λ (e : 0 ≡ 3). omega arith) ∙ made.self) it.held in
     let same : version_values 1 was.node was.tokens was.boot ≡ version_values 1 it.node it.tokens it.boot = one_shown (last.trees 0) 1 self_columns _ _ was.held held in
     let node : was.node ≡ it.node = cc in
     let count : was.tokens ≡ it.tokens = cc in
