@@ -1,12 +1,12 @@
 //! Makes and finds one-time passwords, as OATH Toolkit's `oathtool` does.
 #![tactic(auto)]
 
-mod serve;
+mod run;
 mod words;
 
 use command_line::{exit_status, process_words};
 use oathtool_core::Fault;
-use serve::{PROGRAM, serve};
+use run::{PROGRAM, run};
 use std::io::{self, BufWriter};
 use std::process::ExitCode;
 use std::time::{SystemTime, UNIX_EPOCH};
@@ -17,12 +17,12 @@ fn clock(rt: &HostRuntime) -> Option<u64> {
     Some(now.duration_since(UNIX_EPOCH).ok()?.as_secs())
 }
 
-/// Serves the words of the process, over standard output and standard error. Gives the exit status.
-fn serve_process(rt: &HostRuntime) -> Result<u8, Fault> {
+/// Does what the words of the process ask for, over standard output and standard error. Gives the exit status.
+fn run_process(rt: &HostRuntime) -> Result<u8, Fault> {
     let words = process_words(rt, rt.alloc())?;
     let mut output = BufWriter::new(rt.alloc(), io::writer(rt)).map_err(|_| Fault::Memory)?;
     let errors = rt.stderr();
-    Ok(serve(
+    Ok(run(
         rt.alloc(),
         &words,
         clock(rt),
@@ -32,7 +32,7 @@ fn serve_process(rt: &HostRuntime) -> Result<u8, Fault> {
 }
 
 fn main(rt: HostRuntime) -> ExitCode {
-    let end = serve_process(&rt);
+    let end = run_process(&rt);
     let errors = rt.stderr();
     ExitCode::from(exit_status(&mut io::writer(&errors), PROGRAM, end))
 }

@@ -1,6 +1,6 @@
 use crate::words::read_words;
 use command_line::{exit_status, explain, flushed};
-use oathtool_core::{Fault, run};
+use oathtool_core::Fault;
 use std::alloc::Global;
 use std::io::Write;
 
@@ -9,7 +9,7 @@ pub(crate) const PROGRAM: &str = "oathtool";
 
 /// Reads the words and writes what they ask for, or what clap has to say of them. The output is flushed, also where a
 /// run ended in a fault. Gives the exit status.
-fn answer<O: Write, E: Write>(
+fn follow<O: Write, E: Write>(
     alloc: Global,
     words: &[String],
     clock: Option<u64>,
@@ -18,7 +18,7 @@ fn answer<O: Write, E: Write>(
 ) -> Result<u8, Fault> {
     match read_words(alloc, words) {
         Ok(words) => {
-            let end = run(alloc, &words, clock, output);
+            let end = oathtool_core::run(alloc, &words, clock, output);
             flushed(output, end)?;
             Ok(0)
         }
@@ -34,13 +34,13 @@ fn answer<O: Write, E: Write>(
 /// and the version go to the output, which is flushed, and a fault's text and what is wrong with the words to the
 /// errors. `clock` is the present moment in seconds since 1970-01-01 00:00:00 UTC, if there is a clock. Gives the
 /// exit status.
-pub(crate) fn serve<O: Write, E: Write>(
+pub(crate) fn run<O: Write, E: Write>(
     alloc: Global,
     words: &[String],
     clock: Option<u64>,
     output: &mut O,
     errors: &mut E,
 ) -> u8 {
-    let end = answer(alloc, words, clock, output, errors);
+    let end = follow(alloc, words, clock, output, errors);
     exit_status(errors, PROGRAM, end)
 }
