@@ -9,7 +9,7 @@ pub(crate) enum Fault<'a> {
     Memory(oathd_memory::Fault<'a>),
     /// A command over a database ends so.
     #[error("{0}")]
-    Store(oathd_store::Fault),
+    Database(oathd_database::Fault),
 }
 
 impl ProgramFault for Fault<'_> {
@@ -20,7 +20,7 @@ impl ProgramFault for Fault<'_> {
     fn status(self) -> u8 {
         match self {
             Fault::Memory(fault) => fault.status(),
-            Fault::Store(fault) => fault.status(),
+            Fault::Database(fault) => fault.status(),
         }
     }
 }
@@ -37,8 +37,8 @@ impl<'a> From<oathd_memory::Fault<'a>> for Fault<'a> {
     }
 }
 
-impl From<oathd_store::Fault> for Fault<'_> {
-    fn from(fault: oathd_store::Fault) -> Self {
-        Fault::Store(fault)
+impl From<oathd_database::Fault> for Fault<'_> {
+    fn from(fault: oathd_database::Fault) -> Self {
+        Fault::Database(fault)
     }
 }

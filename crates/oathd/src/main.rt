@@ -1,9 +1,9 @@
 //! The validation server's program.
 #![tactic(auto)]
 
+mod databases;
 mod fault;
 mod run;
-mod store;
 
 use command_line::process_words;
 use run::run;

@@ -1,5 +1,5 @@
+use crate::databases::perform_action;
 use crate::fault::Fault;
-use crate::store::perform_action;
 use command_line::{OutsideFault, exit_status, explain};
 use oathd_memory::perform;
 use oathd_words::{Task, read_words};

@@ -2,9 +2,9 @@
 use Rattle.std.proofs.Common.{◌≡◌, ℕ, List, Option, Some, None, Result, Ok, Err, inl, inr, ◌∙◌, subst}
 use Rattle.std.specs.Prelude.{IsOk, IfErr, OnOk, ◌⊎◌}
 use Rattle.std.specs.Io.KnownBytes.{Appends, Keeps}
-use Rattle.oathd_core.specs.Secret.{EndsWithText}
-use Rattle.oathd_core.specs.declared.fault.Fault.{Fault}
-use Rattle.oathd_core.specs.declared.fault.Fault.TheVariants.{BadKey, CannotRead, CannotWrite, InputLine, Memory, NotText, Users}
+use Rattle.oathd_lines.specs.Secret.{EndsWithText}
+use Rattle.oathd_lines.specs.declared.fault.Fault.{Fault}
+use Rattle.oathd_lines.specs.declared.fault.Fault.TheVariants.{BadKey, CannotRead, CannotWrite, InputLine, Memory, NotText, Users}
 
 pub appends_kept : (old mid new : Option (List ℕ)) (bytes : List ℕ) → Appends old mid bytes → Keeps mid new → Appends old new bytes
 appends_kept None mid new bytes a k = tt

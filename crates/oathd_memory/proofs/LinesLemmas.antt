@@ -4,10 +4,10 @@ use Rattle.std.specs.Prelude.{IsOk, IfErr, IfSome, OnOk, ◌⊎◌}
 use Rattle.std.specs.Io.KnownBytes.{Keeps}
 use Rattle.otp_core.specs.Limits.{Limits}
 use Rattle.secret_text.specs.declared.fault.SecretFault.{SecretFault}
-use Rattle.oathd_core.specs.Run.{Answered, EndsSo, Refused, Run, WritesFirst, end_of, run_of_input}
-use Rattle.oathd_core.specs.declared.fault.Fault.{Fault}
-use Rattle.oathd_core.specs.declared.fault.Fault.TheVariants.{BadKey, CannotRead, CannotWrite, InputLine, Memory, NotText, Users}
-use Rattle.oathd_core.proofs.ServeLemmas.{memory_ends_any}
+use Rattle.oathd_lines.specs.Run.{Answered, EndsSo, Refused, Run, WritesFirst, end_of, run_of_input}
+use Rattle.oathd_lines.specs.declared.fault.Fault.{Fault}
+use Rattle.oathd_lines.specs.declared.fault.Fault.TheVariants.{BadKey, CannotRead, CannotWrite, InputLine, Memory, NotText, Users}
+use Rattle.oathd_lines.proofs.ServeLemmas.{memory_ends_any}
 use Rattle.oathd_memory.specs.Nodes.{IsOfKey, LinesEndSo}
 use Rattle.oathd_memory.specs.declared.fault.Fault as program
 use Rattle.oathd_memory.specs.declared.fault.Fault.TheVariants as program_fault

@@ -1,13 +1,13 @@
 -- What ends a command that keeps nothing before its time.
 use Rattle.std.specs.Prelude.{ℕ}
-use Rattle.oathd_core.specs.Fault as core
+use Rattle.oathd_lines.specs.Fault as lines
 use Rattle.oathd_cluster.specs.Fault as cluster
 use Rattle.oathd_memory.specs.declared.fault.Fault.{Fault}
 use Rattle.oathd_memory.specs.declared.fault.Fault.TheVariants.{Run, Sim, Cluster, CannotReadFile, NoDatabases}
 
 -- the exit status: that of a run or a cluster, or 1
 abbrev pub status_of : Fault → ℕ
-status_of (Run fault) = core.status_of fault
+status_of (Run fault) = lines.status_of fault
 status_of (Sim fault) = 1
 status_of (Cluster fault) = cluster.status_of fault
 status_of (CannotReadFile path) = 1

@@ -1,9 +1,9 @@
 -- How the commands end that keep nothing.
 use Rattle.std.specs.Prelude.{◌≡◌, ◌⊎◌, ℕ, ◌+◌, List, replicate, take, Option, Result, Ok, Err, IfNone, IfSome}
 use Rattle.otp_core.specs.Limits.{Limits}
-use Rattle.oathd_core.specs.Run.{EndsSo, run_of_input}
-use Rattle.oathd_core.specs.Secret.{EndsWithText}
-use Rattle.oathd_core.specs.declared.fault.Fault.TheVariants as core
+use Rattle.oathd_lines.specs.Run.{EndsSo, run_of_input}
+use Rattle.oathd_lines.specs.Secret.{EndsWithText}
+use Rattle.oathd_lines.specs.declared.fault.Fault.TheVariants as lines
 use Rattle.oathd_cluster.specs.Run as cluster
 use Rattle.oathd_cluster.specs.Line.{LinesRead, node_lines}
 use Rattle.oathd_sim.specs.Sim as sim
@@ -19,8 +19,8 @@ IsKeyOf path key = IfNone path (key ≡ replicate 32 0)
 
 -- a fault is one of a key: its file can't be read, or has none, or the memory fails
 abbrev pub IsOfKey : Fault → Type 0
-IsOfKey (Run core.Memory) = Unit {0}
-IsOfKey (Run (core.BadKey fault)) = Unit {0}
+IsOfKey (Run lines.Memory) = Unit {0}
+IsOfKey (Run (lines.BadKey fault)) = Unit {0}
 IsOfKey (CannotReadFile path) = Unit {0}
 IsOfKey fault = ⊥
 
@@ -29,7 +29,7 @@ IsOfKey fault = ⊥
 abbrev pub LinesEndSo : Limits → ℕ → Option (List ℕ) → Result Unit Fault → Option (List ℕ) → Option (List ℕ) → Type 0
 LinesEndSo limits moment input (Ok done) old new =
     IfSome input (λ text. EndsSo (run_of_input limits moment text) (Ok tt) old new)
-LinesEndSo limits moment input (Err (Run (core.BadKey fault))) old new = IfSome input (λ text. new ≡ old)
+LinesEndSo limits moment input (Err (Run (lines.BadKey fault))) old new = IfSome input (λ text. new ≡ old)
 LinesEndSo limits moment input (Err (Run fault)) old new =
     IfSome input (λ text. EndsSo (run_of_input limits moment text) (Err fault) old new)
 LinesEndSo limits moment input (Err fault) old new = new ≡ old
@@ -67,7 +67,7 @@ ClusterEndsSo nodes input (Err fault) old new = new ≡ old
 -- The command `secret` ends so over its output: with the text of the secret, or with its fault; or the output failed.
 abbrev pub SecretEndsSo : List ℕ → Result Unit Fault → Option (List ℕ) → Option (List ℕ) → Type 0
 SecretEndsSo hex (Ok done) old new = EndsWithText hex (Ok tt) old new
-SecretEndsSo hex (Err (Run fault)) old new = (fault ≡ core.CannotWrite) ⊎ EndsWithText hex (Err fault) old new
+SecretEndsSo hex (Err (Run fault)) old new = (fault ≡ lines.CannotWrite) ⊎ EndsWithText hex (Err fault) old new
 SecretEndsSo hex (Err fault) old new = ⊥
 
 -- What is asked for ends so. Nothing is done with a database.

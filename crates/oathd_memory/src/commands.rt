@@ -1,7 +1,7 @@
 ghost use Rattle.std.specs.Prelude.{◌≡◌, ◌≤◌, ◌⊎◌, Err};
 ghost use Rattle.otp_core.specs.Range.{IsMoment};
-ghost use Rattle.oathd_core.specs.declared.fault.Fault.TheVariants.{CannotWrite};
-ghost use Rattle.oathd_core.specs.Secret.{EndsWithText};
+ghost use Rattle.oathd_lines.specs.declared.fault.Fault.TheVariants.{CannotWrite};
+ghost use Rattle.oathd_lines.specs.Secret.{EndsWithText};
 ghost use Rattle.oathd_memory.specs.Nodes.{ClusterEndsSo, EndsAsAsked, LinesEndSo, SimEndsSo};
 ghost use Rattle.oathd_words.specs.Words.{IsInRange};
 
@@ -9,7 +9,7 @@ use crate::fault::Fault;
 use crate::key::read_key;
 use command_line::flushed;
 use oathd_cluster::run_cluster;
-use oathd_core::{print_secret, serve_lines};
+use oathd_lines::{print_secret, serve_lines};
 use oathd_sim::run_sim;
 use oathd_words::Task;
 use otp_core::Settings;
@@ -65,7 +65,7 @@ fn answer_lines<'a, F: Files, R: Read, O: Write>(
 
 /// Prints a secret in base32, over an output that holds back what it is given until it is flushed. That happens at the
 /// end, whatever that is.
-fn print<O: Write>(hex: &str, held: &mut O) -> Result<(), oathd_core::Fault>
+fn print<O: Write>(hex: &str, held: &mut O) -> Result<(), oathd_lines::Fault>
     ensures ends { (result ≡ Err CannotWrite) ⊎ EndsWithText hex.now result (O.contents held.old) (O.contents held.new) }
 {
     let end = print_secret(held, hex.as_bytes());

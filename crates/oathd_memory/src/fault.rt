@@ -6,7 +6,7 @@ use thiserror::Error;
 pub enum Fault<'a> {
     /// A run over the input ends so, or the words can't be had, or the key is bad.
     #[error("{0}")]
-    Run(oathd_core::Fault),
+    Run(oathd_lines::Fault),
     /// A simulation ends so.
     #[error("{0}")]
     Sim(oathd_sim::Fault),
@@ -37,12 +37,12 @@ impl ProgramFault for Fault<'_> {
 
 impl From<OutsideFault> for Fault<'_> {
     fn from(fault: OutsideFault) -> Self {
-        Fault::Run(oathd_core::Fault::from(fault))
+        Fault::Run(oathd_lines::Fault::from(fault))
     }
 }
 
-impl From<oathd_core::Fault> for Fault<'_> {
-    fn from(fault: oathd_core::Fault) -> Self {
+impl From<oathd_lines::Fault> for Fault<'_> {
+    fn from(fault: oathd_lines::Fault) -> Self {
         Fault::Run(fault)
     }
 }

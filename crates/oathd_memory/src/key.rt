@@ -45,7 +45,7 @@ fn file_text<'a, F: Files>(alloc: Global, files: &F, path: &'a str) -> Result<Ve
     {
         Ok(_) => Ok(text),
         Err(error) if error.kind() == ErrorKind::OutOfMemory => {
-            Err(Fault::Run(oathd_core::Fault::Memory))
+            Err(Fault::Run(oathd_lines::Fault::Memory))
         }
         Err(_) => Err(Fault::CannotReadFile(path)),
     }
@@ -69,7 +69,7 @@ pub fn read_key<'a, F: Files>(
     };
     let text = file_text(alloc, files, path)?;
     if text.len() > MAX_KEY_FILE_LEN as usize {
-        return Err(Fault::Run(oathd_core::Fault::BadKey(SecretFault::TooLong)));
+        return Err(Fault::Run(oathd_lines::Fault::BadKey(SecretFault::TooLong)));
     }
-    key_of(&text).map_err(|fault| Fault::Run(oathd_core::Fault::BadKey(fault)))
+    key_of(&text).map_err(|fault| Fault::Run(oathd_lines::Fault::BadKey(fault)))
 }

@@ -1,5 +1,5 @@
 use Rattle.std.proofs.Common.{subst}
-use Rattle.oathd_core.specs.Secret.{EndsWithText}
+use Rattle.oathd_lines.specs.Secret.{EndsWithText}
 use Rattle.oathd_memory.proofs.FlushLemmas.{flush_kept, text_kept}
 use Rattle.oathd_memory.proofs.commands.print.Goals as goal
 

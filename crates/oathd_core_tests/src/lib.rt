@@ -1,7 +1,0 @@
-//! The tests of `oathd_core`, by its public calls alone. They stand apart, since a crate is proved anew with its tests.
-#![tactic(auto)]
-
-#[cfg(test)]
-mod failing;
-#[cfg(test)]
-mod tests;

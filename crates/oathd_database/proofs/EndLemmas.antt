@@ -1,0 +1,165 @@
+-- How a command ends.
+use Rattle.std.proofs.Common.{◌≡◌, ℕ, List, Option, Some, None, IfSome, length, subst, sym}
+use Rattle.std.specs.Prelude.{Result, Ok, Err, IfErr, IfOk, IsErrAnd, OnOk}
+use Rattle.std.specs.Io.KnownBytes.{Appends}
+use Rattle.std.proofs.lemmas.Option.{IfSome_then}
+use Rattle.sqlite.specs.Store.{Ghosts}
+use Rattle.sqlite.specs.Held.{state}
+use Rattle.sqlite.specs.State.{HasCleanDisk}
+use Rattle.otp_core.specs.Limits.{Limits}
+use Rattle.token_file.specs.Credential.{Credential}
+use Rattle.floor_store.specs.declared.fault.StoreFault.{StoreFault}
+use Rattle.floor_sql.specs.Held.{SqlHeld, sql_held}
+use Rattle.oath_node.specs.Calls.{IsOpened}
+use Rattle.oath_node.specs.Hosted.{Hosted}
+use Rattle.oath_node.specs.declared.fault.NodeFault.TheVariants as node
+use Rattle.node_turns.specs.Serving.{Serves}
+use Rattle.node_turns.specs.declared.fault.ServeFault.{ServeFault}
+use Rattle.node_turns.specs.declared.fault.ServeFault.TheVariants as turns
+use Rattle.node_turns.specs.declared.turns.Served.{Served}
+use Rattle.oathd_database.specs.Commands.{EndsOutput, EndsServing, HasAudited, HasExported, HasImport, HasOpened, HasServed, IsRefused}
+use Rattle.oathd_database.specs.Fault.{IsOpenFault, IsOutputFault, serve_end, serve_fault_of}
+use Rattle.oathd_database.specs.Tables.{KeepsTables, WritesAudit}
+use Rattle.oathd_database.specs.Text.{export_text}
+use Rattle.oathd_database.specs.Users.{IsImported}
+use Rattle.oathd_database.specs.declared.fault.Fault.{Fault}
+use Rattle.oathd_database.specs.declared.fault.Fault.TheVariants.{Memory, CannotWrite, NoClock, Users, Store, Socket}
+use Rattle.oathd_database.specs.declared.serving.Serving.{Serving}
+
+module _ (limits : Limits) (moment longest : ℕ) where
+  refused_output : (fault : Fault) (text : List ℕ) → IsRefused limits moment longest fault text → EndsOutput limits moment longest fault text
+  refused_output Memory text h = tt
+  refused_output CannotWrite text h = absurd h
+  refused_output NoClock text h = h
+  refused_output (Users fault) text h = h
+  refused_output (Store fault) text h = h
+  refused_output Socket text h = h
+
+  refused_serving : (fault : Fault) (text : List ℕ) → IsRefused limits moment longest fault text → EndsServing limits moment longest fault text
+  refused_serving Memory text h = tt
+  refused_serving CannotWrite text h = h
+  refused_serving NoClock text h = absurd h
+  refused_serving (Users fault) text h = h
+  refused_serving (Store fault) text h = h
+  refused_serving Socket text h = absurd h
+
+  failed_output : (broken : Option StoreFault) (fault : Fault) (text : List ℕ) → HasImport limits moment longest text → IsOutputFault broken fault
+      → EndsOutput limits moment longest fault text
+  failed_output broken Memory text h is = tt
+  failed_output broken CannotWrite text h is = h
+  failed_output broken NoClock text h is = absurd is
+  failed_output broken (Users fault) text h is = absurd is
+  failed_output broken (Store fault) text h is = h
+  failed_output broken Socket text h is = absurd is
+
+  failed_opening : (fault : Fault) (text : List ℕ) → HasImport limits moment longest text → IsOpenFault fault → EndsServing limits moment longest fault text
+  failed_opening Memory text h is = tt
+  failed_opening CannotWrite text h is = absurd is
+  failed_opening NoClock text h is = absurd is
+  failed_opening (Users fault) text h is = absurd is
+  failed_opening (Store fault) text h is = h
+  failed_opening Socket text h is = absurd is
+
+  failed_turns : (fault : ServeFault) (text : List ℕ) → HasImport limits moment longest text → EndsServing limits moment longest (serve_fault_of fault) text
+  failed_turns (turns.Node (node.Store fault)) text h = h
+  failed_turns (turns.Node node.Stopped) text h = h
+  failed_turns (turns.Node node.Spent) text h = h
+  failed_turns turns.Port text h = h
+  failed_turns turns.Clock text h = h
+
+  imported : (book : List Credential) (floors : List ℕ) (text : List ℕ) → IsImported limits moment longest book floors text → HasImport limits moment longest text
+  imported book floors text h = record { book = book; floors = floors; imported = h }
+
+  module _ (a : Option (List ℕ)) where
+    -- no store is opened
+    pub unopened_output : (fault : Fault) → IfSome a (IsRefused limits moment longest fault) → IfSome a (EndsOutput limits moment longest fault)
+    unopened_output fault h = IfSome_then a h (λ text g. refused_output fault text g)
+
+    -- no store is opened to serve a node
+    pub unopened_serving : (fault : Fault) → IfSome a (IsRefused limits moment longest fault) → IfSome a (EndsServing limits moment longest fault)
+    unopened_serving fault h = IfSome_then a h (λ text g. refused_serving fault text g)
+
+    module _ (book : List Credential) (floors : List ℕ) (h : IfSome a (IsImported limits moment longest book floors)) where
+      -- the users file is imported
+      pub has_import : IfSome a (HasImport limits moment longest)
+      has_import = IfSome_then a h (λ text g. imported book floors text g)
+
+      -- the store that was opened, or the output, fails
+      pub ends_output : {T : Type 0} (broken : Option StoreFault) (result : Result T Fault) → IfErr result (IsOutputFault broken)
+          → IfErr result (λ fault. IfSome a (EndsOutput limits moment longest fault))
+      ends_output broken (Ok one) is = tt
+      ends_output broken (Err fault) is = IfSome_then a has_import (λ text g. failed_output broken fault text g is)
+
+      -- the node is not opened
+      pub ends_opening : (fault : Fault) → IsOpenFault fault → IfSome a (EndsServing limits moment longest fault)
+      ends_opening fault is = IfSome_then a has_import (λ text g. failed_opening fault text g is)
+
+      -- the socket can't be had
+      pub ends_socket : (fault : Fault) → fault ≡ Socket → IfSome a (EndsServing limits moment longest fault)
+      ends_socket fault is = subst (λ (x : Fault). IfSome a (EndsServing limits moment longest x)) (sym is) has_import
+
+      ends_at : (end : Result Served ServeFault) → IfErr (serve_end end) (λ fault. IfSome a (EndsServing limits moment longest fault))
+      ends_at (Ok served) = tt
+      ends_at (Err fault) = IfSome_then a has_import (λ text g. failed_turns fault text g)
+
+      -- the node's turns end
+      pub ends_turns : (result : Result Served Fault) (end : Result Served ServeFault) → result ≡ serve_end end
+          → IfErr result (λ fault. IfSome a (EndsServing limits moment longest fault))
+      ends_turns result end is = subst (λ (r : Result Served Fault). IfErr r (λ fault. IfSome a (EndsServing limits moment longest fault))) (sym is) (ends_at end)
+
+      -- a users file is written
+      pub has_exported : {S T : Type 0} (g : Ghosts S) (old new : Option (List ℕ)) (store : SqlHeld S) → HasOpened g None (length book) store
+          → (result : Result T Fault) → (HasCleanDisk (state g store.conn) → OnOk result (Appends old new (export_text book store.mirror.rows)))
+          → IfOk result (λ _. IfSome a (HasExported g limits moment longest old new))
+      has_exported g old new store opened (Ok one) written = IfSome_then a h (λ text i. record {
+        import = record { book = book; floors = floors; imported = i };
+        store = store;
+        opened = opened;
+        written = written;
+      })
+      has_exported g old new store opened (Err fault) written = tt
+
+      -- passes are written
+      pub has_audited : {S T : Type 0} (g : Ghosts S) (node : ℕ) (old new : Option (List ℕ)) (found store : SqlHeld S) → HasOpened g (Some node) (length book) found
+          → KeepsTables g found store → (result : Result T Fault) → (HasCleanDisk (state g store.conn) → OnOk result (WritesAudit g store old new))
+          → IfOk result (λ _. IfSome a (HasAudited g limits moment longest node old new))
+      has_audited g node old new found store opened kept (Ok one) written = IfSome_then a h (λ text i. record {
+        import = record { book = book; floors = floors; imported = i };
+        found = found;
+        opened = opened;
+        store = store;
+        kept = kept;
+        written = written;
+      })
+      has_audited g node old new found store opened kept (Err fault) written = tt
+
+module _ {S : Type 0} (g : Ghosts S) (serving : Serving) (a : Option (List ℕ)) (book : List Credential) (floors : List ℕ) (found : SqlHeld S)
+    (first last : Hosted (SqlHeld S)) (imported : IfSome a (IsImported serving.settings 0 16777216 book floors))
+    (opened : HasOpened g (Some serving.place.me) (length book) found) (in_boot : IsOpened (sql_held g) found first) (of_book : first.book ≡ book)
+    (of_limits : first.limits ≡ serving.settings) (of_key : first.key ≡ serving.key.now) (of_place : first.voter.place ≡ serving.place) where
+  -- a node is served
+  pub has_served : (result : Result Served Fault) (end : Result Served ServeFault) → result ≡ serve_end end
+      → Serves (sql_held g) first last None None None None serving.turns end → IfOk result (λ served. IfSome a (HasServed g serving served))
+  has_served (Ok served) (Ok other) is serves =
+      let same : other ≡ served = cc in
+      IfSome_then a imported (λ text i. record {
+        import = record { book = book; floors = floors; imported = i };
+        found = found;
+        opened = opened;
+        first = first;
+        in_boot = in_boot;
+        of_book = of_book;
+        of_limits = of_limits;
+        of_key = of_key;
+        of_place = of_place;
+        last = last;
+        serves = subst (λ s. Serves (sql_held g) first last None None None None serving.turns (Ok s)) same serves;
+      })
+  has_served (Ok served) (Err fault) is serves = absurd cc
+  has_served (Err fault) end is serves = tt
+
+-- what follows of a text where there is a result
+pub ok_then : {T E : Type 0} (result : Result T E) (a : Option (List ℕ)) (P : T → List ℕ → Type 0) (Q : List ℕ → Type 0)
+    → IfOk result (λ x. IfSome a (P x)) → ((x : T) (text : List ℕ) → P x text → Q text) → IfOk result (λ _. IfSome a Q)
+ok_then (Ok x) a P Q h then = IfSome_then a h (then x)
+ok_then (Err fault) a P Q h then = tt

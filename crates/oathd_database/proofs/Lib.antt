@@ -1,0 +1,4 @@
+mod EndLemmas
+mod FaultLemmas
+mod TextLemmas
+mod UsersLemmas

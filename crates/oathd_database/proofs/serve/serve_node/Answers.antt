@@ -1,0 +1,16 @@
+use Rattle.std.proofs.Common.{ap, sym, ◌∙◌}
+use Rattle.std.specs.Prelude.{Result, Err}
+use Rattle.node_turns.specs.declared.turns.Served.{Served}
+use Rattle.oathd_database.specs.Fault.{serve_end}
+use Rattle.oathd_database.specs.declared.fault.Fault.{Fault}
+use Rattle.oathd_database.proofs.serve.serve_node.Goals as goal
+
+-- a run that fails so
+abbrev failed : Fault → Result Served Fault
+failed fault = Err fault
+
+pub returns-in-Ok : goal.returns-in-Ok
+returns-in-Ok g c = record { turns = (c.run_turns.result, c.run_turns.ensures.serves, sym (ap serve_end c.in-Ok.is)) }
+
+pub returns-in-Err : goal.returns-in-Err
+returns-in-Err g c = record { turns = (c.run_turns.result, c.run_turns.ensures.serves, ap failed c.from.ensures ∙ sym (ap serve_end c.in-Err.is)) }

@@ -1,0 +1,33 @@
+use Rattle.std.proofs.Common.{IfSome, Some, length, subst}
+use Rattle.oathd_database.specs.Commands.{HasOpened}
+use Rattle.oathd_database.specs.declared.fault.Fault.{Fault}
+use Rattle.oathd_database.specs.Commands.{EndsServing}
+use Rattle.oathd_database.proofs.FaultLemmas.{err_is}
+use Rattle.oathd_database.proofs.EndLemmas.{ends_socket, ends_turns, has_served}
+use Rattle.oathd_database.proofs.serve.serve_store.Goals as goal
+
+pub returns-clause-served : goal.returns-clause-served
+returns-clause-served g c =
+    let book = c.in_ok-users.users.book in
+    let found = c.in_ok-users.store in
+    let opened = subst (λ n. HasOpened g.S.Store (Some n) (length book) found) c.me.ensures.value c.in_ok-users.ensures.opened in
+    let turns = c.serve_node.ensures.turns in
+    has_served g.S.Store c.args.serving (g.R.Read.remaining c.args.users) book c.in_ok-users.users.floors.items found c.in_ok-node.node c.serve_node.new.node
+    c.in_ok-users.ensures.users opened c.in_ok-node.ensures.opened c.in_ok-node.ensures.book c.in_ok-node.ensures.limits c.in_ok-node.ensures.key
+    c.in_ok-node.ensures.place c.serve_node.result turns.0 turns.2 turns.1
+
+pub returns-clause-fault : goal.returns-clause-fault
+returns-clause-fault g c =
+    let turns = c.serve_node.ensures.turns in
+    ends_turns c.args.serving.settings 0 16777216 (g.R.Read.remaining c.args.users) c.in_ok-users.users.book c.in_ok-users.users.floors.items
+    c.in_ok-users.ensures.users c.serve_node.result turns.0 turns.2
+
+pub returns-in_err-socket_at-clause-fault : goal.returns-in_err-socket_at-clause-fault
+returns-in_err-socket_at-clause-fault g c =
+    let a = g.R.Read.remaining c.args.users in
+    let fault = c.in_err-socket_at.field-0.0 in
+    let limits = c.args.serving.settings in
+    err_is c.from_residual-in_err-socket_at.result fault (λ (x : Fault). IfSome a (EndsServing limits 0 16777216 x))
+    c.from_residual-in_err-socket_at.ensures.1
+    (ends_socket limits 0 16777216 a c.in_ok-users.users.book c.in_ok-users.users.floors.items c.in_ok-users.ensures.users fault
+    c.in_err-socket_at.ensures)

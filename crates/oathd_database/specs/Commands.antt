@@ -1,0 +1,118 @@
+-- What the commands over a users file and a database come to.
+use Rattle.std.specs.Prelude.{◌≡◌, ℕ, List, Option, None, Some, IfSome, Ok, length}
+use Rattle.std.specs.Io.KnownBytes.{Appends}
+use Rattle.sqlite.specs.Store.{Ghosts}
+use Rattle.sqlite.specs.Held as sql
+use Rattle.sqlite.specs.State.{HasCleanDisk}
+use Rattle.otp_core.specs.Limits.{Limits}
+use Rattle.token_file.specs.Credential.{Credential}
+use Rattle.floor_sql.specs.Calls.{IsMade, IsOpened as IsOpenedStore}
+use Rattle.floor_sql.specs.Held.{SqlHeld, sql_held}
+use Rattle.floor_sql.specs.Migrate.{IsMigrated}
+use Rattle.oath_node.specs.Calls.{IsOpened as IsOpenedNode}
+use Rattle.oath_node.specs.Hosted.{Hosted}
+use Rattle.node_turns.specs.Serving.{Serves}
+use Rattle.node_turns.specs.declared.turns.Served.{Served}
+use Rattle.oathd_database.specs.Tables.{KeepsTables, WritesAudit}
+use Rattle.oathd_database.specs.Text.{export_text}
+use Rattle.oathd_database.specs.Users.{IsImported, IsUnread}
+use Rattle.oathd_database.specs.declared.fault.Fault.{Fault}
+use Rattle.oathd_database.specs.declared.fault.Fault.TheVariants.{Memory, CannotWrite, NoClock, Users, Store, Socket}
+use Rattle.oathd_database.specs.declared.serving.Serving.{Serving}
+
+-- ---- The users file
+
+-- a users file is imported
+pub record HasImport (limits : Limits) (moment longest : ℕ) (text : List ℕ) : Type 0 where
+  pub book : List Credential
+  pub floors : List ℕ
+  pub imported : IsImported limits moment longest book floors text
+
+-- ---- The store
+
+module _ {S : Type 0} (g : Ghosts S) where
+  -- The store is this node's, made by one commit in the tables of some connection: it holds the first free factors of a
+  -- users file's import and nothing else.
+  pub record HasMade (limits : Limits) (moment longest node : ℕ) (store : SqlHeld S) (text : List ℕ) : Type 0 where
+    pub import : HasImport limits moment longest text
+    pub conn : sql.Held S
+    pub made : IsMade g conn node import.floors store
+
+  -- The store is what the tables of some connection hold of a node with so many tokens: of this one where it is given.
+  pub record HasOpened (given : Option ℕ) (tokens : ℕ) (store : SqlHeld S) : Type 0 where
+    pub conn : sql.Held S
+    pub node : ℕ
+    pub is_given : IfSome given (λ n. node ≡ n)
+    pub opened : IsOpenedStore g conn node tokens store
+
+  -- The tables of a connection were those of a store of version 1 of this node, with the tokens of a users file, and
+  -- were migrated in one commit.
+  pub record HasMigrated (limits : Limits) (moment longest node : ℕ) (new : sql.Held S) (text : List ℕ) : Type 0 where
+    pub import : HasImport limits moment longest text
+    pub old : sql.Held S
+    pub migrated : IsMigrated g node (length import.book) old new
+
+  -- The tokens of the users file are written in order, each with the first free factor that the store has: that of the
+  -- node that some database names.
+  pub record HasExported (limits : Limits) (moment longest : ℕ) (old new : Option (List ℕ))
+      (text : List ℕ) : Type 0 where
+    pub import : HasImport limits moment longest text
+    pub store : SqlHeld S
+    pub opened : HasOpened None (length import.book) store
+    pub written : HasCleanDisk (sql.state g store.conn) → Appends old new (export_text import.book store.mirror.rows)
+
+  -- The passes of this node's store in some database, which has the tokens of the users file, are written.
+  pub record HasAudited (limits : Limits) (moment longest node : ℕ) (old new : Option (List ℕ))
+      (text : List ℕ) : Type 0 where
+    pub import : HasImport limits moment longest text
+    pub found : SqlHeld S
+    pub opened : HasOpened (Some node) (length import.book) found
+    pub store : SqlHeld S
+    pub kept : KeepsTables g found store
+    pub written : HasCleanDisk (sql.state g store.conn) → WritesAudit g store old new
+
+  -- A node was opened over the store of its number in some database, which has the tokens of the users file, and was
+  -- served for so many turns.
+  pub record HasServed (serving : Serving) (served : Served) (text : List ℕ) : Type 0 where
+    pub import : HasImport serving.settings 0 16777216 text
+    pub found : SqlHeld S
+    pub opened : HasOpened (Some serving.place.me) (length import.book) found
+    pub first : Hosted (SqlHeld S)
+    pub in_boot : IsOpenedNode (sql_held g) found first
+    pub of_book : first.book ≡ import.book
+    pub of_limits : first.limits ≡ serving.settings
+    pub of_key : first.key ≡ serving.key.now
+    pub of_place : first.voter.place ≡ serving.place
+    pub last : Hosted (SqlHeld S)
+    pub serves : Serves (sql_held g) first last None None None None serving.turns (Ok served)
+
+-- ---- The faults
+
+-- No store is made, opened or migrated: the users file is not imported, or it is and the store refuses.
+abbrev pub IsRefused : Limits → ℕ → ℕ → Fault → List ℕ → Type 0
+IsRefused limits moment longest Memory text = Unit {0}
+IsRefused limits moment longest CannotWrite text = ⊥
+IsRefused limits moment longest NoClock text = ⊥
+IsRefused limits moment longest (Users fault) text = IsUnread limits moment longest (Users fault) text
+IsRefused limits moment longest (Store fault) text = HasImport limits moment longest text
+IsRefused limits moment longest Socket text = ⊥
+
+-- A command that writes what a store keeps ends with this fault: the users file is not imported, or it is and the store
+-- or the output fails.
+abbrev pub EndsOutput : Limits → ℕ → ℕ → Fault → List ℕ → Type 0
+EndsOutput limits moment longest Memory text = Unit {0}
+EndsOutput limits moment longest CannotWrite text = HasImport limits moment longest text
+EndsOutput limits moment longest NoClock text = ⊥
+EndsOutput limits moment longest (Users fault) text = IsUnread limits moment longest (Users fault) text
+EndsOutput limits moment longest (Store fault) text = HasImport limits moment longest text
+EndsOutput limits moment longest Socket text = ⊥
+
+-- A command that serves a node ends with this fault: the users file is not imported, or it is and the store, the socket
+-- or the clock fails.
+abbrev pub EndsServing : Limits → ℕ → ℕ → Fault → List ℕ → Type 0
+EndsServing limits moment longest Memory text = Unit {0}
+EndsServing limits moment longest CannotWrite text = ⊥
+EndsServing limits moment longest NoClock text = HasImport limits moment longest text
+EndsServing limits moment longest (Users fault) text = IsUnread limits moment longest (Users fault) text
+EndsServing limits moment longest (Store fault) text = HasImport limits moment longest text
+EndsServing limits moment longest Socket text = HasImport limits moment longest text

@@ -1,0 +1,6 @@
+pub mod Commands
+pub mod Fault
+pub mod File
+pub mod Tables
+pub mod Text
+pub mod Users

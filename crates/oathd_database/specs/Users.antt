@@ -1,0 +1,25 @@
+-- The users file of a command, and what keeps it from being read.
+use Rattle.std.specs.Prelude.{◌≡◌, ℕ, List, Ok, Err, IsTrue}
+use Rattle.otp_core.specs.Limits.{Limits}
+use Rattle.token_file.specs.Credential.{Credential}
+use Rattle.token_file.specs.UsersFile.{IsCutOff, book_of, import_of, instant_of, is_of_text}
+use Rattle.token_file.specs.declared.fault.LineFault.TheVariants.{Read}
+use Rattle.oathd_database.specs.declared.fault.Fault.{Fault}
+use Rattle.oathd_database.specs.declared.fault.Fault.TheVariants.{Memory, CannotWrite, NoClock, Users, Store, Socket}
+
+-- The tokens of a users file, of at most so many bytes, and the first free factors with which they are imported.
+abbrev pub IsImported : Limits → ℕ → ℕ → List Credential → List ℕ → List ℕ → Type 0
+IsImported limits moment longest book floors text =
+    book_of longest (instant_of limits moment) text ≡ Ok (import_of book floors)
+
+-- A users file of at most so many bytes is not imported: it has this fault, or could not be read in this line, and has
+-- no fault before.
+abbrev pub IsUnread : Limits → ℕ → ℕ → Fault → List ℕ → Type 0
+IsUnread limits moment longest Memory text = Unit {0}
+IsUnread limits moment longest CannotWrite text = ⊥
+IsUnread limits moment longest NoClock text = ⊥
+IsUnread limits moment longest (Users fault) text =
+    (IsTrue (is_of_text fault.kind) → book_of longest (instant_of limits moment) text ≡ Err (fault.line, fault.kind))
+    × (fault.kind ≡ Read → IsCutOff Read longest (instant_of limits moment) text fault.line)
+IsUnread limits moment longest (Store fault) text = ⊥
+IsUnread limits moment longest Socket text = ⊥

@@ -1,0 +1,101 @@
+//! The command `audit`: the passes of a store are written.
+
+ghost use Rattle.std.specs.Prelude.{◌≡◌, ◌≢◌, ◌<◌, ◌^◌, IfErr, IfOk, IfSome, OnOk, Some};
+ghost use Rattle.std.specs.Io.KnownBytes.{Appends};
+ghost use Rattle.sqlite.specs.Held.{state};
+ghost use Rattle.sqlite.specs.State.{HasCleanDisk};
+ghost use Rattle.otp_core.specs.Limits.{default_limits};
+ghost use Rattle.oathd_database.specs.Commands.{EndsOutput, HasAudited, HasImport};
+ghost use Rattle.oathd_database.specs.Fault.{IsOutputFault};
+ghost use Rattle.oathd_database.specs.Tables.{KeepsTables, WritesAudit};
+ghost use Rattle.oathd_database.specs.Text.{audit_text, pass_line};
+
+use crate::database::{Database, open_store};
+use crate::fault::Fault;
+use crate::file::DatabaseFile;
+use floor_sql::SqlStore;
+use floor_store::Pass;
+use otp_core::Settings;
+use sqlite::Alter;
+use std::alloc::Global;
+use std::io::{Read, Write};
+
+/// Writes a pass under its number.
+fn write_pass<W: Write>(writer: &mut W, number: u64, pass: Pass) -> Result<(), Fault>
+    ensures written { OnOk result (Appends (W.contents writer.old) (W.contents writer.new) (pass_line number pass)) }
+    ensures fault { IfErr result (λ fault. fault ≡ Fault.CannotWrite) }
+{
+    let (token, lo, hi) = (pass.token(), pass.lo().value(), pass.hi().value());
+    let (boot, seq) = (pass.boot(), pass.seq());
+    write!(writer, "pass {number} {token} {lo} {hi} {boot} {seq}\n").map_err(|_| Fault::CannotWrite)
+}
+
+/// Writes passes in order, each on a line of its own, numbered from 1 on.
+fn write_passes<W: Write>(writer: &mut W, passes: &[Pass]) -> Result<(), Fault>
+    ensures written { OnOk result (Appends (W.contents writer.old) (W.contents writer.new) (audit_text passes.now)) }
+    ensures fault { IfErr result (λ fault. fault ≡ Fault.CannotWrite) }
+{
+    for (index, pass) in passes.iter().enumerate() {
+        write_pass(writer, index as u64 + 1, *pass)?;
+    }
+    Ok(())
+}
+
+/// Writes the committed passes of a store in order of commit, each on a line of its own, `pass NUMBER TOKEN LO HI BOOT
+/// SEQ` with numbers from 1 on, and flushes it.
+///
+/// # Errors
+/// `Store` where the store is broken, or breaks at this call; then nothing is written. `CannotWrite`: a front of the
+/// text may have been written then.
+pub fn write_audit<S: Alter, W: Write>(
+    alloc: Global,
+    store: &mut SqlStore<S>,
+    writer: &mut W,
+) -> Result<(), Fault>
+    ensures written { HasCleanDisk (state S.Store store.new.conn)
+        → OnOk result (WritesAudit S.Store store.new (W.contents writer.old) (W.contents writer.new)) }
+    ensures keeps { KeepsTables S.Store store.old store.new }
+    ensures fault { IfErr result (IsOutputFault store.new.fault) }
+    ensures silent { IfErr result (λ fault. fault ≢ Fault.CannotWrite → writer.new ≡ writer.old) }
+{
+    let passes = store.passes(alloc)?;
+    write_passes(writer, &passes)?;
+    writer.flush().map_err(|_| Fault::CannotWrite)
+}
+
+/// Writes the passes of the store of a node, which has the tokens of the users file.
+///
+/// # Errors
+/// Those of [`open_store`] and [`write_audit`].
+pub fn audit_store<R: Read + Drop, S: Alter + Drop, D: Database<S>, W: Write>(
+    alloc: Global,
+    users: R,
+    node: u8,
+    database: D,
+    writer: &mut W,
+) -> Result<(), Fault>
+    ensures audited { IfOk result (λ _. IfSome (R.remaining users) (HasAudited S.Store default_limits 0 16777216 node
+        (W.contents writer.old) (W.contents writer.new))) }
+    ensures fault { IfErr result (λ fault. IfSome (R.remaining users) (EndsOutput default_limits 0 16777216 fault)) }
+{
+    let (_users, mut store) = open_store(alloc, users, Settings::default(), Some(node), database)?;
+    write_audit(alloc, &mut store, writer)
+}
+
+/// Writes the passes of the store of a node in the file with this path, as [`audit_store`] does.
+///
+/// # Errors
+/// Those of [`audit_store`]; `Store(Disk)` where the file isn't there, `Store(Unusable)` where it is empty.
+pub fn audit_file<R: Read + Drop, W: Write>(
+    alloc: Global,
+    rt: &HostRuntime,
+    path: &str,
+    users: R,
+    node: u8,
+    writer: &mut W,
+) -> Result<(), Fault>
+    ensures import { IfOk result (λ _. IfSome (R.remaining users) (HasImport default_limits 0 16777216)) }
+    ensures fault { IfErr result (λ fault. IfSome (R.remaining users) (EndsOutput default_limits 0 16777216 fault)) }
+{
+    audit_store(alloc, users, node, DatabaseFile::found(rt, path), writer)
+}

@@ -1,0 +1,93 @@
+//! The command `export`: the users file of a store is written.
+
+ghost use Rattle.std.specs.Prelude.{◌≡◌, ◌<◌, length, IfErr, IfOk, IfSome, OnOk};
+ghost use Rattle.std.specs.Io.KnownBytes.{Appends};
+ghost use Rattle.otp_core.specs.Limits.{default_limits};
+ghost use Rattle.oathd_database.specs.Commands.{EndsOutput, HasExported, HasImport};
+ghost use Rattle.oathd_database.specs.Fault.{IsOutputFault};
+ghost use Rattle.oathd_database.specs.Text.{WritesToken, export_text};
+
+use crate::database::{Database, open_store};
+use crate::fault::Fault;
+use crate::file::DatabaseFile;
+use floor_store::FloorStore;
+use otp_core::Settings;
+use sqlite::Alter;
+use std::alloc::Global;
+use std::io::{Read, Write};
+use token_file::{Book, TokenId, write_row};
+
+/// Writes the row of a token with its first free factor.
+fn write_token<S: FloorStore, W: Write>(
+    book: &Book,
+    store: &S,
+    writer: &mut W,
+    id: TokenId,
+) -> Result<(), Fault>
+    requires book { id < length book.now }
+    requires store { id < length (S.held store.now).content.rows }
+    ensures written { (S.held store.now).is_clean → OnOk result (WritesToken book.now (S.held store.now).content.rows id
+        (W.contents writer.old) (W.contents writer.new)) }
+    ensures fault { IfErr result (IsOutputFault (S.held store.now).fault) }
+{
+    let row = store.row(id.value())?;
+    write_row(writer, book.token(id), row.next()).map_err(|_| Fault::CannotWrite)
+}
+
+/// Writes the row of each token of a book with the first free factor that its store has, and flushes it: a users file
+/// from which the tokens are imported as they stand. It takes no memory.
+///
+/// # Errors
+/// `Store` where the store is broken, and `CannotWrite`. A front of the text may have been written then.
+pub fn write_rows<S: FloorStore, W: Write>(
+    book: &Book,
+    store: &S,
+    writer: &mut W,
+) -> Result<(), Fault>
+    requires { length (S.held store.now).content.rows ≡ length book.now }
+    ensures written { (S.held store.now).is_clean → OnOk result (Appends (W.contents writer.old)
+        (W.contents writer.new) (export_text book.now (S.held store.now).content.rows)) }
+    ensures fault { IfErr result (IsOutputFault (S.held store.now).fault) }
+{
+    for token in 0..store.tokens() {
+        let id = TokenId::new(token).unwrap();
+        write_token(book, store, writer, id)?;
+    }
+    writer.flush().map_err(|_| Fault::CannotWrite)
+}
+
+/// Writes the users file of a store: each token of the users file, with the first free factor that the store has. The
+/// store is that of the node that the database names.
+///
+/// # Errors
+/// Those of [`open_store`] and [`write_rows`].
+pub fn export_store<R: Read + Drop, S: Alter + Drop, D: Database<S>, W: Write>(
+    alloc: Global,
+    users: R,
+    database: D,
+    writer: &mut W,
+) -> Result<(), Fault>
+    ensures exported { IfOk result (λ _. IfSome (R.remaining users) (HasExported S.Store default_limits 0 16777216
+        (W.contents writer.old) (W.contents writer.new))) }
+    ensures fault { IfErr result (λ fault. IfSome (R.remaining users) (EndsOutput default_limits 0 16777216 fault)) }
+{
+    let (users, store) = open_store(alloc, users, Settings::default(), None, database)?;
+    write_rows(&users.book, &store, writer)
+}
+
+/// Writes the users file of the store in the file with this path, as [`export_store`] does.
+///
+/// # Errors
+/// Those of [`export_store`]; `Store(Disk)` where the file isn't there, `Store(Unusable)` where it is empty.
+pub fn export_file<R: Read + Drop, W: Write>(
+    alloc: Global,
+    rt: &HostRuntime,
+    path: &str,
+    users: R,
+    writer: &mut W,
+) -> Result<(), Fault>
+    ensures import { IfOk result (λ _. IfSome (R.remaining users) (HasImport default_limits 0 16777216)) }
+    ensures fault { IfErr result (λ fault. IfSome (R.remaining users) (EndsOutput default_limits 0 16777216 fault)) }
+{
+    export_store(alloc, users, DatabaseFile::found(rt, path), writer)
+}

@@ -1,0 +1,25 @@
+//! What the commands of `oathd` over a users file and a database do, from the first to the last step. Each has a file with
+//! its name, and in it a function over any [`Database`], `.._store`, and one over a file, `.._file`, which takes and gives
+//! plain values. Of these only [`init_file`] writes into a file that isn't there or is empty.
+#![tactic(auto)]
+
+mod audit;
+mod database;
+mod export;
+mod fault;
+mod file;
+mod init;
+mod migrate;
+mod serve;
+mod serving;
+mod users;
+
+pub use audit::{audit_file, audit_store, write_audit};
+pub use database::{Database, open_store};
+pub use export::{export_file, export_store, write_rows};
+pub use fault::Fault;
+pub use init::{init_file, init_store};
+pub use migrate::{migrate_file, migrate_store};
+pub use serve::{open_node, serve_file, serve_node, serve_store};
+pub use serving::Serving;
+pub use users::{Users, read_users};

@@ -1,0 +1,139 @@
+//! The command `serve`: a node is served over a store and a socket.
+
+ghost use Rattle.std.specs.Prelude.{◌≡◌, length, Result, IfErr, IfOk, IfSome};
+ghost use Rattle.node_turns.specs.Serving.{Serves};
+ghost use Rattle.node_turns.specs.declared.fault.ServeFault.{ServeFault};
+ghost use Rattle.node_turns.specs.declared.turns.Served.{Served};
+ghost use Rattle.oath_node.specs.Calls.{IsOpened};
+ghost use Rattle.oathd_database.specs.Commands.{EndsServing, HasImport, HasServed};
+ghost use Rattle.oathd_database.specs.Fault.{IsOpenFault, serve_end};
+
+use crate::database::{Database, open_store};
+use crate::fault::Fault;
+use crate::file::DatabaseFile;
+use crate::serving::Serving;
+use floor_store::FloorStore;
+use node_turns::{Clock, Port, Served, run_turns};
+use oath_node::Node;
+use otp_core::Settings;
+use sqlite::Alter;
+use std::alloc::Global;
+use std::io::Read;
+use std::net::{Net, SocketAddr, SocketAddrV4, UdpSocket};
+use std::time::{Clock as TimeSource, Duration};
+use token_file::Book;
+use udp_port::{SystemClock, UdpPort};
+use vote_core::Place;
+use vote_wire::ClusterKey;
+
+/// How long a node waits for a datagram before some time has passed for it, in milliseconds.
+const WAIT_MILLIS: u64 = 200;
+
+/// Opens a node over a store, in a new boot: the last step before its socket is bound.
+///
+/// # Errors
+/// `Memory`; the store was left as it was. `Store` where the store refuses to raise the boot.
+pub fn open_node<'b, S: FloorStore + Drop>(
+    alloc: Global,
+    book: &'b Book,
+    settings: Settings,
+    place: Place,
+    key: &'b ClusterKey,
+    store: S,
+) -> Result<Node<'b, S>, Fault>
+    requires { length (S.held store).content.rows ≡ length book.now }
+    ensures opened { IfOk result (IsOpened S.held store) }
+    ensures book { IfOk result (λ node. node.book ≡ book.now) }
+    ensures limits { IfOk result (λ node. node.limits ≡ settings) }
+    ensures key { IfOk result (λ node. node.key ≡ key.now) }
+    ensures place { IfOk result (λ node. node.voter.place ≡ place) }
+    ensures fault { IfErr result IsOpenFault }
+{
+    match Node::open(alloc, book, settings, place, key, store) {
+        Ok(node) => Ok(node),
+        Err((_, fault)) => Err(Fault::from(fault)),
+    }
+}
+
+/// Serves a node over a port for so many turns, each of which is one receive.
+///
+/// # Errors
+/// `Store` where the node's store fails, and `Store(Spent)` where no number of its boot is left; `Socket` at the 16th
+/// fault of the port in a row; `NoClock` where the clock tells no moment.
+pub fn serve_node<S: FloorStore, P: Port, C: Clock>(
+    node: &mut Node<'_, S>,
+    port: &mut P,
+    clock: &mut C,
+    turns: u32,
+) -> Result<Served, Fault>
+    ensures turns { (end : Result Served ServeFault)
+        × Serves S.held node.old node.new (P.events port.old) (P.events port.new)
+        (C.moments clock.old) (C.moments clock.new) turns end × (result ≡ serve_end end) }
+{
+    match run_turns(node, port, clock, turns) {
+        Ok(served) => Ok(served),
+        Err(fault) => Err(Fault::from(fault)),
+    }
+}
+
+/// A socket at an address of this machine, which waits for 200 milliseconds.
+fn socket_at<N: Net>(net: &N, address: SocketAddrV4) -> Result<UdpSocket, Fault>
+    ensures { IfErr result (λ fault. fault ≡ Fault.Socket) }
+{
+    let Ok(socket) = UdpSocket::bind(net, SocketAddr::V4(address)) else {
+        return Err(Fault::Socket);
+    };
+    match socket.set_read_timeout(Some(Duration::from_millis(WAIT_MILLIS))) {
+        Ok(()) => Ok(socket),
+        Err(_) => Err(Fault::Socket),
+    }
+}
+
+/// Opens the node of a store, which has the tokens of the users file, in a new boot, binds a UDP socket to its address,
+/// and serves it for so many turns, each of which is one receive of at most 200 milliseconds. What comes from the
+/// address of a member is that member's datagram, and what comes from any other address is a client's.
+///
+/// # Errors
+/// Those of [`open_store`] and [`open_node`]; `Socket` where the socket can't be had; those of [`serve_node`].
+pub fn serve_store<R: Read + Drop, S: Alter + Drop, D: Database<S>, N: Net + TimeSource>(
+    alloc: Global,
+    outside: &N,
+    users: R,
+    serving: Serving<'_>,
+    database: D,
+) -> Result<Served, Fault>
+    ensures served { IfOk result (λ served. IfSome (R.remaining users) (HasServed S.Store serving.entry served)) }
+    ensures fault { IfErr result (λ fault. IfSome (R.remaining users)
+        (EndsServing serving.entry.settings 0 16777216 fault)) }
+{
+    let Serving {
+        settings,
+        place,
+        members,
+        key,
+        turns,
+    } = serving;
+    let (users, store) = open_store(alloc, users, settings, Some(place.me()), database)?;
+    let mut node = open_node(alloc, &users.book, settings, place, key, store)?;
+    let address = members[usize::from(place.me()) - 1];
+    let mut port = UdpPort::new(socket_at(outside, address)?, members, outside);
+    serve_node(&mut node, &mut port, &mut SystemClock::new(outside), turns)
+}
+
+/// Serves a node over the store in the file with this path, as [`serve_store`] does.
+///
+/// # Errors
+/// Those of [`serve_store`]; `Store(Disk)` where the file isn't there, `Store(Unusable)` where it is empty.
+pub fn serve_file<R: Read + Drop>(
+    alloc: Global,
+    rt: &HostRuntime,
+    path: &str,
+    users: R,
+    serving: Serving<'_>,
+) -> Result<Served, Fault>
+    ensures import { IfOk result (λ _. IfSome (R.remaining users) (HasImport serving.entry.settings 0 16777216)) }
+    ensures fault { IfErr result (λ fault. IfSome (R.remaining users)
+        (EndsServing serving.entry.settings 0 16777216 fault)) }
+{
+    serve_store(alloc, rt, users, serving, DatabaseFile::found(rt, path))
+}

@@ -1,0 +1,133 @@
+//! The commands over a database in memory: a store is made, exported, served, audited and exported again.
+
+use floor_sql::SqlStore;
+use floor_store::StoreFault;
+use node_turns::{Coming, ListClock, ListPort, PortEntry, Sender, Served};
+use oathd_database::{
+    Database, Fault, init_store, open_node, open_store, serve_node, write_audit, write_rows,
+};
+use otp_core::Settings;
+use sqlite::{Connection, MemStore};
+use std::alloc::Global;
+use vote_core::Place;
+use vote_wire::ClusterKey;
+
+/// The token of RFC 4226, Appendix D.
+pub(crate) const SILVER: &[u8] = b"HOTP silver - 3132333435363738393031323334353637383930\n";
+
+/// A database in memory.
+#[derive(Drop)]
+pub(crate) struct InMemory(pub(crate) Connection<MemStore>);
+
+impl Database<MemStore> for InMemory {
+    fn connect(self) -> Result<Connection<MemStore>, StoreFault> {
+        let InMemory(conn) = self;
+        if conn.is_autocommit() {
+            Ok(conn)
+        } else {
+            Err(StoreFault::Disk)
+        }
+    }
+}
+
+/// The database of a store that is closed.
+pub(crate) fn closed(store: SqlStore<MemStore>) -> InMemory {
+    InMemory(store.close())
+}
+
+/// The database of a new store of a node with the token.
+pub(crate) fn made(alloc: Global, node: u8) -> Result<InMemory, Fault> {
+    let Ok(conn) = Connection::open_in_memory(alloc) else {
+        return Err(Fault::Memory);
+    };
+    if node < 1 || node > 9 {
+        return Err(Fault::Store(StoreFault::Unusable));
+    }
+    let store = init_store(alloc, SILVER, Settings::default(), 0, node, InMemory(conn))?;
+    Ok(closed(store))
+}
+
+/// The database of a store, once its rows and then its passes are seen to be written so.
+fn written(alloc: Global, database: InMemory, text: &[u8]) -> Result<InMemory, Fault> {
+    let (users, mut store) = open_store(alloc, SILVER, Settings::default(), None, database)?;
+    let mut written = Vec::new(alloc);
+    let ends = (
+        write_rows(&users.book, &store, &mut written),
+        write_audit(alloc, &mut store, &mut written),
+    );
+    if ends == (Ok(()), Ok(())) && written.as_slice() == text {
+        Ok(closed(store))
+    } else {
+        Err(Fault::CannotWrite)
+    }
+}
+
+/// The database of the store of node 1, which has served these datagrams, and how that ended.
+fn turned(
+    alloc: Global,
+    database: InMemory,
+    port: &mut ListPort<'_>,
+    moments: &[u64],
+    turns: u32,
+) -> Result<(InMemory, Result<Served, Fault>), Fault> {
+    let settings = Settings::default();
+    let (Some(key), Some(place)) = (ClusterKey::new(&[0; 32]), Place::new(1, 1)) else {
+        return Err(Fault::Socket);
+    };
+    let (users, store) = open_store(alloc, SILVER, settings, Some(1), database)?;
+    let mut node = open_node(alloc, &users.book, settings, place, &key, store)?;
+    let end = serve_node(&mut node, port, &mut ListClock::new(alloc, moments), turns);
+    Ok((closed(node.close()), end))
+}
+
+/// Whether what a port was offered, beside what it gave, is this line for client 7.
+fn is_offered(port: &ListPort<'_>, line: &[u8]) -> bool {
+    match port.record() {
+        Some([_, PortEntry::Offered { to, bytes }, ..]) => {
+            *to == Sender::Client(7) && bytes.as_slice() == line
+        }
+        _ => false,
+    }
+}
+
+const FRESH: &[u8] = b"HOTP/E/6\tsilver\t-\t3132333435363738393031323334353637383930\t0\n";
+
+const USED: &[u8] =
+    b"HOTP/E/6\tsilver\t-\t3132333435363738393031323334353637383930\t1\npass 1 0 0 0 1 0\n";
+
+/// Whether a code is accepted once, and stands in the store then.
+fn keeps_a_code(alloc: Global) -> Result<bool, Fault> {
+    let comings = [Coming::Datagram {
+        sender: Sender::Client(7),
+        bytes: b"CHECK 1 silver 755224 -",
+    }];
+    let mut port = ListPort::new(alloc, &comings);
+    let database = written(alloc, made(alloc, 1)?, FRESH)?;
+    let (database, end) = turned(alloc, database, &mut port, &[100], 3)?;
+    let _database = written(alloc, database, USED)?;
+    let (received, replied) = (1, 1);
+    Ok(end == Ok(Served { received, replied }) && is_offered(&port, b"OK 1 0"))
+}
+
+#[test]
+fn keeps_what_it_served(rt: HostRuntime) {
+    assert!(rt; keeps_a_code(rt.alloc()) == Ok(true));
+}
+
+/// How the turns of node 1 with no clock end, when this comes and nothing else.
+fn end_of(alloc: Global, comings: &[Coming<'_>]) -> Result<Served, Fault> {
+    let mut port = ListPort::new(alloc, comings);
+    let (_database, end) = turned(alloc, made(alloc, 1)?, &mut port, &[], 17)?;
+    end
+}
+
+/// The ends of turns that fail.
+#[test]
+fn names_what_ended_the_turns(rt: HostRuntime) {
+    let line = [Coming::Datagram {
+        sender: Sender::Client(7),
+        bytes: b"CHECK",
+    }];
+    assert!(rt; end_of(rt.alloc(), &[Coming::Fault; 16]) == Err(Fault::Socket));
+    assert!(rt; end_of(rt.alloc(), &line) == Err(Fault::NoClock));
+}

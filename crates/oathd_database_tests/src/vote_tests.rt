@@ -1,0 +1,107 @@
+//! A node of three over a database in memory that stops in the midst of a vote.
+
+use crate::tests::{SILVER, made};
+use arrayvec::ArrayVec;
+use floor_sql::SqlStore;
+use floor_store::Proposal;
+use oath_node::{Event, Item, Node, Scratch};
+use oathd_database::{Fault, open_node, open_store};
+use otp_core::{Factor, Next, Settings};
+use sqlite::MemStore;
+use std::alloc::Global;
+use vote_core::{Message, Place};
+use vote_wire::{ClusterKey, MAX_SENT_LEN, write_message};
+
+/// A datagram.
+type Sent = ArrayVec<u8, MAX_SENT_LEN>;
+
+/// The Ask of a node's first proposal for factor 0, to node 3.
+fn asked(key: &ClusterKey, node: u8) -> Option<Sent> {
+    let proposal = Proposal::new(node, 1, 0)?;
+    let (token, lo, hi) = (0, Factor::new(0)?, Factor::new(0)?);
+    let ask = Message::Ask {
+        proposal,
+        token,
+        lo,
+        hi,
+    };
+    Some(write_message(key, node, 3, &ask))
+}
+
+/// The Grant of node 3 to it, or its Deny.
+fn answered(key: &ClusterKey, node: u8, is_granted: bool) -> Option<Sent> {
+    let proposal = Proposal::new(node, 1, 0)?;
+    let (token, lo, hi) = (0, Factor::new(0)?, Factor::new(0)?);
+    let answer = if is_granted {
+        Message::Grant {
+            proposal,
+            token,
+            lo,
+            hi,
+        }
+    } else {
+        let next = Next::after(hi);
+        Message::Deny {
+            proposal,
+            token,
+            next,
+        }
+    };
+    Some(write_message(key, 3, node, &answer))
+}
+
+/// Whether it answers these bytes of a member by those, first of all.
+fn replies(node: &mut Node<'_, SqlStore<MemStore>>, from: u8, bytes: &[u8], want: &[u8]) -> bool {
+    let mut scratch = Scratch::new();
+    let Ok(outputs) = node.handle(Event::Peer { from, bytes }, &mut scratch) else {
+        return false;
+    };
+    match outputs.items().next() {
+        Some(Item::Datagram { to, bytes }) => to == from && bytes.as_slice() == want,
+        _ => false,
+    }
+}
+
+/// Whether it answers the Ask of a member so.
+fn answers(
+    node: &mut Node<'_, SqlStore<MemStore>>,
+    key: &ClusterKey,
+    from: u8,
+    is_granted: bool,
+) -> bool {
+    let (Some(ask), Some(want)) = (asked(key, from), answered(key, from, is_granted)) else {
+        return false;
+    };
+    replies(node, from, &ask, &want)
+}
+
+/// Nodes 1 and 2 ask for one factor, and node 3 stops when it has heard node 1, once its Grant is committed or before.
+/// Says whether it grants the factor to node 1 alone, by that very Grant.
+fn grants_once(
+    node: &mut Node<'_, SqlStore<MemStore>>,
+    key: &ClusterKey,
+    is_committed: bool,
+) -> bool {
+    (!is_committed || answers(node, key, 1, true))
+        && node.restart().is_ok()
+        && answers(node, key, 1, true)
+        && answers(node, key, 2, false)
+}
+
+/// The same of node 3 of three, over a new database.
+fn stops(alloc: Global, is_committed: bool) -> Result<bool, Fault> {
+    let settings = Settings::default();
+    let (Some(key), Some(place)) = (ClusterKey::new(&[0; 32]), Place::new(3, 3)) else {
+        return Err(Fault::Socket);
+    };
+    let (users, store) = open_store(alloc, SILVER, settings, Some(3), made(alloc, 3)?)?;
+    let mut node = open_node(alloc, &users.book, settings, place, &key, store)?;
+    Ok(grants_once(&mut node, &key, is_committed))
+}
+
+/// A stop once the Grant is committed, and one before.
+#[test]
+fn stops_in_a_vote(rt: HostRuntime) {
+    assert!(rt; stops(rt.alloc(), true) == Ok(true));
+    assert!(rt; stops(rt.alloc(), false) == Ok(true));
+}

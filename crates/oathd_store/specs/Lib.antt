@@ -1,5 +1,0 @@
-pub mod Commands
-pub mod Fault
-pub mod Tables
-pub mod Text
-pub mod Users
