@@ -1,13 +1,13 @@
 //! The cluster file: what all members of a cluster must agree on, in one text; and the key that follows from it.
 //!
 //! [`read_cluster`] reads the file. [`shared_text`] writes all that must be equal at the members: the life, the
-//! members in order, the settings, and the users in order. It is one-to-one (`shared_texts_tell`). [`shared_key`] is the
-//! HMAC of that text under the cluster's key: members that tag their datagrams under it have the same key only where all
-//! of it is equal, or their texts collide (`shared_keys_tell`). [`fingerprint`] is 16 digits by which two sites compare
-//! their shared keys.
+//! members in order, the settings, and the users in order. It is one-to-one (`shared_texts_tell`). [`shared_key`] is
+//! the HMAC of that text under the cluster's key: members that tag their datagrams under it have the same key only
+//! where all of it is equal, or their texts collide (`shared_keys_tell`). [`fingerprint`] is 16 digits by which two
+//! sites compare their shared keys.
 //!
-//! No two of these MACs are over the same bytes: those of datagrams begin with `OV`, the shared text with `wakdulg`, and
-//! the fingerprint's are the word `fingerprint`.
+//! No two of these MACs are over the same bytes: those of datagrams begin with `OV`, the shared text with `wakdulg`,
+//! and the fingerprint's are the word `fingerprint`.
 #![tactic(auto)]
 
 mod address;

@@ -1,6 +1,6 @@
-//! What the commands of `oathd` over a users file and a database do, from the first to the last step. Each has a file with
-//! its name, and in it a function over any [`Database`], `.._store`, and one over a file, `.._file`, which takes and gives
-//! plain values. Of these only [`init_file`] writes into a file that isn't there or is empty.
+//! What the commands of `oathd` over a users file and a database do, from the first to the last step. Each has a file
+//! with its name, and in it a function over any [`Database`], `.._store`, and one over a file, `.._file`, which takes
+//! and gives plain values. Of these only [`init_file`] writes into a file that isn't there or is empty.
 #![tactic(auto)]
 
 mod audit;
