@@ -1,9 +1,9 @@
 -- What the world tells of an answer, in the words of the history.
-use Rattle.std.proofs.Common.{◌≡◌, ℕ, ◌<◌, ◌≤◌, ⊎_elim, true, false, List, length, get_or, Option, Some, None, refl, sym, subst}
+use Rattle.std.proofs.Common.{ap, ◌∙◌, ◌≡◌, ℕ, ◌<◌, ◌≤◌, ⊎_elim, true, false, List, length, get_or, Option, Some, None, refl, sym, subst}
 use Rattle.std.specs.List.{slice_get}
 use Rattle.std.proofs.lemmas.Option.{slice_get_cases, slice_get_past}
 use Rattle.oath_node.specs.Hosted.{envelope_at}
-use Rattle.cluster_sim.specs.Answered.{IsAskedBy, IsAskedIn, IsSaidIn}
+use Rattle.cluster_sim.specs.Answered.{ok_bytes, IsAskedBy, IsAskedIn, IsSaidIn}
 use Rattle.cluster_sim.specs.World.{Act, Says, Deliver, Ticks, Noise, WorldEvent, Happens, Cut, Restart}
 use Rattle.cluster_law.specs.Lives.{Deed, Opens, FailsToOpen, Takes, Offers, Stops, StopsIn, Input, Line, Datagram, Time, Setting}
 use Rattle.cluster_law.specs.Promises.{AnswerTruly, HasAct, IsActOf, IsAskedInDeed, IsEventOf, IsExplained, IsRunOf, IsSaidInDeed, nothing}
@@ -72,17 +72,18 @@ at_place P Q setting history events k run empty is p =
 pub answer_truly : (setting : Setting) (history : List Deed) → IsExplained setting history → AnswerTruly setting history
 answer_truly setting history x i told at ok =
     let b = x.no_other i told at ok in
+    let q = b.belongs in
     record {
-      place = b.place;
-      pass = b.pass;
-      is_pass = b.is_pass;
-      node = b.node;
-      ended = b.ended;
-      line = b.line;
+      place = q.place;
+      pass = q.pass;
+      is_pass = q.is_pass;
+      node = q.node;
+      ended = q.ended;
+      line = q.line;
       nonce = b.nonce;
-      asked = at_place (λ o. IsAskedIn told.node told.client b.line b.nonce o) (λ o. IsAskedInDeed told.node told.client b.line b.nonce o) setting history x.events b.pass.began x.is_run
-          (λ z. z) (λ d e. asked_deed setting.key told.node told.client b.line b.nonce d e) b.asked;
-      bytes = b.bytes;
-      again = λ later. at_place (λ o. IsSaidIn told.node told.client b.line o) (λ o. IsSaidInDeed told.node told.client b.line o) setting history x.events told.event x.is_run
-          (λ z. z) (λ d e. said_deed setting.key told.node told.client b.line d e) (b.again later);
+      asked = at_place (λ o. IsAskedIn told.node told.client q.line b.nonce o) (λ o. IsAskedInDeed told.node told.client q.line b.nonce o) setting history x.events q.pass.began x.is_run
+          (λ z. z) (λ d e. asked_deed setting.key told.node told.client q.line b.nonce d e) q.asked;
+      bytes = b.bytes ∙ ap (λ hi. ok_bytes b.nonce hi) (sym q.last);
+      again = λ later. at_place (λ o. IsSaidIn told.node told.client q.line o) (λ o. IsSaidInDeed told.node told.client q.line o) setting history x.events told.event x.is_run
+          (λ z. z) (λ d e. said_deed setting.key told.node told.client q.line d e) (q.again later);
     }

@@ -17,7 +17,8 @@ ghost use Rattle.oath_node.specs.Machine.{Config, NodeState, opened_node};
 ghost use Rattle.oath_node.specs.Outputs.{OutputsRecord};
 ghost use Rattle.oath_node.specs.declared.fault.NodeFault.{NodeFault};
 ghost use Rattle.node_turns.specs.Turns.{Nothing, Receipt, offers_in, receipts_in, run_at, run_with_batches};
-ghost use Rattle.vote_wire.specs.declared.answer.Outcome.TheVariants.{Accepted, Invalid};
+ghost use Rattle.vote_wire.specs.declared.answer.Outcome.TheVariants.{Accepted, Refused};
+ghost use Rattle.vote_wire.specs.declared.answer.Reason.TheVariants.{Invalid};
 ghost use Rattle.cluster_sim.specs.Examples.{acceptance, told_outcome};
 ghost use Rattle.node_turns.specs.Port.{PortEvent};
 ghost use Rattle.node_turns.specs.Serving.{Serves};
@@ -219,10 +220,10 @@ pub fn histories_are_worked()
     ensures answered { answered_in one_node answers_once ≡ told_outcome 1 1 7 (codes "1") (Accepted 0) ∷ [] }
     ensures accepted_before { accepted_in one_node ends_before_the_answer ≡ acceptance 1 1 1 0 0 ∷ [] }
     ensures answered_after { answered_in one_node ends_before_the_answer
-        ≡ told_outcome 5 1 7 (codes "1") Invalid ∷ [] }
+        ≡ told_outcome 5 1 7 (codes "1") (Refused Invalid) ∷ [] }
     ensures accepted_kept { accepted_in one_node (ends_in_the_step true) ≡ acceptance 1 1 1 0 0 ∷ [] }
     ensures answered_kept { answered_in one_node (ends_in_the_step true)
-        ≡ told_outcome 5 1 7 (codes "1") Invalid ∷ [] }
+        ≡ told_outcome 5 1 7 (codes "1") (Refused Invalid) ∷ [] }
     ensures accepted_lost { accepted_in one_node (ends_in_the_step false) ≡ acceptance 5 5 1 0 0 ∷ [] }
     ensures answered_lost { answered_in one_node (ends_in_the_step false)
         ≡ told_outcome 5 1 7 (codes "1") (Accepted 0) ∷ [] }
@@ -311,8 +312,8 @@ pub fn reference_is_worked()
     ensures once { told_by_reference answers_once ≡ first_ok ∷ [] }
     ensures twice { told_by_reference takes_twice ≡ first_ok ∷ record first_ok { event = 2 } ∷ [] }
     ensures forgotten { told_by_reference ends_before_the_answer
-        ≡ first_ok ∷ told_outcome 5 1 7 (codes "1") Invalid ∷ [] }
-    ensures kept { told_by_reference (ends_in_the_step true) ≡ told_outcome 5 1 7 (codes "1") Invalid ∷ [] }
+        ≡ first_ok ∷ told_outcome 5 1 7 (codes "1") (Refused Invalid) ∷ [] }
+    ensures kept { told_by_reference (ends_in_the_step true) ≡ told_outcome 5 1 7 (codes "1") (Refused Invalid) ∷ [] }
     ensures lost { told_by_reference (ends_in_the_step false) ≡ told_outcome 5 1 7 (codes "1") (Accepted 0) ∷ [] }
     ensures nobody { told_by_reference comes_to_nobody ≡ [] }
     ensures strangers { told_by_reference among_strangers ≡ record first_ok { event = 3 } ∷ [] }

@@ -8,11 +8,12 @@ use Rattle.vote_core.specs.Voting.{propose, on_message, tick, quiet_step}
 use Rattle.vote_core.specs.Schedule.{Envelope, Cluster, Begin, Deliver as Passes, Tick as Ticked, Idle, is_member, is_running, place_of, cluster_after, with_proposal_begun, with_member, stopped_member, may_begin, after_proposal, after_delivery, content_with_gate, after_act, node_of as vote_node, set_node, receiver_of}
 use Rattle.oath_node.specs.Grounds.{HasGrounds, IsFitting}
 use Rattle.vote_wire.specs.Request.{without_lf}
-use Rattle.oath_node.specs.Rules.{Ruling, Outside, Again, Waiting, Denied, Wrong, Fitting}
+use Rattle.oath_node.specs.declared.ruling.Ruling.{Ruling}
+use Rattle.oath_node.specs.declared.ruling.Ruling.TheVariants.{Outside, Again, Waiting, Denied, Wrong, Fitting}
 use Rattle.vote_core.specs.NodeSet.{PlaceRecord}
 use Rattle.oath_node.specs.Machine.{Config, NodeState, NodeEvent, Client, Peer, Tick, Owner, next_owner, made_by_message, quiet_made, stopped_node, node_with_answer, gate_with_failure, made_by_vote, next_beginning, made_by_proposal, made_by_ruling, made_by_datagram, is_heard, made_while_running, made_by_event, ruling_at, standing_at}
 use Rattle.cluster_sim.specs.World.{World, Act, Says, Deliver, Ticks, Noise, world_with_made, world_after_turn, world_after_act, delivered_event, noise_event, place_at, node_of, node_if_sent, begun_in, passes_in}
-use Rattle.cluster_sim.specs.Refinement.{member_of, cluster_of, vote_on_ruling, vote_on_datagram, vote_of}
+use Rattle.cluster_sim.proofs.Refinement.{member_of, cluster_of, vote_on_ruling, vote_on_datagram, vote_of}
 use Rattle.cluster_sim.proofs.BelowLaws.{GroundLaw}
 use Rattle.cluster_sim.proofs.Shape.{right_nil, seen_set, of_parts, made_after, made_idle}
 use Rattle.cluster_sim.proofs.Sizes.{Sized}
@@ -24,8 +25,8 @@ unfolding after_act
 down e i x moment Outside w h = refl
 down e i x moment (Again text) w h = refl
 down e i x moment Waiting w h = refl
-down e i x moment (Denied nonce outcome) w h = refl
-down e i x moment (Wrong nonce outcome token) w h = sym (cond-false (is_running w i) _ _ h)
+down e i x moment (Denied nonce reason) w h = refl
+down e i x moment (Wrong nonce reason token) w h = sym (cond-false (is_running w i) _ _ h)
 down e i x moment (Fitting nonce t lo hi drift) w h = sym (cond-false (may_begin w i t lo hi) _ _ (ap (λ b. b && (ltb t (length (w.nodes i).content.rows) && (leb (row (w.nodes i).content t).next lo && ((eqb hi lo || eqb hi (lo + 1)) && ltb (length (w.nodes i).voter.pending) 32)))) h))
 
 -- an event at a node: what it is where the node runs, and that it is nothing where it doesn't
@@ -51,7 +52,8 @@ begun_after : (e i : ℕ) (w : World) (owners : List Owner) (t lo hi : ℕ) (dri
     ≡ cluster_after e i (propose (place_of (cluster_of w) i) t lo hi drift (w.nodes i).content (w.nodes i).voter) (with_proposal_begun e i t lo hi (cluster_of w))
 unfolding with_proposal_begun cluster_after
 begun_after e i w owners t lo hi drift running =
-    made_after e i (made_by_vote owners (Some (next_beginning (place_at w i) t lo hi (w.nodes i))) (propose (place_at w i) t lo hi drift (w.nodes i).content (w.nodes i).voter) (w.nodes i)) w running
+    made_after e i (made_by_vote owners (Some (next_beginning (place_at w i) t lo hi (w.nodes i))) (propose (place_at w i) t lo hi drift (w.nodes i).content (w.nodes i).voter) (w.nodes i))
+    (propose (place_at w i) t lo hi drift (w.nodes i).content (w.nodes i).voter).decisions w refl running
 
 halted_now : (e i : ℕ) (w : World) → cluster_of (world_with_made e i (quiet_made (stopped_node (w.nodes i))) w) ≡ with_member i (stopped_member (member_of (w.nodes i))) (cluster_of w)
 unfolding world_with_made
@@ -114,9 +116,9 @@ unfolding made_by_ruling after_act cluster_after
 says_same config e i client moment text line w sized up running Outside h = made_idle e i (w.nodes i) _ None w refl
 says_same config e i client moment text line w sized up running (Again kept) h = made_idle e i (w.nodes i) _ None w refl
 says_same config e i client moment text line w sized up running Waiting h = made_idle e i (w.nodes i) [] None w refl
-says_same config e i client moment text line w sized up running (Denied nonce outcome) h = made_idle e i (node_with_answer client line _ (w.nodes i)) _ None w refl
-says_same config e i client moment text line w sized up running (Wrong nonce outcome token) h =
-    made_after e i (made_by_ruling (place_at w i) client moment line (Wrong nonce outcome token) (w.nodes i)) w running
+says_same config e i client moment text line w sized up running (Denied nonce reason) h = made_idle e i (node_with_answer client line _ (w.nodes i)) _ None w refl
+says_same config e i client moment text line w sized up running (Wrong nonce reason token) h =
+    made_after e i (made_by_ruling (place_at w i) client moment line (Wrong nonce reason token) (w.nodes i)) [] w refl running
     ∙ sym (cond-true (is_running (cluster_of w) i) (cluster_after e i (quiet_step (content_with_gate token (gate_with_failure (w.nodes i).content token moment) (w.nodes i).content) (w.nodes i).voter) (cluster_of w)) (cluster_of w) up)
 says_same config e i client moment text line w sized up running (Fitting nonce t lo hi drift) h =
     proposes_same e i client line nonce t lo hi drift w running (fitting_may config client moment text line nonce i t lo hi drift w sized up h)
@@ -132,7 +134,7 @@ heard_now e i l w at up running =
     let there : (j : ℕ) → j ≡ i → cluster_after e i s V ≡ cond (is_running V j) (cluster_after e j (on_message (place_of V j) l.sender l.message (V.nodes j).content (V.nodes j).voter) V) V =
     λ j q.
     subst (λ m. cluster_after e i s V ≡ cond (is_running V m) (cluster_after e m (on_message (place_of V m) l.sender l.message (V.nodes m).content (V.nodes m).voter) V) V) (sym q) (sym (cond-true (is_running V i) (cluster_after e i s V) V up)) in
-    made_after e i (made_by_vote (w.nodes i).owners None s (w.nodes i)) w running ∙ there l.receiver at
+    made_after e i (made_by_vote (w.nodes i).owners None s (w.nodes i)) s.decisions w refl running ∙ there l.receiver at
 
 not_heard : (e i : ℕ) (l : Envelope) (V : Cluster) → l.receiver ≡ i → is_running V i ≡ false → V ≡ after_delivery e (Some l) V
 unfolding after_delivery
@@ -203,7 +205,7 @@ tick_same config e i w =
     let x = w.nodes i in
     let s = tick (place_at w i) x.content x.voter in
     gated config e i Tick w (after_act e (Ticked i) V)
-    (λ up running. made_after e i (made_by_vote x.owners None s x) w running ∙ sym (cond-true (is_running V i) (cluster_after e i s V) V up))
+    (λ up running. made_after e i (made_by_vote x.owners None s x) s.decisions w refl running ∙ sym (cond-true (is_running V i) (cluster_after e i s V) V up))
     (λ off. sym (cond-false (is_running V i) (cluster_after e i s V) V off))
 
 -- ---- every act
@@ -226,8 +228,8 @@ line_node : (i : ℕ) (x : NodeState) (moment : ℕ) (r : Ruling) (w : Cluster) 
 line_node i x moment Outside w = refl
 line_node i x moment (Again text) w = refl
 line_node i x moment Waiting w = refl
-line_node i x moment (Denied nonce outcome) w = refl
-line_node i x moment (Wrong nonce outcome token) w = refl
+line_node i x moment (Denied nonce reason) w = refl
+line_node i x moment (Wrong nonce reason token) w = refl
 line_node i x moment (Fitting nonce t lo hi drift) w = refl
 
 letter_node : (config : Config) (w : World) (i k : ℕ) (o : Option Envelope) → slice_get w.sent k ≡ o → vote_node (vote_on_datagram config w i k o) (cluster_of w) ≡ node_if_sent i o

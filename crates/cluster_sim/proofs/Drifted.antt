@@ -9,12 +9,13 @@ use Rattle.otp_core.specs.Acceptance.{Acceptance}
 use Rattle.vote_core.specs.NodeSet.{PlaceRecord}
 use Rattle.vote_core.specs.Rows.{no_row, row}
 use Rattle.vote_core.specs.Schedule.{Envelope, Begun, began_in, is_member, last_boot, opening_rows}
-use Rattle.vote_core.specs.Voting.{Ballot, Voted, propose, on_message, tick}
+use Rattle.vote_core.specs.Voting.{Ballot, Voted, propose, on_message, tick, pass_in}
 use Rattle.vote_core.proofs.Basics.{Each, each_append, each_get_or, each_weaker}
 use Rattle.vote_wire.specs.Request.{without_lf}
 use Rattle.oath_node.specs.Grounds.{HasGrounds}
 use Rattle.oath_node.specs.Machine.{Config, NodeState, NodeEvent, Client, Peer, Tick, Made, Owner, Beginning, quiet_made, stopped_node, opened_node, restarted_node, gate_with_failure, made_by_vote, next_beginning, next_owner, made_by_proposal, made_by_ruling, made_by_datagram, is_heard, made_while_running, made_by_event, ruling_at, standing_at}
-use Rattle.oath_node.specs.Rules.{Ruling, Outside, Again, Waiting, Denied, Wrong, Fitting}
+use Rattle.oath_node.specs.declared.ruling.Ruling.{Ruling}
+use Rattle.oath_node.specs.declared.ruling.Ruling.TheVariants.{Outside, Again, Waiting, Denied, Wrong, Fitting}
 use Rattle.cluster_sim.specs.Drifts.{drift_after, drift_before, drift_by, drift_kept, moment_in}
 use Rattle.cluster_sim.specs.World.{World, Note, Act, Says, Deliver, Ticks, Noise, WorldEvent, Happens, Cut, Restart, acting_node, delivered_event, node_event_of, place_at, note_of, world_with_made, world_after_turn, world_after_act, node_of, world_after_restart, with_told_of, world_after_event, world_after_events, world_before, opening_world, floor_at, begun_with, begun_in, acceptance_in, passes_in}
 use Rattle.cluster_sim.proofs.Acts.{noise_cases}
@@ -107,7 +108,7 @@ voted_drifted config events h e i n x owners began s sized at le k step =
       state = record {
         pending = subst (λ b. Each (IsKept (KeptBelow config events begun i b s.voter.seq)) s.voter.pending) (sym step.boot)
             (pending_later config events begun begun i x.content.boot n s.voter.seq s.voter.pending le (λ _ _. refl) step.pending);
-        drifts = λ t lt. pass_drifts config events begun e i n x.content s.content (passes_in h) t (subst (λ m. t < m) (sym sized) lt) (k.drifts t lt) s.pass step.drifts;
+        drifts = λ t lt. pass_drifts config events begun e i n x.content s.content (passes_in h) t (subst (λ m. t < m) (sym sized) lt) (k.drifts t lt) (pass_in s.decisions) step.drifts;
       };
     }
 
@@ -140,8 +141,8 @@ unfolding made_by_ruling
 ruling_drifted config events h e place x client moment text line sized comes k Outside g = quiet_drifted config events h e place.me x _ refl refl refl refl (λ _. refl) k
 ruling_drifted config events h e place x client moment text line sized comes k (Again kept) g = quiet_drifted config events h e place.me x _ refl refl refl refl (λ _. refl) k
 ruling_drifted config events h e place x client moment text line sized comes k Waiting g = quiet_drifted config events h e place.me x _ refl refl refl refl (λ _. refl) k
-ruling_drifted config events h e place x client moment text line sized comes k (Denied nonce outcome) g = quiet_drifted config events h e place.me x _ refl refl refl refl (λ _. refl) k
-ruling_drifted config events h e place x client moment text line sized comes k (Wrong nonce outcome token) g =
+ruling_drifted config events h e place x client moment text line sized comes k (Denied nonce reason) g = quiet_drifted config events h e place.me x _ refl refl refl refl (λ _. refl) k
+ruling_drifted config events h e place x client moment text line sized comes k (Wrong nonce reason token) g =
     quiet_drifted config events h e place.me x _ refl refl refl refl (gated_drift x.content token (gate_with_failure x.content token moment)) k
 ruling_drifted config events h e place x client moment text line sized comes k (Fitting nonce token lo hi drift) g =
     let given : drift ≡ drift_by config.limits (slice_get config.book token) (moment_in (slice_get events e)) hi =

@@ -3,7 +3,7 @@ use Rattle.std.proofs.Common.{◌≡◌, ℕ, true, false, cond, length, Option,
 use Rattle.vote_core.specs.Schedule.{is_member, after_act, set_node, with_member, restarted_member, last_boot, after_restart as vote_restart, with_sent_of as vote_unsent, after_event as vote_happens}
 use Rattle.oath_node.specs.Machine.{Config, NodeState, stopped_node, opened_node, restarted_node}
 use Rattle.cluster_sim.specs.World.{World, WorldEvent, Happens, Cut, Restart, world_after_act, node_of, world_after_restart, with_told_of, world_after_event, with_state, begun_in, passes_in}
-use Rattle.cluster_sim.specs.Refinement.{member_of, cluster_of, vote_of, vote_event}
+use Rattle.cluster_sim.proofs.Refinement.{member_of, cluster_of, vote_of, vote_event}
 use Rattle.cluster_sim.proofs.BelowLaws.{GroundLaw}
 use Rattle.cluster_sim.proofs.Shape.{push, seen_set, of_parts}
 use Rattle.cluster_sim.proofs.Sizes.{Sized}

@@ -6,17 +6,18 @@ use Rattle.admit_core.specs.Throttle.{Result, Failed, Accepted, gate_after, IsOp
 use Rattle.floor_store.specs.Records.{RowRecord, PassRecord}
 use Rattle.vote_core.specs.NodeSet.{PlaceRecord}
 use Rattle.vote_core.specs.Rows.{row, no_row, row_with_gate}
-use Rattle.vote_core.specs.Voting.{Voted, propose, on_message, tick}
+use Rattle.vote_core.specs.Voting.{Voted, propose, on_message, tick, pass_in}
 use Rattle.vote_core.specs.Schedule.{is_member, last_boot, opening_rows}
 use Rattle.vote_core.proofs.Basics.{Each, each_append, each_get_or}
 use Rattle.oath_node.specs.Grounds.{HasGrounds}
 use Rattle.vote_wire.specs.Request.{without_lf}
-use Rattle.oath_node.specs.Rules.{Ruling, Outside, Again, Waiting, Denied, Wrong, Fitting}
+use Rattle.oath_node.specs.declared.ruling.Ruling.{Ruling}
+use Rattle.oath_node.specs.declared.ruling.Ruling.TheVariants.{Outside, Again, Waiting, Denied, Wrong, Fitting}
 use Rattle.oath_node.specs.Machine.{Config, NodeState, NodeEvent, Client, Peer, Tick, Made, Owner, Beginning, quiet_made, stopped_node, gate_with_failure, made_by_vote, next_beginning, made_by_proposal, made_by_ruling, made_by_datagram, is_heard, made_while_running, made_by_event, ruling_at, standing_at, restarted_node}
 use Rattle.vote_core.specs.Schedule.{content_with_gate}
 use Rattle.cluster_sim.specs.World.{World, WorldEvent, Happens, Cut, Restart, world_with_made, world_after_turn, world_after_act, node_event_of, place_at, acting_node, node_of, world_after_restart, with_told_of, world_after_event, world_after_events, opening_world, floor_at}
 use Rattle.cluster_sim.specs.Results.{results_with_failure, results_with_pass, results_in, results_of}
-use Rattle.cluster_sim.specs.Refinement.{cluster_of}
+use Rattle.cluster_sim.proofs.Refinement.{cluster_of}
 use Rattle.cluster_sim.proofs.BelowLaws.{GroundLaw, GateLaw, SpaceLaw}
 use Rattle.cluster_sim.proofs.Shape.{push}
 use Rattle.cluster_sim.proofs.VoteGates.{gate_by, GateStep, put_gate, message_gate, propose_gate, tick_gate}
@@ -76,8 +77,8 @@ quiet_right tokens rs o h f p = record {
 voted_right : GateLaw → (tokens : ℕ) (rs : ℕ → List Result) (x : NodeState) (owners : List Owner) (began : Option Beginning) (s : Voted) → length x.content.rows ≡ tokens
     → GatedAt tokens rs x → GateStep x.content s → MadeRight tokens rs (made_by_vote owners began s x)
 voted_right law tokens rs x owners began s sized h k = record {
-  gates = λ t lt. k t (subst (λ m. t < m) (sym sized) lt) ∙ ap (λ g. gate_by s.pass t g) (h t lt) ∙ gate_passed law t s.pass (rs t);
-  opened = λ t g. opened_passed t s.pass (rs t) g;
+  gates = λ t lt. k t (subst (λ m. t < m) (sym sized) lt) ∙ ap (λ g. gate_by (pass_in s.decisions) t g) (h t lt) ∙ gate_passed law t (pass_in s.decisions) (rs t);
+  opened = λ t g. opened_passed t (pass_in s.decisions) (rs t) g;
 }
 
 wrong_gates : GateLaw → (tokens : ℕ) (rs : ℕ → List Result) (x : NodeState) (token moment : ℕ) → length x.content.rows ≡ tokens
@@ -110,8 +111,8 @@ unfolding made_by_ruling made_by_proposal
 ruling_right law config rs place x client moment text line sized h Outside g = quiet_right _ rs _ h refl refl
 ruling_right law config rs place x client moment text line sized h (Again kept) g = quiet_right _ rs _ h refl refl
 ruling_right law config rs place x client moment text line sized h Waiting g = quiet_right _ rs _ h refl refl
-ruling_right law config rs place x client moment text line sized h (Denied nonce outcome) g = quiet_right _ rs _ h refl refl
-ruling_right law config rs place x client moment text line sized h (Wrong nonce outcome token) g = record {
+ruling_right law config rs place x client moment text line sized h (Denied nonce reason) g = quiet_right _ rs _ h refl refl
+ruling_right law config rs place x client moment text line sized h (Wrong nonce reason token) g = record {
   gates = wrong_gates law (length config.book) rs x token moment sized h;
   opened = wrong_opened law (length config.book) rs x token moment g.within h g.is_open;
 }

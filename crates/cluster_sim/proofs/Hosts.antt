@@ -9,7 +9,8 @@ use Rattle.oath_node.specs.Calls.{FailsBy, IsProposal, IsProposing}
 use Rattle.oath_node.specs.Hosted.{Hosted, config_of}
 use Rattle.oath_node.specs.Machine.{Config, Made, NodeEvent, NodeState, Client, Peer, Tick, made_by_event, made_by_ruling, stopped_node, made_while_running, made_by_proposal, quiet_made, ruling_at}
 use Rattle.oath_node.specs.Outputs.{outputs_of}
-use Rattle.oath_node.specs.Rules.{Ruling, Outside, Again, Waiting, Denied, Wrong, Fitting}
+use Rattle.oath_node.specs.declared.ruling.Ruling.{Ruling}
+use Rattle.oath_node.specs.declared.ruling.Ruling.TheVariants.{Outside, Again, Waiting, Denied, Wrong, Fitting}
 use Rattle.oath_node.specs.declared.fault.NodeFault.{NodeFault}
 use Rattle.oath_node.specs.declared.fault.NodeFault.TheVariants.{Store, Stopped, Spent}
 use Rattle.vote_wire.specs.Request.{without_lf}
@@ -24,8 +25,8 @@ unfolding made_by_ruling made_by_proposal
 spent_ruling place x client moment line Outside h s = absurd h
 spent_ruling place x client moment line (Again text) h s = absurd h
 spent_ruling place x client moment line Waiting h s = absurd h
-spent_ruling place x client moment line (Denied nonce outcome) h s = absurd h
-spent_ruling place x client moment line (Wrong nonce outcome token) h s = absurd h
+spent_ruling place x client moment line (Denied nonce reason) h s = absurd h
+spent_ruling place x client moment line (Wrong nonce reason token) h s = absurd h
 spent_ruling place x client moment line (Fitting nonce token lo hi drift) h s = cond-false (ltb x.voter.seq (2 ^ 62)) _ (quiet_made (stopped_node x)) (ap (λ k. ltb k (2 ^ 62)) s)
 
 -- a stopped node is the same once it is stopped

@@ -1,40 +1,41 @@
 pub mod Acts
-pub mod Events
-pub mod Gates
+mod Asks
 pub mod BelowLaws
+mod Delivered
+mod Drifted
+pub mod Events
+mod Floors
+pub mod Gates
+mod Grants
+mod HostLemmas
+mod Hosts
 pub mod Lines
 pub mod Lone
 pub mod OkLemmas
+mod Opening
 pub mod Owners
+mod Played
+mod Proposals
+mod Records
+pub mod Refinement
+mod Reporting
 pub mod Reports
+mod RoundLaw
+mod RoundPlay
+mod RoundReports
 pub mod Runs
+mod Seqs
+mod Servers
 pub mod Shape
 pub mod Sizes
+mod Sound
+pub mod Spelled
+mod Starts
+mod Sweeps
 pub mod Tells
+mod Turns
+mod Unique
+mod VoteDrifts
 pub mod VoteGates
 pub mod VoteSteps
-mod VoteDrifts
-mod Drifted
-mod Starts
-mod Hosts
-mod Records
-mod HostLemmas
-mod Delivered
-pub mod Spelled
-mod Opening
-mod Played
-mod Floors
-mod Reporting
-mod Sound
 mod Waves
-mod Sweeps
-mod Turns
-mod Asks
-mod Servers
-mod Grants
-mod Proposals
-mod Seqs
-mod RoundLaw
-mod Unique
-mod RoundReports
-mod RoundPlay

@@ -9,10 +9,11 @@ use Rattle.vote_core.specs.Safety.{IsProposalOf, IsProposedIn}
 use Rattle.vote_core.specs.Schedule.{Envelope, Deliver as Passes, Idle, Event}
 use Rattle.oath_node.specs.Grounds.{HasGrounds, IsFitting}
 use Rattle.vote_wire.specs.Request.{without_lf}
-use Rattle.oath_node.specs.Rules.{Ruling, Outside, Again, Waiting, Denied, Wrong, Fitting}
+use Rattle.oath_node.specs.declared.ruling.Ruling.{Ruling}
+use Rattle.oath_node.specs.declared.ruling.Ruling.TheVariants.{Outside, Again, Waiting, Denied, Wrong, Fitting}
 use Rattle.oath_node.specs.Machine.{Config, is_heard, standing_at, ruling_at}
 use Rattle.cluster_sim.specs.World.{World, Act, Says, Deliver, Ticks, Noise, WorldEvent, Happens, Cut, Restart, world_after_event, world_after_events, opening_world, place_at, world_before, passes_of}
-use Rattle.cluster_sim.specs.Refinement.{vote_on_ruling, vote_on_datagram, vote_of, vote_event, vote_events}
+use Rattle.cluster_sim.proofs.Refinement.{vote_on_ruling, vote_on_datagram, vote_of, vote_event, vote_events}
 use Rattle.cluster_sim.specs.Drifts.{drift_before}
 use Rattle.cluster_sim.specs.Justified.{IsGround, IsGroundIn, IsGroundOf, AreJustified}
 use Rattle.cluster_sim.specs.Results.{results_in}
@@ -52,8 +53,8 @@ line_back : GateLaw → (config : Config) (w : World) (drifts : ℕ → ℕ → 
 line_back law config w drifts gated drifted p i client moment text line Outside g h = absurd h
 line_back law config w drifts gated drifted p i client moment text line (Again kept) g h = absurd h
 line_back law config w drifts gated drifted p i client moment text line Waiting g h = absurd h
-line_back law config w drifts gated drifted p i client moment text line (Denied nonce outcome) g h = absurd h
-line_back law config w drifts gated drifted p i client moment text line (Wrong nonce outcome t) g h = absurd h
+line_back law config w drifts gated drifted p i client moment text line (Denied nonce reason) g h = absurd h
+line_back law config w drifts gated drifted p i client moment text line (Wrong nonce reason t) g h = absurd h
 line_back law config w drifts gated drifted p i client moment text line (Fitting nonce t lo hi drift) g h = (
   h.0,
   subst (λ m. IsGround config moment text p.token (row (w.nodes p.node).content p.token).next (drifts p.node p.token) (results_in w.history p.node p.token) p.lo m) h.3

@@ -18,7 +18,8 @@ use Rattle.oath_node.specs.Grounds.{IsSameStanding}
 use Rattle.oath_node.specs.Machine.{Config, NodeState, NodeEvent, Client, Peer, Tick, Made, Owner, quiet_made, stopped_node, gate_with_failure, answers_to_decisions, reply_with, made_by_vote, next_beginning, made_by_proposal, made_by_ruling, made_by_datagram, made_while_running, made_by_event, ruling_at, standing_at, opened_node, restarted_node}
 use Rattle.vote_core.specs.Schedule.{content_with_gate}
 use Rattle.vote_wire.specs.Request.{without_lf}
-use Rattle.oath_node.specs.Rules.{Ruling, Outside, Again, Waiting, Denied, Wrong, Fitting}
+use Rattle.oath_node.specs.declared.ruling.Ruling.{Ruling}
+use Rattle.oath_node.specs.declared.ruling.Ruling.TheVariants.{Outside, Again, Waiting, Denied, Wrong, Fitting}
 use Rattle.cluster_sim.specs.Answered.{ok_bytes}
 use Rattle.cluster_sim.specs.FrontEnds.{Server, Served, standing_of, server_with_front, server_with_used, front_with_answer, front_with_acceptance, front_with_result, served_by_ruling, served_line, server_with_restarted}
 use Rattle.cluster_sim.specs.SingleNode.{server_after_act, front_of, server_after_restart, server_after_event, told_answer, answers_to_act, answers_to_event, reference_answers, opening_server}
@@ -140,7 +141,7 @@ fitting_alike law tokens b q e c seq turn s client line nonce token lo hi drift 
     let v = propose place token lo hi drift c x.voter in
     let pass = pass_of token lo hi c.boot seq in
     let one : KeptAnswer = record { client = client; line = line; text = ok_bytes nonce hi } in
-    let told : answers_to_decisions (owner ∷ []) (Some pass) v.decisions ≡ one ∷ [] = told_own (owner ∷ []) pass owner (cond-true (eqb seq seq) (Some owner) None (eq-eqb seq seq refl)) in
+    let told : answers_to_decisions (owner ∷ []) v.decisions ≡ one ∷ [] = told_own (owner ∷ []) pass owner (cond-true (eqb seq seq) (Some owner) None (eq-eqb seq seq refl)) in
     let serves : Served = record { server = server_with_front 1 (front_with_answer client line (ok_bytes nonce hi) (front_with_acceptance token drift (s.fronts 1))) (server_with_used token hi s); reply = Some (ok_bytes nonce hi) } in
     cond_both (ltb seq (2 ^ 62)) (made_by_vote (owner ∷ []) (Some (next_beginning place token lo hi x)) v x) (quiet_made (stopped_node x)) (λ o. LineAlike tokens b (q + 1) e client o serves)
     (λ _. record {
@@ -165,7 +166,7 @@ ruling_alike law config b q e c seq turn s client moment line h below (Again tex
     record { alike = record { content = c; seq = seq; turn = turn; is = refl; rows = one_more (length config.book) b q c seq s h }; sends = refl; replies = refl }
 ruling_alike law config b q e c seq turn s client moment line h below Waiting =
     record { alike = record { content = c; seq = seq; turn = turn; is = refl; rows = one_more (length config.book) b q c seq s h }; sends = refl; replies = refl }
-ruling_alike law config b q e c seq turn s client moment line h below (Denied nonce outcome) = record {
+ruling_alike law config b q e c seq turn s client moment line h below (Denied nonce reason) = record {
   alike = record {
     content = c;
     seq = seq;
@@ -176,7 +177,7 @@ ruling_alike law config b q e c seq turn s client moment line h below (Denied no
   sends = refl;
   replies = refl;
 }
-ruling_alike law config b q e c seq turn s client moment line h below (Wrong nonce outcome token) = record {
+ruling_alike law config b q e c seq turn s client moment line h below (Wrong nonce reason token) = record {
   alike = record {
     content = content_with_gate token (gate_with_failure (lone c seq turn (s.fronts 1).answers).content token moment) c;
     seq = seq;

@@ -108,17 +108,18 @@ ground_factor config next drift results p (Some (Restart i)) h = absurd h
 pub name_passes : GroundLaw → GateLaw → VoteLaw → (config : Config) (floors : List (List ℕ)) (events : List WorldEvent) → let report = report_of config floors events in NamePasses events report.passes report.answers
 name_passes grounds gates votes config floors events k t nonce hi at is_nonce is_factor bytes =
     let b = tell_truth grounds config floors events k t at (subst IsOk (sym bytes) (begins_ok nonce hi)) in
-    let last = ground_factor config (floor_before config floors events b.pass.node b.pass.token b.pass.began) (drift_before config floors events b.pass.node b.pass.token b.pass.began) (results_before config floors events b.pass.node b.pass.token b.pass.began) b.pass (slice_get events b.pass.began)
-    (justified grounds gates votes config floors events b.place b.pass b.is_pass) in
-    let same = same_ok b.nonce nonce b.pass.hi hi (asked_nonce t.node t.client b.line b.nonce (slice_get events b.pass.began) b.asked) is_nonce last is_factor (sym b.bytes ∙ bytes) in
+    let q = b.belongs in
+    let last = subst IsFactor q.last (ground_factor config (floor_before config floors events q.pass.node q.pass.token q.pass.began) (drift_before config floors events q.pass.node q.pass.token q.pass.began) (results_before config floors events q.pass.node q.pass.token q.pass.began) q.pass (slice_get events q.pass.began)
+    (justified grounds gates votes config floors events q.place q.pass q.is_pass)) in
+    let same = same_ok b.nonce nonce b.hi hi (asked_nonce t.node t.client q.line b.nonce (slice_get events q.pass.began) q.asked) is_nonce last is_factor (sym b.bytes ∙ bytes) in
     record {
-      place = b.place;
-      pass = b.pass;
-      is_pass = b.is_pass;
-      node = b.node;
-      ended = b.ended;
-      last = same.1;
-      line = b.line;
-      asked = subst (λ n. IsAskedIn t.node t.client b.line n (slice_get events b.pass.began)) same.0 b.asked;
-      again = b.again;
+      place = q.place;
+      pass = q.pass;
+      is_pass = q.is_pass;
+      node = q.node;
+      ended = q.ended;
+      last = q.last ∙ same.1;
+      line = q.line;
+      asked = subst (λ n. IsAskedIn t.node t.client q.line n (slice_get events q.pass.began)) same.0 q.asked;
+      again = q.again;
     }

@@ -5,16 +5,16 @@ use Rattle.std.specs.Global.{Vec}
 use Rattle.std.specs.List.{slice_get}
 use Rattle.std.specs.Prelude.{slice_index_or}
 use Rattle.std.proofs.lemmas.List.{get_or-map, length-map}
-use Rattle.std.proofs.lemmas.Option.{none-some, same_Some}
+use Rattle.std.proofs.lemmas.Option.{none-some, same_Some, slice_get-get_or}
 use Rattle.std.proofs.Math.Seq.{take-suc, take-length}
 use Rattle.floor_store.specs.Content.{Content, opening_content, opening_row}
 use Rattle.floor_store.specs.Records.{RowRecord}
 use Rattle.vote_core.specs.NodeSet.{PlaceRecord}
 use Rattle.vote_core.specs.Schedule.{opening_rows}
-use Rattle.oath_node.specs.Calls.{IsOpened}
+use Rattle.oath_node.specs.Serving.{IsInMemory}
 use Rattle.oath_node.specs.Hosted.{Hosted}
 use Rattle.oath_node.specs.Machine.{Config, opened_node}
-use Rattle.cluster_sim.specs.Journal.{AreHosts, IsHost, IsRun, memory_held, no_journal}
+use Rattle.cluster_sim.specs.Journal.{AreHosts, IsHost, IsRun, no_journal}
 use Rattle.cluster_sim.specs.Run.{floor_lists}
 use Rattle.cluster_sim.specs.World.{floor_at, opening_node, opening_world}
 
@@ -40,15 +40,14 @@ all_rows floors n len =
 opened_is : (floors : List ℕ) (n : ℕ) → length floors ≡ n → opened_node (opening_content floors) ≡ opening_node n (λ t. slice_index_or floors t 0)
 opened_is floors n len = ap (λ (rows : List RowRecord). opened_node (record { rows = rows; boot = 0; last = None })) (sym (all_rows floors n len))
 
-pub opened_host : (config : Config) (key : List ℕ) (place : PlaceRecord) (floors : List ℕ) (n : ℕ) (store : Content) (node : Hosted Content) → length floors ≡ n → store ≡ opening_content floors
-    → IsOpened memory_held store node → node.book ≡ config.book → node.limits ≡ config.limits → node.key ≡ key → node.voter.place ≡ place
-    → IsHost config key place (opening_node n (λ t. slice_index_or floors t 0)) node
-opened_host config key place floors n store node len is opened book limits key_is at = record {
-  state = opened.state tt ∙ ap (λ (c : Content). opened_node c) is ∙ opened_is floors n len;
-  book = book;
-  limits = limits;
-  key_is = key_is;
-  place = at;
+opened_host : (config : Config) (key : List ℕ) (place : PlaceRecord) (floors : List ℕ) (n : ℕ) (node : Hosted Content) → length floors ≡ n
+    → IsInMemory config.book config.limits place key floors node → IsHost config key place (opening_node n (λ t. slice_index_or floors t 0)) node
+opened_host config key place floors n node len h = record {
+  state = h.state ∙ opened_is floors n len;
+  book = h.book_is;
+  limits = h.limits_are;
+  key_is = h.key_is;
+  place = h.place_is;
 }
 
 -- ---- all nodes
@@ -81,7 +80,7 @@ floor_is lists k d h t =
     before : (k : ℕ) → k ≡ suc k - 1
     before k = omega arith
 
-pub one_open : (config : Config) (key : List ℕ) (lists : List (Vec ℕ)) (k : ℕ) (d : Vec ℕ) (floors : List ℕ) (place : PlaceRecord) (old new : List (Hosted Content)) (h : Hosted Content) → k < length lists
+one_open : (config : Config) (key : List ℕ) (lists : List (Vec ℕ)) (k : ℕ) (d : Vec ℕ) (floors : List ℕ) (place : PlaceRecord) (old new : List (Hosted Content)) (h : Hosted Content) → k < length lists
     → floors ≡ (get_or lists k d).items → place ≡ record { me = k + 1; n = length lists } → new ≡ old ++ h ∷ [] → IsHost config key place (opening_node (length config.book) (λ t. slice_index_or floors t 0)) h
     → AreOpen config key lists k old → AreOpen config key lists (k + 1) new
 one_open config key lists k d floors place old new h within are at is host opened = record {
@@ -108,6 +107,14 @@ one_open config key lists k d floors place old new h within are at is host opene
     here =
         subst (λ (f : ℕ → ℕ). IsHost config key (record { me = suc k; n = length lists }) (opening_node (length config.book) f) h) same
         (subst (λ (p : PlaceRecord). IsHost config key p (opening_node (length config.book) (λ t. slice_index_or floors t 0)) h) (at ∙ ap (λ j. record { me = j; n = length lists }) (next k)) host)
+
+pub next_open : (config : Config) (key : List ℕ) (lists : List (Vec ℕ)) (k : ℕ) (d : Vec ℕ) (floors : List ℕ) (place : PlaceRecord) (old new : List (Hosted Content)) (h : Hosted Content) → k < length lists
+    → floors ≡ (get_or lists k d).items → place ≡ record { me = k + 1; n = length lists } → new ≡ old ++ h ∷ []
+    → ((j : ℕ) (list : Vec ℕ) → slice_get lists j ≡ Some list → length list.items ≡ length config.book) → IsInMemory config.book config.limits place key floors h
+    → AreOpen config key lists k old → AreOpen config key lists (k + 1) new
+next_open config key lists k d floors place old new h within are at is each opened old_open =
+    let len : length floors ≡ length config.book = ap (λ (l : List ℕ). length l) are ∙ each k (get_or lists k d) (slice_get-get_or lists k d within) in
+    one_open config key lists k d floors place old new h within are at is (opened_host config key place floors (length config.book) h len opened) old_open
 
 pub all_open : (config : Config) (key : List ℕ) (lists : List (Vec ℕ)) (count : ℕ) (hosts : List (Hosted Content)) → length lists ≤ count → count ≤ length lists → AreOpen config key lists count hosts
     → IsRun config key (opening_world config (floor_lists lists)) (record { nodes = hosts; journal = no_journal })

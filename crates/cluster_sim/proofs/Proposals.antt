@@ -19,7 +19,7 @@ use Rattle.cluster_sim.specs.World.{Deliver, Happens, World, WorldEvent, place_a
 use Rattle.floor_store.specs.Content.{Content, accepted_row, with_row}
 use Rattle.floor_store.specs.Records.{PassRecord, ProposalRecord, RowRecord}
 use Rattle.oath_node.specs.Machine.{Beginning, Config, Made, NodeState, Owner, made_by_proposal, made_by_ruling, made_by_vote, next_beginning, quiet_made, ruling_at, stopped_node}
-use Rattle.oath_node.specs.Rules.{Fitting}
+use Rattle.oath_node.specs.declared.ruling.Ruling.TheVariants.{Fitting}
 use Rattle.otp_core.specs.Acceptance.{majority_of, size}
 use Rattle.vote_core.proofs.Basics.{Each, each_append, each_filter, each_passes, each_weaker, put_size, row_cases, row_here}
 use Rattle.vote_core.specs.NodeSet.{PlaceRecord, members, nobody, others, with_node}

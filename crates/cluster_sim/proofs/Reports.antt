@@ -27,18 +27,24 @@ record Honest (events : List WorldEvent) (e : ℕ) (w : World) : Type 0 where
 -- ---- later
 
 belongs_later : (events : List WorldEvent) (passes more : List Acceptance) (t : Told) → BelongsToPass events passes t → BelongsToPass events (passes ++ more) t
-belongs_later events passes more t b = record {
-  place = b.place;
-  pass = b.pass;
-  is_pass = get_more passes more b.place b.pass b.is_pass;
-  node = b.node;
-  ended = b.ended;
-  line = b.line;
-  nonce = b.nonce;
-  asked = b.asked;
-  bytes = b.bytes;
-  again = b.again;
-}
+belongs_later events passes more t b =
+    let q = b.belongs in
+    record {
+      nonce = b.nonce;
+      hi = b.hi;
+      bytes = b.bytes;
+      belongs = record {
+        place = q.place;
+        pass = q.pass;
+        is_pass = get_more passes more q.place q.pass q.is_pass;
+        node = q.node;
+        ended = q.ended;
+        last = q.last;
+        line = q.line;
+        asked = q.asked;
+        again = q.again;
+      };
+    }
 
 told_later : (events : List WorldEvent) (passes more : List Acceptance) (told : List Told) → Each (ToldBacked events passes) told → Each (ToldBacked events (passes ++ more)) told
 told_later events passes more told h = each_weaker (ToldBacked events passes) (ToldBacked events (passes ++ more)) (λ t f ok. belongs_later events passes more t (f ok)) told h

@@ -24,7 +24,8 @@ use Rattle.floor_store.specs.Content.{Content}
 use Rattle.floor_store.specs.Records.{RowRecord}
 use Rattle.oath_node.specs.Grounds.{HasGrounds, IsSameStanding}
 use Rattle.oath_node.specs.Machine.{Config, Made, NodeState, gate_with_failure, is_owned, made_by_ruling, node_with_answer, node_with_failure, reply_made, ruling_at, standing_at}
-use Rattle.oath_node.specs.Rules.{Again, Denied, Fitting, Outside, Ruling, Waiting, Wrong}
+use Rattle.oath_node.specs.declared.ruling.Ruling.{Ruling}
+use Rattle.oath_node.specs.declared.ruling.Ruling.TheVariants.{Again, Denied, Fitting, Outside, Waiting, Wrong}
 use Rattle.vote_core.proofs.Basics.{row_cases}
 use Rattle.vote_core.specs.Rows.{row, row_with_gate}
 use Rattle.vote_core.specs.Schedule.{content_with_gate, envelope_from}
@@ -32,7 +33,8 @@ use Rattle.vote_core.specs.Voting.{VoterState}
 use Rattle.vote_wire.specs.Answer.{answer_bytes}
 use Rattle.vote_wire.specs.Request.{without_lf}
 use Rattle.vote_wire.specs.declared.answer.Answer.TheVariants.{BadLine, Reply as ReplyAnswer}
-use Rattle.vote_wire.specs.declared.answer.Outcome.{Outcome}
+use Rattle.vote_wire.specs.declared.answer.Outcome.TheVariants.{Refused}
+use Rattle.vote_wire.specs.declared.answer.Reason.{Reason}
 
 abbrev tokens_of : Config → ℕ
 tokens_of config = length config.book
@@ -235,24 +237,24 @@ line_made config live e w l r calm here q =
     ∙ ap (λ z. world_with_made e i (made_by_ruling (place_at w i) l.client l.moment (without_lf l.line) z (w.nodes i)) w) q
 
 -- the line is answered at once, and its answer kept
-denied_round : (config : Config) (live : List ℕ) (e : ℕ) (w : World) (l : RoundLine) (nonce : List ℕ) (outcome : Outcome) → IsSettled config live w → is_live live l.node ≡ true
-    → ruling_at config (w.nodes l.node) l.client l.moment l.line ≡ Denied nonce outcome → Done config live e w l (in_server live w l (Denied nonce outcome))
+denied_round : (config : Config) (live : List ℕ) (e : ℕ) (w : World) (l : RoundLine) (nonce : List ℕ) (reason : Reason) → IsSettled config live w → is_live live l.node ≡ true
+    → ruling_at config (w.nodes l.node) l.client l.moment l.line ≡ Denied nonce reason → Done config live e w l (in_server live w l (Denied nonce reason))
 unfolding made_by_ruling
-denied_round config live e w l nonce outcome calm here q =
-    let text = answer_bytes (ReplyAnswer nonce outcome) in
+denied_round config live e w l nonce reason calm here q =
+    let text = answer_bytes (ReplyAnswer nonce (Refused reason)) in
     let o = reply_made l.client text None (node_with_answer l.client (without_lf l.line) text (w.nodes l.node)) in
     let h : Plain w l o text = record { sends = refl; pass = refl; voter = refl; next = λ u. refl; drift = λ u. refl; running = (calm.up l.node here).1; replies = refl } in
-    let t = in_server live w l (Denied nonce outcome) in
-    plain_round config live e w l o t (line_made config live e w l (Denied nonce outcome) calm here q) refl
+    let t = in_server live w l (Denied nonce reason) in
+    plain_round config live e w l o t (line_made config live e w l (Denied nonce reason) calm here q) refl
     (plain_done config live e w l o text t calm here h refl (plain_moved live e w l o text (results_in w.history l.node) h (λ u. refl)))
 
 -- it is a failure too
-wrong_round : (config : Config) (live : List ℕ) (e : ℕ) (w : World) (l : RoundLine) (nonce : List ℕ) (outcome : Outcome) (token : ℕ) → IsSettled config live w → is_live live l.node ≡ true
-    → ruling_at config (w.nodes l.node) l.client l.moment l.line ≡ Wrong nonce outcome token → Done config live e w l (in_server live w l (Wrong nonce outcome token))
+wrong_round : (config : Config) (live : List ℕ) (e : ℕ) (w : World) (l : RoundLine) (nonce : List ℕ) (reason : Reason) (token : ℕ) → IsSettled config live w → is_live live l.node ≡ true
+    → ruling_at config (w.nodes l.node) l.client l.moment l.line ≡ Wrong nonce reason token → Done config live e w l (in_server live w l (Wrong nonce reason token))
 unfolding made_by_ruling
-wrong_round config live e w l nonce outcome token calm here q =
+wrong_round config live e w l nonce reason token calm here q =
     let x = w.nodes l.node in
-    let text = answer_bytes (ReplyAnswer nonce outcome) in
+    let text = answer_bytes (ReplyAnswer nonce (Refused reason)) in
     let o = reply_made l.client text (Some (token, l.moment)) (node_with_answer l.client (without_lf l.line) text (node_with_failure token l.moment x)) in
     let h : Plain w l o text = record {
       sends = refl;
@@ -263,8 +265,8 @@ wrong_round config live e w l nonce outcome token calm here q =
       running = (calm.up l.node here).1;
       replies = refl;
     } in
-    let t = in_server live w l (Wrong nonce outcome token) in
-    plain_round config live e w l o t (line_made config live e w l (Wrong nonce outcome token) calm here q) refl
+    let t = in_server live w l (Wrong nonce reason token) in
+    plain_round config live e w l o t (line_made config live e w l (Wrong nonce reason token) calm here q) refl
     (plain_done config live e w l o text t calm here h refl
     (plain_moved live e w l o text (λ u. cond (eqb token u) (Failed l.moment ∷ results_in w.history l.node u) (results_in w.history l.node u)) h (λ u. refl)))
 
@@ -321,8 +323,8 @@ by_ruling grounds config live e w l sound calm here room (Again text) q g =
 by_ruling grounds config live e w l sound calm here room Waiting q g =
     let idle : is_owned (w.nodes l.node).owners l.client (without_lf l.line) ≡ false = ap (λ os. is_owned os l.client (without_lf l.line)) (no_owners (tokens_of config) (w.nodes l.node) (sound l.node) (calm.none l.node here)) in
     absurd (both_ways (is_owned (w.nodes l.node).owners l.client (without_lf l.line)) idle g)
-by_ruling grounds config live e w l sound calm here room (Denied nonce outcome) q g = denied_round config live e w l nonce outcome calm here q
-by_ruling grounds config live e w l sound calm here room (Wrong nonce outcome token) q g = wrong_round config live e w l nonce outcome token calm here q
+by_ruling grounds config live e w l sound calm here room (Denied nonce reason) q g = denied_round config live e w l nonce reason calm here q
+by_ruling grounds config live e w l sound calm here room (Wrong nonce reason token) q g = wrong_round config live e w l nonce reason token calm here q
 by_ruling grounds config live e w l sound calm here room (Fitting nonce token lo hi drift) q g =
     fitting_round config live e w l nonce token lo hi drift (record { sound = sound; calm = calm; here = here; judged = q; known = g.within; free = g.free; span = g.span.ordered; room = room })
 

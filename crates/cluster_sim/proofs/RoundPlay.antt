@@ -8,7 +8,8 @@ use Rattle.std.proofs.lemmas.Option.{none-some, same_Some}
 use Rattle.vote_core.specs.Schedule.{Envelope}
 use Rattle.oath_node.specs.Machine.{Config}
 use Rattle.cluster_sim.specs.Journal.{AreSpelled, AreSpelledAlong, IsRun, Letter, SimulationRecord, letter_of}
-use Rattle.cluster_sim.specs.RoundRun.{HaveHappened, StaySpelled, deliveries_from, delivery_of, round_line, round_lines}
+use Rattle.cluster_sim.specs.RoundRun.{HaveHappened, StaySpelled, deliveries_from, delivery_of}
+use Rattle.cluster_sim.specs.Run.{round_line, round_lines}
 use Rattle.cluster_sim.specs.Rounds.{RoundLine, deliveries, events_with_rounds, is_between, is_live, line_event, round_events, rounds_events}
 use Rattle.cluster_sim.specs.World.{Deliver, Happens, World, WorldEvent, opening_world, world_after_event, world_after_events, world_of}
 use Rattle.cluster_sim.specs.declared.rounds.RoundLine.{RoundLine as CallerLine}

@@ -8,7 +8,7 @@ use Rattle.vote_core.specs.Schedule.{Cluster, Event, run as vote_run, start as v
 use Rattle.vote_core.proofs.Basics.{opening_size}
 use Rattle.oath_node.specs.Machine.{Config}
 use Rattle.cluster_sim.specs.World.{World, WorldEvent, world_after_event, world_after_events, opening_world, floor_at, floor_before, passes_of}
-use Rattle.cluster_sim.specs.Refinement.{cluster_of, vote_event, vote_events}
+use Rattle.cluster_sim.proofs.Refinement.{cluster_of, vote_event, vote_events}
 use Rattle.cluster_sim.proofs.BelowLaws.{GroundLaw, VoteLaw}
 use Rattle.cluster_sim.proofs.Sizes.{Sized, happens_sized}
 use Rattle.cluster_sim.proofs.Events.{happens_same}

@@ -7,7 +7,8 @@ use Rattle.cluster_sim.specs.World.{Cut, Happens, Restart, World, WorldEvent, ac
 use Rattle.floor_store.specs.Content.{Content, with_row}
 use Rattle.floor_store.specs.Records.{ProposalRecord}
 use Rattle.oath_node.specs.Machine.{Client, Config, Made, NodeEvent, NodeState, Peer, Tick, is_heard, made_by_datagram, made_by_event, made_by_proposal, made_by_ruling, made_by_vote, made_while_running, next_beginning, quiet_made, restarted_node, ruling_at, stopped_node}
-use Rattle.oath_node.specs.Rules.{Again, Denied, Fitting, Outside, Ruling, Waiting, Wrong}
+use Rattle.oath_node.specs.declared.ruling.Ruling.{Ruling}
+use Rattle.oath_node.specs.declared.ruling.Ruling.TheVariants.{Again, Denied, Fitting, Outside, Waiting, Wrong}
 use Rattle.otp_core.specs.Acceptance.{majority_of, size}
 use Rattle.vote_core.specs.NodeSet.{PlaceRecord, with_node}
 use Rattle.vote_core.specs.Rows.{granted_row, row}
@@ -69,8 +70,8 @@ unfolding made_by_ruling made_by_proposal
 ruled_seq place x client moment line Outside = omega arith
 ruled_seq place x client moment line (Again answer) = omega arith
 ruled_seq place x client moment line Waiting = omega arith
-ruled_seq place x client moment line (Denied nonce outcome) = omega arith
-ruled_seq place x client moment line (Wrong nonce outcome token) = omega arith
+ruled_seq place x client moment line (Denied nonce reason) = omega arith
+ruled_seq place x client moment line (Wrong nonce reason token) = omega arith
 ruled_seq place x client moment line (Fitting nonce t lo hi drift) =
     cond_both (ltb x.voter.seq (2 ^ 62)) (made_by_vote (x.owners ++ record { seq = x.voter.seq; client = client; line = line; nonce = nonce } ∷ []) (Some (next_beginning place t lo hi x)) (propose place t lo hi drift x.content x.voter) x) (quiet_made (stopped_node x)) (λ o. MadeOne x o)
     (λ _. propose_seq place t lo hi drift x.content x.voter) (λ _. omega arith)

@@ -8,7 +8,8 @@ use Rattle.cluster_sim.specs.World.{Cut, Happens, Restart, World, WorldEvent, ac
 use Rattle.floor_store.specs.Content.{Content, accepted_row, with_row}
 use Rattle.floor_store.specs.Records.{ProposalRecord, RowRecord}
 use Rattle.oath_node.specs.Machine.{Beginning, Client, Config, Made, NodeEvent, NodeState, Owner, Peer, Tick, is_heard, is_pending, made_by_datagram, made_by_event, made_by_proposal, made_by_ruling, made_by_vote, made_while_running, next_beginning, quiet_made, restarted_node, ruling_at, stopped_node}
-use Rattle.oath_node.specs.Rules.{Again, Denied, Fitting, Outside, Ruling, Waiting, Wrong}
+use Rattle.oath_node.specs.declared.ruling.Ruling.{Ruling}
+use Rattle.oath_node.specs.declared.ruling.Ruling.TheVariants.{Again, Denied, Fitting, Outside, Waiting, Wrong}
 use Rattle.otp_core.specs.Acceptance.{majority_of, size}
 use Rattle.vote_core.proofs.Basics.{Each, each_append, each_get_or, each_passes, opening_size}
 use Rattle.vote_core.specs.NodeSet.{PlaceRecord, with_node}
@@ -128,8 +129,8 @@ unfolding made_by_ruling made_by_proposal
 ruled_sound tokens place x client moment line h Outside = h
 ruled_sound tokens place x client moment line h (Again answer) = h
 ruled_sound tokens place x client moment line h Waiting = h
-ruled_sound tokens place x client moment line h (Denied nonce outcome) = record { kept = h.kept; owned = h.owned }
-ruled_sound tokens place x client moment line h (Wrong nonce outcome token) = record { kept = gate_kept tokens x.content x.voter.turn token _ h.kept; owned = h.owned }
+ruled_sound tokens place x client moment line h (Denied nonce reason) = record { kept = h.kept; owned = h.owned }
+ruled_sound tokens place x client moment line h (Wrong nonce reason token) = record { kept = gate_kept tokens x.content x.voter.turn token _ h.kept; owned = h.owned }
 ruled_sound tokens place x client moment line h (Fitting nonce t lo hi drift) =
     let s = propose place t lo hi drift x.content x.voter in
     let owners = x.owners ++ record { seq = x.voter.seq; client = client; line = line; nonce = nonce } ∷ [] in

@@ -25,7 +25,8 @@ use Rattle.vote_wire.specs.Body.{HasEnds, HasSpelling, IsVoteOn}
 use Rattle.vote_wire.specs.Request.{without_lf}
 use Rattle.oath_node.specs.Grounds.{HasGrounds}
 use Rattle.oath_node.specs.Machine.{Config, Made, NodeEvent, NodeState, Client, Peer, Tick, made_by_event, made_by_datagram, made_by_ruling, stopped_node, is_heard, made_while_running, opened_node, made_by_proposal, quiet_made, restarted_node, standing_at, made_by_vote}
-use Rattle.oath_node.specs.Rules.{Ruling, Outside, Again, Waiting, Denied, Wrong, Fitting}
+use Rattle.oath_node.specs.declared.ruling.Ruling.{Ruling}
+use Rattle.oath_node.specs.declared.ruling.Ruling.TheVariants.{Outside, Again, Waiting, Denied, Wrong, Fitting}
 use Rattle.cluster_sim.specs.World.{World, floor_at, opening_world, world_after_events, Act, Says, Deliver, Ticks, Noise, WorldEvent, Happens, Cut, Restart, world_after_act, delivered_event, world_after_event, world_with_made, node_of, noise_event, place_at, world_after_restart, with_state, world_after_turn, with_told_of}
 use Rattle.cluster_sim.specs.Journal.{AreSpelled, AreSpelledAlong}
 use Rattle.cluster_sim.proofs.Acts.{noise_cases, unheard}
@@ -247,8 +248,8 @@ unfolding made_by_ruling made_by_proposal
 ruled config place x client moment text line Outside few p h g = record { fine = h; sends = tt }
 ruled config place x client moment text line (Again kept) few p h g = record { fine = h; sends = tt }
 ruled config place x client moment text line Waiting few p h g = record { fine = h; sends = tt }
-ruled config place x client moment text line (Denied nonce outcome) few p h g = record { fine = h; sends = tt }
-ruled config place x client moment text line (Wrong nonce outcome token) few p h g =
+ruled config place x client moment text line (Denied nonce reason) few p h g = record { fine = h; sends = tt }
+ruled config place x client moment text line (Wrong nonce reason token) few p h g =
     record { fine = put_fine x.content x.voter token _ None h (h.next token); sends = tt }
 ruled config place x client moment text line (Fitting nonce token lo hi drift) few p h g =
     cond_both (ltb x.voter.seq (2 ^ 62)) _ (quiet_made (stopped_node x)) (λ m. IsFineMade place.me m)

@@ -7,19 +7,21 @@ use Rattle.floor_store.specs.Records.{ProposalRecord, PassRecord}
 use Rattle.otp_core.specs.Acceptance.{Acceptance}
 use Rattle.vote_core.specs.NodeSet.{PlaceRecord}
 use Rattle.vote_core.specs.Schedule.{Begun, with_begun, began_in}
-use Rattle.vote_core.specs.Voting.{Ballot, Voted, same_proposal, propose, on_message, tick}
+use Rattle.vote_core.specs.Voting.{Ballot, Voted, same_proposal, propose, on_message, tick, pass_in}
 use Rattle.vote_core.specs.declared.step.Decision.{Decision}
 use Rattle.vote_core.specs.declared.step.Decision.TheVariants.{Accepted as Won, Spent as Lost, Timeout as Late}
 use Rattle.vote_core.proofs.Basics.{Each, each_append, each_filter, each_flat_map, each_map, each_weaker, is_same}
 use Rattle.vote_wire.specs.Answer.{answer_bytes}
 use Rattle.answer_ring.specs.Answers.{KeptAnswer}
-use Rattle.oath_node.specs.Grounds.{HasGrounds, IsRefusedBy}
+use Rattle.oath_node.specs.Grounds.{HasGrounds}
 use Rattle.oath_node.specs.Machine.{Config, NodeState, NodeEvent, Client, Peer, Tick, Made, Reply, Owner, Beginning, quiet_made, reply_made, stopped_node, node_with_answer, node_with_failure, owner_with, answer_to_decision, answers_to_decisions, is_pending, reply_with, made_by_vote, next_beginning, made_by_proposal, made_by_ruling, made_by_datagram, is_heard, made_while_running, ruling_at, standing_at}
 use Rattle.vote_wire.specs.Request.{without_lf}
-use Rattle.oath_node.specs.Rules.{Ruling, Outside, Again, Waiting, Denied, Wrong, Fitting}
+use Rattle.oath_node.specs.declared.ruling.Ruling.{Ruling}
+use Rattle.oath_node.specs.declared.ruling.Ruling.TheVariants.{Outside, Again, Waiting, Denied, Wrong, Fitting}
 use Rattle.vote_wire.specs.declared.answer.Answer.TheVariants.{BadLine, Reply as Answered}
-use Rattle.vote_wire.specs.declared.answer.Outcome.{Outcome}
-use Rattle.vote_wire.specs.declared.answer.Outcome.TheVariants.{Accepted, Unknown, Password, Throttled, Invalid, Spent, Timeout, Busy, Clock, Exhausted}
+use Rattle.vote_wire.specs.declared.answer.Outcome.TheVariants.{Refused}
+use Rattle.vote_wire.specs.declared.answer.Reason.{Reason}
+use Rattle.vote_wire.specs.declared.answer.Reason.TheVariants.{Spent, Timeout}
 use Rattle.cluster_sim.specs.Answered.{IsOk, ok_bytes, IsTextOf, IsAskedIn, IsSaidIn, BelongsToPass}
 use Rattle.cluster_sim.specs.World.{WorldEvent, Note, Told, begun_with, begun_in, acceptance_in, passes_in, note_of, told_reply}
 use Rattle.cluster_sim.proofs.BelowLaws.{GroundLaw}
@@ -31,17 +33,8 @@ use Rattle.cluster_sim.proofs.VoteSteps.{Numbered, IsNoAcceptance, Settled, IsSt
 no_ok : (rest : List ℕ) → IsOk (codes "NO " ++ rest) → ⊥
 no_ok rest h = let e : ◌≡◌ {A = ℕ} 78 79 = ap (λ (l : List ℕ). get_or l 0 0) h in absurd (omega (arith, e))
 
-refusal_text : (nonce : List ℕ) (o : Outcome) → IsRefusedBy o → IsOk (answer_bytes (Answered nonce o)) → ⊥
-refusal_text nonce (Accepted factor) r h = r
-refusal_text nonce Unknown r h = no_ok [] h
-refusal_text nonce Password r h = no_ok [] h
-refusal_text nonce (Throttled seconds) r h = no_ok [] h
-refusal_text nonce Invalid r h = no_ok [] h
-refusal_text nonce Spent r h = no_ok [] h
-refusal_text nonce Timeout r h = no_ok [] h
-refusal_text nonce Busy r h = no_ok [] h
-refusal_text nonce Clock r h = no_ok [] h
-refusal_text nonce Exhausted r h = no_ok [] h
+refusal_text : (nonce : List ℕ) (reason : Reason) → IsOk (answer_bytes (Answered nonce (Refused reason))) → ⊥
+refusal_text nonce reason h = no_ok [] h
 
 bad_text : IsOk (answer_bytes BadLine) → ⊥
 bad_text h = no_ok [] h
@@ -154,11 +147,11 @@ asked_at : (events : List WorldEvent) (i client : ℕ) (line nonce : List ℕ) (
 asked_at events i client line nonce None h = absurd h
 asked_at events i client line nonce (Some b) h = h
 
-no_acceptance : (events : List WorldEvent) (passes : List Acceptance) (e i : ℕ) (d : Decision) (o : Option Owner) → IsNoAcceptance d → Each (TellsWell events passes e i) (answer_to_decision None d o)
+no_acceptance : (events : List WorldEvent) (passes : List Acceptance) (e i : ℕ) (d : Decision) (o : Option Owner) → IsNoAcceptance d → Each (TellsWell events passes e i) (answer_to_decision d o)
 no_acceptance events passes e i d None h = tt
-no_acceptance events passes e i Won (Some o) h = absurd h
-no_acceptance events passes e i Lost (Some o) h = (λ ok. absurd (refusal_text o.nonce Spent tt ok), tt)
-no_acceptance events passes e i Late (Some o) h = (λ ok. absurd (refusal_text o.nonce Timeout tt ok), tt)
+no_acceptance events passes e i (Won pass) (Some o) h = absurd h
+no_acceptance events passes e i Lost (Some o) h = (λ ok. absurd (refusal_text o.nonce Spent ok), tt)
+no_acceptance events passes e i Late (Some o) h = (λ ok. absurd (refusal_text o.nonce Timeout ok), tt)
 
 -- the line of the owner of the pass began it
 record IsOwnPass (events : List WorldEvent) (begun : ProposalRecord → Option Begun) (i : ℕ) (owners : List Owner) (p : PassRecord) : Type 0 where
@@ -181,15 +174,15 @@ own_pass events begun i boot seq owners p h same (Some o) at owned =
 
 -- what the one answer to an acceptance is
 pub told_own : (owners : List Owner) (p : PassRecord) (o : Owner) → owner_with p.seq owners ≡ Some o
-    → answers_to_decisions owners (Some p) ((p.seq, Won) ∷ []) ≡ record { client = o.client; line = o.line; text = ok_bytes o.nonce p.hi } ∷ []
-told_own owners p o at = ap (λ x. answer_to_decision (Some p) Won x ++ []) at
+    → answers_to_decisions owners ((p.seq, Won p) ∷ []) ≡ record { client = o.client; line = o.line; text = ok_bytes o.nonce p.hi } ∷ []
+told_own owners p o at = ap (λ x. answer_to_decision (Won p) x ++ []) at
 
 decided_well : (events : List WorldEvent) (h : List Note) (begun : ProposalRecord → Option Begun) (e i boot seq : ℕ) (owners : List Owner) → Each (OwnerKept events begun i boot seq) owners
     → (pass : Option PassRecord) (decisions : List (ℕ × Decision)) → Settled boot (HasOwner owners) pass decisions
-    → Each (TellsWell events (passes_in h ++ acceptance_in begun e i pass) e i) (answers_to_decisions owners pass decisions)
+    → Each (TellsWell events (passes_in h ++ acceptance_in begun e i pass) e i) (answers_to_decisions owners decisions)
 decided_well events h begun e i boot seq owners os None decisions settled =
-    each_flat_map (TellsWell events (passes_in h ++ []) e i) (λ (d : ℕ × Decision). answer_to_decision None d.1 (owner_with d.0 owners)) decisions
-    (each_weaker (λ (d : ℕ × Decision). IsNoAcceptance d.1) (λ (d : ℕ × Decision). Each (TellsWell events (passes_in h ++ []) e i) (answer_to_decision None d.1 (owner_with d.0 owners)))
+    each_flat_map (TellsWell events (passes_in h ++ []) e i) (λ (d : ℕ × Decision). answer_to_decision d.1 (owner_with d.0 owners)) decisions
+    (each_weaker (λ (d : ℕ × Decision). IsNoAcceptance d.1) (λ (d : ℕ × Decision). Each (TellsWell events (passes_in h ++ []) e i) (answer_to_decision d.1 (owner_with d.0 owners)))
     (λ d n. no_acceptance events (passes_in h ++ []) e i d.1 (owner_with d.0 owners) n) decisions settled)
 decided_well events h begun e i boot seq owners os (Some p) decisions settled =
     let own = own_pass events begun i boot seq owners p os settled.0 (owner_with p.seq owners) refl settled.1 in
@@ -211,17 +204,17 @@ decided_well events h begun e i boot seq owners os (Some p) decisions settled =
       },
       tt,
     ) in
-    subst (λ l. Each (TellsWell events passes e i) (answers_to_decisions owners (Some p) l)) (sym settled.2)
+    subst (λ l. Each (TellsWell events passes e i) (answers_to_decisions owners l)) (sym settled.2)
     (subst (λ l. Each (TellsWell events passes e i) l) (sym (told_own owners p o own.here)) told)
 
 decided_replied : (events : List WorldEvent) (begun : ProposalRecord → Option Begun) (i boot seq : ℕ) (owners : List Owner) → Each (OwnerKept events begun i boot seq) owners
-    → (pass : Option PassRecord) (decisions : List (ℕ × Decision)) → Settled boot (HasOwner owners) pass decisions → Replied events i begun pass (map reply_with (answers_to_decisions owners pass decisions))
+    → (pass : Option PassRecord) (decisions : List (ℕ × Decision)) → Settled boot (HasOwner owners) pass decisions → Replied events i begun pass (map reply_with (answers_to_decisions owners decisions))
 decided_replied events begun i boot seq owners os None decisions settled = tt
 decided_replied events begun i boot seq owners os (Some p) decisions settled =
     let own = own_pass events begun i boot seq owners p os settled.0 (owner_with p.seq owners) refl settled.1 in
     let o = own.owner in
     let one : KeptAnswer = record { client = o.client; line = o.line; text = ok_bytes o.nonce p.hi } in
-    let same : map reply_with (answers_to_decisions owners (Some p) decisions) ≡ reply_with one ∷ [] = ap (λ l. map reply_with (answers_to_decisions owners (Some p) l)) settled.2 ∙ ap (λ l. map reply_with l) (told_own owners p o own.here) in
+    let same : map reply_with (answers_to_decisions owners decisions) ≡ reply_with one ∷ [] = ap (λ l. map reply_with (answers_to_decisions owners l)) settled.2 ∙ ap (λ l. map reply_with l) (told_own owners p o own.here) in
     record { place = 0; reply = reply_with one; is_reply = ap (λ l. slice_get l 0) same; line = o.line; nonce = o.nonce; asked = own.asked; bytes = refl }
 
 -- a reply to what was decided just now
@@ -230,16 +223,20 @@ just_told events passes e i a f ok =
     let j = f ok in
     let b = j.backed in
     record {
-      place = b.place;
-      pass = b.pass;
-      is_pass = b.is_pass;
-      node = b.node;
-      ended = omega (arith, j.now);
-      line = a.line;
       nonce = b.nonce;
-      asked = b.asked;
+      hi = b.pass.hi;
       bytes = b.bytes;
-      again = λ lt. absurd (omega (arith, lt, j.now));
+      belongs = record {
+        place = b.place;
+        pass = b.pass;
+        is_pass = b.is_pass;
+        node = b.node;
+        ended = omega (arith, j.now);
+        last = refl;
+        line = a.line;
+        asked = b.asked;
+        again = λ lt. absurd (omega (arith, lt, j.now));
+      };
     }
 
 voted_tells : (events : List WorldEvent) (h : List Note) (e i : ℕ) (Premise : Type 0) (x : NodeState) (owners : List Owner) (began : Option Beginning) (s : Voted)
@@ -247,9 +244,9 @@ voted_tells : (events : List WorldEvent) (h : List Note) (e i : ℕ) (Premise : 
     → Each (OwnerKept events (begun_with e began (begun_in h)) i x.content.boot s.voter.seq) owners → Tells events h e i Premise (made_by_vote owners began s x)
 voted_tells events h e i Premise x owners began s k at step os =
     let begun = begun_with e began (begun_in h) in
-    let passes = passes_in h ++ acceptance_in begun e i s.pass in
-    let well = decided_well events h begun e i x.content.boot s.voter.seq owners os s.pass s.decisions step.settled in
-    let told = answers_to_decisions owners s.pass s.decisions in
+    let passes = passes_in h ++ acceptance_in begun e i (pass_in s.decisions) in
+    let well = decided_well events h begun e i x.content.boot s.voter.seq owners os (pass_in s.decisions) s.decisions step.settled in
+    let told = answers_to_decisions owners s.decisions in
     record {
       began = at;
       state = record {
@@ -257,12 +254,12 @@ voted_tells events h e i Premise x owners began s k at step os =
             (each_filter (OwnerKept events begun i x.content.boot s.voter.seq) (λ (o : Owner). is_pending s.voter.pending o.seq) owners os);
         owned = still_owned owners s.voter.pending step.pending;
         answers = each_kept_all (λ (a : KeptAnswer). KeptBacked events passes (suc e) i a.client a.line a.text) x.answers told
-            (answers_later events (passes_in h) (acceptance_in begun e i s.pass) e i x.answers k.answers)
+            (answers_later events (passes_in h) (acceptance_in begun e i (pass_in s.decisions)) e i x.answers k.answers)
             (each_weaker (TellsWell events passes e i) (λ (a : KeptAnswer). KeptBacked events passes (suc e) i a.client a.line a.text) (λ a f ok. (f ok).backed) told well);
       };
       told = λ _. each_map (λ (r : Reply). ToldBacked events passes (told_reply e i r)) reply_with told
           (each_weaker (TellsWell events passes e i) (λ (a : KeptAnswer). ToldBacked events passes (told_reply e i (reply_with a))) (λ a f. just_told events passes e i a f) told well);
-      replied = decided_replied events begun i x.content.boot s.voter.seq owners os s.pass s.decisions step.settled;
+      replied = decided_replied events begun i x.content.boot s.voter.seq owners os (pass_in s.decisions) s.decisions step.settled;
     }
 
 -- ---- a client's line
@@ -271,10 +268,10 @@ voted_tells events h e i Premise x owners began s k at step os =
 quiet_tells : (events : List WorldEvent) (h : List Note) (e i : ℕ) (Premise : Type 0) (x : NodeState) → NodeKept events h e i x → Tells events h e i Premise (quiet_made x)
 quiet_tells events h e i Premise x k = record { began = tt; state = still_kept events h e i x (quiet_made x) refl k; told = λ _. tt; replied = tt }
 
-refused_tells : (events : List WorldEvent) (h : List Note) (e i : ℕ) (Premise : Type 0) (x : NodeState) (client : ℕ) (line nonce : List ℕ) (outcome : Outcome) (failed : Option (ℕ × ℕ)) → IsRefusedBy outcome
-    → NodeKept events h e i x → let text = answer_bytes (Answered nonce outcome) in Tells events h e i Premise (reply_made client text failed (node_with_answer client line text x))
-refused_tells events h e i Premise x client line nonce outcome failed refusal k =
-    let text = answer_bytes (Answered nonce outcome) in
+refused_tells : (events : List WorldEvent) (h : List Note) (e i : ℕ) (Premise : Type 0) (x : NodeState) (client : ℕ) (line nonce : List ℕ) (reason : Reason) (failed : Option (ℕ × ℕ))
+    → NodeKept events h e i x → let text = answer_bytes (Answered nonce (Refused reason)) in Tells events h e i Premise (reply_made client text failed (node_with_answer client line text x))
+refused_tells events h e i Premise x client line nonce reason failed k =
+    let text = answer_bytes (Answered nonce (Refused reason)) in
     let o = reply_made client text failed (node_with_answer client line text x) in
     let later = still_kept events h e i x o refl k in
     record {
@@ -283,9 +280,9 @@ refused_tells events h e i Premise x client line nonce outcome failed refusal k 
         owners = later.owners;
         owned = later.owned;
         answers = each_kept (λ (a : KeptAnswer). KeptBacked events (passes_in h ++ []) (suc e) i a.client a.line a.text) x.answers (record { client = client; line = line; text = text })
-            later.answers (λ ok. absurd (refusal_text nonce outcome refusal ok));
+            later.answers (λ ok. absurd (refusal_text nonce reason ok));
       };
-      told = λ _. (λ ok. absurd (refusal_text nonce outcome refusal ok), tt);
+      told = λ _. (λ ok. absurd (refusal_text nonce reason ok), tt);
       replied = tt;
     }
 
@@ -298,16 +295,20 @@ again_tells events h e i x client line text kept k = record {
     λ ok.
         let b = backed_later events (passes_in h) [] e i client line text (kept ok) in
         record {
-          place = b.place;
-          pass = b.pass;
-          is_pass = b.is_pass;
-          node = b.node;
-          ended = omega (arith, b.ended);
-          line = line;
           nonce = b.nonce;
-          asked = b.asked;
+          hi = b.pass.hi;
           bytes = b.bytes;
-          again = λ _. said;
+          belongs = record {
+            place = b.place;
+            pass = b.pass;
+            is_pass = b.is_pass;
+            node = b.node;
+            ended = omega (arith, b.ended);
+            last = refl;
+            line = line;
+            asked = b.asked;
+            again = λ _. said;
+          };
         },
     tt,
   );
@@ -365,9 +366,9 @@ ruling_tells config events h e place x client moment text comes k Outside g = re
 ruling_tells config events h e place x client moment text comes k (Again kept) g =
     again_tells events h e place.me x client (without_lf text) kept (found_kept (KeptBacked events (passes_in h) e place.me) x.answers client (without_lf text) kept k.answers g) k
 ruling_tells config events h e place x client moment text comes k Waiting g = quiet_tells events h e place.me _ x k
-ruling_tells config events h e place x client moment text comes k (Denied nonce outcome) g = refused_tells events h e place.me _ x client (without_lf text) nonce outcome None g k
-ruling_tells config events h e place x client moment text comes k (Wrong nonce outcome token) g =
-    refused_tells events h e place.me _ (node_with_failure token moment x) client (without_lf text) nonce outcome (Some (token, moment)) g.refused (record { owners = k.owners; owned = k.owned; answers = k.answers })
+ruling_tells config events h e place x client moment text comes k (Denied nonce reason) g = refused_tells events h e place.me _ x client (without_lf text) nonce reason None k
+ruling_tells config events h e place x client moment text comes k (Wrong nonce reason token) g =
+    refused_tells events h e place.me _ (node_with_failure token moment x) client (without_lf text) nonce reason (Some (token, moment)) (record { owners = k.owners; owned = k.owned; answers = k.answers })
 ruling_tells config events h e place x client moment text comes k (Fitting nonce token lo hi drift) g =
     proposing_tells events h e place _ x client (without_lf text) nonce token lo hi drift k
     (comes (without_lf text) nonce (record { request = g.request; grammar = g.grammar; nonce_is = g.nonce_is; line_is = refl }))

@@ -1,17 +1,17 @@
 -- A voter's step leaves each drift, but for the pass that puts its ballot's.
-use Rattle.std.proofs.Common.{◌≡◌, ℕ, ℤ, ◌-◌, ◌<◌, ◌≤◌, [], ◌∷◌, ⊎_elim, cond, length, Option, Some, None, refl, sym, ap, ◌∙◌, subst, arith, eqb, leb, ltb}
+use Rattle.std.proofs.Common.{◌≡◌, ℕ, ℤ, ◌-◌, ◌<◌, ◌≤◌, [], ◌∷◌, ⊎_elim, cond, length, Option, Some, None, refl, sym, ap, ◌∙◌, subst, arith, eqb, leb, ltb, not, filter}
 use Rattle.std.proofs.lemmas.Bool.{cond_both, eqb-true, eqb-false}
 use Rattle.floor_store.specs.Content.{Content, accepted_row, with_row}
 use Rattle.floor_store.specs.Records.{ProposalRecord, RowRecord, PassRecord}
 use Rattle.otp_core.specs.Acceptance.{size, majority_of}
 use Rattle.vote_core.specs.NodeSet.{PlaceRecord, with_node}
 use Rattle.vote_core.specs.Rows.{row, granted_row, row_with_next}
-use Rattle.vote_core.specs.Voting.{VoterState, Voted, Ballot, with_pending, remove, replace, with_granting, with_denying, accept, granted_one, of_this_boot, denied_one, propose_alone, propose_among, propose, proposal_of, is_grant, reply_step, on_ask, count_grant, on_grant, raise, count_deny, on_deny, on_floor, on_message, older_ballot, older_ballots, is_young, tick, quiet_step}
+use Rattle.vote_core.specs.Voting.{VoterState, Voted, Ballot, with_pending, remove, replace, with_granting, with_denying, accept, granted_one, of_this_boot, denied_one, propose_alone, propose_among, propose, proposal_of, is_grant, reply_step, on_ask, count_grant, on_grant, raise, count_deny, on_deny, on_floor, on_message, older_ballot, older_ballots, is_young, tick, quiet_step, pass_in}
 use Rattle.vote_core.specs.declared.message.Message.{Message}
 use Rattle.vote_core.specs.declared.message.Message.TheVariants.{Ask, Grant, Deny, Floor}
 use Rattle.vote_core.specs.declared.step.Decision.TheVariants.{Spent}
 use Rattle.vote_core.proofs.Basics.{Each, each_append, each_filter, each_map, row_cases, row_here}
-use Rattle.vote_core.proofs.Lists.{deny_found, each_remove, each_replace, find_each, grant_fits}
+use Rattle.vote_core.proofs.Lists.{deny_found, each_remove, each_replace, find_each, grant_fits, pass_in-timeouts}
 use Rattle.cluster_sim.proofs.VoteSteps.{raise_boot}
 
 -- what holds of a number, its token, its last factor and its drift
@@ -37,7 +37,7 @@ pub record IsDriftStep (P : Keeping) (c : Content) (v : VoterState) (s : Voted) 
   pub boot : s.content.boot ≡ c.boot
   pub seq : v.seq ≤ s.voter.seq
   pub pending : Each (IsKept P) s.voter.pending
-  pub drifts : LeavesDrifts P c s.content s.pass
+  pub drifts : LeavesDrifts P c s.content (pass_in s.decisions)
 
 put_drift : (c : Content) (t : ℕ) (r : RowRecord) (p : Option PassRecord) (u : ℕ) → u < length c.rows → (row (with_row c t r p) u).drift ≡ cond (eqb t u) r.drift (row c u).drift
 put_drift c t r p u h =
@@ -85,7 +85,7 @@ discount_drift : (P : Keeping) (place : PlaceRecord) (from : ℕ) (c d : Content
 unfolding count_deny
 discount_drift P place from c d v None same rows h ok = record { boot = same; seq = omega arith; pending = h; drifts = rows }
 discount_drift P place from c d v (Some q) same rows h ok =
-    let gone : Voted = record { content = d; voter = with_pending (remove q.seq v.pending) v; sends = []; begun = None; decisions = (q.seq, Spent) ∷ []; pass = None } in
+    let gone : Voted = record { content = d; voter = with_pending (remove q.seq v.pending) v; sends = []; begun = None; decisions = (q.seq, Spent) ∷ [] } in
     cond_both (ltb (place.n - size place.n (with_node from q.denying)) (majority_of place.n)) gone (quiet_step d (with_pending (replace (with_denying from q) v.pending) v)) (λ s. IsDriftStep P c v s)
     (λ _. record { boot = same; seq = omega arith; pending = each_remove (IsKept P) q.seq v.pending h; drifts = rows })
     (λ _. record { boot = same; seq = omega arith; pending = each_replace (IsKept P) (with_denying from q) v.pending (ok q refl) h; drifts = rows })
@@ -107,7 +107,7 @@ tick_drift P place c v h = record {
   boot = refl;
   seq = omega arith;
   pending = each_filter (IsKept P) is_young (older_ballots v.pending) (each_map (IsKept P) older_ballot v.pending h);
-  drifts = λ u. refl;
+  drifts = subst (λ o. LeavesDrifts P c c o) (sym (pass_in-timeouts (filter (λ q. not (is_young q)) (older_ballots v.pending)))) (λ u. refl);
 }
 
 pub propose_drift : (P : Keeping) (place : PlaceRecord) (t lo hi : ℕ) (drift : ℤ) (c : Content) (v : VoterState) → Each (IsKept P) v.pending → P v.seq t hi drift

@@ -1,5 +1,6 @@
 -- A voter's step leaves each gate, but for the pass that clears its token's.
-use Rattle.std.proofs.Common.{◌≡◌, ℕ, ℤ, ◌-◌, ◌<◌, [], ◌∷◌, ⊎_elim, cond, length, Option, Some, None, refl, sym, ap, ◌∙◌, subst, eqb, leb, ltb}
+use Rattle.vote_core.proofs.Lists.{pass_in-timeouts}
+use Rattle.std.proofs.Common.{◌≡◌, ℕ, ℤ, ◌-◌, ◌<◌, [], ◌∷◌, ⊎_elim, cond, length, Option, Some, None, refl, sym, ap, ◌∙◌, subst, eqb, leb, ltb, not, filter}
 use Rattle.std.proofs.lemmas.Bool.{cond_both, eqb-true, eqb-false}
 use Rattle.admit_core.specs.Gate.{GateRecord, clear_gate}
 use Rattle.floor_store.specs.Content.{Content, accepted_row, with_row}
@@ -7,7 +8,7 @@ use Rattle.floor_store.specs.Records.{ProposalRecord, RowRecord, PassRecord}
 use Rattle.otp_core.specs.Acceptance.{size, majority_of}
 use Rattle.vote_core.specs.NodeSet.{PlaceRecord, with_node}
 use Rattle.vote_core.specs.Rows.{row, granted_row, row_with_next}
-use Rattle.vote_core.specs.Voting.{VoterState, Voted, Ballot, with_pending, remove, replace, with_granting, with_denying, accept, granted_one, of_this_boot, denied_one, propose_alone, propose_among, propose, is_grant, reply_step, on_ask, count_grant, on_grant, raise, count_deny, on_deny, on_floor, on_message, tick, quiet_step}
+use Rattle.vote_core.specs.Voting.{VoterState, Voted, Ballot, with_pending, remove, replace, with_granting, with_denying, accept, granted_one, of_this_boot, denied_one, propose_alone, propose_among, propose, is_grant, reply_step, on_ask, count_grant, on_grant, raise, count_deny, on_deny, on_floor, on_message, tick, quiet_step, pass_in, is_young, older_ballots}
 use Rattle.vote_core.specs.declared.step.Decision.TheVariants.{Spent}
 use Rattle.vote_core.proofs.Basics.{row_cases, row_here}
 use Rattle.vote_core.specs.declared.message.Message.{Message}
@@ -18,7 +19,7 @@ gate_by None u g = g
 gate_by (Some p) u g = cond (eqb p.token u) clear_gate g
 
 abbrev pub GateStep : Content → Voted → Type 0
-GateStep c s = (u : ℕ) → u < length c.rows → (row s.content u).gate ≡ gate_by s.pass u (row c u).gate
+GateStep c s = (u : ℕ) → u < length c.rows → (row s.content u).gate ≡ gate_by (pass_in s.decisions) u (row c u).gate
 
 pub put_gate : (c : Content) (t : ℕ) (r : RowRecord) (p : Option PassRecord) (u : ℕ) → u < length c.rows → (row (with_row c t r p) u).gate ≡ cond (eqb t u) r.gate (row c u).gate
 put_gate c t r p u h =
@@ -56,18 +57,18 @@ unfolding raise
 raise_gate t next c u = cond_both (ltb (row c t).next next) (with_row c t (row_with_next next (row c t)) None) c (λ d. (row d u).gate ≡ (row c u).gate) (λ _. same_gate c t (row_with_next next (row c t)) None u refl) (λ _. refl)
 
 abbrev Plain : Content → Voted → Type 0
-Plain c s = (u : ℕ) → (row s.content u).gate ≡ gate_by s.pass u (row c u).gate
+Plain c s = (u : ℕ) → (row s.content u).gate ≡ gate_by (pass_in s.decisions) u (row c u).gate
 
 discount_gate : (place : PlaceRecord) (from : ℕ) (c : Content) (v : VoterState) (o : Option Ballot) → Plain c (count_deny place from c v o)
 unfolding count_deny
 discount_gate place from c v None = λ u. refl
-discount_gate place from c v (Some q) = cond_both (ltb (place.n - size place.n (with_node from q.denying)) (majority_of place.n)) (record { content = c; voter = with_pending (remove q.seq v.pending) v; sends = []; begun = None; decisions = (q.seq, Spent) ∷ []; pass = None }) (quiet_step c (with_pending (replace (with_denying from q) v.pending) v)) (λ s. Plain c s) (λ _ u. refl) (λ _ u. refl)
+discount_gate place from c v (Some q) = cond_both (ltb (place.n - size place.n (with_node from q.denying)) (majority_of place.n)) (record { content = c; voter = with_pending (remove q.seq v.pending) v; sends = []; begun = None; decisions = (q.seq, Spent) ∷ [] }) (quiet_step c (with_pending (replace (with_denying from q) v.pending) v)) (λ s. Plain c s) (λ _ u. refl) (λ _ u. refl)
 
 deny_gate : (place : PlaceRecord) (from : ℕ) (p : ProposalRecord) (t next : ℕ) (c : Content) (v : VoterState) → GateStep c (on_deny place from p t next c v)
 unfolding on_deny
 deny_gate place from p t next c v u h =
     discount_gate place from (raise t next c) v (denied_one from t (of_this_boot c p v)) u
-    ∙ ap (λ g. gate_by (count_deny place from (raise t next c) v (denied_one from t (of_this_boot c p v))).pass u g) (raise_gate t next c u)
+    ∙ ap (λ g. gate_by (pass_in (count_deny place from (raise t next c) v (denied_one from t (of_this_boot c p v))).decisions) u g) (raise_gate t next c u)
 
 pub message_gate : (place : PlaceRecord) (from : ℕ) (m : Message) (c : Content) (v : VoterState) → GateStep c (on_message place from m c v)
 unfolding on_message on_floor
@@ -85,4 +86,4 @@ propose_gate place t lo hi drift c v =
 
 pub tick_gate : (place : PlaceRecord) (c : Content) (v : VoterState) → GateStep c (tick place c v)
 unfolding tick
-tick_gate place c v u h = refl
+tick_gate place c v u h = ap (λ o. gate_by o u (row c u).gate) (sym (pass_in-timeouts (filter (λ q. not (is_young q)) (older_ballots v.pending))))

@@ -1,5 +1,6 @@
 -- What a voter's step decides, by the numbers of what is pending.
-use Rattle.std.proofs.Common.{◌≡◌, ℕ, ℤ, ◌+◌, ◌-◌, ◌≤◌, List, [], ◌∷◌, cond, not, Option, Some, None, refl, arith, eqb, leb, ltb}
+use Rattle.vote_core.proofs.Lists.{pass_in-timeouts}
+use Rattle.std.proofs.Common.{◌≡◌, ℕ, ℤ, ◌+◌, ◌-◌, ◌≤◌, List, [], ◌∷◌, cond, not, Option, Some, None, refl, arith, eqb, leb, ltb, subst, sym}
 use Rattle.std.specs.List.{filter}
 use Rattle.std.proofs.lemmas.Bool.{cond_both}
 use Rattle.floor_store.specs.Content.{Content, with_row}
@@ -7,7 +8,7 @@ use Rattle.floor_store.specs.Records.{ProposalRecord, PassRecord}
 use Rattle.otp_core.specs.Acceptance.{size, majority_of}
 use Rattle.vote_core.specs.NodeSet.{PlaceRecord, with_node}
 use Rattle.vote_core.specs.Rows.{row, granted_row, row_with_next}
-use Rattle.vote_core.specs.Voting.{VoterState, Voted, Ballot, find, with_pending, remove, replace, with_granting, with_denying, accept, granted_one, of_this_boot, denied_one, propose_alone, propose_among, propose, is_grant, reply_step, on_ask, count_grant, on_grant, raise, count_deny, on_deny, on_floor, on_message, older_ballot, older_ballots, is_young, tick, quiet_step}
+use Rattle.vote_core.specs.Voting.{VoterState, Voted, Ballot, find, with_pending, remove, replace, with_granting, with_denying, accept, granted_one, of_this_boot, denied_one, propose_alone, propose_among, propose, is_grant, reply_step, on_ask, count_grant, on_grant, raise, count_deny, on_deny, on_floor, on_message, older_ballot, older_ballots, is_young, tick, quiet_step, pass_in}
 use Rattle.vote_core.specs.declared.message.Message.{Message}
 use Rattle.vote_core.specs.declared.message.Message.TheVariants.{Ask, Grant, Deny, Floor}
 use Rattle.vote_core.specs.declared.step.Decision.{Decision}
@@ -19,20 +20,20 @@ abbrev pub Numbered : (ℕ → Type 0) → List Ballot → Type 0
 Numbered P ballots = Each (λ (q : Ballot). P q.seq) ballots
 
 abbrev pub IsNoAcceptance : Decision → Type 0
-IsNoAcceptance Accepted = ⊥
+IsNoAcceptance (Accepted pass) = ⊥
 IsNoAcceptance Spent = Unit {0}
 IsNoAcceptance Timeout = Unit {0}
 
 -- a pass is of this boot, and what is decided is that it was accepted; without one nothing is accepted
 abbrev pub Settled : ℕ → (ℕ → Type 0) → Option PassRecord → List (ℕ × Decision) → Type 0
 Settled boot P None decisions = Each (λ (d : ℕ × Decision). IsNoAcceptance d.1) decisions
-Settled boot P (Some p) decisions = (p.boot ≡ boot) × P p.seq × (decisions ≡ (p.seq, Accepted) ∷ [])
+Settled boot P (Some p) decisions = (p.boot ≡ boot) × P p.seq × (decisions ≡ (p.seq, Accepted p) ∷ [])
 
 pub record IsStep (P : ℕ → Type 0) (c : Content) (v : VoterState) (s : Voted) : Type 0 where
   pub boot : s.content.boot ≡ c.boot
   pub seq : v.seq ≤ s.voter.seq
   pub pending : Numbered P s.voter.pending
-  pub settled : Settled c.boot P s.pass s.decisions
+  pub settled : Settled c.boot P (pass_in s.decisions) s.decisions
 
 only_step : (P : ℕ → Type 0) (c d : Content) (v : VoterState) → d.boot ≡ c.boot → Numbered P v.pending → IsStep P c v (quiet_step d v)
 only_step P c d v same h = record { boot = same; seq = omega arith; pending = h; settled = tt }
@@ -91,7 +92,7 @@ deny_step : (P : ℕ → Type 0) (place : PlaceRecord) (from : ℕ) (c d : Conte
 unfolding count_deny
 deny_step P place from c d v None same h f = only_step P c d v same h
 deny_step P place from c d v (Some q) same h f =
-    let gone : Voted = record { content = d; voter = with_pending (remove q.seq v.pending) v; sends = []; begun = None; decisions = (q.seq, Spent) ∷ []; pass = None } in
+    let gone : Voted = record { content = d; voter = with_pending (remove q.seq v.pending) v; sends = []; begun = None; decisions = (q.seq, Spent) ∷ [] } in
     cond_both (ltb (place.n - size place.n (with_node from q.denying)) (majority_of place.n)) gone (quiet_step d (with_pending (replace (with_denying from q) v.pending) v)) (λ s. IsStep P c v s)
     (λ _. record { boot = same; seq = omega arith; pending = each_filter (λ (b : Ballot). P b.seq) _ v.pending h; settled = (tt, tt) })
     (λ _. record { boot = same; seq = omega arith; pending = replaced P (with_denying from q) v.pending f h; settled = tt })
@@ -109,7 +110,8 @@ tick_step P place c v h = record {
   boot = refl;
   seq = omega arith;
   pending = each_filter (λ (q : Ballot). P q.seq) is_young (older_ballots v.pending) (each_map (λ (q : Ballot). P q.seq) older_ballot v.pending h);
-  settled = each_map (λ (d : ℕ × Decision). IsNoAcceptance d.1) (λ (q : Ballot). (q.seq, Timeout)) (filter (λ q. not (is_young q)) (older_ballots v.pending)) (each_all (λ (q : Ballot). Unit {0}) (λ _. tt) (filter (λ q. not (is_young q)) (older_ballots v.pending)));
+  settled = subst (λ o. Settled c.boot P o (tick place c v).decisions) (sym (pass_in-timeouts (filter (λ q. not (is_young q)) (older_ballots v.pending))))
+      (each_map (λ (d : ℕ × Decision). IsNoAcceptance d.1) (λ (q : Ballot). (q.seq, Timeout)) (filter (λ q. not (is_young q)) (older_ballots v.pending)) (each_all (λ (q : Ballot). Unit {0}) (λ _. tt) (filter (λ q. not (is_young q)) (older_ballots v.pending))));
 }
 
 -- a proposal takes the next number

@@ -45,25 +45,6 @@ IsSaidIn node client line (Some (Happens (Says at by moment text))) =
     (at ≡ node) × (by ≡ client) × (without_lf text ≡ line)
 IsSaidIn node client line _ = ⊥
 
--- What was told is the OK of an acceptance of its node: the line with which that began came from its client, with its
--- nonce. If it ended in an earlier event, the client sent that line again.
-pub record BelongsToPass (events : List WorldEvent) (passes : List Acceptance) (told : Told) : Type 0 where
-  pub place : ℕ
-  pub pass : Acceptance
-  pub is_pass : slice_get passes place ≡ Some pass
-  pub node : pass.node ≡ told.node
-  pub ended : pass.ended ≤ told.event
-  pub line : List ℕ
-  pub nonce : List ℕ
-  pub asked : IsAskedIn told.node told.client line nonce (slice_get events pass.began)
-  pub bytes : told.bytes ≡ ok_bytes nonce pass.hi
-  pub again : pass.ended < told.event → IsSaidIn told.node told.client line (slice_get events told.event)
-
--- each reply that begins as an OK belongs to an acceptance
-abbrev pub TellTruth : List WorldEvent → List Acceptance → List Told → Type 0
-TellTruth events passes answers =
-    (i : ℕ) (told : Told) → slice_get answers i ≡ Some told → IsOk told.bytes → BelongsToPass events passes told
-
 -- There is an acceptance at the node of a reply with this last factor, whose line came from its client with this nonce.
 -- If it ended in an earlier event, the client sent that line again.
 pub record IsPassOf (events : List WorldEvent) (passes : List Acceptance) (told : Told) (nonce : List ℕ)
@@ -77,6 +58,18 @@ pub record IsPassOf (events : List WorldEvent) (passes : List Acceptance) (told 
   pub line : List ℕ
   pub asked : IsAskedIn told.node told.client line nonce (slice_get events pass.began)
   pub again : pass.ended < told.event → IsSaidIn told.node told.client line (slice_get events told.event)
+
+-- what was told is the OK with some nonce and factor of which there is such an acceptance
+pub record BelongsToPass (events : List WorldEvent) (passes : List Acceptance) (told : Told) : Type 0 where
+  pub nonce : List ℕ
+  pub hi : ℕ
+  pub bytes : told.bytes ≡ ok_bytes nonce hi
+  pub belongs : IsPassOf events passes told nonce hi
+
+-- each reply that begins as an OK belongs to an acceptance
+abbrev pub TellTruth : List WorldEvent → List Acceptance → List Told → Type 0
+TellTruth events passes answers =
+    (i : ℕ) (told : Told) → slice_get answers i ≡ Some told → IsOk told.bytes → BelongsToPass events passes told
 
 -- each OK with a nonce and a factor has its acceptance
 abbrev pub NamePasses : List WorldEvent → List Acceptance → List Told → Type 0

@@ -6,9 +6,11 @@ use Rattle.answer_ring.specs.Answers.{KeptAnswer, kept_answer, kept_with}
 use Rattle.vote_wire.specs.Answer.{answer_bytes}
 use Rattle.oath_node.specs.Machine.{Config}
 use Rattle.vote_wire.specs.Request.{without_lf}
-use Rattle.oath_node.specs.Rules.{Standing, Ruling, Outside, Again, Waiting, Denied, Wrong, Fitting, ruling}
+use Rattle.oath_node.specs.Rules.{Standing, ruling}
+use Rattle.oath_node.specs.declared.ruling.Ruling.{Ruling}
+use Rattle.oath_node.specs.declared.ruling.Ruling.TheVariants.{Outside, Again, Waiting, Denied, Wrong, Fitting}
 use Rattle.vote_wire.specs.declared.answer.Answer.TheVariants.{BadLine, Reply}
-use Rattle.vote_wire.specs.declared.answer.Outcome.TheVariants.{Accepted}
+use Rattle.vote_wire.specs.declared.answer.Outcome.TheVariants.{Accepted, Refused}
 
 -- a front end: of each token its results there, the newest first, and its drift there, and the last answers
 pub record Front : Type 0 where
@@ -72,12 +74,12 @@ served_by_ruling server place client moment line Outside =
     record { server = server; reply = Some (answer_bytes BadLine) }
 served_by_ruling server place client moment line (Again text) = record { server = server; reply = Some text }
 served_by_ruling server place client moment line Waiting = record { server = server; reply = None }
-served_by_ruling server place client moment line (Denied nonce outcome) =
-    let text = answer_bytes (Reply nonce outcome) in
+served_by_ruling server place client moment line (Denied nonce reason) =
+    let text = answer_bytes (Reply nonce (Refused reason)) in
     let front = front_with_answer client line text (server.fronts place) in
     record { server = server_with_front place front server; reply = Some text }
-served_by_ruling server place client moment line (Wrong nonce outcome token) =
-    let text = answer_bytes (Reply nonce outcome) in
+served_by_ruling server place client moment line (Wrong nonce reason token) =
+    let text = answer_bytes (Reply nonce (Refused reason)) in
     let front = front_with_answer client line text (front_with_result token (Failed moment) (server.fronts place)) in
     record { server = server_with_front place front server; reply = Some text }
 served_by_ruling server place client moment line (Fitting nonce token lo hi drift) =

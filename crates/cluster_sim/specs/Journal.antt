@@ -1,4 +1,5 @@
--- What the simulation keeps of a run, and what it is in the world.
+-- What the simulation keeps of a run, and what it is in the world. Private contracts alone cite it: no public one rests
+-- on it.
 use Rattle.std.specs.Prelude.{◌≡◌, ℕ, suc, Bool, if◌then◌else◌, List, [], ◌∷◌, ◌++◌, length, map, take, Option, Some, None, Result, OnOk, slice_get}
 use Rattle.floor_store.specs.Content.{Content}
 use Rattle.floor_store.specs.Held.{Held}
@@ -15,10 +16,6 @@ use Rattle.oath_node.specs.Outputs.{OutputsRecord, no_outputs, outputs_of}
 use Rattle.oath_node.specs.declared.item.Item.{Item}
 use Rattle.oath_node.specs.declared.item.Item.TheVariants.{Datagram, Reply}
 use Rattle.cluster_sim.specs.World.{World, Told, Act as WorldAct, Says, Deliver, Ticks, Noise, WorldEvent as Event, Happens, Cut, Restart, begun_in, passes_in, with_state, with_told_of, world_after_act, world_after_event, world_after_events, world_after_turn}
-use Rattle.cluster_sim.specs.declared.script.Act.{Act}
-use Rattle.cluster_sim.specs.declared.script.Act.TheVariants.{Client as ClientAct, Deliver as DeliverAct, Tick as TickAct, Noise as NoiseAct}
-use Rattle.cluster_sim.specs.declared.script.WorldEvent.{WorldEvent}
-use Rattle.cluster_sim.specs.declared.script.WorldEvent.TheVariants.{Happens as HappensEvent, Cut as CutEvent, Restart as RestartEvent}
 
 -- a datagram, the node that sent it, and the one that it is for
 pub record Letter : Type 0 where
@@ -226,18 +223,3 @@ abbrev pub Plays : {A E : Type 0} → List ℕ → (Config → World → World) 
 Plays key makes old new result =
     (config : Config) (world : World) → IsRun config key world old → AreSpelled world
     → OnOk result (IsRun config key (makes config world) new)
-
--- ---- Scripts
-
--- an act of a script, its bytes read under the key
-abbrev pub act_of : List ℕ → Act → WorldAct
-act_of key (ClientAct node client moment line) = Says node client moment line.now
-act_of key (DeliverAct node k) = Deliver node k
-act_of key (TickAct node) = Ticks node
-act_of key (NoiseAct node from bytes) = Noise node from (envelope_at key bytes.now)
-
--- an event of a script, its bytes read under the key
-abbrev pub event_of : List ℕ → WorldEvent → Event
-event_of key (HappensEvent act) = Happens (act_of key act)
-event_of key (CutEvent kept act) = Cut kept (act_of key act)
-event_of key (RestartEvent node) = Restart node

@@ -4,7 +4,6 @@ pub mod Examples
 pub mod FrontEnds
 pub mod Journal
 pub mod Justified
-pub mod Refinement
 pub mod Results
 pub mod RoundExamples
 pub mod RoundRun

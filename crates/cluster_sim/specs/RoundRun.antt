@@ -1,18 +1,9 @@
--- Rounds of a simulation, as their caller writes them down, and what its calls make of a world.
-use Rattle.std.specs.Prelude.{◌≡◌, ℕ, ◌+◌, List, length, map, drop, take, Result, IfOk}
+-- What the calls of a simulation make of a world in rounds. Private contracts alone cite it: no public one rests on it.
+use Rattle.std.specs.Prelude.{◌≡◌, ℕ, ◌+◌, List, length, drop, take, Result, IfOk}
 use Rattle.oath_node.specs.Machine.{Config}
 use Rattle.cluster_sim.specs.Journal.{AreSpelled, IsRun, SimulationRecord}
-use Rattle.cluster_sim.specs.Rounds.{RoundLine, deliveries, is_between}
+use Rattle.cluster_sim.specs.Rounds.{deliveries, is_between}
 use Rattle.cluster_sim.specs.World.{World, WorldEvent, world_after_events}
-use Rattle.cluster_sim.specs.declared.rounds.RoundLine.{RoundLine as CallerLine}
-
--- the line of a caller
-abbrev pub round_line : CallerLine → RoundLine
-round_line line = record { node = line.node; client = line.client; moment = line.moment; line = line.line.now }
-
--- the lines of a caller
-abbrev pub round_lines : List CallerLine → List RoundLine
-round_lines lines = map round_line lines
 
 -- whatever happens from this event on, each datagram that is sent reads as it was meant
 abbrev pub StaySpelled : Config → ℕ → World → Type 0

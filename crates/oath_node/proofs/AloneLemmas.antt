@@ -20,7 +20,8 @@ use Rattle.oath_node.specs.Alone.{IsAlone, ServesAlone, alone_place, drifts_in, 
 use Rattle.oath_node.specs.Grounds.{HasGrounds, IsSameStanding}
 use Rattle.oath_node.specs.Machine.{Client, Config, Made, NodeState, Owner, answers_to_decisions, content_with_failure, kept_with_all, gate_with_failure, made_by_event, made_by_proposal, made_by_ruling, made_by_vote, made_while_running, next_beginning, quiet_made, reply_with, ruling_at, standing_at, stopped_node}
 use Rattle.oath_node.specs.ReferenceServer.{Line, Server, results_of, ruling_of_line, service_by, service_of, standing_of}
-use Rattle.oath_node.specs.Rules.{Ruling, Outside, Again, Waiting, Denied, Wrong, Fitting}
+use Rattle.oath_node.specs.declared.ruling.Ruling.{Ruling}
+use Rattle.oath_node.specs.declared.ruling.Ruling.TheVariants.{Outside, Again, Waiting, Denied, Wrong, Fitting}
 use Rattle.oath_node.proofs.GroundLemmas.{FitLaw, ruling_grounds, ruling_same}
 
 -- what a failure makes of a gate: a law of admit_core
@@ -62,9 +63,9 @@ gate_at c s token h =
     sym (get_or-map (λ (r : RowRecord). r.gate) c.rows token no_row) ∙ ap (λ gs. get_or gs token clear_gate) h.gates
     ∙ get_or-map gate_after s.front.results token []
 
-wrong_content : GateLaw → (c : Content) (s : Server) (l : Line) (nonce : List ℕ) (token : ℕ) (outcome : _) → IsContentOf c s
-    → IsContentOf (content_with_failure token l.moment c) (service_by s l (Wrong nonce outcome token)).server
-wrong_content law c s l nonce token outcome h =
+wrong_content : GateLaw → (c : Content) (s : Server) (l : Line) (nonce : List ℕ) (token : ℕ) (reason : _) → IsContentOf c s
+    → IsContentOf (content_with_failure token l.moment c) (service_by s l (Wrong nonce reason token)).server
+wrong_content law c s l nonce token reason h =
     let g : GateRecord = gate_with_failure c token l.moment in
     let r : RowRecord = row_with_gate g (row c token) in
     record {
@@ -94,7 +95,7 @@ fitting_content c s l nonce seq turn token lo hi drift h =
 -- ---- a line
 
 -- the answer to the one proposal
-told_own : (owner : Owner) (pass : PassRecord) → answers_to_decisions (owner ∷ []) (Some pass) ((owner.seq, Won) ∷ [])
+told_own : (owner : Owner) (pass : PassRecord) → answers_to_decisions (owner ∷ []) ((owner.seq, Won pass) ∷ [])
     ≡ record { client = owner.client; line = owner.line; text = answer_bytes (ReplyAnswer owner.nonce (Accepted pass.hi)) } ∷ []
 told_own owner pass = rw (eq-eqb owner.seq owner.seq refl) refl
 
@@ -114,7 +115,7 @@ fitting_alone count c seq turn s l nonce token lo hi drift h begun =
     let pass = pass_of token lo hi c.boot seq in
     let text = answer_bytes (ReplyAnswer nonce (Accepted hi)) in
     let one : KeptAnswer = record { client = l.client; line = without_lf l.text; text = text } in
-    let told : answers_to_decisions (owner ∷ []) (Some pass) v.decisions ≡ one ∷ [] = told_own owner pass in
+    let told : answers_to_decisions (owner ∷ []) v.decisions ≡ one ∷ [] = told_own owner pass in
     let rows = fitting_content c s l nonce seq turn token lo hi drift h in
     cond_both (nat_lt seq (2 ^ 62)) (made_by_vote (owner ∷ []) (Some (next_beginning alone_place token lo hi x)) v x) (quiet_made (stopped_node x))
     (λ o. RunsOn o → ServesAlone count o l (service_by s l (Fitting nonce token lo hi drift)))
@@ -153,14 +154,14 @@ ruling_alone law book limits count c seq turn s l h begun (Again text) g on = re
   state = record { running = refl; pending = refl; owners = refl; answers = refl; floors = h.floors; gates = h.gates; drifts = h.drifts; begun = omega (arith, begun) };
 }
 ruling_alone law book limits count c seq turn s l h begun Waiting g on = let never : false ≡ true = g in absurd cc
-ruling_alone law book limits count c seq turn s l h begun (Denied nonce outcome) g on = record {
+ruling_alone law book limits count c seq turn s l h begun (Denied nonce reason) g on = record {
   sends = refl;
   replies = refl;
   pass = refl;
   state = record { running = refl; pending = refl; owners = refl; answers = refl; floors = h.floors; gates = h.gates; drifts = h.drifts; begun = omega (arith, begun) };
 }
-ruling_alone law book limits count c seq turn s l h begun (Wrong nonce outcome token) g on =
-    let rows = wrong_content law c s l nonce token outcome h in
+ruling_alone law book limits count c seq turn s l h begun (Wrong nonce reason token) g on =
+    let rows = wrong_content law c s l nonce token reason h in
     record {
       sends = refl;
       replies = refl;
@@ -210,8 +211,8 @@ unfolding made_by_ruling
 ruling_runs c seq turn answers client moment line Outside below = refl
 ruling_runs c seq turn answers client moment line (Again text) below = refl
 ruling_runs c seq turn answers client moment line Waiting below = refl
-ruling_runs c seq turn answers client moment line (Denied nonce outcome) below = refl
-ruling_runs c seq turn answers client moment line (Wrong nonce outcome token) below = refl
+ruling_runs c seq turn answers client moment line (Denied nonce reason) below = refl
+ruling_runs c seq turn answers client moment line (Wrong nonce reason token) below = refl
 ruling_runs c seq turn answers client moment line (Fitting nonce token lo hi drift) below = fitting_runs c seq turn answers client line nonce token lo hi drift below
 
 pub line_runs : (config : Config) (count : ℕ) (x : NodeState) (s : Server) (l : Line) → IsAlone count x s → count < 2 ^ 62

@@ -21,7 +21,8 @@ use Rattle.vote_core.specs.declared.step.Decision.TheVariants.{Timeout}
 use Rattle.vote_wire.specs.Request.{without_lf}
 use Rattle.oath_node.specs.Machine.{Beginning, Config, Made, NodeEvent, Client, Peer, Tick, NodeState, Owner, answer_to_decision, answers_to_decisions, is_heard, made_by_datagram, made_by_event, made_by_message, made_by_proposal, made_by_ruling, made_by_vote, made_while_running, next_beginning, next_owner, owner_with, quiet_made, reply_with, ruling_at, stopped_node}
 use Rattle.oath_node.specs.Outputs.{datagram_item, outputs_of, reply_item}
-use Rattle.oath_node.specs.Rules.{Ruling, Outside, Again, Waiting, Denied, Wrong, Fitting}
+use Rattle.oath_node.specs.declared.ruling.Ruling.{Ruling}
+use Rattle.oath_node.specs.declared.ruling.Ruling.TheVariants.{Outside, Again, Waiting, Denied, Wrong, Fitting}
 
 filter_le : {X : Type 0} (p : X → Bool) (xs : List X) → length (filter p xs) ≤ length xs
 filter_le p xs = omega (arith, length-filter_both p (λ x. not (p x)) (λ _. refl) xs)
@@ -127,15 +128,15 @@ propose_few place t lo hi drift c v h =
 abbrev IsBrief : Made → Type 0
 IsBrief m = length m.sends + length m.replies ≤ 264
 
-one_answer : (pass : Option PassRecord) (d : ℕ × Decision) (o : Option Owner) → length (answer_to_decision pass d.1 o) ≤ 1
-one_answer pass d None = omega arith
-one_answer pass d (Some o) = omega arith
+one_answer : (d : ℕ × Decision) (o : Option Owner) → length (answer_to_decision d.1 o) ≤ 1
+one_answer d None = omega arith
+one_answer d (Some o) = omega arith
 
 vote_brief : (x : NodeState) (owners : List Owner) (began : Option Beginning) (v : Voted) → Few v → IsBrief (made_by_vote owners began v x)
 vote_brief x owners began v h =
-    let told = answers_to_decisions owners v.pass v.decisions in
+    let told = answers_to_decisions owners v.decisions in
     let fewer : length told ≤ 1 * length v.decisions =
-    flat_le _ 1 v.decisions (λ (d : ℕ × Decision). one_answer v.pass d (owner_with d.0 owners)) in
+    flat_le _ 1 v.decisions (λ (d : ℕ × Decision). one_answer d (owner_with d.0 owners)) in
     omega (arith, h, fewer, length-map told reply_with)
 
 proposal_brief : (place : PlaceRecord) (client : ℕ) (line nonce : List ℕ) (t lo hi : ℕ) (drift : ℤ) (x : NodeState) → IsPlace place
@@ -155,8 +156,8 @@ unfolding made_by_ruling
 ruling_brief place client moment line Outside x h = omega arith
 ruling_brief place client moment line (Again text) x h = omega arith
 ruling_brief place client moment line Waiting x h = omega arith
-ruling_brief place client moment line (Denied nonce outcome) x h = omega arith
-ruling_brief place client moment line (Wrong nonce outcome token) x h = omega arith
+ruling_brief place client moment line (Denied nonce reason) x h = omega arith
+ruling_brief place client moment line (Wrong nonce reason token) x h = omega arith
 ruling_brief place client moment line (Fitting nonce token lo hi drift) x h = proposal_brief place client line nonce token lo hi drift x h
 
 datagram_brief : (config : Config) (place : PlaceRecord) (from : ℕ) (read : Option Envelope) (x : NodeState) → IsBrief (made_by_datagram config place from read x)

@@ -11,17 +11,17 @@ use Rattle.admit_core.specs.Password.{PasswordFits}
 use Rattle.admit_core.specs.Window.{InWindow}
 use Rattle.floor_store.specs.Range.{IsSpan}
 use Rattle.oath_node.specs.Column.{column_fits}
-use Rattle.oath_node.specs.Recording.{IfProposes}
-use Rattle.oath_node.specs.Rules.{Standing, fit_verdict, remaining_verdict, open_verdict, token_verdict, request_verdict}
-use Rattle.oath_node.specs.declared.rules.Verdict.{Verdict}
-use Rattle.oath_node.specs.declared.rules.Verdict.TheVariants.{BadLine, Refused, Fails, Proposes}
+use Rattle.oath_node.specs.Recording.{IfKept, IfProposes}
+use Rattle.oath_node.specs.Rules.{Standing, fit_ruling, remaining_ruling, open_ruling, token_ruling, request_ruling}
+use Rattle.oath_node.specs.declared.ruling.Ruling.{Ruling}
+use Rattle.oath_node.specs.declared.ruling.Ruling.TheVariants.{Outside, Again, Waiting, Denied, Wrong, Fitting}
 use Rattle.oath_node.proofs.ColumnLemmas.{decides_column}
 use Rattle.oath_node.proofs.GroundLemmas.{FitLaw}
 use Rattle.vote_wire.specs.Request.{Request}
-use Rattle.vote_wire.specs.declared.answer.Outcome.TheVariants.{Exhausted, Password, Throttled}
+use Rattle.vote_wire.specs.declared.answer.Reason.TheVariants.{Exhausted, Password, Throttled}
 
 -- a proposed span is free from a factor on
-abbrev pub Suits : ℕ → ℕ → Verdict → Type 0
+abbrev pub Suits : ℕ → ℕ → Ruling → Type 0
 Suits token next v = IfProposes v (λ t lo hi. IsSpan lo hi) × IfProposes v (λ t lo hi. (t ≡ token) × (next ≤ lo))
 
 free_of_window : (kind : Kind) (reach : ℕ) (limits : Limits) (next : ℕ) (drift : ℤ) (moment m : ℕ) → InWindow kind reach limits next drift moment m → next ≤ m
@@ -34,47 +34,58 @@ span_of_fit c (Check code) lo hi h = record { ordered = omega (arith, h.0); shor
 span_of_fit c (Resync first second) lo hi h = record { ordered = omega (arith, h.0); short = omega (arith, h.0) }
 
 fit_suits : FitLaw → (limits : Limits) (next : ℕ) (drift : ℤ) (moment : ℕ) (r : Request) (token : ℕ) (c : Credential)
-    → (fit : Option (ℕ × ℕ)) → least_fit c limits next drift moment r.submission ≡ fit → Suits token next (fit_verdict c.kind limits moment r token fit)
+    → (fit : Option (ℕ × ℕ)) → least_fit c limits next drift moment r.submission ≡ fit → Suits token next (fit_ruling c.kind limits moment r token fit)
 fit_suits law limits next drift moment r token c None e = (tt, tt)
 fit_suits law limits next drift moment r token c (Some (lo, hi)) e =
     let least = (law c limits next drift moment r.submission lo hi).0 e in
     (span_of_fit c r.submission lo hi least.fits, (refl, free_of_window c.kind (reach_of limits r.submission) limits next drift moment lo least.first))
 
-remaining_suits : FitLaw → (limits : Limits) (next : ℕ) (drift : ℤ) (moment : ℕ) (r : Request) (token : ℕ) (c : Credential) → Suits token next (remaining_verdict limits next drift moment r token c)
+remaining_suits : FitLaw → (limits : Limits) (next : ℕ) (drift : ℤ) (moment : ℕ) (r : Request) (token : ℕ) (c : Credential) → Suits token next (remaining_ruling limits next drift moment r token c)
 remaining_suits law limits next drift moment r token c =
-    cond_both (next == 2 ^ 62) (Refused r.nonce Exhausted) (fit_verdict c.kind limits moment r token (least_fit c limits next drift moment r.submission)) (Suits token next)
+    cond_both (next == 2 ^ 62) (Denied r.nonce Exhausted) (fit_ruling c.kind limits moment r token (least_fit c limits next drift moment r.submission)) (Suits token next)
     (λ _. (tt, tt)) (λ _. fit_suits law limits next drift moment r token c _ refl)
 
-open_suits : FitLaw → (limits : Limits) (next : ℕ) (drift : ℤ) (moment : ℕ) (r : Request) (token : ℕ) (c : Credential) → Suits token next (open_verdict limits next drift moment r token c)
+open_suits : FitLaw → (limits : Limits) (next : ℕ) (drift : ℤ) (moment : ℕ) (r : Request) (token : ℕ) (c : Credential) → Suits token next (open_ruling limits next drift moment r token c)
 open_suits law limits next drift moment r token c =
-    cond_both (column_fits c.password r.password) (remaining_verdict limits next drift moment r token c) (Fails r.nonce Password token) (Suits token next)
+    cond_both (column_fits c.password r.password) (remaining_ruling limits next drift moment r token c) (Wrong r.nonce Password token) (Suits token next)
     (λ _. remaining_suits law limits next drift moment r token c) (λ _. (tt, tt))
 
-pub token_suits : FitLaw → (limits : Limits) (next : ℕ) (drift : ℤ) (wait moment : ℕ) (r : Request) (token : ℕ) (c : Credential) → Suits token next (token_verdict limits next drift wait moment r token c)
+pub token_suits : FitLaw → (limits : Limits) (next : ℕ) (drift : ℤ) (wait moment : ℕ) (r : Request) (token : ℕ) (c : Credential) → Suits token next (token_ruling limits next drift wait moment r token c)
 token_suits law limits next drift wait moment r token c =
-    cond_both (nat_lt 0 wait) (Refused r.nonce (Throttled wait)) (open_verdict limits next drift moment r token c) (Suits token next)
+    cond_both (nat_lt 0 wait) (Denied r.nonce (Throttled wait)) (open_ruling limits next drift moment r token c) (Suits token next)
     (λ _. (tt, tt)) (λ _. open_suits law limits next drift moment r token c)
 
 -- a request at a moment in range, where there is room, for a user
 pub request_token : (book : List Credential) (limits : Limits) (s : Standing) (moment : ℕ) (r : Request) (token : ℕ) (c : Credential)
     → moment < 2 ^ 40 → s.is_full ≡ false → place_of r.user book ≡ Some token → slice_get book token ≡ Some c
-    → request_verdict book limits s moment r ≡ token_verdict limits (s.next token) (s.drift token) (s.wait token) moment r token c
+    → request_ruling book limits s moment r ≡ token_ruling limits (s.next token) (s.drift token) (s.wait token) moment r token c
 request_token book limits s moment r token c below room place here =
     rw (lt-ltb moment (2 ^ 40) below, room, place, here) refl
 
 pub token_open : (limits : Limits) (next : ℕ) (drift : ℤ) (wait moment : ℕ) (r : Request) (token : ℕ) (c : Credential)
-    → wait ≤ 0 → token_verdict limits next drift wait moment r token c ≡ open_verdict limits next drift moment r token c
+    → wait ≤ 0 → token_ruling limits next drift wait moment r token c ≡ open_ruling limits next drift moment r token c
 token_open limits next drift wait moment r token c none = rw (le-ltb 0 wait none) refl
 
 -- a password that fits, and a factor that is left
 pub open_fit : (limits : Limits) (next : ℕ) (drift : ℤ) (moment : ℕ) (r : Request) (token : ℕ) (c : Credential)
     → PasswordFits c.password r.password → (next ≡ 2 ^ 62 → ⊥)
-    → open_verdict limits next drift moment r token c ≡ fit_verdict c.kind limits moment r token (least_fit c limits next drift moment r.submission)
+    → open_ruling limits next drift moment r token c ≡ fit_ruling c.kind limits moment r token (least_fit c limits next drift moment r.submission)
 open_fit limits next drift moment r token c given left = rw ((decides_column c.password r.password).1 given, ne_eqb next (2 ^ 62) left) refl
 
--- what holds of a proposal, if the verdict is one, holds for less
-pub proposes_less : (v : Verdict) (P Q : ℕ → ℕ → ℕ → Type 0) → ((t lo hi : ℕ) → P t lo hi → Q t lo hi) → IfProposes v P → IfProposes v Q
-proposes_less BadLine P Q f h = tt
-proposes_less (Refused nonce outcome) P Q f h = tt
-proposes_less (Fails nonce outcome t) P Q f h = tt
-proposes_less (Proposes nonce t lo hi drift) P Q f h = f t lo hi h
+-- what holds anyway
+pub if_kept : (v : Ruling) (P : Type 0) → P → IfKept v P
+if_kept Outside P h = tt
+if_kept (Again text) P h = tt
+if_kept Waiting P h = tt
+if_kept (Denied nonce reason) P h = h
+if_kept (Wrong nonce reason t) P h = h
+if_kept (Fitting nonce t lo hi drift) P h = h
+
+-- what holds of a proposal, if the ruling is one, holds for less
+pub proposes_less : (v : Ruling) (P Q : ℕ → ℕ → ℕ → Type 0) → ((t lo hi : ℕ) → P t lo hi → Q t lo hi) → IfProposes v P → IfProposes v Q
+proposes_less Outside P Q f h = tt
+proposes_less (Again text) P Q f h = tt
+proposes_less Waiting P Q f h = tt
+proposes_less (Denied nonce reason) P Q f h = tt
+proposes_less (Wrong nonce reason t) P Q f h = tt
+proposes_less (Fitting nonce t lo hi drift) P Q f h = f t lo hi h

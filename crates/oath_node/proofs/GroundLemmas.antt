@@ -15,10 +15,10 @@ use Rattle.floor_store.specs.Range.{IsSpan}
 use Rattle.oath_node.specs.Column.{column_fits}
 use Rattle.oath_node.specs.Grounds.{HasGrounds, IsSameStanding}
 use Rattle.vote_wire.specs.Request.{Request, IsLine, request_at}
-use Rattle.oath_node.specs.Rules.{Standing, Waiting, verdict_ruling, fit_verdict, remaining_verdict, open_verdict, token_verdict, place_verdict, user_verdict, room_verdict, request_verdict, ruling_unless_known, ruling_of, ruling}
-use Rattle.vote_wire.specs.declared.answer.Outcome.TheVariants.{Busy, Clock, Exhausted, Password, Throttled}
-use Rattle.oath_node.specs.declared.rules.Verdict.{Verdict}
-use Rattle.oath_node.specs.declared.rules.Verdict.TheVariants.{Refused, Fails}
+use Rattle.oath_node.specs.Rules.{Standing, fit_ruling, remaining_ruling, open_ruling, token_ruling, place_ruling, user_ruling, room_ruling, request_ruling, ruling_unless_known, ruling_of, ruling}
+use Rattle.oath_node.specs.declared.ruling.Ruling.{Ruling}
+use Rattle.oath_node.specs.declared.ruling.Ruling.TheVariants.{Waiting, Denied, Wrong}
+use Rattle.vote_wire.specs.declared.answer.Reason.TheVariants.{Busy, Clock, Exhausted, Password, Throttled}
 use Rattle.oath_node.proofs.BookLemmas.{place_named}
 use Rattle.oath_node.proofs.ColumnLemmas.{decides_column}
 use Rattle.vote_wire.proofs.RequestLemmas.{line_of_request}
@@ -48,9 +48,9 @@ span_of c (Resync first second) lo hi h = record { ordered = omega (arith, h.0);
 
 fit_grounds : FitLaw → (book : List Credential) (limits : Limits) (s : Standing) (moment : ℕ) (line : List ℕ) (r : Request) (token : ℕ) (c : Credential)
     → IsAdmissible book s moment line r token c → PasswordFits c.password r.password
-    → (fit : Option (ℕ × ℕ)) → least_fit c limits (s.next token) (s.drift token) moment r.submission ≡ fit → HasGrounds book limits s moment line (verdict_ruling (fit_verdict c.kind limits moment r token fit))
+    → (fit : Option (ℕ × ℕ)) → least_fit c limits (s.next token) (s.drift token) moment r.submission ≡ fit → HasGrounds book limits s moment line (fit_ruling c.kind limits moment r token fit)
 fit_grounds law book limits s moment line r token c h password None e =
-    record { refused = tt; within = slice_get_within book token c h.is_token; in_range = h.in_range; is_open = h.is_open }
+    record { within = slice_get_within book token c h.is_token; in_range = h.in_range; is_open = h.is_open }
 fit_grounds law book limits s moment line r token c h password (Some (lo, hi)) e =
     let fit = (law c limits (s.next token) (s.drift token) moment r.submission lo hi).0 e in
     record {
@@ -73,28 +73,28 @@ fit_grounds law book limits s moment line r token c h password (Some (lo, hi)) e
 
 remaining_grounds : FitLaw → (book : List Credential) (limits : Limits) (s : Standing) (moment : ℕ) (line : List ℕ) (r : Request) (token : ℕ) (c : Credential)
     → IsAdmissible book s moment line r token c → PasswordFits c.password r.password
-    → HasGrounds book limits s moment line (verdict_ruling (remaining_verdict limits (s.next token) (s.drift token) moment r token c))
+    → HasGrounds book limits s moment line (remaining_ruling limits (s.next token) (s.drift token) moment r token c)
 remaining_grounds law book limits s moment line r token c h password =
-    cond_both (s.next token == 2 ^ 62) (Refused r.nonce Exhausted) (fit_verdict c.kind limits moment r token (least_fit c limits (s.next token) (s.drift token) moment r.submission))
-    (λ v. HasGrounds book limits s moment line (verdict_ruling v))
+    cond_both (s.next token == 2 ^ 62) (Denied r.nonce Exhausted) (fit_ruling c.kind limits moment r token (least_fit c limits (s.next token) (s.drift token) moment r.submission))
+    (λ v. HasGrounds book limits s moment line v)
     (λ _. tt)
     (λ _. fit_grounds law book limits s moment line r token c h password _ refl)
 
 open_grounds : FitLaw → (book : List Credential) (limits : Limits) (s : Standing) (moment : ℕ) (line : List ℕ) (r : Request) (token : ℕ) (c : Credential)
-    → IsAdmissible book s moment line r token c → HasGrounds book limits s moment line (verdict_ruling (open_verdict limits (s.next token) (s.drift token) moment r token c))
+    → IsAdmissible book s moment line r token c → HasGrounds book limits s moment line (open_ruling limits (s.next token) (s.drift token) moment r token c)
 open_grounds law book limits s moment line r token c h =
-    cond_both (column_fits c.password r.password) (remaining_verdict limits (s.next token) (s.drift token) moment r token c) (Fails r.nonce Password token)
-    (λ v. HasGrounds book limits s moment line (verdict_ruling v))
+    cond_both (column_fits c.password r.password) (remaining_ruling limits (s.next token) (s.drift token) moment r token c) (Wrong r.nonce Password token)
+    (λ v. HasGrounds book limits s moment line v)
     (λ fits. remaining_grounds law book limits s moment line r token c h ((decides_column c.password r.password).0 fits))
-    (λ _. record { refused = tt; within = slice_get_within book token c h.is_token; in_range = h.in_range; is_open = h.is_open })
+    (λ _. record { within = slice_get_within book token c h.is_token; in_range = h.in_range; is_open = h.is_open })
 
 place_grounds : FitLaw → (book : List Credential) (limits : Limits) (s : Standing) (moment : ℕ) (line : List ℕ) (r : Request) (token : ℕ)
     → s.is_full ≡ false → IsMoment moment → IsLine line r → place_of r.user book ≡ Some token
-    → (found : Option Credential) → slice_get book token ≡ found → HasGrounds book limits s moment line (verdict_ruling (place_verdict limits s moment r token found))
+    → (found : Option Credential) → slice_get book token ≡ found → HasGrounds book limits s moment line (place_ruling limits s moment r token found)
 place_grounds law book limits s moment line r token room in_range grammar place None e = tt
 place_grounds law book limits s moment line r token room in_range grammar place (Some c) e =
-    cond_both (nat_lt 0 (s.wait token)) (Refused r.nonce (Throttled (s.wait token))) (open_verdict limits (s.next token) (s.drift token) moment r token c)
-    (λ v. HasGrounds book limits s moment line (verdict_ruling v))
+    cond_both (nat_lt 0 (s.wait token)) (Denied r.nonce (Throttled (s.wait token))) (open_ruling limits (s.next token) (s.drift token) moment r token c)
+    (λ v. HasGrounds book limits s moment line v)
     (λ _. tt)
     (λ now. open_grounds law book limits s moment line r token c (record {
       room = room;
@@ -107,28 +107,28 @@ place_grounds law book limits s moment line r token room in_range grammar place 
 
 user_grounds : FitLaw → (book : List Credential) (limits : Limits) (s : Standing) (moment : ℕ) (line : List ℕ) (r : Request)
     → s.is_full ≡ false → IsMoment moment → IsLine line r
-    → (place : Option ℕ) → place_of r.user book ≡ place → HasGrounds book limits s moment line (verdict_ruling (user_verdict book limits s moment r place))
+    → (place : Option ℕ) → place_of r.user book ≡ place → HasGrounds book limits s moment line (user_ruling book limits s moment r place)
 user_grounds law book limits s moment line r room in_range grammar None e = tt
 user_grounds law book limits s moment line r room in_range grammar (Some token) e =
     place_grounds law book limits s moment line r token room in_range grammar e _ refl
 
 request_grounds : FitLaw → (book : List Credential) (limits : Limits) (s : Standing) (moment : ℕ) (line : List ℕ) (r : Request) → IsLine line r
-    → HasGrounds book limits s moment line (verdict_ruling (request_verdict book limits s moment r))
+    → HasGrounds book limits s moment line (request_ruling book limits s moment r)
 request_grounds law book limits s moment line r grammar =
-    let later = user_verdict book limits s moment r (place_of r.user book) in
-    cond_both (nat_lt moment (2 ^ 40)) (room_verdict book limits s moment r) (Refused r.nonce Clock)
-    (λ v. HasGrounds book limits s moment line (verdict_ruling v))
-    (λ below. cond_both s.is_full (Refused r.nonce Busy) later
-    (λ v. HasGrounds book limits s moment line (verdict_ruling v))
+    let later = user_ruling book limits s moment r (place_of r.user book) in
+    cond_both (nat_lt moment (2 ^ 40)) (room_ruling book limits s moment r) (Denied r.nonce Clock)
+    (λ v. HasGrounds book limits s moment line v)
+    (λ below. cond_both s.is_full (Denied r.nonce Busy) later
+    (λ v. HasGrounds book limits s moment line v)
     (λ _. tt)
     (λ room. user_grounds law book limits s moment line r room (ltb-true moment (2 ^ 40) below) grammar _ refl))
     (λ _. tt)
 
 ruling_unless_known_grounds : FitLaw → (book : List Credential) (limits : Limits) (s : Standing) (moment : ℕ) (line : List ℕ) (r : Request) → IsLine line r
-    → (kept : Option (List ℕ)) → s.kept ≡ kept → HasGrounds book limits s moment line (ruling_unless_known kept s.is_waiting (request_verdict book limits s moment r))
+    → (kept : Option (List ℕ)) → s.kept ≡ kept → HasGrounds book limits s moment line (ruling_unless_known kept s.is_waiting (request_ruling book limits s moment r))
 ruling_unless_known_grounds law book limits s moment line r grammar (Some text) e = e
 ruling_unless_known_grounds law book limits s moment line r grammar None e =
-    cond_both s.is_waiting Waiting (verdict_ruling (request_verdict book limits s moment r)) (λ v. HasGrounds book limits s moment line v)
+    cond_both s.is_waiting Waiting (request_ruling book limits s moment r) (λ v. HasGrounds book limits s moment line v)
     (λ waits. waits)
     (λ _. request_grounds law book limits s moment line r grammar)
 
@@ -143,34 +143,34 @@ ruling_grounds law book limits s moment line = ruling_of_grounds law book limits
 
 -- ---- the same standing
 
-same_place_verdict : (limits : Limits) (book : List Credential) (a b : Standing) (moment : ℕ) (r : Request) (token : ℕ) → IsSameStanding (length book) a b
-    → (found : Option Credential) → slice_get book token ≡ found → place_verdict limits a moment r token found ≡ place_verdict limits b moment r token found
-same_place_verdict limits book a b moment r token h None e = refl
-same_place_verdict limits book a b moment r token h (Some c) e =
+same_place_ruling : (limits : Limits) (book : List Credential) (a b : Standing) (moment : ℕ) (r : Request) (token : ℕ) → IsSameStanding (length book) a b
+    → (found : Option Credential) → slice_get book token ≡ found → place_ruling limits a moment r token found ≡ place_ruling limits b moment r token found
+same_place_ruling limits book a b moment r token h None e = refl
+same_place_ruling limits book a b moment r token h (Some c) e =
     let within = slice_get_within book token c e in
-    ap (λ (n : ℕ). token_verdict limits n (a.drift token) (a.wait token) moment r token c) (h.next token within)
-    ∙ ap (λ (d : ℤ). token_verdict limits (b.next token) d (a.wait token) moment r token c) (h.drift token within)
-    ∙ ap (λ (n : ℕ). token_verdict limits (b.next token) (b.drift token) n moment r token c) (h.wait token within)
+    ap (λ (n : ℕ). token_ruling limits n (a.drift token) (a.wait token) moment r token c) (h.next token within)
+    ∙ ap (λ (d : ℤ). token_ruling limits (b.next token) d (a.wait token) moment r token c) (h.drift token within)
+    ∙ ap (λ (n : ℕ). token_ruling limits (b.next token) (b.drift token) n moment r token c) (h.wait token within)
 
-same_user_verdict : (book : List Credential) (limits : Limits) (a b : Standing) (moment : ℕ) (r : Request) (place : Option ℕ) → IsSameStanding (length book) a b
-    → user_verdict book limits a moment r place ≡ user_verdict book limits b moment r place
-same_user_verdict book limits a b moment r None h = refl
-same_user_verdict book limits a b moment r (Some token) h = same_place_verdict limits book a b moment r token h (slice_get book token) refl
+same_user_ruling : (book : List Credential) (limits : Limits) (a b : Standing) (moment : ℕ) (r : Request) (place : Option ℕ) → IsSameStanding (length book) a b
+    → user_ruling book limits a moment r place ≡ user_ruling book limits b moment r place
+same_user_ruling book limits a b moment r None h = refl
+same_user_ruling book limits a b moment r (Some token) h = same_place_ruling limits book a b moment r token h (slice_get book token) refl
 
-same_request_verdict : (book : List Credential) (limits : Limits) (a b : Standing) (moment : ℕ) (r : Request) → IsSameStanding (length book) a b
-    → request_verdict book limits a moment r ≡ request_verdict book limits b moment r
-same_request_verdict book limits a b moment r h =
-    ap (λ (v : Verdict). cond (nat_lt moment (2 ^ 40)) v (Refused r.nonce Clock))
-    (ap (λ (v : Verdict). cond a.is_full (Refused r.nonce Busy) v) (same_user_verdict book limits a b moment r (place_of r.user book) h)
-    ∙ ap (λ (f : Bool). cond f (Refused r.nonce Busy) (user_verdict book limits b moment r (place_of r.user book))) h.full)
+same_request_ruling : (book : List Credential) (limits : Limits) (a b : Standing) (moment : ℕ) (r : Request) → IsSameStanding (length book) a b
+    → request_ruling book limits a moment r ≡ request_ruling book limits b moment r
+same_request_ruling book limits a b moment r h =
+    ap (λ (v : Ruling). cond (nat_lt moment (2 ^ 40)) v (Denied r.nonce Clock))
+    (ap (λ (v : Ruling). cond a.is_full (Denied r.nonce Busy) v) (same_user_ruling book limits a b moment r (place_of r.user book) h)
+    ∙ ap (λ (f : Bool). cond f (Denied r.nonce Busy) (user_ruling book limits b moment r (place_of r.user book))) h.full)
 
 same_ruling_of : (book : List Credential) (limits : Limits) (a b : Standing) (moment : ℕ) (r : Option Request) → IsSameStanding (length book) a b
     → ruling_of book limits a moment r ≡ ruling_of book limits b moment r
 same_ruling_of book limits a b moment None h = refl
 same_ruling_of book limits a b moment (Some r) h =
-    ap (λ (k : Option (List ℕ)). ruling_unless_known k a.is_waiting (request_verdict book limits a moment r)) h.kept
-    ∙ ap (λ (w : Bool). ruling_unless_known b.kept w (request_verdict book limits a moment r)) h.waiting
-    ∙ ap (λ (v : Verdict). ruling_unless_known b.kept b.is_waiting v) (same_request_verdict book limits a b moment r h)
+    ap (λ (k : Option (List ℕ)). ruling_unless_known k a.is_waiting (request_ruling book limits a moment r)) h.kept
+    ∙ ap (λ (w : Bool). ruling_unless_known b.kept w (request_ruling book limits a moment r)) h.waiting
+    ∙ ap (λ (v : Ruling). ruling_unless_known b.kept b.is_waiting v) (same_request_ruling book limits a b moment r h)
 
 pub ruling_same : (book : List Credential) (limits : Limits) (a b : Standing) (moment : ℕ) (line : List ℕ) → IsSameStanding (length book) a b
     → ruling book limits a moment line ≡ ruling book limits b moment line

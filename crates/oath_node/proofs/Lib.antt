@@ -10,7 +10,7 @@ pub mod OwnedLemmas
 pub mod OwnerLemmas
 pub mod PeerLemmas
 pub mod RefusalLemmas
+pub mod RulingLemmas
 pub mod SafetyLemmas
 pub mod ServingLemmas
 pub mod StepLemmas
-pub mod VerdictLemmas

@@ -14,7 +14,8 @@ use Rattle.vote_core.specs.declared.message.Message.TheVariants.{Ask, Grant, Den
 use Rattle.oath_node.specs.Hosted.{AreApart, IsOwned}
 use Rattle.oath_node.specs.Calls.{IsProposal, IsProposing}
 use Rattle.oath_node.specs.Machine.{Beginning, Config, Made, NodeEvent, Client, Peer, Tick, NodeState, Owner, is_heard, is_pending, made_by_datagram, made_by_event, made_by_line, made_by_message, made_by_proposal, made_by_ruling, made_by_tick, made_by_vote, made_while_running, next_beginning, next_owner, quiet_made, ruling_at, stopped_node}
-use Rattle.oath_node.specs.Rules.{Ruling, Outside, Again, Waiting, Denied, Wrong, Fitting}
+use Rattle.oath_node.specs.declared.ruling.Ruling.{Ruling}
+use Rattle.oath_node.specs.declared.ruling.Ruling.TheVariants.{Outside, Again, Waiting, Denied, Wrong, Fitting}
 use Rattle.oath_node.proofs.OwnerLemmas.{apart_filter, apart_push, pending_filter}
 use Rattle.vote_wire.specs.Request.{without_lf}
 
@@ -78,8 +79,8 @@ unfolding made_by_ruling
 ruling_owned place client moment line Outside x h = h
 ruling_owned place client moment line (Again text) x h = h
 ruling_owned place client moment line Waiting x h = h
-ruling_owned place client moment line (Denied nonce outcome) x h = record { apart = h.apart; pending = h.pending }
-ruling_owned place client moment line (Wrong nonce outcome token) x h = record { apart = h.apart; pending = h.pending }
+ruling_owned place client moment line (Denied nonce reason) x h = record { apart = h.apart; pending = h.pending }
+ruling_owned place client moment line (Wrong nonce reason token) x h = record { apart = h.apart; pending = h.pending }
 ruling_owned place client moment line (Fitting nonce token lo hi drift) x h = proposal_owned place client line nonce token lo hi drift x h
 
 datagram_owned : (config : Config) (place : PlaceRecord) (from : ℕ) (read : Option Envelope) (x : NodeState) → IsOwned x → IsOwned (made_by_datagram config place from read x).state
@@ -129,8 +130,8 @@ unfolding made_by_ruling
 ruling_stops place client moment line Outside x on off = absurd (let t = sym on ∙ off in cc)
 ruling_stops place client moment line (Again text) x on off = absurd (let t = sym on ∙ off in cc)
 ruling_stops place client moment line Waiting x on off = absurd (let t = sym on ∙ off in cc)
-ruling_stops place client moment line (Denied nonce outcome) x on off = absurd (let t = sym on ∙ off in cc)
-ruling_stops place client moment line (Wrong nonce outcome token) x on off = absurd (let t = sym on ∙ off in cc)
+ruling_stops place client moment line (Denied nonce reason) x on off = absurd (let t = sym on ∙ off in cc)
+ruling_stops place client moment line (Wrong nonce reason token) x on off = absurd (let t = sym on ∙ off in cc)
 ruling_stops place client moment line (Fitting nonce token lo hi drift) x on off = tt
 
 datagram_runs : (config : Config) (place : PlaceRecord) (from : ℕ) (read : Option Envelope) (x : NodeState)

@@ -10,7 +10,8 @@ use Rattle.vote_core.specs.Rows.{no_row, row, row_with_gate}
 use Rattle.vote_core.specs.Schedule.{content_with_gate}
 use Rattle.oath_node.specs.Machine.{Config, Client, Made, NodeState, gate_with_failure, made_by_event, made_by_ruling, made_while_running, quiet_made, ruling_at}
 use Rattle.oath_node.specs.Refusals.{KeepsFloors, IsRefusal, SparesToken}
-use Rattle.oath_node.specs.Rules.{Ruling, Outside, Again, Waiting, Denied, Wrong, Fitting}
+use Rattle.oath_node.specs.declared.ruling.Ruling.{Ruling}
+use Rattle.oath_node.specs.declared.ruling.Ruling.TheVariants.{Outside, Again, Waiting, Denied, Wrong, Fitting}
 use Rattle.vote_wire.specs.Request.{without_lf}
 
 -- what a new element has in common with the old one at its place, the list has
@@ -49,8 +50,8 @@ unfolding made_by_ruling
 ruling_keeps place client moment line Outside x h = nothing_changes x.content
 ruling_keeps place client moment line (Again text) x h = nothing_changes x.content
 ruling_keeps place client moment line Waiting x h = nothing_changes x.content
-ruling_keeps place client moment line (Denied nonce outcome) x h = nothing_changes x.content
-ruling_keeps place client moment line (Wrong nonce outcome token) x h = gate_alone x.content token (gate_with_failure x.content token moment)
+ruling_keeps place client moment line (Denied nonce reason) x h = nothing_changes x.content
+ruling_keeps place client moment line (Wrong nonce reason token) x h = gate_alone x.content token (gate_with_failure x.content token moment)
 ruling_keeps place client moment line (Fitting nonce token lo hi drift) x h = absurd h
 
 ruling_gates : (place : PlaceRecord) (client moment : ℕ) (line : List ℕ) (r : Ruling) (token : ℕ) (x : NodeState) → IsRefusal r → SparesToken token r
@@ -59,8 +60,8 @@ unfolding made_by_ruling
 ruling_gates place client moment line Outside token x h n = refl
 ruling_gates place client moment line (Again text) token x h n = refl
 ruling_gates place client moment line Waiting token x h n = refl
-ruling_gates place client moment line (Denied nonce outcome) token x h n = refl
-ruling_gates place client moment line (Wrong nonce outcome failed) token x h n =
+ruling_gates place client moment line (Denied nonce reason) token x h n = refl
+ruling_gates place client moment line (Wrong nonce reason failed) token x h n =
     ap (λ (w : RowRecord). w.gate)
     (elsewhere x.content.rows failed token (row_with_gate (gate_with_failure x.content failed moment) (row x.content failed)) no_row n)
 ruling_gates place client moment line (Fitting nonce t lo hi drift) token x h n = absurd h

@@ -11,7 +11,7 @@ use Rattle.otp_core.specs.Acceptance.{majority_of, size}
 use Rattle.vote_core.specs.NodeSet.{PlaceRecord, with_node}
 use Rattle.vote_core.specs.Rows.{row}
 use Rattle.vote_core.specs.State.{BallotRecord, VoterRecord, ballot_of, sent_by, voted_of, voter_of}
-use Rattle.vote_core.specs.Voting.{Ballot, VoterState, Voted, accept, count_deny, count_grant, is_grant, on_ask, on_deny, on_floor, on_grant, on_message, proposal_of, propose, propose_alone, propose_among, raise, tick}
+use Rattle.vote_core.specs.Voting.{Ballot, VoterState, Voted, accept, count_deny, count_grant, is_grant, on_ask, on_deny, on_floor, on_grant, on_message, pass_in, proposal_of, propose, propose_alone, propose_among, raise, tick}
 use Rattle.vote_core.specs.declared.message.Message.{Message}
 use Rattle.vote_core.specs.declared.message.Message.TheVariants.{Ask, Grant, Deny, Floor}
 use Rattle.vote_core.specs.declared.step.Step.{Step}
@@ -32,9 +32,9 @@ pending_same (b ∷ bs) seq = ap (λ rest. (b.seq == seq) || rest) (pending_same
 -- what a step's outputs are
 abbrev pub told_by_step : {messages decisions : ℕ} → List ℕ → PlaceRecord → List Owner → Option ProposalRecord → Step messages decisions → OutputsRecord
 told_by_step key place owners begun step = record {
-  items = items_of key place.me (sent_by step.sends.items) (map reply_with (answers_to_decisions owners step.pass step.decisions.items));
+  items = items_of key place.me (sent_by step.sends.items) (map reply_with (answers_to_decisions owners step.decisions.items));
   begun = begun;
-  pass = step.pass;
+  pass = pass_in step.decisions.items;
 }
 
 -- what a call of the voter made is what the machine makes of it
@@ -46,12 +46,12 @@ pub finished : {messages decisions : ℕ} (key : List ℕ) (place : PlaceRecord)
     → voter.place ≡ place
     → out ≡ told_by_step key voter.place owners step.begun step
     → waiting ≡ owners_of_pending (voter_of voter).pending owners
-    → answers ≡ kept_with_all x.answers (answers_to_decisions owners step.pass step.decisions.items)
+    → answers ≡ kept_with_all x.answers (answers_to_decisions owners step.decisions.items)
     → IsMade key place (made_by_vote owners began v x) out (running_state c voter waiting answers)
 finished key place x owners began c voter step v out waiting answers r e b p o w a =
     let P : Voted → Type 0 = λ u. option_map (λ (q : Beginning). q.proposal) began ≡ u.begun → IsMade key place (made_by_vote owners began u x) out (running_state c voter waiting answers) in
     let still : List Owner = owners_of_pending (voter_of voter).pending owners in
-    let kept : List KeptAnswer = kept_with_all x.answers (answers_to_decisions owners step.pass step.decisions.items) in
+    let kept : List KeptAnswer = kept_with_all x.answers (answers_to_decisions owners step.decisions.items) in
     let state : Bool → NodeState = λ on. record { content = c; voter = voter_of voter; owners = still; answers = kept; running = on } in
     subst P e
     (λ same. record {

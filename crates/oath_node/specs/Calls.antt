@@ -6,7 +6,8 @@ use Rattle.vote_core.specs.NodeSet.{PlaceRecord}
 use Rattle.oath_node.specs.Hosted.{Hosted, IsSameNode, config_of, made_of, state_of}
 use Rattle.oath_node.specs.Machine.{Config, Made, NodeEvent, NodeState, Client, Peer, Tick, opened_node, restarted_node, ruling_at}
 use Rattle.oath_node.specs.Outputs.{OutputsRecord, outputs_of}
-use Rattle.oath_node.specs.Rules.{Ruling, Outside, Again, Waiting, Denied, Wrong, Fitting}
+use Rattle.oath_node.specs.declared.ruling.Ruling.{Ruling}
+use Rattle.oath_node.specs.declared.ruling.Ruling.TheVariants.{Outside, Again, Waiting, Denied, Wrong, Fitting}
 use Rattle.oath_node.specs.declared.fault.NodeFault.{NodeFault}
 use Rattle.oath_node.specs.declared.fault.NodeFault.TheVariants.{Store, Stopped, Spent}
 use Rattle.oath_node.specs.declared.fault.OpenFault.{OpenFault}
@@ -25,8 +26,8 @@ abbrev pub IsProposal : Ruling → Type 0
 IsProposal Outside = ⊥
 IsProposal (Again text) = ⊥
 IsProposal Waiting = ⊥
-IsProposal (Denied nonce outcome) = ⊥
-IsProposal (Wrong nonce outcome token) = ⊥
+IsProposal (Denied nonce reason) = ⊥
+IsProposal (Wrong nonce reason token) = ⊥
 IsProposal (Fitting nonce token lo hi drift) = Unit {0}
 
 -- the event is a line for which the rules propose factors

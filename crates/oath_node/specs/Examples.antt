@@ -11,8 +11,8 @@ use Rattle.token_file.specs.declared.token.Password.{Password}
 use Rattle.token_file.specs.declared.token.Password.TheVariants.{NoneAllowed, NotChecked, Equal}
 use Rattle.oath_node.specs.ReferenceServer.{Line, Server, server_after, server_at}
 use Rattle.oath_node.specs.Report.{IsJustified, LinePass, drift_after, floor_before, report_of, results_before}
-use Rattle.oath_node.specs.Rules.{Standing, verdict}
-use Rattle.oath_node.specs.declared.rules.Verdict.{Verdict}
+use Rattle.oath_node.specs.Rules.{Standing, ruling}
+use Rattle.oath_node.specs.declared.ruling.Ruling.{Ruling}
 
 -- ---- Rules
 
@@ -56,8 +56,8 @@ standing_with next wait = record {
 }
 
 -- what the rules make of a line for the first free factor and the wait of silver, and a moment
-abbrev pub verdict_on : ℕ → ℕ → ℕ → List ℕ → Verdict
-verdict_on next wait moment text = verdict three_tokens narrow_limits (standing_with next wait) moment text
+abbrev pub ruling_on : ℕ → ℕ → ℕ → List ℕ → Ruling
+ruling_on next wait moment text = ruling three_tokens narrow_limits (standing_with next wait) moment text
 
 -- ---- Runs
 
@@ -152,12 +152,12 @@ outcome_of_clock steps = (
 
 -- What the rules make of a line in step 3, where nothing is used up: silver's clock is right, and gold's two steps
 -- behind.
-abbrev pub verdict_by_clock : List ℕ → Verdict
-verdict_by_clock text =
+abbrev pub ruling_by_clock : List ℕ → Ruling
+ruling_by_clock text =
     let gold = record (token_of (codes "gold") NoneAllowed) { kind = Time30 } in
     let drift : ℕ → ℤ = λ token. if token == 0 then pos 0 else negsuc 1 in
     let standing = record (standing_with 0 0) { next = λ token. 0; drift = drift } in
-    verdict (one_clock ++ gold ∷ []) (drifting 10) standing 90 text
+    ruling (one_clock ++ gold ∷ []) (drifting 10) standing 90 text
 
 -- a pass of one factor
 abbrev pub pass_with : ℕ → ℕ → ℕ → LinePass

@@ -8,22 +8,9 @@ use Rattle.admit_core.specs.Fit.{IsLeastFit}
 use Rattle.admit_core.specs.Password.{PasswordFits}
 use Rattle.floor_store.specs.Range.{IsSpan}
 use Rattle.vote_wire.specs.Request.{Request, IsLine}
-use Rattle.vote_wire.specs.declared.answer.Outcome.{Outcome}
-use Rattle.vote_wire.specs.declared.answer.Outcome.TheVariants.{Accepted, Unknown, Password, Throttled, Invalid, Spent, Timeout, Busy, Clock, Exhausted}
-use Rattle.oath_node.specs.Rules.{Standing, Ruling, Outside, Again, Waiting, Denied, Wrong, Fitting}
-
--- nothing was accepted
-abbrev pub IsRefusedBy : Outcome → Type 0
-IsRefusedBy (Accepted factor) = ⊥
-IsRefusedBy Unknown = Unit {0}
-IsRefusedBy Password = Unit {0}
-IsRefusedBy (Throttled seconds) = Unit {0}
-IsRefusedBy Invalid = Unit {0}
-IsRefusedBy Spent = Unit {0}
-IsRefusedBy Timeout = Unit {0}
-IsRefusedBy Busy = Unit {0}
-IsRefusedBy Clock = Unit {0}
-IsRefusedBy Exhausted = Unit {0}
+use Rattle.oath_node.specs.Rules.{Standing}
+use Rattle.oath_node.specs.declared.ruling.Ruling.{Ruling}
+use Rattle.oath_node.specs.declared.ruling.Ruling.TheVariants.{Outside, Again, Waiting, Denied, Wrong, Fitting}
 
 -- A line whose factors lo to hi are proposed, with its nonce: there is room for it; it is in the line grammar, at a
 -- moment in range, for the user of a token that is open, with a password as its column says; and the factors are the
@@ -47,9 +34,7 @@ pub record IsFitting (book : List Credential) (limits : Limits) (standing : Stan
   pub span : IsSpan lo hi
 
 -- a failure of a token that is open, at a moment in range
-pub record IsWrong (book : List Credential) (standing : Standing) (moment : ℕ) (outcome : Outcome)
-    (token : ℕ) : Type 0 where
-  pub refused : IsRefusedBy outcome
+pub record IsWrong (book : List Credential) (standing : Standing) (moment token : ℕ) : Type 0 where
   pub within : token < length book
   pub in_range : IsMoment moment
   pub is_open : standing.wait token ≤ 0
@@ -59,8 +44,8 @@ abbrev pub HasGrounds : List Credential → Limits → Standing → ℕ → List
 HasGrounds book limits standing moment line Outside = Unit {0}
 HasGrounds book limits standing moment line (Again text) = standing.kept ≡ Some text
 HasGrounds book limits standing moment line Waiting = standing.is_waiting ≡ true
-HasGrounds book limits standing moment line (Denied nonce outcome) = IsRefusedBy outcome
-HasGrounds book limits standing moment line (Wrong nonce outcome token) = IsWrong book standing moment outcome token
+HasGrounds book limits standing moment line (Denied nonce reason) = Unit {0}
+HasGrounds book limits standing moment line (Wrong nonce reason token) = IsWrong book standing moment token
 HasGrounds book limits standing moment line (Fitting nonce token lo hi drift) =
     IsFitting book limits standing moment line nonce token lo hi drift
 

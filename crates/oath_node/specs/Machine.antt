@@ -12,7 +12,7 @@ use Rattle.floor_store.specs.Records.{ProposalRecord, PassRecord}
 use Rattle.vote_core.specs.NodeSet.{PlaceRecord}
 use Rattle.vote_core.specs.Rows.{row}
 use Rattle.vote_core.specs.Schedule.{Envelope, content_with_gate, is_member, last_boot}
-use Rattle.vote_core.specs.Voting.{Ballot, VoterState, Voted, fresh_voter, on_message, proposal_of, propose, tick}
+use Rattle.vote_core.specs.Voting.{Ballot, VoterState, Voted, fresh_voter, on_message, pass_in, proposal_of, propose, tick}
 use Rattle.vote_core.specs.declared.message.Message.{Message}
 use Rattle.vote_core.specs.declared.message.Message.TheVariants.{Ask, Grant, Deny, Floor}
 use Rattle.vote_core.specs.declared.step.Decision.{Decision}
@@ -21,9 +21,12 @@ use Rattle.vote_wire.specs.Answer.{answer_bytes}
 use Rattle.vote_wire.specs.Request.{without_lf}
 use Rattle.vote_wire.specs.declared.answer.Answer.TheVariants.{BadLine, Reply as ReplyAnswer}
 use Rattle.vote_wire.specs.declared.answer.Outcome.{Outcome}
-use Rattle.vote_wire.specs.declared.answer.Outcome.TheVariants.{Accepted, Spent, Timeout}
+use Rattle.vote_wire.specs.declared.answer.Outcome.TheVariants.{Accepted, Refused}
+use Rattle.vote_wire.specs.declared.answer.Reason.TheVariants.{Spent, Timeout}
 use Rattle.answer_ring.specs.Answers.{KeptAnswer, kept_answer, kept_with}
-use Rattle.oath_node.specs.Rules.{Standing, Ruling, Outside, Again, Waiting, Denied, Wrong, Fitting, ruling}
+use Rattle.oath_node.specs.Rules.{Standing, ruling}
+use Rattle.oath_node.specs.declared.ruling.Ruling.{Ruling}
+use Rattle.oath_node.specs.declared.ruling.Ruling.TheVariants.{Outside, Again, Waiting, Denied, Wrong, Fitting}
 
 -- what is the same at all events and at all members
 pub record Config : Type 0 where
@@ -147,30 +150,25 @@ abbrev pub owner_with : ℕ → List Owner → Option Owner
 owner_with seq [] = None
 owner_with seq (owner ∷ owners) = if owner.seq == seq then Some owner else owner_with seq owners
 
--- the last factor of the pass
-abbrev pub last_factor_of : Option PassRecord → ℕ
-last_factor_of None = 0
-last_factor_of (Some pass) = pass.hi
-
--- what the owner of a decided proposal is told; the pass is that of the accepted one
-abbrev pub outcome_of : Decision → Option PassRecord → Outcome
-outcome_of Won pass = Accepted (last_factor_of pass)
-outcome_of Lost pass = Spent
-outcome_of Late pass = Timeout
+-- what the owner of a decided proposal is told
+abbrev pub outcome_of : Decision → Outcome
+outcome_of (Won pass) = Accepted pass.hi
+outcome_of Lost = Refused Spent
+outcome_of Late = Refused Timeout
 
 -- the answer to a decision, if its proposal has an owner
-abbrev pub answer_to_decision : Option PassRecord → Decision → Option Owner → List KeptAnswer
-answer_to_decision pass decision None = []
-answer_to_decision pass decision (Some owner) = record {
+abbrev pub answer_to_decision : Decision → Option Owner → List KeptAnswer
+answer_to_decision decision None = []
+answer_to_decision decision (Some owner) = record {
   client = owner.client;
   line = owner.line;
-  text = answer_bytes (ReplyAnswer owner.nonce (outcome_of decision pass));
+  text = answer_bytes (ReplyAnswer owner.nonce (outcome_of decision));
 } ∷ []
 
 -- the answers to these decisions, in order
-abbrev pub answers_to_decisions : List Owner → Option PassRecord → List (ℕ × Decision) → List KeptAnswer
-answers_to_decisions owners pass decisions =
-    flat_map (λ (made : ℕ × Decision). answer_to_decision pass made.1 (owner_with made.0 owners)) decisions
+abbrev pub answers_to_decisions : List Owner → List (ℕ × Decision) → List KeptAnswer
+answers_to_decisions owners decisions =
+    flat_map (λ (made : ℕ × Decision). answer_to_decision made.1 (owner_with made.0 owners)) decisions
 
 -- the proposal of this number waits
 abbrev pub is_pending : List Ballot → ℕ → Bool
@@ -188,7 +186,7 @@ reply_with answer = record { client = answer.client; bytes = answer.text }
 -- decided. These answers are kept.
 abbrev pub made_by_vote : List Owner → Option Beginning → Voted → NodeState → Made
 made_by_vote owners began voted node =
-    let told = answers_to_decisions owners voted.pass voted.decisions in
+    let told = answers_to_decisions owners voted.decisions in
     record {
       state = record {
         content = voted.content;
@@ -200,7 +198,7 @@ made_by_vote owners began voted node =
       sends = voted.sends;
       replies = map reply_with told;
       began = began;
-      pass = voted.pass;
+      pass = pass_in voted.decisions;
       failed = None;
     }
 
@@ -229,11 +227,11 @@ unfoldable pub made_by_ruling : PlaceRecord → ℕ → ℕ → List ℕ → Rul
 made_by_ruling place client moment line Outside node = reply_made client (answer_bytes BadLine) None node
 made_by_ruling place client moment line (Again text) node = reply_made client text None node
 made_by_ruling place client moment line Waiting node = quiet_made node
-made_by_ruling place client moment line (Denied nonce outcome) node =
-    let text = answer_bytes (ReplyAnswer nonce outcome) in
+made_by_ruling place client moment line (Denied nonce reason) node =
+    let text = answer_bytes (ReplyAnswer nonce (Refused reason)) in
     reply_made client text None (node_with_answer client line text node)
-made_by_ruling place client moment line (Wrong nonce outcome token) node =
-    let text = answer_bytes (ReplyAnswer nonce outcome) in
+made_by_ruling place client moment line (Wrong nonce reason token) node =
+    let text = answer_bytes (ReplyAnswer nonce (Refused reason)) in
     reply_made client text (Some (token, moment))
     (node_with_answer client line text (node_with_failure token moment node))
 made_by_ruling place client moment line (Fitting nonce token lo hi drift) node =

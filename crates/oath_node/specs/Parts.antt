@@ -3,6 +3,7 @@
 use Rattle.std.specs.Prelude.{◌≡◌, ℕ, ◌^◌, false, List, map, Result, IfOk, IfErr}
 use Rattle.floor_store.specs.Held.{Held, Breaks, MayPut}
 use Rattle.vote_core.specs.State.{IsSameVoter, VoterRecord, sent_by, voter_of}
+use Rattle.vote_core.specs.Voting.{pass_in}
 use Rattle.vote_core.specs.declared.step.Step.{Step}
 use Rattle.answer_ring.specs.Answers.{KeptAnswer}
 use Rattle.oath_node.specs.Calls.{IsMade}
@@ -47,9 +48,9 @@ pub record Finishes {messages decisions : ℕ} (key : List ℕ) (voter : VoterRe
   -- the messages of the step, and the replies to what it decided
   pub outputs : told ≡ record {
     items = items_of key voter.place.me (sent_by step.sends.items)
-        (map reply_with (answers_to_decisions old step.pass step.decisions.items));
+        (map reply_with (answers_to_decisions old step.decisions.items));
     begun = step.begun;
-    pass = step.pass;
+    pass = pass_in step.decisions.items;
   }
   pub owners : waiting ≡ owners_of_pending (voter_of voter).pending old
-  pub answers : kept ≡ kept_with_all before (answers_to_decisions old step.pass step.decisions.items)
+  pub answers : kept ≡ kept_with_all before (answers_to_decisions old step.decisions.items)

@@ -1,25 +1,38 @@
--- When a verdict can be carried out. Private contracts alone cite it: no public one rests on it.
+-- When a ruling can be carried out. Private contracts alone cite it: no public one rests on it.
 use Rattle.std.specs.Prelude.{ℕ, ◌-◌, ◌<◌, Bool, false, None}
 use Rattle.floor_store.specs.Content.{Content}
 use Rattle.otp_core.specs.Range.{IsMoment}
 use Rattle.vote_core.specs.Rows.{row}
 use Rattle.oath_node.specs.Rules.{Standing}
-use Rattle.oath_node.specs.declared.rules.Verdict.{Verdict}
-use Rattle.oath_node.specs.declared.rules.Verdict.TheVariants.{BadLine, Refused, Fails, Proposes}
+use Rattle.oath_node.specs.declared.ruling.Ruling.{Ruling}
+use Rattle.oath_node.specs.declared.ruling.Ruling.TheVariants.{Outside, Again, Waiting, Denied, Wrong, Fitting}
 
--- a token that a verdict names is one of so many, and what fails does so at a moment in range
-abbrev pub IsRecordable : ℕ → ℕ → Verdict → Type 0
-IsRecordable tokens moment BadLine = Unit {0}
-IsRecordable tokens moment (Refused nonce outcome) = Unit {0}
-IsRecordable tokens moment (Fails nonce outcome token) = (token < tokens) × IsMoment moment
-IsRecordable tokens moment (Proposes nonce token lo hi drift) = token < tokens
+-- a token that a ruling names is one of so many, and what fails does so at a moment in range
+abbrev pub IsRecordable : ℕ → ℕ → Ruling → Type 0
+IsRecordable tokens moment Outside = Unit {0}
+IsRecordable tokens moment (Again text) = Unit {0}
+IsRecordable tokens moment Waiting = Unit {0}
+IsRecordable tokens moment (Denied nonce reason) = Unit {0}
+IsRecordable tokens moment (Wrong nonce reason token) = (token < tokens) × IsMoment moment
+IsRecordable tokens moment (Fitting nonce token lo hi drift) = token < tokens
 
--- what holds of the token and the factors that a verdict proposes
-abbrev pub IfProposes : Verdict → (ℕ → ℕ → ℕ → Type 0) → Type 0
-IfProposes BadLine holds = Unit {0}
-IfProposes (Refused nonce outcome) holds = Unit {0}
-IfProposes (Fails nonce outcome token) holds = Unit {0}
-IfProposes (Proposes nonce token lo hi drift) holds = holds token lo hi
+-- what holds of the token and the factors that a ruling proposes
+abbrev pub IfProposes : Ruling → (ℕ → ℕ → ℕ → Type 0) → Type 0
+IfProposes Outside holds = Unit {0}
+IfProposes (Again text) holds = Unit {0}
+IfProposes Waiting holds = Unit {0}
+IfProposes (Denied nonce reason) holds = Unit {0}
+IfProposes (Wrong nonce reason token) holds = Unit {0}
+IfProposes (Fitting nonce token lo hi drift) holds = holds token lo hi
+
+-- what holds of a line, if its answer is one to be kept
+abbrev pub IfKept : Ruling → Type 0 → Type 0
+IfKept Outside holds = Unit {0}
+IfKept (Again text) holds = Unit {0}
+IfKept Waiting holds = Unit {0}
+IfKept (Denied nonce reason) holds = holds
+IfKept (Wrong nonce reason token) holds = holds
+IfKept (Fitting nonce token lo hi drift) holds = holds
 
 -- the standing of a line that no answer is kept for and that does not wait, by the rows of a store
 abbrev pub standing_in : Content → Bool → ℕ → Standing

@@ -8,8 +8,11 @@ use Rattle.answer_ring.specs.Answers.{KeptAnswer, kept_answer, kept_with}
 use Rattle.vote_wire.specs.Answer.{answer_bytes}
 use Rattle.vote_wire.specs.Request.{without_lf}
 use Rattle.vote_wire.specs.declared.answer.Answer.TheVariants.{BadLine, Reply}
-use Rattle.vote_wire.specs.declared.answer.Outcome.TheVariants.{Accepted}
-use Rattle.oath_node.specs.Rules.{Standing, Ruling, Outside, Again, Waiting, Denied, Wrong, Fitting, ruling}
+use Rattle.vote_wire.specs.declared.answer.Outcome.TheVariants.{Accepted, Refused}
+use Rattle.vote_wire.specs.declared.answer.Reason.{Reason}
+use Rattle.oath_node.specs.Rules.{Standing, ruling}
+use Rattle.oath_node.specs.declared.ruling.Ruling.{Ruling}
+use Rattle.oath_node.specs.declared.ruling.Ruling.TheVariants.{Outside, Again, Waiting, Denied, Wrong, Fitting}
 
 -- a front end: the results of each token there, the newest first, its drift there, and the last answers
 pub record Front : Type 0 where
@@ -79,14 +82,18 @@ standing_of server line = record {
 abbrev pub ruling_of_line : List Credential → Limits → Server → Line → Ruling
 ruling_of_line book limits server line = ruling book limits (standing_of server line) line.moment line.text
 
+-- the bytes of a refusal
+abbrev pub refusal_bytes : List ℕ → Reason → List ℕ
+refusal_bytes nonce reason = answer_bytes (Reply nonce (Refused reason))
+
 -- What a ruling tells: `OK` with the last factor for a proposal, which is accepted, and otherwise a refusal or a kept
 -- answer. No line waits here, so nothing is ever told of one that does.
 abbrev pub told_by : Ruling → Told
 told_by Outside = record { bytes = answer_bytes BadLine; accepted = None }
 told_by (Again text) = record { bytes = text; accepted = None }
 told_by Waiting = record { bytes = []; accepted = None }
-told_by (Denied nonce outcome) = record { bytes = answer_bytes (Reply nonce outcome); accepted = None }
-told_by (Wrong nonce outcome token) = record { bytes = answer_bytes (Reply nonce outcome); accepted = None }
+told_by (Denied nonce reason) = record { bytes = refusal_bytes nonce reason; accepted = None }
+told_by (Wrong nonce reason token) = record { bytes = refusal_bytes nonce reason; accepted = None }
 told_by (Fitting nonce token lo hi drift) = record {
   bytes = answer_bytes (Reply nonce (Accepted hi));
   accepted = Some (record { token = token; lo = lo; hi = hi });
@@ -97,8 +104,8 @@ abbrev pub floors_after : List ℕ → Ruling → List ℕ
 floors_after floors Outside = floors
 floors_after floors (Again text) = floors
 floors_after floors Waiting = floors
-floors_after floors (Denied nonce outcome) = floors
-floors_after floors (Wrong nonce outcome token) = floors
+floors_after floors (Denied nonce reason) = floors
+floors_after floors (Wrong nonce reason token) = floors
 floors_after floors (Fitting nonce token lo hi drift) = slice_set floors token (hi + 1)
 
 -- with one result more for a token
@@ -110,8 +117,8 @@ abbrev pub results_after : List (List Result) → ℕ → Ruling → List (List 
 results_after results moment Outside = results
 results_after results moment (Again text) = results
 results_after results moment Waiting = results
-results_after results moment (Denied nonce outcome) = results
-results_after results moment (Wrong nonce outcome token) = with_result results token (Failed moment)
+results_after results moment (Denied nonce reason) = results
+results_after results moment (Wrong nonce reason token) = with_result results token (Failed moment)
 results_after results moment (Fitting nonce token lo hi drift) = with_result results token Passed
 
 -- an acceptance keeps its drift, and nothing else changes one
@@ -119,8 +126,8 @@ abbrev pub drifts_after : List ℤ → Ruling → List ℤ
 drifts_after drifts Outside = drifts
 drifts_after drifts (Again text) = drifts
 drifts_after drifts Waiting = drifts
-drifts_after drifts (Denied nonce outcome) = drifts
-drifts_after drifts (Wrong nonce outcome token) = drifts
+drifts_after drifts (Denied nonce reason) = drifts
+drifts_after drifts (Wrong nonce reason token) = drifts
 drifts_after drifts (Fitting nonce token lo hi drift) = slice_set drifts token drift
 
 -- with one answer more, to a line, which is kept without an LF at its end
@@ -133,9 +140,8 @@ abbrev pub answers_after : List KeptAnswer → Line → Ruling → List KeptAnsw
 answers_after answers line Outside = answers
 answers_after answers line (Again text) = answers
 answers_after answers line Waiting = answers
-answers_after answers line (Denied nonce outcome) = with_answer_to line (answer_bytes (Reply nonce outcome)) answers
-answers_after answers line (Wrong nonce outcome token) =
-    with_answer_to line (answer_bytes (Reply nonce outcome)) answers
+answers_after answers line (Denied nonce reason) = with_answer_to line (refusal_bytes nonce reason) answers
+answers_after answers line (Wrong nonce reason token) = with_answer_to line (refusal_bytes nonce reason) answers
 answers_after answers line (Fitting nonce token lo hi drift) =
     with_answer_to line (answer_bytes (Reply nonce (Accepted hi))) answers
 

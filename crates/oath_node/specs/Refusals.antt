@@ -2,7 +2,8 @@
 use Rattle.std.specs.Prelude.{◌≡◌, ◌≢◌, ℕ, length}
 use Rattle.floor_store.specs.Content.{Content}
 use Rattle.vote_core.specs.Rows.{row}
-use Rattle.oath_node.specs.Rules.{Ruling, Outside, Again, Waiting, Denied, Wrong, Fitting}
+use Rattle.oath_node.specs.declared.ruling.Ruling.{Ruling}
+use Rattle.oath_node.specs.declared.ruling.Ruling.TheVariants.{Outside, Again, Waiting, Denied, Wrong, Fitting}
 
 -- each first free factor, each grant and each drift, the boot and the last pass are as they were
 pub record KeepsFloors (old new : Content) : Type 0 where
@@ -18,8 +19,8 @@ abbrev pub IsRefusal : Ruling → Type 0
 IsRefusal Outside = Unit {0}
 IsRefusal (Again text) = Unit {0}
 IsRefusal Waiting = Unit {0}
-IsRefusal (Denied nonce outcome) = Unit {0}
-IsRefusal (Wrong nonce outcome token) = Unit {0}
+IsRefusal (Denied nonce reason) = Unit {0}
+IsRefusal (Wrong nonce reason token) = Unit {0}
 IsRefusal (Fitting nonce token lo hi drift) = ⊥
 
 -- the token doesn't fail
@@ -27,6 +28,6 @@ abbrev pub SparesToken : ℕ → Ruling → Type 0
 SparesToken token Outside = Unit {0}
 SparesToken token (Again text) = Unit {0}
 SparesToken token Waiting = Unit {0}
-SparesToken token (Denied nonce outcome) = Unit {0}
-SparesToken token (Wrong nonce outcome failed) = token ≢ failed
+SparesToken token (Denied nonce reason) = Unit {0}
+SparesToken token (Wrong nonce reason failed) = token ≢ failed
 SparesToken token (Fitting nonce proposed lo hi drift) = Unit {0}

@@ -1,16 +1,17 @@
--- A server that is asked line by line, beside the reference server.
+-- Nodes over stores in memory, and a server that is asked line by line, beside the reference server.
 use Rattle.std.specs.Prelude.{◌≡◌, ℕ, ◌+◌, ◌^◌, ◌≤◌, List, Result, IfErr, IfOk, OnOk}
 use Rattle.otp_core.specs.Limits.{Limits}
 use Rattle.token_file.specs.Credential.{Credential}
-use Rattle.floor_store.specs.Content.{Content}
+use Rattle.floor_store.specs.Content.{Content, opening_content}
+use Rattle.vote_core.specs.NodeSet.{PlaceRecord}
 use Rattle.vote_core.specs.State.{voter_of}
 use Rattle.oath_node.specs.Alone.{IsAlone, alone_place}
 use Rattle.oath_node.specs.Hosted.{Hosted}
-use Rattle.oath_node.specs.Machine.{NodeState}
+use Rattle.oath_node.specs.Machine.{NodeState, opened_node}
 use Rattle.oath_node.specs.ReferenceServer.{Line, Server, service_of}
 use Rattle.oath_node.specs.declared.fault.NodeFault.{NodeFault}
 
--- what a server is: a node over a store in memory
+-- a node over a store in memory, which is what a server is
 abbrev pub Serving : Type 0
 Serving = Hosted Content
 
@@ -23,6 +24,15 @@ state_in_memory node = record {
   answers = node.answers;
   running = node.running;
 }
+
+-- a node of that place over a fresh store in memory with these first free factors
+pub record IsInMemory (book : List Credential) (limits : Limits) (place : PlaceRecord) (key floors : List ℕ)
+    (node : Serving) : Type 0 where
+  pub state : state_in_memory node ≡ opened_node (opening_content floors)
+  pub book_is : node.book ≡ book
+  pub limits_are : node.limits ≡ limits
+  pub key_is : node.key ≡ key
+  pub place_is : node.voter.place ≡ place
 
 -- the node, which is alone, is this state of the reference server over a book, after so many lines
 pub record IsServing (node : Serving) (book : List Credential) (limits : Limits) (count : ℕ)

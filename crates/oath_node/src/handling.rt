@@ -6,21 +6,22 @@ ghost use Rattle.floor_store.specs.Range.{IsSpan};
 ghost use Rattle.answer_ring.specs.Answers.{kept_with};
 ghost use Rattle.oath_node.specs.Heard.{IsHeardAs};
 ghost use Rattle.oath_node.specs.Hosted.{envelope_at};
-ghost use Rattle.oath_node.specs.Machine.{content_with_failure, made_by_datagram, made_by_line, made_by_message, made_by_proposal, made_by_ruling, made_by_tick};
+ghost use Rattle.oath_node.specs.Machine.{content_with_failure, made_by_datagram, made_by_line, made_by_message, made_by_proposal, made_by_ruling, made_by_tick, ruling_at};
 ghost use Rattle.oath_node.specs.Outputs.{reply_outputs};
-ghost use Rattle.oath_node.specs.Parts.{Steps};
-ghost use Rattle.oath_node.specs.Recording.{IfProposes, IsRecordable};
-ghost use Rattle.oath_node.specs.Rules.{verdict_ruling};
+ghost use Rattle.oath_node.specs.Parts.{Steps, state_in};
+ghost use Rattle.oath_node.specs.Recording.{IfKept, IfProposes, IsRecordable};
 ghost use Rattle.otp_core.specs.Range.{IsMoment};
 ghost use Rattle.vote_core.specs.Calls.{FitsVoter, IsOther, IsStoreOf};
 ghost use Rattle.vote_core.specs.Rows.{row};
+ghost use Rattle.vote_wire.specs.Request.{without_lf as spec_without_lf};
 
 use crate::fault::NodeFault;
 use crate::outputs::{Outputs, Scratch};
 use crate::owner::{Owner, is_waiting};
 use crate::parts::Parts;
-use crate::rules::{Verdict, examine, row_of};
-use crate::settling::{finish_tick, finish_vote, line_of, text_of};
+use crate::rules::{examine, row_of};
+use crate::ruling::{KeptText, Ruling};
+use crate::settling::{finish_tick, finish_vote, line_of};
 use answer_ring::{Answers, answer_again, keep};
 use arrayvec::ArrayVec;
 use floor_store::{FloorStore, StoreFault};
@@ -28,8 +29,8 @@ use otp_core::{Drift, Factor, Settings};
 use token_file::Book;
 use vote_core::{Message, VoteFault, Voter};
 use vote_wire::{
-    Answer, ClusterKey, MAX_SENT_LEN, Nonce, read_line, read_message, without_lf, write_answer,
-    write_reply,
+    Answer, ClusterKey, MAX_SENT_LEN, Nonce, Outcome, read_line, read_message, without_lf,
+    write_answer, write_reply,
 };
 
 /// Whether a message is heard: it comes from the member that it says, is for this node, and may be handed to
@@ -91,8 +92,7 @@ impl<S: FloorStore> Parts<S> {
                 step,
                 scratch,
             )),
-            Err(VoteFault::Store(fault)) => Err(NodeFault::Store(fault)),
-            Err(VoteFault::Spent) => unreachable!(),
+            Err(fault) => Err(NodeFault::Store(fault)),
         }
     }
 
@@ -117,8 +117,7 @@ impl<S: FloorStore> Parts<S> {
                 &mut self.answers,
                 step,
             )),
-            Err(VoteFault::Store(fault)) => Err(NodeFault::Store(fault)),
-            Err(VoteFault::Spent) => unreachable!(),
+            Err(fault) => Err(NodeFault::Store(fault)),
         }
     }
 
@@ -185,46 +184,48 @@ impl<S: FloorStore> Parts<S> {
         }
     }
 
-    /// What the rules made of a line that no answer is kept for and that doesn't wait.
+    /// What becomes of the line of a client is done.
     #[tactic(auto, unfolding(crate::specs::Machine::made_by_ruling))]
-    fn on_verdict<'k>(
+    fn on_ruling<'k>(
         &mut self,
         key: &'k ClusterKey,
         client: u64,
         moment: u64,
         line: &[u8],
-        verdict: Verdict,
+        ruling: Ruling,
     ) -> Result<Outputs<'k>, NodeFault>
         requires store { IsStoreOf self.old.voter (S.held self.old.store) }
-        requires line { length line.now ≤ 256 }
-        requires room { IfProposes verdict (λ token lo hi.
+        requires line { IfKept ruling (length line.now ≤ 256) }
+        requires room { IfProposes ruling (λ token lo hi.
             (length self.old.voter.ballots < 32) × (length self.old.owners.items < 32)) }
-        requires recordable { IsRecordable (length (S.held self.old.store).content.rows) moment verdict }
-        requires spanned { IfProposes verdict (λ token lo hi. IsSpan lo hi) }
-        requires free { (S.held self.old.store).is_clean → IfProposes verdict
+        requires recordable { IsRecordable (length (S.held self.old.store).content.rows) moment ruling }
+        requires spanned { IfProposes ruling (λ token lo hi. IsSpan lo hi) }
+        requires free { (S.held self.old.store).is_clean → IfProposes ruling
             (λ token lo hi. (row (S.held self.old.store).content token).next ≤ lo) }
         ensures { Steps S.held key.now self.old self.new
-            (made_by_ruling self.old.voter.place client moment line.now (verdict_ruling verdict)) result }
+            (made_by_ruling self.old.voter.place client moment line.now ruling) result }
     {
-        match verdict {
-            Verdict::BadLine => {
+        match ruling {
+            Ruling::Outside => {
                 let bytes = write_answer(&Answer::BadLine);
                 Ok(Outputs::reply(key, client, bytes))
             }
-            Verdict::Refused(nonce, outcome) => {
-                let bytes = write_reply(&nonce, outcome);
+            Ruling::Again(text) => Ok(Outputs::reply(key, client, text.into_bytes())),
+            Ruling::Waiting => Ok(Outputs::nothing(key)),
+            Ruling::Denied(nonce, reason) => {
+                let bytes = write_reply(&nonce, Outcome::Refused(reason));
                 Ok(remember(key, &mut self.answers, client, line, bytes))
             }
-            Verdict::Fails(nonce, outcome, token) => {
+            Ruling::Wrong(nonce, reason, token) => {
                 match fail(&mut self.store, token.value(), moment) {
                     Ok(()) => {
-                        let bytes = write_reply(&nonce, outcome);
+                        let bytes = write_reply(&nonce, Outcome::Refused(reason));
                         Ok(remember(key, &mut self.answers, client, line, bytes))
                     }
                     Err(fault) => Err(NodeFault::Store(fault)),
                 }
             }
-            Verdict::Proposes {
+            Ruling::Fitting {
                 nonce,
                 token,
                 lo,
@@ -247,6 +248,42 @@ impl<S: FloorStore> Parts<S> {
         self.owners.is_full()
     }
 
+    /// What becomes of the line of a client, as it came.
+    fn rule(
+        &self,
+        book: &Book,
+        settings: Settings,
+        client: u64,
+        moment: u64,
+        bytes: &[u8],
+    ) -> Ruling
+        requires works { (S.held self.now.store).fault ≡ None }
+        requires rows { length (S.held self.now.store).content.rows ≡ length book.now }
+        requires room { (S.held self.now.store).is_clean
+            → length self.now.owners.items ≤ length self.now.voter.ballots }
+        ensures value { (S.held self.now.store).is_clean → result ≡ ruling_at
+            (record { book = book.now; limits = settings }) (state_in S.held self.now) client moment bytes.now }
+        ensures line { IfKept result (length (spec_without_lf bytes.now) ≤ 256) }
+        ensures recordable { IsRecordable (length book.now) moment result }
+        ensures spanned { IfProposes result (λ token lo hi. IsSpan lo hi) }
+        ensures free { (S.held self.now.store).is_clean → IfProposes result
+            (λ token lo hi. (row (S.held self.now.store).content token).next ≤ lo) }
+        ensures room { IfProposes result (λ token lo hi.
+            (length self.now.voter.ballots < 32) × (length self.now.owners.items < 32)) }
+    {
+        let Some(request) = read_line(bytes) else {
+            return Ruling::Outside;
+        };
+        let line = without_lf(bytes);
+        if let Some(text) = answer_again(&self.answers, client, line) {
+            return Ruling::Again(KeptText::new(text));
+        }
+        if is_waiting(self.owners.as_slice(), client, line) {
+            return Ruling::Waiting;
+        }
+        examine(book, settings, &self.store, self.is_full(), moment, request)
+    }
+
     /// The line of a client, as it came.
     pub(crate) fn on_line<'k>(
         &mut self,
@@ -265,19 +302,7 @@ impl<S: FloorStore> Parts<S> {
         ensures { Steps S.held key.now self.old self.new (made_by_line
             (record { book = book.now; limits = settings }) self.old.voter.place client moment bytes.now) result }
     {
-        let Some(request) = read_line(bytes) else {
-            let bytes = write_answer(&Answer::BadLine);
-            return Ok(Outputs::reply(key, client, bytes));
-        };
-        let line = without_lf(bytes);
-        if let Some(text) = answer_again(&self.answers, client, line) {
-            return Ok(Outputs::reply(key, client, text_of(text)));
-        }
-        if is_waiting(self.owners.as_slice(), client, line) {
-            return Ok(Outputs::nothing(key));
-        }
-        let is_full = self.is_full();
-        let verdict = examine(book, settings, &self.store, is_full, moment, request);
-        self.on_verdict(key, client, moment, line, verdict)
+        let ruling = self.rule(book, settings, client, moment, bytes);
+        self.on_ruling(key, client, moment, without_lf(bytes), ruling)
     }
 }

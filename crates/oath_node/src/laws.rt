@@ -20,40 +20,40 @@ ghost use Rattle.vote_core.specs.Rows.{row};
 ghost use Rattle.vote_core.specs.State.{IsPlace};
 ghost use Rattle.vote_core.specs.Voting.{fresh_voter};
 ghost use Rattle.vote_core.specs.declared.message.Message.TheVariants.{Ask, Floor, Grant};
-ghost use Rattle.oath_node.specs.Examples.{IsJustifiedByClock, IsJustifiedInRun, drift_of_passes, kept_in, lines_given_again, lines_of_a_run, outcome_of, outcome_of_clock, pass_with, server_of, silver_before, verdict_by_clock, verdict_on};
-ghost use Rattle.vote_wire.specs.declared.answer.Outcome.TheVariants.{Clock, Exhausted, Invalid, Password, Throttled, Unknown};
-ghost use Rattle.oath_node.specs.declared.rules.Verdict.TheVariants.{BadLine, Fails, Proposes, Refused};
+ghost use Rattle.oath_node.specs.Examples.{IsJustifiedByClock, IsJustifiedInRun, drift_of_passes, kept_in, lines_given_again, lines_of_a_run, outcome_of, outcome_of_clock, pass_with, server_of, silver_before, ruling_by_clock, ruling_on};
+ghost use Rattle.vote_wire.specs.declared.answer.Reason.TheVariants.{Clock, Exhausted, Invalid, Password, Throttled, Unknown};
+ghost use Rattle.oath_node.specs.declared.ruling.Ruling.TheVariants.{Denied, Fitting, Outside, Wrong};
 
 use admit_core::{failures_are_spaced, gate_keeps_throttle, least_fit_is_least};
 
 /// What the rules make of some lines: the first rule that applies decides.
 pub fn rules_are_worked()
-    ensures bad_line { verdict_on 0 1 1099511627776 (codes "CHECK 1 lead 755224") ≡ BadLine }
-    ensures clock { verdict_on 0 1 1099511627776 (codes "CHECK 1 lead 755224 -") ≡ Refused (codes "1") Clock }
-    ensures last_moment { verdict_on 0 0 1099511627775 (codes "CHECK 1 silver 755224 -")
-        ≡ Proposes (codes "1") 0 0 0 (pos 0) }
-    ensures unknown { verdict_on 0 1 100 (codes "CHECK 1 lead 755224 -") ≡ Refused (codes "1") Unknown }
-    ensures throttled { verdict_on 4611686018427387904 1 100 (codes "CHECK 1 silver 755224 pw")
-        ≡ Refused (codes "1") (Throttled 1) }
-    ensures password { verdict_on 4611686018427387904 0 100 (codes "CHECK 1 silver 755224 pw")
-        ≡ Fails (codes "1") Password 0 }
-    ensures no_password { verdict_on 0 0 100 (codes "CHECK 1 gold 969429 -") ≡ Fails (codes "1") Password 1 }
-    ensures exhausted { verdict_on 4611686018427387904 0 100 (codes "CHECK 1 silver 755224 -")
-        ≡ Refused (codes "1") Exhausted }
-    ensures last_factor { verdict_on 4611686018427387903 0 100 (codes "CHECK 1 silver 755224 -")
-        ≡ Fails (codes "1") Invalid 0 }
-    ensures not_checked { verdict_on 0 0 100 (codes "CHECK 1 iron 755224 -") ≡ Refused (codes "1") Exhausted }
+    ensures bad_line { ruling_on 0 1 1099511627776 (codes "CHECK 1 lead 755224") ≡ Outside }
+    ensures clock { ruling_on 0 1 1099511627776 (codes "CHECK 1 lead 755224 -") ≡ Denied (codes "1") Clock }
+    ensures last_moment { ruling_on 0 0 1099511627775 (codes "CHECK 1 silver 755224 -")
+        ≡ Fitting (codes "1") 0 0 0 (pos 0) }
+    ensures unknown { ruling_on 0 1 100 (codes "CHECK 1 lead 755224 -") ≡ Denied (codes "1") Unknown }
+    ensures throttled { ruling_on 4611686018427387904 1 100 (codes "CHECK 1 silver 755224 pw")
+        ≡ Denied (codes "1") (Throttled 1) }
+    ensures password { ruling_on 4611686018427387904 0 100 (codes "CHECK 1 silver 755224 pw")
+        ≡ Wrong (codes "1") Password 0 }
+    ensures no_password { ruling_on 0 0 100 (codes "CHECK 1 gold 969429 -") ≡ Wrong (codes "1") Password 1 }
+    ensures exhausted { ruling_on 4611686018427387904 0 100 (codes "CHECK 1 silver 755224 -")
+        ≡ Denied (codes "1") Exhausted }
+    ensures last_factor { ruling_on 4611686018427387903 0 100 (codes "CHECK 1 silver 755224 -")
+        ≡ Wrong (codes "1") Invalid 0 }
+    ensures not_checked { ruling_on 0 0 100 (codes "CHECK 1 iron 755224 -") ≡ Denied (codes "1") Exhausted }
 
     // each token by its own first free factor, up to the look-ahead or the range
-    ensures first { verdict_on 0 0 100 (codes "CHECK 1 silver 755224 -") ≡ Proposes (codes "1") 0 0 0 (pos 0) }
-    ensures furthest { verdict_on 0 0 100 (codes "CHECK 1 silver 254676 -") ≡ Proposes (codes "1") 0 5 5 (pos 0) }
-    ensures too_far { verdict_on 0 0 100 (codes "CHECK 1 silver 287922 -") ≡ Fails (codes "1") Invalid 0 }
-    ensures gold { verdict_on 0 1 100 (codes "CHECK 1 gold 969429 pw") ≡ Proposes (codes "1") 1 3 3 (pos 0) }
-    ensures used_up { verdict_on 0 1 100 (codes "CHECK 1 gold 359152 pw") ≡ Fails (codes "1") Invalid 1 }
-    ensures two_codes { verdict_on 0 0 100 (codes "RESYNC 1 silver 399871 520489 -")
-        ≡ Proposes (codes "1") 0 8 9 (pos 0) }
-    ensures two_too_far { verdict_on 0 0 100 (codes "RESYNC 1 silver 520489 403154 -")
-        ≡ Fails (codes "1") Invalid 0 }
+    ensures first { ruling_on 0 0 100 (codes "CHECK 1 silver 755224 -") ≡ Fitting (codes "1") 0 0 0 (pos 0) }
+    ensures furthest { ruling_on 0 0 100 (codes "CHECK 1 silver 254676 -") ≡ Fitting (codes "1") 0 5 5 (pos 0) }
+    ensures too_far { ruling_on 0 0 100 (codes "CHECK 1 silver 287922 -") ≡ Wrong (codes "1") Invalid 0 }
+    ensures gold { ruling_on 0 1 100 (codes "CHECK 1 gold 969429 pw") ≡ Fitting (codes "1") 1 3 3 (pos 0) }
+    ensures used_up { ruling_on 0 1 100 (codes "CHECK 1 gold 359152 pw") ≡ Wrong (codes "1") Invalid 1 }
+    ensures two_codes { ruling_on 0 0 100 (codes "RESYNC 1 silver 399871 520489 -")
+        ≡ Fitting (codes "1") 0 8 9 (pos 0) }
+    ensures two_too_far { ruling_on 0 0 100 (codes "RESYNC 1 silver 520489 403154 -")
+        ≡ Wrong (codes "1") Invalid 0 }
 {}
 
 /// Each password column, beside what a line gives.
@@ -116,10 +116,10 @@ pub fn drifts_are_worked()
         ≡ (codes "OK 1 3" ∷ codes "OK 2 4" ∷ codes "NO 3 INVALID" ∷ codes "OK 4 9" ∷ [], pos 0 ∷ []) }
     ensures none { outcome_of_clock 0
         ≡ (codes "OK 1 3" ∷ codes "NO 2 INVALID" ∷ codes "NO 3 INVALID" ∷ codes "OK 4 9" ∷ [], pos 0 ∷ []) }
-    ensures right { verdict_by_clock (codes "CHECK 1 silver 359152 -") ≡ Proposes (codes "1") 0 2 2 (negsuc 0) }
-    ensures behind { verdict_by_clock (codes "CHECK 1 gold 287082 -") ≡ Proposes (codes "1") 1 1 1 (negsuc 1) }
-    ensures two_codes { verdict_by_clock (codes "RESYNC 1 silver 359152 969429 -")
-        ≡ Proposes (codes "1") 0 2 3 (pos 0) }
+    ensures right { ruling_by_clock (codes "CHECK 1 silver 359152 -") ≡ Fitting (codes "1") 0 2 2 (negsuc 0) }
+    ensures behind { ruling_by_clock (codes "CHECK 1 gold 287082 -") ≡ Fitting (codes "1") 1 1 1 (negsuc 1) }
+    ensures two_codes { ruling_by_clock (codes "RESYNC 1 silver 359152 969429 -")
+        ≡ Fitting (codes "1") 0 2 3 (pos 0) }
     ensures restarted { (restarted_server (record {
       floors = 4 ∷ [];
       front = record { results = [] ∷ []; drifts = negsuc 2 ∷ []; answers = [] };

@@ -20,6 +20,8 @@
 //! What comes from elsewhere may be lost, repeated, reordered or forged. A datagram without the tag of the
 //! cluster's key is dropped, and so is one that isn't for this node, or is from another member than it says.
 //!
+//! [`Node::in_memory`] opens a node over a fresh store in memory.
+//!
 //! A node that is alone needs no votes. [`LineServer`] is one that answers each line when it is asked:
 //!
 //! ```rust
@@ -45,11 +47,13 @@ mod handling;
 mod item;
 mod items;
 mod laws;
+mod memory;
 mod node;
 mod outputs;
 mod owner;
 mod parts;
 mod rules;
+mod ruling;
 mod server;
 mod settling;
 
@@ -66,4 +70,5 @@ pub use laws::{
 };
 pub use node::Node;
 pub use outputs::{Outputs, Scratch};
+pub use ruling::{KeptText, Ruling};
 pub use server::LineServer;

@@ -4,6 +4,7 @@ ghost use Rattle.std.specs.Prelude.{◌≡◌, []};
 ghost use Rattle.oath_node.specs.Outputs.{items_of, no_outputs, reply_outputs};
 ghost use Rattle.oath_node.specs.Parcel.{replies_in, sends_in};
 ghost use Rattle.vote_core.specs.State.{sent_by};
+ghost use Rattle.vote_core.specs.Voting.{pass_in};
 
 use crate::items::Items;
 use arrayvec::ArrayVec;
@@ -136,14 +137,14 @@ impl<'k> Outputs<'k> {
         ensures { result ≡ record {
           items = items_of key.now me (sent_by step.sends.items) replies.items;
           begun = step.begun;
-          pass = step.pass;
+          pass = pass_in step.decisions.items;
         } }
     {
+        let pass = step.pass();
         let VoteStep {
             sends,
             begun,
             decisions: _,
-            pass,
         } = step;
         Outputs {
             key,
@@ -165,14 +166,14 @@ impl<'k> Outputs<'k> {
         ensures { result ≡ record {
           items = items_of key.now me (sent_by step.sends.items) replies.items;
           begun = step.begun;
-          pass = step.pass;
+          pass = pass_in step.decisions.items;
         } }
     {
+        let pass = step.pass();
         let TickStep {
             sends,
             begun,
             decisions: _,
-            pass,
         } = step;
         scratch.sends = sends;
         scratch.replies = replies;

@@ -8,35 +8,17 @@ ghost use Rattle.vote_wire.specs.Codes.{submission_of};
 ghost use Rattle.oath_node.specs.Recording.{IfProposes, IsRecordable, standing_in};
 ghost use Rattle.oath_node.specs.Rules as spec;
 
+use crate::ruling::Ruling;
 use admit_core::{
     drift_after, find_check, find_resync, least_fit_is_least, password_fits, resync_window, window,
 };
 use floor_store::{FloorStore, Row, StoreFault};
 use otp_core::{Drift, FACTORS_END, Factor, MOMENTS_END, Next, Settings};
 use token_file::{Book, Token, TokenId};
-use vote_wire::{Codes, Line, Nonce, Outcome};
-
-/// What the rules make of a line.
-#[derive(Debug, Drop)]
-pub(crate) enum Verdict {
-    /// It is outside the line grammar.
-    BadLine,
-    /// It is answered so, and nothing changes.
-    Refused(Nonce, Outcome),
-    /// It is answered so, and a failure of the token.
-    Fails(Nonce, Outcome, TokenId),
-    /// The factors `lo` to `hi` of the token fit, and their acceptance keeps the drift.
-    Proposes {
-        nonce: Nonce,
-        token: TokenId,
-        lo: Factor,
-        hi: Factor,
-        drift: Drift,
-    },
-}
+use vote_wire::{Codes, Line, Reason};
 
 /// The password, the factors that are left, and the window, at a token that is open.
-fn open_verdict(
+fn open_ruling(
     token: &Token,
     id: TokenId,
     next: Next,
@@ -44,43 +26,43 @@ fn open_verdict(
     settings: Settings,
     moment: u64,
     request: Line<'_>,
-) -> Verdict
+) -> Ruling
     requires { IsMoment moment }
-    ensures value { result ≡ spec.open_verdict settings next drift moment request.entry id token.now }
+    ensures value { result ≡ spec.open_ruling settings next drift moment request.entry id token.now }
     ensures recordable { (tokens : ℕ) → id < tokens → IsRecordable tokens moment result }
 {
     if !password_fits(token, request.password()) {
-        return Verdict::Fails(request.to_nonce(), Outcome::Password, id);
+        return Ruling::Wrong(request.to_nonce(), Reason::Password, id);
     }
     if next.value() == FACTORS_END {
-        return Verdict::Refused(request.to_nonce(), Outcome::Exhausted);
+        return Ruling::Denied(request.to_nonce(), Reason::Exhausted);
     }
     let fit = find_fit(token, next, drift, settings, moment, request.codes());
-    fit_verdict(token, id, fit, settings, moment, request)
+    fit_ruling(token, id, fit, settings, moment, request)
 }
 
 /// The factors that fit are proposed, for the drift by the moment of the line.
-fn fit_verdict(
+fn fit_ruling(
     token: &Token,
     id: TokenId,
     fit: Option<(Factor, Factor)>,
     settings: Settings,
     moment: u64,
     request: Line<'_>,
-) -> Verdict
+) -> Ruling
     requires { IsMoment moment }
-    ensures value { result ≡ spec.fit_verdict token.now.kind settings moment request.entry id fit }
+    ensures value { result ≡ spec.fit_ruling token.now.kind settings moment request.entry id fit }
     ensures recordable { (tokens : ℕ) → id < tokens → IsRecordable tokens moment result }
 {
     match fit {
-        Some((lo, hi)) => Verdict::Proposes {
+        Some((lo, hi)) => Ruling::Fitting {
             nonce: request.to_nonce(),
             token: id,
             lo,
             hi,
             drift: drift_after(token, hi, moment, &settings),
         },
-        None => Verdict::Fails(request.to_nonce(), Outcome::Invalid, id),
+        None => Ruling::Wrong(request.to_nonce(), Reason::Invalid, id),
     }
 }
 
@@ -128,17 +110,17 @@ pub(crate) fn row_of<S: FloorStore>(store: &S, token: u32) -> Result<Row, StoreF
 }
 
 /// Whether a token is open, by its row, and what follows.
-fn token_verdict(
+fn token_ruling(
     token: &Token,
     id: TokenId,
     row: Row,
     settings: Settings,
     moment: u64,
     request: Line<'_>,
-) -> Verdict
+) -> Ruling
     requires { IsMoment moment }
     ensures value { result
-        ≡ spec.token_verdict settings row.next row.drift (row.gate.until - moment) moment request.entry id token.now }
+        ≡ spec.token_ruling settings row.next row.drift (row.gate.until - moment) moment request.entry id token.now }
     ensures recordable { (tokens : ℕ) → id < tokens → IsRecordable tokens moment result }
     ensures spanned { IfProposes result (λ token lo hi. IsSpan lo hi) }
     ensures free { IfProposes result (λ token lo hi. (token ≡ id) × (row.next ≤ lo)) }
@@ -146,9 +128,9 @@ fn token_verdict(
     least_fit_is_least();
     let wait = row.gate().wait(moment);
     if wait > 0 {
-        return Verdict::Refused(request.to_nonce(), Outcome::Throttled(wait));
+        return Ruling::Denied(request.to_nonce(), Reason::Throttled(wait));
     }
-    open_verdict(
+    open_ruling(
         token,
         id,
         row.next(),
@@ -168,10 +150,10 @@ pub(crate) fn examine<S: FloorStore>(
     is_full: bool,
     moment: u64,
     request: Line<'_>,
-) -> Verdict
+) -> Ruling
     requires works { (S.held store.now).fault ≡ None }
     requires rows { length (S.held store.now).content.rows ≡ length book.now }
-    ensures value { (S.held store.now).is_clean → result ≡ spec.request_verdict book.now settings
+    ensures value { (S.held store.now).is_clean → result ≡ spec.request_ruling book.now settings
         (standing_in (S.held store.now).content is_full moment) moment request.entry }
     ensures recordable { IsRecordable (length book.now) moment result }
     ensures spanned { IfProposes result (λ token lo hi. IsSpan lo hi) }
@@ -180,16 +162,16 @@ pub(crate) fn examine<S: FloorStore>(
     ensures room { IfProposes result (λ token lo hi. is_full ≡ false) }
 {
     if moment >= MOMENTS_END {
-        return Verdict::Refused(request.to_nonce(), Outcome::Clock);
+        return Ruling::Denied(request.to_nonce(), Reason::Clock);
     }
     if is_full {
-        return Verdict::Refused(request.to_nonce(), Outcome::Busy);
+        return Ruling::Denied(request.to_nonce(), Reason::Busy);
     }
     let Some(id) = book.find(request.user()) else {
-        return Verdict::Refused(request.to_nonce(), Outcome::Unknown);
+        return Ruling::Denied(request.to_nonce(), Reason::Unknown);
     };
     match row_of(store, id.value()) {
-        Ok(row) => token_verdict(book.token(id), id, row, settings, moment, request),
+        Ok(row) => token_ruling(book.token(id), id, row, settings, moment, request),
         Err(_) => unreachable!(),
     }
 }

@@ -17,7 +17,7 @@ use floor_store::MemStore;
 use otp_core::{Next, Settings};
 use std::alloc::Global;
 use std::marker::Model;
-use token_file::{Book, MAX_TOKENS};
+use token_file::Book;
 use vote_core::Place;
 use vote_wire::{ClusterKey, MAX_SENT_LEN};
 
@@ -52,20 +52,13 @@ impl<'b> LineServer<'b> {
         ensures serving { IfOk result (λ server. IsServing server book.now settings 0 (server_at floors.now)) }
         ensures refusal { IfErr result (λ fault. fault ≡ OpenFault.Memory) }
     {
-        // No book has more tokens.
-        if floors.len() > MAX_TOKENS {
-            return Err(OpenFault::Memory);
-        }
-        let Ok(store) = MemStore::new(alloc, floors) else {
-            return Err(OpenFault::Memory);
-        };
         let place = Place::new(1, 1).unwrap();
-        match Node::open(alloc, book, settings, place, key, store) {
+        match Node::in_memory(alloc, book, settings, place, key, floors) {
             Ok(node) => Ok(LineServer {
                 node,
                 scratch: Scratch::new(),
             }),
-            Err((_, fault)) => Err(fault),
+            Err(_) => Err(OpenFault::Memory),
         }
     }
 

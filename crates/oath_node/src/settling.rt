@@ -1,7 +1,7 @@
 //! What a voter's step leads to: replies to those whose proposals are decided, and answers to be kept.
 
 ghost use Rattle.std.specs.Prelude.{◌≡◌, ◌≤◌, length, map};
-ghost use Rattle.oath_node.specs.Machine.{answers_to_decisions, kept_with_all, last_factor_of as spec_last_factor_of, outcome_of as spec_outcome_of, owners_of_pending, reply_with};
+ghost use Rattle.oath_node.specs.Machine.{answers_to_decisions, kept_with_all, outcome_of as spec_outcome_of, owners_of_pending, reply_with};
 ghost use Rattle.oath_node.specs.Parts.{Finishes};
 ghost use Rattle.vote_core.specs.State.{voter_of};
 
@@ -9,10 +9,8 @@ use crate::outputs::{Outputs, Reply, Scratch};
 use crate::owner::{Owner, owner_with};
 use answer_ring::{Answers, MAX_LINE_LEN, keep};
 use arrayvec::ArrayVec;
-use floor_store::Pass;
-use otp_core::Factor;
 use vote_core::{Decision, MAX_PENDING, TickStep, VoteStep, Voter};
-use vote_wire::{ClusterKey, MAX_SENT_LEN, Outcome, write_reply};
+use vote_wire::{ClusterKey, MAX_SENT_LEN, Outcome, Reason, write_reply};
 
 /// A line that waits.
 pub(crate) fn line_of(bytes: &[u8]) -> ArrayVec<u8, MAX_LINE_LEN>
@@ -24,7 +22,7 @@ pub(crate) fn line_of(bytes: &[u8]) -> ArrayVec<u8, MAX_LINE_LEN>
     line
 }
 
-/// An answer that is given again.
+/// The bytes of an answer.
 pub(crate) fn text_of(bytes: &[u8]) -> ArrayVec<u8, MAX_SENT_LEN>
     requires { length bytes.now ≤ 64 }
     ensures { result.items ≡ bytes.now }
@@ -34,44 +32,33 @@ pub(crate) fn text_of(bytes: &[u8]) -> ArrayVec<u8, MAX_SENT_LEN>
     text
 }
 
-/// The last factor of the accepted submission.
-fn last_factor_of(pass: &Option<Pass>) -> Factor
-    ensures { result ≡ spec_last_factor_of pass.now }
-{
-    match pass {
-        Some(pass) => pass.hi(),
-        None => Factor::new(0).unwrap(),
-    }
-}
-
 /// What the owner of a decided proposal is told.
-fn outcome_of(decision: Decision, pass: &Option<Pass>) -> Outcome
-    ensures { result ≡ spec_outcome_of decision pass.now }
+fn outcome_of(decision: Decision) -> Outcome
+    ensures { result ≡ spec_outcome_of decision }
 {
     match decision {
-        Decision::Accepted => Outcome::Accepted(last_factor_of(pass)),
-        Decision::Spent => Outcome::Spent,
-        Decision::Timeout => Outcome::Timeout,
+        Decision::Accepted(pass) => Outcome::Accepted(pass.hi()),
+        Decision::Spent => Outcome::Refused(Reason::Spent),
+        Decision::Timeout => Outcome::Refused(Reason::Timeout),
     }
 }
 
 /// The replies to what was decided, in order. They are kept.
 fn settle<const ROOM: usize>(
     owners: &[Owner],
-    pass: &Option<Pass>,
     decisions: &[(u64, Decision)],
     answers: &mut Answers,
 ) -> ArrayVec<Reply, ROOM>
     requires { length decisions.now ≤ ROOM }
-    ensures replies { result.items ≡ map reply_with (answers_to_decisions owners.now pass.now decisions.now) }
+    ensures replies { result.items ≡ map reply_with (answers_to_decisions owners.now decisions.now) }
     ensures answers { answers.new
-        ≡ kept_with_all answers.old (answers_to_decisions owners.now pass.now decisions.now) }
+        ≡ kept_with_all answers.old (answers_to_decisions owners.now decisions.now) }
 {
     let mut replies = ArrayVec::new();
     for entry in decisions {
         let (seq, decision) = *entry;
         if let Some(owner) = owner_with(owners, seq) {
-            let bytes = write_reply(&owner.nonce, outcome_of(decision, pass));
+            let bytes = write_reply(&owner.nonce, outcome_of(decision));
             keep(
                 answers,
                 owner.client,
@@ -104,12 +91,7 @@ pub(crate) fn finish_vote<'k>(
 ) -> Outputs<'k>
     ensures { Finishes key.now voter.now owners.old.items answers.old step owners.new.items answers.new result }
 {
-    let replies = settle(
-        owners.as_slice(),
-        &step.pass,
-        step.decisions.as_slice(),
-        answers,
-    );
+    let replies = settle(owners.as_slice(), step.decisions.as_slice(), answers);
     keep_pending(owners, voter);
     Outputs::of_vote(key, voter.place().me(), step, replies)
 }
@@ -125,12 +107,7 @@ pub(crate) fn finish_tick<'k>(
 ) -> Outputs<'k>
     ensures { Finishes key.now voter.now owners.old.items answers.old step owners.new.items answers.new result }
 {
-    let replies = settle(
-        owners.as_slice(),
-        &step.pass,
-        step.decisions.as_slice(),
-        answers,
-    );
+    let replies = settle(owners.as_slice(), step.decisions.as_slice(), answers);
     keep_pending(owners, voter);
     Outputs::of_tick(key, voter.place().me(), step, replies, scratch)
 }

@@ -13,8 +13,8 @@ use Rattle.otp_core.specs.Limits.{Limits}
 use Rattle.token_file.specs.Credential.{Credential}
 use Rattle.token_file.specs.UsersFile.{Import, import_of}
 use Rattle.token_file.specs.declared.fault.LineFault.{LineFault}
-use Rattle.cluster_sim.specs.Journal as code
-use Rattle.cluster_sim.specs.RoundRun.{round_lines}
+use Rattle.cluster_sim.specs.Run as code
+use Rattle.cluster_sim.specs.Run.{round_lines}
 use Rattle.cluster_sim.specs.Rounds.{events_with_rounds}
 use Rattle.cluster_sim.specs.World as world
 use Rattle.cluster_sim.specs.World.{ReportValue, report_of}

@@ -1,6 +1,6 @@
 -- What a script says, as values.
 use Rattle.std.specs.Prelude.{ℕ, Bool, List, [], map}
-use Rattle.cluster_sim.specs.RoundRun.{round_lines}
+use Rattle.cluster_sim.specs.Run.{round_lines}
 use Rattle.cluster_sim.specs.Rounds.{RoundLine}
 use Rattle.cluster_sim.specs.declared.script.Act.{Act as SimAct}
 use Rattle.cluster_sim.specs.declared.script.Act.TheVariants as act

@@ -1,6 +1,6 @@
 ghost use Rattle.std.specs.Prelude.{◌≡◌};
 ghost use Rattle.std.specs.Option.{option_map};
-ghost use Rattle.cluster_sim.specs.RoundRun.{round_line};
+ghost use Rattle.cluster_sim.specs.Run.{round_line};
 ghost use Rattle.sim_script.specs.Event.{act_of, event_of};
 ghost use Rattle.sim_script.specs.Reading.{Reads};
 ghost use Rattle.sim_script.specs.Script.{act_of_word, bytes_of, client_act, cut_event, deliver_act, event_line};

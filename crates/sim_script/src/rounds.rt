@@ -2,7 +2,7 @@
 
 ghost use Rattle.std.specs.Prelude.{◌≡◌, ◌<◌, ◌≤◌, ◌==◌, IfSome};
 ghost use Rattle.std.specs.Option.{option_map};
-ghost use Rattle.cluster_sim.specs.RoundRun.{round_line};
+ghost use Rattle.cluster_sim.specs.Run.{round_line};
 ghost use Rattle.cluster_sim.specs.Rounds.{is_live};
 ghost use Rattle.sim_script.specs.Lines.{fields_of};
 ghost use Rattle.sim_script.specs.Script.{live_line, member_above, members_above, round_among};

@@ -1,4 +1,4 @@
-ghost use Rattle.std.specs.Prelude.{◌≡◌, ◌∷◌, [], ◌++◌, ◌<◌, ◌==◌, ◌↔◌, length, slice_get, ◌≢◌, All, Some, None, IsSome, IfSome, IsSomeAnd, IfNone, OnOk, OnErr};
+ghost use Rattle.std.specs.Prelude.{◌≡◌, ◌∷◌, [], ◌++◌, ◌<◌, ◌≤◌, ◌==◌, ◌↔◌, length, slice_get, ◌≢◌, All, Some, None, IsSome, IfSome, IsSomeAnd, IfNone, OnOk, OnErr};
 ghost use Rattle.token_file.specs.Credential.{place_of};
 
 use crate::token::{MAX_NAME_LEN, Token, array_of};
@@ -50,7 +50,7 @@ impl TokenId {
     }
 }
 
-/// The tokens of a server, in the order of their rows, each with a name of its own.
+/// The tokens of a server, at most 10,000, in the order of their rows, each with a name of its own.
 #[derive(Debug, Drop)]
 pub struct Book {
     tokens: Vec<Token>,
@@ -80,9 +80,10 @@ impl Book {
         }
     }
 
-    /// How many tokens there are.
+    /// How many tokens there are, at most 10,000.
     pub fn len(&self) -> usize
-        ensures { result ≡ length self.now }
+        ensures value { result ≡ length self.now }
+        ensures range { result ≤ MAX_TOKENS }
     {
         self.tokens.len()
     }

@@ -37,7 +37,6 @@ pub record StepView : Type 0 where
   pub sends : List (ℕ × Message)
   pub begun : Option ProposalRecord
   pub decisions : List (ℕ × Decision)
-  pub pass : Option PassRecord
 
 -- a member with such a voter
 pub record MemberView : Type 0 where
@@ -104,7 +103,6 @@ step_view step = record {
   sends = step.sends;
   begun = step.begun;
   decisions = step.decisions;
-  pass = step.pass;
 }
 
 -- the member that is seen so
@@ -225,7 +223,7 @@ ticked_of n content voter = step_view (tick (place 1 n) content (voter_seen vote
 -- a step that leaves this, sends these messages, and decides nothing
 abbrev pub telling : List (ℕ × Message) → Content → VoterView → StepView
 telling sends content voter =
-    record { content = content; voter = voter; sends = sends; begun = None; decisions = []; pass = None }
+    record { content = content; voter = voter; sends = sends; begun = None; decisions = [] }
 
 -- a Grant of node 1's fourth proposal
 abbrev pub grant : Message

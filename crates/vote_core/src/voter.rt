@@ -1,7 +1,7 @@
 //! A voter: what the messages of the others and its own proposals make of its store.
 
 ghost use Rattle.std.specs.List.{list_any};
-ghost use Rattle.std.specs.Prelude.{◌≡◌, ◌≢◌, ◌<◌, ◌≤◌, ◌^◌, ◌==◌, ◌↔◌, Err, length, IfErr, IfOk, IsFalse, IsTrue};
+ghost use Rattle.std.specs.Prelude.{◌≡◌, ◌<◌, ◌≤◌, ◌^◌, ◌==◌, ◌↔◌, Err, length, IfOk, IsFalse, IsTrue};
 ghost use Rattle.floor_store.specs.Held.{RaisesBoot};
 ghost use Rattle.floor_store.specs.Range.{IsCount, IsSpan};
 ghost use Rattle.vote_core.specs.declared.fault.VoteFault.{VoteFault};
@@ -179,35 +179,26 @@ impl Voter {
         store: &mut S,
         from: u8,
         message: Message,
-    ) -> Result<VoteStep, VoteFault>
+    ) -> Result<VoteStep, StoreFault>
         requires from { IsOther self.old.place from }
         requires fits { FitsVoter self.old.place self.old.tokens from message }
         requires store { IsStoreOf self.old (S.held store.old) }
-        ensures votes { UnlessSpent result (Votes S.held store.old store.new self.old self.new
-            (spec_on_message self.old.place from message)) }
-        ensures never_spent { IfErr result (λ fault. fault ≢ VoteFault.Spent) }
+        ensures { Votes S.held store.old store.new self.old self.new
+            (spec_on_message self.old.place from message) result }
     {
         // At most nine members: the sender has a bit.
         let _members = self.place.n();
-        match self.hear(store, from, message) {
-            Ok(step) => Ok(step),
-            Err(fault) => Err(VoteFault::Store(fault)),
-        }
+        self.hear(store, from, message)
     }
 
     /// A tick: each proposal is a tick older. The others are asked again, and told the floor of one
     /// token.
-    pub fn tick<S: FloorStore>(&mut self, store: &mut S) -> Result<TickStep, VoteFault>
+    pub fn tick<S: FloorStore>(&mut self, store: &mut S) -> Result<TickStep, StoreFault>
         requires { IsStoreOf self.old (S.held store.old) }
-        ensures votes { UnlessSpent result (Votes S.held store.old store.new self.old self.new
-            (spec_tick self.old.place)) }
-        ensures never_spent { IfErr result (λ fault. fault ≢ VoteFault.Spent) }
+        ensures votes { Votes S.held store.old store.new self.old self.new (spec_tick self.old.place) result }
         ensures same_store { store.new ≡ store.old }
     {
-        match self.grow_older(store) {
-            Ok(step) => Ok(step),
-            Err(fault) => Err(VoteFault::Store(fault)),
-        }
+        self.grow_older(store)
     }
 }
 

@@ -2,6 +2,7 @@ ghost use Rattle.std.specs.Prelude.{◌≡◌, ◌↔◌, ◌+◌, ◌≤◌, �
 ghost use Rattle.std.specs.Fmt.{decimal};
 ghost use Rattle.vote_wire.specs.Answer.{answer_bytes, reply_bytes};
 ghost use Rattle.vote_wire.specs.Field.{IsNonce};
+ghost use Rattle.vote_wire.specs.declared.answer.Outcome.TheVariants.{Refused};
 
 use crate::writing::{MAX_SENT_LEN, push_all};
 use arrayvec::ArrayVec;
@@ -69,11 +70,9 @@ impl Default for Nonce {
     }
 }
 
-/// What became of a line.
+/// Why a line is refused.
 #[derive(Clone, Copy, Debug, PartialEq, Eq)]
-pub enum Outcome {
-    /// Accepted, with its last factor.
-    Accepted(Factor),
+pub enum Reason {
     /// No such user.
     Unknown,
     /// The password is not as the token's column says.
@@ -92,6 +91,14 @@ pub enum Outcome {
     Clock,
     /// The token has no factor left.
     Exhausted,
+}
+
+/// What became of a line.
+#[derive(Clone, Copy, Debug, PartialEq, Eq)]
+pub enum Outcome {
+    /// Accepted, with its last factor.
+    Accepted(Factor),
+    Refused(Reason),
 }
 
 /// The answer to a line.
@@ -125,21 +132,30 @@ fn numbered(front: &[u8], nonce: &Nonce, back: &[u8], number: u64) -> ArrayVec<u
     out
 }
 
+/// The bytes of a refusal of a line with this nonce.
+fn write_refusal(nonce: &Nonce, reason: Reason) -> ArrayVec<u8, MAX_SENT_LEN>
+    ensures { result.items ≡ reply_bytes nonce.now (Refused reason) }
+{
+    match reason {
+        Reason::Unknown => around(b"NO ", nonce, b" UNKNOWN"),
+        Reason::Password => around(b"NO ", nonce, b" PASSWORD"),
+        Reason::Throttled(seconds) => numbered(b"NO ", nonce, b" THROTTLED ", seconds),
+        Reason::Invalid => around(b"NO ", nonce, b" INVALID"),
+        Reason::Spent => around(b"NO ", nonce, b" SPENT"),
+        Reason::Timeout => around(b"NO ", nonce, b" TIMEOUT"),
+        Reason::Busy => around(b"NO ", nonce, b" BUSY"),
+        Reason::Clock => around(b"NO ", nonce, b" CLOCK"),
+        Reason::Exhausted => around(b"NO ", nonce, b" EXHAUSTED"),
+    }
+}
+
 /// The bytes of the answer to a line with this nonce.
 pub fn write_reply(nonce: &Nonce, outcome: Outcome) -> ArrayVec<u8, MAX_SENT_LEN>
     ensures { result.items ≡ reply_bytes nonce.now outcome }
 {
     match outcome {
         Outcome::Accepted(factor) => numbered(b"OK ", nonce, b" ", factor.value()),
-        Outcome::Unknown => around(b"NO ", nonce, b" UNKNOWN"),
-        Outcome::Password => around(b"NO ", nonce, b" PASSWORD"),
-        Outcome::Throttled(seconds) => numbered(b"NO ", nonce, b" THROTTLED ", seconds),
-        Outcome::Invalid => around(b"NO ", nonce, b" INVALID"),
-        Outcome::Spent => around(b"NO ", nonce, b" SPENT"),
-        Outcome::Timeout => around(b"NO ", nonce, b" TIMEOUT"),
-        Outcome::Busy => around(b"NO ", nonce, b" BUSY"),
-        Outcome::Clock => around(b"NO ", nonce, b" CLOCK"),
-        Outcome::Exhausted => around(b"NO ", nonce, b" EXHAUSTED"),
+        Outcome::Refused(reason) => write_refusal(nonce, reason),
     }
 }
 

@@ -11,7 +11,8 @@ ghost use Rattle.vote_wire.specs.Examples.{ask, ask_body, ask_of, ask_tag, ask_w
 ghost use Rattle.vote_wire.specs.Key.{key_refusal_of, tag_of};
 ghost use Rattle.vote_wire.specs.Request.{IsLine, Request, request_at};
 ghost use Rattle.vote_wire.specs.declared.answer.Answer.TheVariants.{BadLine, Reply};
-ghost use Rattle.vote_wire.specs.declared.answer.Outcome.TheVariants.{Accepted, Busy, Clock, Exhausted, Invalid, Password, Spent, Throttled, Timeout, Unknown};
+ghost use Rattle.vote_wire.specs.declared.answer.Outcome.TheVariants.{Accepted, Refused};
+ghost use Rattle.vote_wire.specs.declared.answer.Reason.TheVariants.{Busy, Clock, Exhausted, Invalid, Password, Spent, Throttled, Timeout, Unknown};
 
 /// Under each key a message from one node to another has one spelling, and a datagram one reading.
 pub fn one_spelling()
@@ -171,13 +172,13 @@ pub fn answers_are_worked()
     ensures accepted { answer_bytes (Reply (codes "a1") (Accepted 4611686018427387903))
         ≡ codes "OK a1 4611686018427387903" }
     ensures first { answer_bytes (Reply (codes "a1") (Accepted 0)) ≡ codes "OK a1 0" }
-    ensures unknown { answer_bytes (Reply (codes "a1") Unknown) ≡ codes "NO a1 UNKNOWN" }
-    ensures password { answer_bytes (Reply (codes "a1") Password) ≡ codes "NO a1 PASSWORD" }
-    ensures throttled { answer_bytes (Reply (codes "a1") (Throttled 50000)) ≡ codes "NO a1 THROTTLED 50000" }
-    ensures invalid { answer_bytes (Reply (codes "a1") Invalid) ≡ codes "NO a1 INVALID" }
-    ensures spent { answer_bytes (Reply (codes "a1") Spent) ≡ codes "NO a1 SPENT" }
-    ensures timeout { answer_bytes (Reply (codes "a1") Timeout) ≡ codes "NO a1 TIMEOUT" }
-    ensures busy { answer_bytes (Reply (codes "a1") Busy) ≡ codes "NO a1 BUSY" }
-    ensures clock { answer_bytes (Reply (codes "a1") Clock) ≡ codes "NO a1 CLOCK" }
-    ensures exhausted { answer_bytes (Reply (codes "a1") Exhausted) ≡ codes "NO a1 EXHAUSTED" }
+    ensures unknown { answer_bytes (Reply (codes "a1") (Refused Unknown)) ≡ codes "NO a1 UNKNOWN" }
+    ensures password { answer_bytes (Reply (codes "a1") (Refused Password)) ≡ codes "NO a1 PASSWORD" }
+    ensures throttled { answer_bytes (Reply (codes "a1") (Refused (Throttled 50000))) ≡ codes "NO a1 THROTTLED 50000" }
+    ensures invalid { answer_bytes (Reply (codes "a1") (Refused Invalid)) ≡ codes "NO a1 INVALID" }
+    ensures spent { answer_bytes (Reply (codes "a1") (Refused Spent)) ≡ codes "NO a1 SPENT" }
+    ensures timeout { answer_bytes (Reply (codes "a1") (Refused Timeout)) ≡ codes "NO a1 TIMEOUT" }
+    ensures busy { answer_bytes (Reply (codes "a1") (Refused Busy)) ≡ codes "NO a1 BUSY" }
+    ensures clock { answer_bytes (Reply (codes "a1") (Refused Clock)) ≡ codes "NO a1 CLOCK" }
+    ensures exhausted { answer_bytes (Reply (codes "a1") (Refused Exhausted)) ≡ codes "NO a1 EXHAUSTED" }
 {}

@@ -14,7 +14,7 @@ mod line;
 mod reading;
 mod writing;
 
-pub use answer::{Answer, Nonce, Outcome, write_answer, write_reply};
+pub use answer::{Answer, Nonce, Outcome, Reason, write_answer, write_reply};
 pub use key::{ClusterKey, tag};
 pub use laws::{
     answers_are_worked, bodies_are_worked, datagrams_are_worked, grammar_is_read, keys_are_worked,

@@ -68,46 +68,46 @@ abbrev Names : Told → ℕ → Type 0
 Names told hi = IsPassOf second_factor_elsewhere (first_pass ∷ []) told (codes "a") hi
 
 pub returns-clause-no_pass : goal.returns-clause-no_pass
-returns-clause-no_pass c h = let b = h 0 (ok 2 1 7 (codes "a") 0) refl refl in none b.pass b.place b.is_pass
+returns-clause-no_pass c h = let b = h 0 (ok 2 1 7 (codes "a") 0) refl refl in none b.belongs.pass b.belongs.place b.belongs.is_pass
 
 pub returns-clause-node : goal.returns-clause-node
 returns-clause-node c h =
     let b : Truly (ok 2 3 7 (codes "a") 0) = h 0 (ok 2 3 7 (codes "a") 0) refl refl in
-    let node : 1 ≡ 3 = ap (λ (p : Acceptance). p.node) (only first_pass b.pass b.place b.is_pass) ∙ b.node in
+    let node : 1 ≡ 3 = ap (λ (p : Acceptance). p.node) (only first_pass b.belongs.pass b.belongs.place b.belongs.is_pass) ∙ b.belongs.node in
     omega (arith, node)
 
 pub returns-clause-client : goal.returns-clause-client
 returns-clause-client c h =
     let b : Truly (ok 2 1 9 (codes "a") 0) = h 0 (ok 2 1 9 (codes "a") 0) refl refl in
-    let asked = asked_at 1 9 b.line b.nonce b.pass (only first_pass b.pass b.place b.is_pass) b.asked in
+    let asked = asked_at 1 9 b.belongs.line b.nonce b.belongs.pass (only first_pass b.belongs.pass b.belongs.place b.belongs.is_pass) b.belongs.asked in
     omega (arith, asked.1)
 
 pub returns-clause-nonce : goal.returns-clause-nonce
 returns-clause-nonce c h =
     let b : Truly (ok 2 1 7 (codes "c") 0) = h 0 (ok 2 1 7 (codes "c") 0) refl refl in
-    let same = only first_pass b.pass b.place b.is_pass in
-    let asked = asked_at 1 7 b.line b.nonce b.pass same b.asked in
-    other_nonce (b.bytes ∙ ap (λ (p : Acceptance). ok_bytes b.nonce p.hi) (sym same) ∙ ap (λ (n : List ℕ). ok_bytes n 0) (asked_nonce b.line b.nonce asked.2))
+    let same = only first_pass b.belongs.pass b.belongs.place b.belongs.is_pass in
+    let asked = asked_at 1 7 b.belongs.line b.nonce b.belongs.pass same b.belongs.asked in
+    other_nonce (b.bytes ∙ ap (λ (h : ℕ). ok_bytes b.nonce h) (sym b.belongs.last) ∙ ap (λ (p : Acceptance). ok_bytes b.nonce p.hi) (sym same) ∙ ap (λ (n : List ℕ). ok_bytes n 0) (asked_nonce b.belongs.line b.nonce asked.2))
 
 pub returns-clause-factor : goal.returns-clause-factor
 returns-clause-factor c h =
     let b : Truly (ok 2 1 7 (codes "a") 1) = h 0 (ok 2 1 7 (codes "a") 1) refl refl in
-    let same = only first_pass b.pass b.place b.is_pass in
-    let asked = asked_at 1 7 b.line b.nonce b.pass same b.asked in
-    other_factor (b.bytes ∙ ap (λ (p : Acceptance). ok_bytes b.nonce p.hi) (sym same) ∙ ap (λ (n : List ℕ). ok_bytes n 0) (asked_nonce b.line b.nonce asked.2))
+    let same = only first_pass b.belongs.pass b.belongs.place b.belongs.is_pass in
+    let asked = asked_at 1 7 b.belongs.line b.nonce b.belongs.pass same b.belongs.asked in
+    other_factor (b.bytes ∙ ap (λ (h : ℕ). ok_bytes b.nonce h) (sym b.belongs.last) ∙ ap (λ (p : Acceptance). ok_bytes b.nonce p.hi) (sym same) ∙ ap (λ (n : List ℕ). ok_bytes n 0) (asked_nonce b.belongs.line b.nonce asked.2))
 
 pub returns-clause-early : goal.returns-clause-early
 returns-clause-early c h =
     let b : Truly (ok 1 1 7 (codes "a") 0) = h 0 (ok 1 1 7 (codes "a") 0) refl refl in
-    let ended : 2 ≤ 1 = subst (λ (p : Acceptance). p.ended ≤ 1) (sym (only first_pass b.pass b.place b.is_pass)) b.ended in
+    let ended : 2 ≤ 1 = subst (λ (p : Acceptance). p.ended ≤ 1) (sym (only first_pass b.belongs.pass b.belongs.place b.belongs.is_pass)) b.belongs.ended in
     omega (arith, ended)
 
 -- event 3 is a line of client 8 at node 2
 pub returns-clause-again : goal.returns-clause-again
 returns-clause-again c h =
     let b : Truly (ok 3 1 7 (codes "a") 0) = h 0 (ok 3 1 7 (codes "a") 0) refl refl in
-    let late : b.pass.ended < 3 = subst (λ (p : Acceptance). p.ended < 3) (only first_pass b.pass b.place b.is_pass) (omega arith) in
-    let said : (2 ≡ 1) × (8 ≡ 7) × _ = b.again late in
+    let late : b.belongs.pass.ended < 3 = subst (λ (p : Acceptance). p.ended < 3) (only first_pass b.belongs.pass b.belongs.place b.belongs.is_pass) (omega arith) in
+    let said : (2 ≡ 1) × (8 ≡ 7) × _ = b.belongs.again late in
     omega (arith, said.0)
 
 pub returns-clause-names_no_pass : goal.returns-clause-names_no_pass

@@ -1,5 +1,5 @@
 use Rattle.std.proofs.Common.{arith}
-use Rattle.cluster_sim.specs.Journal.{event_of}
+use Rattle.cluster_sim.specs.Run.{event_of}
 use Rattle.cluster_sim.proofs.RoundPlay.{one_happened, spelled_now}
 use Rattle.cluster_sim.proofs.rounds.play_one.Goals as goal
 

@@ -1,6 +1,7 @@
 use Rattle.std.proofs.Common.{[], ◌∷◌}
 use Rattle.std.proofs.lemmas.Result.{IfOk-weaker}
-use Rattle.cluster_sim.specs.RoundRun.{HaveHappened, deliveries_from, round_line}
+use Rattle.cluster_sim.specs.RoundRun.{HaveHappened, deliveries_from}
+use Rattle.cluster_sim.specs.Run.{round_line}
 use Rattle.cluster_sim.specs.Rounds.{line_event, round_events}
 use Rattle.cluster_sim.specs.World.{world_after_events}
 use Rattle.cluster_sim.proofs.RoundPlay.{round_happened, spelled_on}

@@ -1,10 +1,8 @@
 use Rattle.std.proofs.Common.{◌≡◌, length, map, sym, subst}
 use Rattle.std.proofs.lemmas.Result.{IfOk-weaker}
 use Rattle.oath_node.specs.Machine.{Config}
-use Rattle.cluster_sim.specs.Journal.{event_of}
-use Rattle.cluster_sim.specs.RoundRun.{round_lines}
+use Rattle.cluster_sim.specs.Run.{event_of, floor_lists, round_lines}
 use Rattle.cluster_sim.specs.Rounds.{AreServable, AreServed, events_with_rounds, rounds_events}
-use Rattle.cluster_sim.specs.Run.{floor_lists}
 use Rattle.cluster_sim.specs.World.{ReportValue, report_of, world_of}
 use Rattle.cluster_sim.proofs.rounds.run_rounds.Goals as goal
 

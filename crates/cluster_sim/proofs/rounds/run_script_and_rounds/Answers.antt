@@ -4,10 +4,9 @@ use Rattle.std.proofs.lemmas.List.{length-map}
 use Rattle.floor_store.specs.Content.{Content}
 use Rattle.oath_node.specs.Hosted.{Hosted}
 use Rattle.oath_node.specs.Machine.{Config}
-use Rattle.cluster_sim.specs.Journal.{AreSpelledAlong, IsRun, JournalRecord, event_of, no_journal}
-use Rattle.cluster_sim.specs.RoundRun.{round_lines}
+use Rattle.cluster_sim.specs.Journal.{AreSpelledAlong, IsRun, JournalRecord, no_journal}
+use Rattle.cluster_sim.specs.Run.{event_of, floor_lists, round_lines}
 use Rattle.cluster_sim.specs.Rounds.{events_with_rounds}
-use Rattle.cluster_sim.specs.Run.{floor_lists}
 use Rattle.cluster_sim.specs.World.{WorldEvent, opening_world, world_of}
 use Rattle.cluster_sim.proofs.Reporting.{recorded_report}
 use Rattle.cluster_sim.proofs.RoundPlay.{all_happened, stay_spelled}
@@ -25,7 +24,7 @@ returns c =
     let n = length c.args.before.now in
     let same : n ≡ length before = sym (length-map c.args.before.now (event_of key)) in
     let opening = opening_world config floors in
-    let few : length c.args.book.now ≤ 10000 = omega (arith, c.len.ensures, c.if-len-gt-MAX_TOKENS.false) in
+    let few : length c.args.book.now ≤ 10000 = omega (arith, c.len-tokens.ensures.value, c.len-tokens.ensures.range) in
     let opened = subst (λ (j : JournalRecord). IsRun config key opening (record { nodes = c.deref_mut-cluster.result.now; journal = j })) (sym c.new-journal.ensures)
     (subst (λ (l : List (Hosted Content)). IsRun config key opening (record { nodes = l; journal = no_journal })) (sym c.deref_mut-cluster.ensures.value) c.in_ok-nodes.ensures) in
     let spelled : (events : List WorldEvent) → AreSpelledAlong config events opening =

@@ -1,6 +1,6 @@
 use Rattle.std.proofs.Common.{map}
 use Rattle.std.proofs.lemmas.Option.{slice_get-get_or}
-use Rattle.cluster_sim.specs.Journal.{event_of}
+use Rattle.cluster_sim.specs.Run.{event_of}
 use Rattle.cluster_sim.proofs.Played.{at_end, at_next, at_start}
 use Rattle.cluster_sim.proofs.run.play.Goals as goal
 

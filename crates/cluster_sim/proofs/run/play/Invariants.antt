@@ -1,6 +1,7 @@
 use Rattle.std.proofs.Common.{map}
 use Rattle.oath_node.specs.Machine.{Config}
-use Rattle.cluster_sim.specs.Journal.{AreSpelledAlong, IsRun, event_of}
+use Rattle.cluster_sim.specs.Journal.{AreSpelledAlong, IsRun}
+use Rattle.cluster_sim.specs.Run.{event_of}
 use Rattle.cluster_sim.specs.World.{World}
 use Rattle.cluster_sim.proofs.Played.{IsPlayed}
 use Rattle.cluster_sim.proofs.run.play.Given as goal

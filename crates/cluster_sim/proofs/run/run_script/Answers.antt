@@ -4,8 +4,8 @@ use Rattle.std.proofs.lemmas.List.{length-map}
 use Rattle.floor_store.specs.Content.{Content}
 use Rattle.oath_node.specs.Hosted.{Hosted}
 use Rattle.oath_node.specs.Machine.{Config}
-use Rattle.cluster_sim.specs.Journal.{IsRun, JournalRecord, event_of, no_journal}
-use Rattle.cluster_sim.specs.Run.{floor_lists}
+use Rattle.cluster_sim.specs.Journal.{IsRun, JournalRecord, no_journal}
+use Rattle.cluster_sim.specs.Run.{event_of, floor_lists}
 use Rattle.cluster_sim.specs.World.{opening_world, world_after_events}
 use Rattle.cluster_sim.proofs.Reporting.{recorded_report}
 use Rattle.cluster_sim.proofs.Spelled.{all_spelled}
@@ -18,7 +18,7 @@ returns c =
     let floors = floor_lists c.args.floors.now in
     let events = map (event_of key) c.args.events.now in
     let opening = opening_world config floors in
-    let few : length c.args.book.now ≤ 10000 = omega (arith, c.len.ensures, c.if-len-gt-MAX_TOKENS.false) in
+    let few : length c.args.book.now ≤ 10000 = omega (arith, c.len-tokens.ensures.value, c.len-tokens.ensures.range) in
     let opened = subst (λ (j : JournalRecord). IsRun config key opening (record { nodes = c.deref_mut.result.now; journal = j })) (sym c.new-journal.ensures)
     (subst (λ (l : List (Hosted Content)). IsRun config key opening (record { nodes = l; journal = no_journal })) (sym c.deref_mut.ensures.value) c.in_ok-nodes.ensures) in
     let spelled = all_spelled c.rulings_have_grounds.ensures.grounds config floors events few (subst (λ n. n ≤ 9) (sym (length-map c.args.floors.now (λ (v : Vec ℕ). v.items))) c.requires.last) c.floors_are_in_range.ensures in

@@ -1,5 +1,6 @@
 use Rattle.std.proofs.Common.{ℕ, Bool, Option, sym, subst}
-use Rattle.cluster_sim.specs.Journal.{IsRun, act_of}
+use Rattle.cluster_sim.specs.Journal.{IsRun}
+use Rattle.cluster_sim.specs.Run.{act_of}
 use Rattle.cluster_sim.specs.World.{Cut, with_told_of, world_after_act, world_after_event, world_after_restart}
 use Rattle.cluster_sim.proofs.simulation.cut.Goals as goal
 

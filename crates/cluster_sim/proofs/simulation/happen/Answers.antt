@@ -1,6 +1,7 @@
 use Rattle.std.proofs.Common.{sym, subst}
 use Rattle.std.specs.Prelude.{OnOk}
-use Rattle.cluster_sim.specs.Journal.{IsRun, event_of}
+use Rattle.cluster_sim.specs.Journal.{IsRun}
+use Rattle.cluster_sim.specs.Run.{event_of}
 use Rattle.cluster_sim.specs.World.{world_after_event}
 use Rattle.cluster_sim.specs.declared.script.WorldEvent.{WorldEvent}
 use Rattle.cluster_sim.proofs.simulation.happen.Goals as goal

@@ -1,7 +1,8 @@
 use Rattle.std.proofs.Common.{sym, subst}
 use Rattle.std.specs.Prelude.{OnOk}
 use Rattle.cluster_sim.specs.declared.script.Act.{Act}
-use Rattle.cluster_sim.specs.Journal.{IsRun, act_of, told_act}
+use Rattle.cluster_sim.specs.Journal.{IsRun, told_act}
+use Rattle.cluster_sim.specs.Run.{act_of}
 use Rattle.cluster_sim.specs.World.{world_after_act}
 use Rattle.cluster_sim.proofs.simulation.perform.Goals as goal
 

@@ -3,7 +3,7 @@ use Rattle.token_file.specs.Credential.{place_of}
 use Rattle.floor_store.specs.Records.{RowRecord}
 use Rattle.vote_core.specs.Rows.{row}
 use Rattle.oath_node.specs.Recording.{standing_in}
-use Rattle.oath_node.specs.Rules.{token_verdict}
+use Rattle.oath_node.specs.Rules.{token_ruling}
 use Rattle.oath_node.proofs.FitLemmas.{proposes_less, request_token}
 use Rattle.oath_node.proofs.rules.examine.Goals as goal
 
@@ -14,8 +14,8 @@ returns-clause-value g c clean =
     let r = c.args.request in
     let id = c.in-Some.id in
     let token = c.token.result.now in
-    c.token_verdict.ensures.value
-    ∙ ap (λ (w : RowRecord). token_verdict c.args.settings w.next w.drift (w.gate.until - moment) moment r id token)
+    c.token_ruling.ensures.value
+    ∙ ap (λ (w : RowRecord). token_ruling c.args.settings w.next w.drift (w.gate.until - moment) moment r id token)
     (c.in-Ok.ensures.ok clean ∙ ap (λ (n : ℕ). row content n) c.value.ensures.value)
     ∙ sym (request_token c.args.book.now c.args.settings (standing_in content c.args.is_full moment) moment r id token
     (omega (arith, c.if-moment-ge-MOMENTS_END.false)) c.if-is_full.false
@@ -26,6 +26,6 @@ returns-clause-free g c clean =
     let content = (g.S.FloorStore.held c.args.store.now).content in
     let id = c.in-Some.id in
     let here = c.in-Ok.ensures.ok clean ∙ ap (λ (n : ℕ). row content n) c.value.ensures.value in
-    proposes_less c.token_verdict.result (λ t lo hi. (t ≡ id) × (c.in-Ok.row.next ≤ lo)) (λ t lo hi. (row content t).next ≤ lo)
+    proposes_less c.token_ruling.result (λ t lo hi. (t ≡ id) × (c.in-Ok.row.next ≤ lo)) (λ t lo hi. (row content t).next ≤ lo)
     (λ t lo hi h. subst (λ (n : ℕ). (row content n).next ≤ lo) (sym h.0) (subst (λ (w : RowRecord). w.next ≤ lo) here h.1))
-    c.token_verdict.ensures.free
+    c.token_ruling.ensures.free

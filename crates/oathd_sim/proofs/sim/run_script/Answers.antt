@@ -1,9 +1,8 @@
 use Rattle.std.proofs.Common.{ℕ, List, length, map, sym, ap, ◌∙◌}
 use Rattle.std.specs.Prelude.{◌==◌}
-use Rattle.cluster_sim.specs.Journal as code
-use Rattle.cluster_sim.specs.RoundRun.{round_lines}
+use Rattle.cluster_sim.specs.Run as code
+use Rattle.cluster_sim.specs.Run.{round_lines, floor_lists}
 use Rattle.cluster_sim.specs.Rounds.{events_with_rounds}
-use Rattle.cluster_sim.specs.Run.{floor_lists}
 use Rattle.cluster_sim.specs.World.{report_of}
 use Rattle.oath_node.specs.Machine.{Config}
 use Rattle.oathd_sim.proofs.RunLemmas.{empty_is, eventful_same, script_same}

@@ -179,6 +179,15 @@ pub returns-clause-timeouts : goal.returns-clause-timeouts
 unfolding tick
 returns-clause-timeouts c = refl
 
+pub returns-clause-no_pass : goal.returns-clause-no_pass
+returns-clause-no_pass c = refl
+
+pub returns-clause-pass_after_others : goal.returns-clause-pass_after_others
+returns-clause-pass_after_others c = refl
+
+pub returns-clause-first_pass : goal.returns-clause-first_pass
+returns-clause-first_pass c = refl
+
 pub returns-clause-ticked_at_last_token : goal.returns-clause-ticked_at_last_token
 unfolding tick
 returns-clause-ticked_at_last_token c = refl

@@ -16,7 +16,8 @@ use Rattle.admit_core.specs.Window.{InWindow}
 use Rattle.oath_node.specs.Grounds.{HasGrounds as HasRulingGrounds}
 use Rattle.oath_node.specs.ReferenceServer.{Server, Line, drift_of, drifts_after, floor_of, floors_after, results_of, ruling_of_line, service_by, standing_of}
 use Rattle.vote_wire.specs.Request.{Request, IsLine}
-use Rattle.oath_node.specs.Rules.{Ruling, Outside, Again, Waiting, Denied, Wrong, Fitting}
+use Rattle.oath_node.specs.declared.ruling.Ruling.{Ruling}
+use Rattle.oath_node.specs.declared.ruling.Ruling.TheVariants.{Outside, Again, Waiting, Denied, Wrong, Fitting}
 use Rattle.oath_node.proofs.GroundLemmas.{FitLaw, ruling_grounds}
 
 -- what a line meets whose factors are proposed
@@ -34,8 +35,8 @@ abbrev pub HasGrounds : List Credential → Limits → Server → Line → Rulin
 HasGrounds book limits s l Outside = Unit {0}
 HasGrounds book limits s l (Again text) = Unit {0}
 HasGrounds book limits s l Waiting = Unit {0}
-HasGrounds book limits s l (Denied nonce outcome) = Unit {0}
-HasGrounds book limits s l (Wrong nonce outcome token) = IsOpenAfter (results_of s token) l.moment
+HasGrounds book limits s l (Denied nonce reason) = Unit {0}
+HasGrounds book limits s l (Wrong nonce reason token) = IsOpenAfter (results_of s token) l.moment
 HasGrounds book limits s l (Fitting nonce token lo hi drift) = Grounds book limits s l token lo hi drift
 
 -- a token for which nobody has to wait is open
@@ -50,8 +51,8 @@ of_ruling : (book : List Credential) (limits : Limits) (s : Server) (l : Line) (
 of_ruling book limits s l Outside g = tt
 of_ruling book limits s l (Again text) g = tt
 of_ruling book limits s l Waiting g = tt
-of_ruling book limits s l (Denied nonce outcome) g = tt
-of_ruling book limits s l (Wrong nonce outcome token) g = no_wait (results_of s token) l.moment g.is_open
+of_ruling book limits s l (Denied nonce reason) g = tt
+of_ruling book limits s l (Wrong nonce reason token) g = no_wait (results_of s token) l.moment g.is_open
 of_ruling book limits s l (Fitting nonce token lo hi drift) g = record {
   request = g.request;
   grammar = g.grammar;
@@ -78,16 +79,16 @@ pub length-floors_after : (floors : List ℕ) (v : Ruling) → length (floors_af
 length-floors_after floors Outside = refl
 length-floors_after floors (Again text) = refl
 length-floors_after floors Waiting = refl
-length-floors_after floors (Denied nonce outcome) = refl
-length-floors_after floors (Wrong nonce outcome token) = refl
+length-floors_after floors (Denied nonce reason) = refl
+length-floors_after floors (Wrong nonce reason token) = refl
 length-floors_after floors (Fitting nonce token lo hi drift) = length-set floors token (hi + 1)
 
 pub length-drifts_after : (drifts : List ℤ) (v : Ruling) → length (drifts_after drifts v) ≡ length drifts
 length-drifts_after drifts Outside = refl
 length-drifts_after drifts (Again text) = refl
 length-drifts_after drifts Waiting = refl
-length-drifts_after drifts (Denied nonce outcome) = refl
-length-drifts_after drifts (Wrong nonce outcome token) = refl
+length-drifts_after drifts (Denied nonce reason) = refl
+length-drifts_after drifts (Wrong nonce reason token) = refl
 length-drifts_after drifts (Fitting nonce token lo hi drift) = length-set drifts token drift
 
 -- the window is free
@@ -124,8 +125,8 @@ pub floor_rises : (book : List Credential) (limits : Limits) (s : Server) (l : L
 floor_rises book limits s l Outside sized g token = omega arith
 floor_rises book limits s l (Again text) sized g token = omega arith
 floor_rises book limits s l Waiting sized g token = omega arith
-floor_rises book limits s l (Denied nonce outcome) sized g token = omega arith
-floor_rises book limits s l (Wrong nonce outcome t) sized g token = omega arith
+floor_rises book limits s l (Denied nonce reason) sized g token = omega arith
+floor_rises book limits s l (Wrong nonce reason t) sized g token = omega arith
 floor_rises book limits s l (Fitting nonce t lo hi drift) sized g token =
     let after = (service_by s l (Fitting nonce t lo hi drift)).server in
     let used = floor_of-proposed book limits s l nonce t lo hi drift sized g in
@@ -156,8 +157,8 @@ pub gates_kept : (book : List Credential) (limits : Limits) (s : Server) (l : Li
 gates_kept book limits s l Outside g h token = h token
 gates_kept book limits s l (Again text) g h token = h token
 gates_kept book limits s l Waiting g h token = h token
-gates_kept book limits s l (Denied nonce outcome) g h token = h token
-gates_kept book limits s l (Wrong nonce outcome t) g h token =
+gates_kept book limits s l (Denied nonce reason) g h token = h token
+gates_kept book limits s l (Wrong nonce reason t) g h token =
     either AreGated s.front.results t token (Failed l.moment ∷ results_of s t) [] (g, h t) (h token)
 gates_kept book limits s l (Fitting nonce t lo hi drift) g h token =
     either AreGated s.front.results t token (Accepted ∷ results_of s t) [] (h t) (h token)

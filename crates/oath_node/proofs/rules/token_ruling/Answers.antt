@@ -1,8 +1,8 @@
 use Rattle.std.proofs.Common.{ℕ, ℤ, ◌-◌, ◌≤◌, sym, ap, subst, ◌∙◌, arith}
 use Rattle.admit_core.specs.Gate.{GateRecord}
-use Rattle.oath_node.specs.Rules.{open_verdict}
+use Rattle.oath_node.specs.Rules.{open_ruling}
 use Rattle.oath_node.proofs.FitLemmas.{Suits, token_open, token_suits}
-use Rattle.oath_node.proofs.rules.token_verdict.Goals as goal
+use Rattle.oath_node.proofs.rules.token_ruling.Goals as goal
 
 pub returns-clause-value : goal.returns-clause-value
 returns-clause-value c =
@@ -10,9 +10,9 @@ returns-clause-value c =
     let moment = c.args.moment in
     let until = ap (λ (g : GateRecord). g.until) c.gate.ensures in
     let none : row.gate.until - moment ≤ 0 = omega (arith, c.wait-wait.ensures, until, c.if-wait-gt0.false) in
-    c.open_verdict.ensures.value
-    ∙ ap (λ (n : ℕ). open_verdict c.args.settings n c.drift.result moment c.args.request c.args.id c.args.token.now) c.next.ensures
-    ∙ ap (λ (d : ℤ). open_verdict c.args.settings row.next d moment c.args.request c.args.id c.args.token.now) c.drift.ensures
+    c.open_ruling.ensures.value
+    ∙ ap (λ (n : ℕ). open_ruling c.args.settings n c.drift.result moment c.args.request c.args.id c.args.token.now) c.next.ensures
+    ∙ ap (λ (d : ℤ). open_ruling c.args.settings row.next d moment c.args.request c.args.id c.args.token.now) c.drift.ensures
     ∙ sym (token_open c.args.settings row.next row.drift (row.gate.until - moment) moment c.args.request c.args.id c.args.token.now none)
 
 pub returns-clause-spanned : goal.returns-clause-spanned

@@ -1,16 +1,16 @@
 use Rattle.std.proofs.Common.{ℕ, Option, sym, ap, subst, ◌∙◌}
 use Rattle.admit_core.specs.Fit.{Submission, least_fit}
 use Rattle.admit_core.specs.Password.{PasswordFits}
-use Rattle.oath_node.specs.Rules.{fit_verdict}
+use Rattle.oath_node.specs.Rules.{fit_ruling}
 use Rattle.oath_node.proofs.FitLemmas.{open_fit}
-use Rattle.oath_node.proofs.rules.open_verdict.Goals as goal
+use Rattle.oath_node.proofs.rules.open_ruling.Goals as goal
 
 pub returns-clause-value : goal.returns-clause-value
 returns-clause-value c =
     let a = c.args in
     let token = a.token.now in
     let given = subst (λ g. PasswordFits token.password g) c.password.ensures (c.password_fits.ensures.0 c.if-not-password_fits.false) in
-    c.fit_verdict.ensures.value
-    ∙ ap (λ (fit : Option (ℕ × ℕ)). fit_verdict token.kind a.settings a.moment a.request a.id fit)
+    c.fit_ruling.ensures.value
+    ∙ ap (λ (fit : Option (ℕ × ℕ)). fit_ruling token.kind a.settings a.moment a.request a.id fit)
     (c.find_fit-fit.ensures ∙ ap (λ (s : Submission). least_fit token a.settings a.next a.drift a.moment s) c.codes.ensures)
     ∙ sym (open_fit a.settings a.next a.drift a.moment a.request a.id token given (λ last. c.if-value-eq-FACTORS_END.false (c.value.ensures.value ∙ last)))

@@ -2,7 +2,8 @@
 use Rattle.std.specs.Prelude.{ℕ, suc, false, if◌then◌else◌, List, [], ◌∷◌, Option, Some, None, slice_get}
 use Rattle.vote_core.specs.Schedule.{Member, Envelope, Cluster, Act as Vote, Begin, Deliver as Passes, Tick, Throttle, Idle, Event, Happens as Done, Cut as Stopped, Restart as Reopened}
 use Rattle.oath_node.specs.Machine.{Config, NodeState, gate_with_failure, is_heard, ruling_at}
-use Rattle.oath_node.specs.Rules.{Ruling, Outside, Again, Waiting, Denied, Wrong, Fitting}
+use Rattle.oath_node.specs.declared.ruling.Ruling.{Ruling}
+use Rattle.oath_node.specs.declared.ruling.Ruling.TheVariants.{Outside, Again, Waiting, Denied, Wrong, Fitting}
 use Rattle.cluster_sim.specs.World.{World, Act, Says, Deliver, Ticks, Noise, WorldEvent, Happens, Cut, Restart, begun_in, passes_in, place_at, world_after_event}
 
 -- a node without its lines and kept answers
@@ -26,8 +27,8 @@ abbrev pub vote_on_ruling : ℕ → NodeState → ℕ → Ruling → Vote
 vote_on_ruling node x moment Outside = Idle node
 vote_on_ruling node x moment (Again text) = Idle node
 vote_on_ruling node x moment Waiting = Idle node
-vote_on_ruling node x moment (Denied nonce outcome) = Idle node
-vote_on_ruling node x moment (Wrong nonce outcome token) =
+vote_on_ruling node x moment (Denied nonce reason) = Idle node
+vote_on_ruling node x moment (Wrong nonce reason token) =
     Throttle node token (gate_with_failure x.content token moment)
 vote_on_ruling node x moment (Fitting nonce token lo hi drift) = Begin node token lo hi drift
 
