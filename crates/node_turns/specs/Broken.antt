@@ -1,9 +1,9 @@
 -- Worked entries of a port's record, and small nodes, each of which breaks one field of a promise. No contract cites
 -- them.
-use Rattle.std.specs.Prelude.{ℕ, Bool, true, List, [], ◌∷◌, replicate, Option, Some, None, Result, Ok, Err, codes}
+use Rattle.std.specs.Prelude.{ℕ, true, List, [], ◌∷◌, replicate, Option, Some, Result, Ok, Err, codes}
 use Rattle.std.specs.List.{flat_map}
 use Rattle.otp_core.specs.Limits.{default_limits}
-use Rattle.floor_store.specs.Broken.{SmallStore, booted, small_held}
+use Rattle.floor_store.specs.Broken.{SmallStore, small_held}
 use Rattle.floor_store.specs.declared.fault.StoreFault.TheVariants.{Disk}
 use Rattle.vote_core.specs.Cases.{place}
 use Rattle.vote_core.specs.declared.message.Message.TheVariants.{Floor}
@@ -14,9 +14,8 @@ use Rattle.oath_node.specs.declared.fault.NodeFault.{NodeFault}
 use Rattle.oath_node.specs.declared.fault.NodeFault.TheVariants.{Store as StoreFailed}
 use Rattle.node_turns.specs.Port.{PortEvent, Received, Offered}
 use Rattle.node_turns.specs.TurnExamples.{first_of_three}
-use Rattle.node_turns.specs.Turns.{Member, Receipt, Run, member_of, run_at, run_with_batches, run_with_turns}
+use Rattle.node_turns.specs.Turns.{Receipt, Run, run_at, run_with_batches, run_with_turns}
 use Rattle.node_turns.specs.declared.fault.ServeFault.{ServeFault}
-use Rattle.node_turns.specs.declared.fault.ServeFault.TheVariants.{Node as NodeFailed}
 use Rattle.node_turns.specs.declared.port.Sender.TheVariants.{Client, Peer}
 use Rattle.node_turns.specs.declared.turns.Served.{Served}
 
@@ -68,6 +67,10 @@ run_from node = run_at (state_of small_held node)
 -- so much was served
 abbrev pub served : ℕ → ℕ → Result Served ServeFault
 served received replied = Ok (record { received = received; replied = replied })
+
+-- a run ended by this fault
+abbrev pub ended_by : ServeFault → Result Served ServeFault
+ended_by fault = Err fault
 
 -- the node's store failed
 abbrev pub store_failed : NodeFault

@@ -1,6 +1,6 @@
-ghost use Rattle.std.specs.Prelude.{◌≡◌, ℕ, ◌≤◌, length, ◌∷◌, [], ◌++◌, Err, List, Some, None, false, replicate, true};
+ghost use Rattle.std.specs.Prelude.{◌≡◌, ℕ, ◌≤◌, length, ◌∷◌, [], ◌++◌, List, Some, None, false, replicate, true};
 ghost use Rattle.floor_store.specs.Broken.{booted, broken_at, fallen_at, small_held, store_at, unsettled_at};
-ghost use Rattle.node_turns.specs.Broken.{bad_line_replied, entries_of, entries_of_batches, floor_told, lines_replied, no_line_came, node_over, nothing_yet, run_from, served, store_failed};
+ghost use Rattle.node_turns.specs.Broken.{bad_line_replied, ended_by, entries_of, entries_of_batches, floor_told, lines_replied, no_line_came, node_over, nothing_yet, run_from, served, store_failed};
 ghost use Rattle.node_turns.specs.Serving.{EndsByClock, EndsSettled, FailsAmong, IsAmong, LeavesAmong, Serves, Stands};
 ghost use Rattle.oath_node.specs.declared.fault.NodeFault.TheVariants.{Spent as NoNumber};
 ghost use Rattle.node_turns.specs.TurnExamples.{batches_of, going_with, line_without_moment, no_line, noise, order_of, run_of};
@@ -125,7 +125,7 @@ pub fn promises_can_be_broken()
     ensures serves_receives { Serves small_held (node_over (fallen_at 0) []) (node_over (fallen_at 0) [])
         nothing_yet (Some (Quiet ∷ [])) nothing_yet nothing_yet 0 (served 0 0) → ⊥ }
     ensures serves_most { Serves small_held (node_over (fallen_at 0) []) (node_over (fallen_at 0) [])
-        nothing_yet (Some (Faulted ∷ [])) nothing_yet nothing_yet 0 (Err Port) → ⊥ }
+        nothing_yet (Some (Faulted ∷ [])) nothing_yet nothing_yet 0 (ended_by Port) → ⊥ }
     ensures serves_all { Serves small_held (node_over (fallen_at 0) []) (node_over (fallen_at 0) [])
         nothing_yet nothing_yet nothing_yet nothing_yet 1 (served 0 0) → ⊥ }
     ensures serves_exact { Serves small_held (node_over (store_at 0) []) (node_over (store_at 1) [])
@@ -135,11 +135,11 @@ pub fn promises_can_be_broken()
     ensures serves_served { Serves small_held (node_over (store_at 0) []) (node_over (store_at 0) [])
         nothing_yet nothing_yet nothing_yet nothing_yet 0 (served 1 0) → ⊥ }
     ensures serves_no_fault_of_the_port { Serves small_held (node_over (store_at 0) []) (node_over (store_at 0) [])
-        nothing_yet nothing_yet nothing_yet nothing_yet 0 (Err Port) → ⊥ }
+        nothing_yet nothing_yet nothing_yet nothing_yet 0 (ended_by Port) → ⊥ }
     ensures serves_no_fault_of_the_clock { Serves small_held (node_over (store_at 0) []) (node_over (store_at 0) [])
-        nothing_yet nothing_yet nothing_yet nothing_yet 0 (Err Clock) → ⊥ }
+        nothing_yet nothing_yet nothing_yet nothing_yet 0 (ended_by Clock) → ⊥ }
     ensures serves_no_fault_of_the_node { Serves small_held (node_over (store_at 0) []) (node_over (store_at 0) [])
-        nothing_yet nothing_yet nothing_yet nothing_yet 0 (Err (Node store_failed)) → ⊥ }
+        nothing_yet nothing_yet nothing_yet nothing_yet 0 (ended_by (Node store_failed)) → ⊥ }
     ensures serves_settled { Serves small_held (node_over (store_at 0) []) (node_over (unsettled_at 0 1) [])
         nothing_yet nothing_yet nothing_yet nothing_yet 0 (served 0 0) → ⊥ }
     ensures serves_same { Serves small_held (node_over (store_at 0) []) (node_over (store_at 0) (7 ∷ []))
@@ -162,10 +162,10 @@ pub fn promises_can_be_broken()
         nothing_yet nothing_yet 1 → ⊥ }
 
     // what a stop leaves at the end, and in the midst of a batch without events
-    ensures ends_settled { EndsSettled (small_held (unsettled_at 0 1)) (Err (Node store_failed)) }
+    ensures ends_settled { EndsSettled (small_held (unsettled_at 0 1)) (ended_by (Node store_failed)) }
     ensures ok_is_settled { EndsSettled (small_held (unsettled_at 0 1)) (served 0 0) → ⊥ }
-    ensures port_is_settled { EndsSettled (small_held (unsettled_at 0 1)) (Err Port) → ⊥ }
-    ensures clock_is_settled { EndsSettled (small_held (unsettled_at 0 1)) (Err Clock) → ⊥ }
+    ensures port_is_settled { EndsSettled (small_held (unsettled_at 0 1)) (ended_by Port) → ⊥ }
+    ensures clock_is_settled { EndsSettled (small_held (unsettled_at 0 1)) (ended_by Clock) → ⊥ }
     ensures among { (member : Member) → IsAmong member (run_from (node_over (store_at 0) [])) [] (booted 0) }
     ensures among_is { (member : Member) → IsAmong member (run_from (node_over (store_at 0) [])) [] (booted 1) → ⊥ }
     ensures leaves { (member : Member) → LeavesAmong (small_held (store_at 0)) member
