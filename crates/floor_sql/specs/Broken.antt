@@ -5,6 +5,8 @@ use Rattle.sqlite.specs.Order.{Row}
 use Rattle.sqlite.specs.State.{State}
 use Rattle.sqlite.specs.Tree.{Trees}
 use Rattle.floor_store.specs.Content.{Content}
+use Rattle.floor_store.specs.declared.fault.StoreFault.{StoreFault}
+use Rattle.floor_sql.specs.declared.read.Refusal.{Refusal}
 use Rattle.floor_sql.specs.Schema.{floor_schema}
 use Rattle.floor_sql.specs.Stored.{self_row}
 
@@ -39,6 +41,10 @@ shut_state now committed = record (small_state now committed) { is_open = false 
 -- the change makes two rows of each table
 abbrev pub IsSecond : Database → Database → Type 0
 IsSecond old new = new ≡ small_db 2
+
+-- the refusal by this fault
+abbrev pub refused : StoreFault → Refusal
+refused fault = record { 0 = fault }
 
 -- ---- tables
 

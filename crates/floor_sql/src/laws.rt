@@ -1,6 +1,6 @@
 //! What follows of a store over its lives.
 
-ghost use Rattle.std.specs.Prelude.{pos, [], ◌∷◌, Some};
+ghost use Rattle.std.specs.Prelude.{◌≡◌, ◌≢◌, ℕ, pos, false, true, List, [], ◌∷◌, None, Some, Ok, Err, IsTrue, ⊤};
 ghost use Rattle.sqlite_disk.specs.declared.Disk.{Ghosts};
 ghost use Rattle.sqlite.specs.declared.types.Value.TheVariants.{Int};
 ghost use Rattle.sqlite.specs.Effect.{Database};
@@ -8,15 +8,22 @@ ghost use Rattle.sqlite_wal.specs.Recovery.{Image};
 ghost use Rattle.sqlite_store.specs.declared.store.FileStore.{FileStore};
 ghost use Rattle.floor_store.specs.Examples.{free_row, old_pass, proposal};
 ghost use Rattle.floor_store.specs.Content.{opening_content};
-ghost use Rattle.floor_sql.specs.Broken.{IsSecond, db_at, shut_state, small_content, small_state, tables_at, trees_of};
+ghost use Rattle.floor_sql.specs.Broken.{IsSecond, db_at, refused, shut_state, small_content, small_state, tables_at, trees_of};
 ghost use Rattle.floor_sql.specs.Created.{AreMade, IsForeign, Opens, first_schema, no_schema};
 ghost use Rattle.floor_sql.specs.Held.{HasSame, HasTables, SqlHeld};
 ghost use Rattle.floor_sql.specs.Schema.{floor_schema, undrifted_schema};
 ghost use Rattle.floor_sql.specs.Shown.{IsLeft, IsRead, ShowsNode};
 ghost use Rattle.floor_sql.specs.Stored.{Commits, HasKey, HasOneRow, HasRow, Holds, HoldsRow, IsAppended, KeepsCommit, Raises, drift_columns, drift_row, drift_values, floor_row, pass_row, self_row};
 ghost use Rattle.floor_sql.specs.Usable.{IsAudit, IsGrant, IsNode, IsOwn, IsRow};
+ghost use Rattle.floor_sql.specs.Steps.{ReadsOnly, ReadsTables, Transacts};
+ghost use Rattle.floor_sql.specs.Calls.{HandsBack, IsMade, IsOpened, IsSound, KeepsTables, ReadsAudit, Stages};
+ghost use Rattle.floor_sql.specs.declared.put.Put.{Put};
+ghost use Rattle.floor_store.specs.declared.fault.StoreFault.TheVariants.{Disk, Memory, Spent, Unusable};
+ghost use Rattle.sqlite.specs.Held.{Held as Conn, state};
+ghost use Rattle.sqlite.specs.State.{HasCleanDisk};
 ghost use Rattle.floor_sql.specs.Reopened.{IsNextLife, FindsWhatIsLeft};
 
+use sqlite::Alter;
 use sqlite_disk::Disk;
 
 /// What a stop leaves of a store in files is what the next opening finds, whatever the two disks are.
@@ -131,4 +138,70 @@ pub fn promises_can_be_broken()
     ensures audit { IsAudit old_pass }
     ensures audit_whole { IsAudit (record old_pass { token = 10000 }) → ⊥ }
     ensures audit_hi { IsAudit (record old_pass { lo = 4611686018427387903; hi = 4611686018427387904 }) → ⊥ }
+{}
+
+/// What is promised of a call on a connection, whatever the connection is over: each field is broken by the least change of
+/// the connection, or by the least answer, that keeps all others.
+pub fn calls_can_be_broken<S: Alter>()
+    ensures reads { (conn : Conn S) → ReadsOnly S.Store {A = ℕ} conn conn (Ok 0) }
+    ensures reads_read { (conn : Conn S) → HasCleanDisk (state S.Store conn) → conn.schema ≡ floor_schema
+        → ReadsOnly S.Store {A = ℕ} conn (record conn { schema = no_schema }) (Ok 0) → ⊥ }
+    ensures reads_failure { (conn : Conn S) → ReadsOnly S.Store {A = ℕ} conn conn (Err (refused Spent)) → ⊥ }
+    ensures reads_idle { (conn : Conn S) → conn.in_transaction ≡ false
+        → ReadsOnly S.Store {A = ℕ} conn (record conn { in_transaction = true }) (Ok 0) → ⊥ }
+    ensures reads_crash { (conn : Conn S) → conn.step_limit ≡ None
+        → ReadsOnly S.Store {A = ℕ} conn (record conn { step_limit = Some 7 }) (Ok 0) → ⊥ }
+    ensures reads_tables { (conn : Conn S) → ReadsTables S.Store {A = ℕ} conn conn (λ db value. value ≡ 1) (λ db. ⊤) (Ok 1) }
+    ensures reads_tables_only { (conn : Conn S) → conn.step_limit ≡ None
+        → ReadsTables S.Store {A = ℕ} conn (record conn { step_limit = Some 7 }) (λ db value. value ≡ 1) (λ db. ⊤) (Ok 1) → ⊥ }
+    ensures reads_tables_value { (conn : Conn S) → HasCleanDisk (state S.Store conn)
+        → ReadsTables S.Store {A = ℕ} conn conn (λ db value. value ≡ 1) (λ db. ⊤) (Ok 2) → ⊥ }
+    ensures reads_tables_unusable { (conn : Conn S) → HasCleanDisk (state S.Store conn)
+        → ReadsTables S.Store {A = ℕ} conn conn (λ db value. value ≡ 1) (λ db. ⊤) (Err (refused Unusable)) → ⊥ }
+    ensures transacts_idle { (conn : Conn S) → Transacts S.Store {A = ℕ} (λ fault. fault) conn
+        (record conn { in_transaction = true }) (λ old new. ⊤) (λ db. ⊤) (Err Disk) → ⊥ }
+    ensures transacts_ok { (conn : Conn S) → HasCleanDisk (state S.Store conn)
+        → Transacts S.Store {A = ℕ} (λ fault. fault) conn conn (λ old new. ⊥) (λ db. ⊤) (Ok 0) → ⊥ }
+    ensures transacts_err { (conn : Conn S) → HasCleanDisk (state S.Store conn)
+        → IsTrue (state S.Store conn).is_open → (state S.Store conn).now ≢ (state S.Store conn).committed
+        → Transacts S.Store {A = ℕ} (λ fault. fault) conn conn (λ old new. ⊤) (λ db. ⊤) (Err Disk) → ⊥ }
+    ensures transacts_failure { (conn : Conn S)
+        → Transacts S.Store {A = ℕ} (λ fault. fault) conn conn (λ old new. ⊤) (λ db. ⊤) (Err Spent) → ⊥ }
+    ensures transacts_unusable { (conn : Conn S) → HasCleanDisk (state S.Store conn)
+        → Transacts S.Store {A = ℕ} (λ fault. fault) conn conn (λ old new. ⊤) (λ db. ⊥) (Err Unusable) → ⊥ }
+    ensures transacts_crash { (conn : Conn S) → conn.step_limit ≡ None → Transacts S.Store {A = ℕ} (λ fault. fault) conn
+        (record conn { step_limit = Some 7 }) (λ old new. ⊤) (λ db. ⊤) (Err Disk) → ⊥ }
+    ensures keeps_tables_idle { (conn : Conn S)
+        → KeepsTables S.Store conn (record conn { in_transaction = true }) → ⊥ }
+    ensures keeps_tables_read { (conn : Conn S) → HasCleanDisk (state S.Store conn) → conn.schema ≡ floor_schema
+        → KeepsTables S.Store conn (record conn { schema = no_schema }) → ⊥ }
+    ensures keeps_tables_survives { (conn : Conn S) → conn.step_limit ≡ None
+        → KeepsTables S.Store conn (record conn { step_limit = Some 7 }) → ⊥ }
+    ensures hands_back_idle { (conn : Conn S)
+        → HandsBack S.Store conn (record conn { in_transaction = true }) (λ trees. ⊤) → ⊥ }
+    ensures hands_back_tables { (conn : Conn S) → HasCleanDisk (state S.Store conn)
+        → IsTrue (state S.Store conn).is_open → conn.schema ≡ floor_schema
+        → HandsBack S.Store conn (record conn { schema = no_schema }) (λ trees. ⊤) → ⊥ }
+    ensures hands_back_survives { (conn : Conn S) → conn.step_limit ≡ None
+        → HandsBack S.Store conn (record conn { step_limit = Some 7 }) (λ trees. ⊤) → ⊥ }
+    ensures sound_works { (store : SqlHeld S) → IsSound S.Store (record store { fault = Some Disk }) → ⊥ }
+    ensures sound_idle { (store : SqlHeld S) (put : Put) → IsSound S.Store (record store { staged = put ∷ [] }) → ⊥ }
+    ensures stages_waits { (store : SqlHeld S) (put : Put) → store.staged ≡ [] → Stages store store put → ⊥ }
+    ensures made_content { (old : Conn S) (store : SqlHeld S)
+        → IsMade S.Store old 1 [] (record store { mirror = small_content 1 }) → ⊥ }
+    ensures made_no_passes { (old : Conn S) (store : SqlHeld S)
+        → IsMade S.Store old 1 [] (record store { passes = 1 }) → ⊥ }
+    ensures made_sound { (old : Conn S) (store : SqlHeld S)
+        → IsMade S.Store old 1 [] (record store { fault = Some Disk }) → ⊥ }
+    ensures opened_sound { (old : Conn S) (store : SqlHeld S)
+        → IsOpened S.Store old 1 0 (record store { fault = Some Disk }) → ⊥ }
+    ensures audit_intact { (store : SqlHeld S) → store.fault ≡ Some Disk
+        → ReadsAudit S.Store {A = ℕ} store store (Ok 0) → ⊥ }
+    ensures audit_stays { (store : SqlHeld S) → store.fault ≡ Some Disk
+        → ReadsAudit S.Store {A = ℕ} store (record store { fault = Some Memory }) (Err Disk) → ⊥ }
+    ensures audit_content { (store : SqlHeld S) → store.passes ≡ 0 → store.fault ≡ None
+        → ReadsAudit S.Store {A = ℕ} store (record store { passes = 1 }) (Ok 0) → ⊥ }
+    ensures audit_survives { (store : SqlHeld S) → store.conn.step_limit ≡ None → store.fault ≡ None
+        → ReadsAudit S.Store {A = ℕ} store (record store { conn = record store.conn { step_limit = Some 7 } }) (Ok 0)
+        → ⊥ }
 {}

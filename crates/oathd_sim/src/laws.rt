@@ -68,9 +68,10 @@ pub fn promises_can_be_broken()
     ensures given_up { IsGivenUp (BadScript 4) (ScriptLine 4) × IsGivenUp (BadScript 4) Memory }
     ensures given_up_at_another { IsGivenUp (BadScript 4) (ScriptLine 5) → ⊥ }
     ensures given_up_for_no_reason { IsGivenUp (BadScript 4) CannotRead → ⊥ }
-    ensures unread { IsUnreadFor (codes "a\n") (Users (fault_at 1 MissingField)) × IsUnreadFor one_tick CannotRead }
-    ensures unread_at_another { IsUnreadFor (codes "a\n") (Users (fault_at 2 MissingField)) → ⊥ }
-    ensures unread_behind_a_bad_file { IsUnreadFor (codes "a\n%%\n") CannotRead → ⊥ }
+    ensures unread { IsUnreadFor (codes "HOTP a -\n") (Users (fault_at 1 MissingField)) }
+    ensures unread_by_the_input { IsUnreadFor one_tick CannotRead }
+    ensures unread_at_another { IsUnreadFor (codes "HOTP a -\n") (Users (fault_at 2 MissingField)) → ⊥ }
+    ensures unread_behind_a_bad_file { IsUnreadFor (codes "HOTP a -\n%%\n") CannotRead → ⊥ }
     ensures unread_by_the_output { IsUnreadFor one_tick CannotWrite → ⊥ }
     ensures unread_by_the_script { IsUnreadFor one_tick (ScriptLine 3) → ⊥ }
     ensures parts { HasParts default_limits 0 99 99 one_tick [] [] 3 (codes "tick 1") false }
