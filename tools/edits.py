@@ -4,7 +4,7 @@
     tools/edits.py    whether each edit of the repository can be made, and counts them; tries nothing
 
 An edit is a file of lines `file: PATH`, and after each of them pairs of lines `old: TEXT` and `new: TEXT`. Each old text
-stands in that file exactly once.
+stands in that file exactly once. In tied/ and wrong/ a `⏎` in a text is the end of a line.
 """
 import subprocess
 import sys
@@ -22,6 +22,7 @@ def read_edit(path):
     refused, file, old, changes = None, None, None, []
     for line in path.read_text().splitlines():
         key, _, text = line.partition(": ") if ": " in line else line.partition(":")
+        text = text.replace("⏎", "\n")
         if key == "refused":
             refused = text
         elif key == "file":

@@ -2,7 +2,9 @@
 #![tactic(auto)]
 
 mod cut;
+mod laws;
 mod number;
 
 pub use cut::cut_at;
+pub use laws::fields_are_worked;
 pub use number::read_number;

@@ -1,7 +1,9 @@
-ghost use Rattle.std.specs.Prelude.{◌≡◌, ℕ, pos, negsuc, List, [], ◌∷◌, Some, None, length, true, false};
+ghost use Rattle.std.specs.Prelude.{◌≡◌, ℕ, pos, negsuc, List, [], ◌∷◌, Some, None, Ok, Err, length, true, false};
+ghost use Rattle.floor_store.specs.Broken.{IsBootOf, booted, broken_at, done, failed, fallen_at, holding, small_held, spent, store_at, unsettled_at};
 ghost use Rattle.floor_store.specs.Content.{IsContent, accepted_row, opening_content, opening_row, with_next_boot, with_row};
 ghost use Rattle.floor_store.specs.Examples.{content_at, free_row, granted_row, later_row, new_pass, old_pass, pass, proposal, two_rows};
 ghost use Rattle.floor_store.specs.Fault.{IsBrokenBy, IsCounted, is_failure};
+ghost use Rattle.floor_store.specs.Held.{Breaks, Commits, IsSettled, Makes, MayPut, MayWrite, OldOrNew, Puts, RaisesBoot, Reads, Writes};
 ghost use Rattle.floor_store.specs.Range.{HasSpan, IsPass, IsProposal, IsSpan};
 ghost use Rattle.floor_store.specs.Records.{RowRecord};
 ghost use Rattle.floor_store.specs.declared.fault.StoreFault.TheVariants.{AlreadyThere, Disk, Memory, Spent, Unusable};
@@ -68,4 +70,76 @@ pub fn ranges_are_worked()
     ensures one_more { IsCounted None 0 1 Disk }
     ensures not_counted { IsCounted None 1 1 Disk → ⊥ }
     ensures other_before { IsCounted (Some Memory) 0 1 Disk → ⊥ }
+{}
+
+/// What is promised of a call of a store holds of the least that keeps it, and each field is broken by the least that
+/// keeps all others.
+pub fn promises_can_be_broken()
+    ensures settled { IsSettled (small_held (store_at 1)) }
+    ensures not_settled { IsSettled (small_held (unsettled_at 1 0)) → ⊥ }
+    ensures old_or_new { OldOrNew (booted 0) (booted 1) (booted 0) × OldOrNew (booted 0) (booted 1) (booted 1) }
+    ensures neither { OldOrNew (booted 0) (booted 1) (booted 2) → ⊥ }
+
+    ensures reads { Reads (small_held (store_at 3)) IsBootOf (Ok 3) }
+    ensures reads_failed { Reads (small_held (broken_at 3)) IsBootOf failed }
+    ensures reads_fallen { Reads (small_held (fallen_at 3)) IsBootOf (Ok 4) }
+    ensures reads_ok { Reads (small_held (store_at 3)) IsBootOf (Ok 4) → ⊥ }
+    ensures reads_intact { Reads (small_held (broken_at 3)) IsBootOf (Ok 3) → ⊥ }
+    ensures reads_broken { Reads (small_held (store_at 3)) IsBootOf failed → ⊥ }
+
+    ensures makes { Makes small_held (store_at 0) (store_at 1) (booted 1) done }
+    ensures makes_failed { Makes small_held (store_at 0) (store_at 0) (booted 1) failed
+        × Makes small_held (store_at 0) (broken_at 1) (booted 1) failed }
+    ensures makes_ok { Makes small_held (store_at 0) (store_at 0) (booted 1) done → ⊥ }
+    ensures makes_err { Makes small_held (store_at 0) (broken_at 2) (booted 1) failed → ⊥ }
+    ensures makes_stays { Makes small_held (broken_at 0) (broken_at 1) (booted 1) failed → ⊥ }
+    ensures makes_count { Makes small_held (record (store_at 0) { failures = 1 }) (store_at 1) (booted 1) done → ⊥ }
+    ensures makes_clean { Makes small_held (fallen_at 0) (store_at 1) (booted 1) done → ⊥ }
+    ensures makes_tokens { Makes small_held (store_at 0) (holding (content_at 0 (free_row 9 ∷ [])))
+        (content_at 0 (free_row 9 ∷ [])) done → ⊥ }
+
+    ensures puts { Puts small_held (store_at 0) (unsettled_at 1 0) (booted 1) done }
+    ensures puts_makes { Puts small_held (store_at 0) (store_at 0) (booted 1) done → ⊥ }
+    ensures puts_left { Puts small_held (store_at 0) (unsettled_at 1 2) (booted 1) done → ⊥ }
+    ensures puts_intact { Puts small_held (store_at 0) (broken_at 1) (booted 1) done → ⊥ }
+
+    ensures writes { Writes small_held (store_at 0) (store_at 1) (booted 1) done }
+    ensures writes_failed { Writes small_held (store_at 0) (record (broken_at 0) { other = booted 1 })
+        (booted 1) failed }
+    ensures writes_makes { Writes small_held (store_at 0) (store_at 0) (booted 1) done → ⊥ }
+    ensures writes_left { Writes small_held (store_at 0) (record (broken_at 0) { other = booted 2 })
+        (booted 1) failed → ⊥ }
+    ensures writes_settled { Writes small_held (store_at 0) (unsettled_at 1 0) (booted 1) done → ⊥ }
+    ensures writes_intact { Writes small_held (store_at 0) (broken_at 1) (booted 1) done → ⊥ }
+
+    ensures commits { Commits small_held (unsettled_at 1 0) (store_at 1) done }
+    ensures commits_what_was_there { Commits small_held (unsettled_at 1 0) (store_at 0) done → ⊥ }
+    ensures commits_all { Commits small_held (unsettled_at 1 0) (unsettled_at 1 0) done → ⊥ }
+
+    ensures may_put { MayPut small_held (store_at 0) (unsettled_at 1 0) (booted 1) done }
+    ensures may_put_makes { MayPut small_held (store_at 0) (store_at 0) (booted 1) done → ⊥ }
+    ensures may_put_left { MayPut small_held (store_at 0) (unsettled_at 1 2) (booted 1) done → ⊥ }
+    ensures may_put_intact { MayPut small_held (store_at 0) (broken_at 1) (booted 1) done → ⊥ }
+
+    ensures may_write { MayWrite small_held (store_at 0) (store_at 1) (booted 1) done }
+    ensures may_write_unsettled { MayWrite small_held (unsettled_at 0 1) (unsettled_at 1 0) (booted 1) done }
+    ensures may_write_makes { MayWrite small_held (store_at 0) (store_at 0) (booted 1) done → ⊥ }
+    ensures may_write_left { MayWrite small_held (store_at 0) (record (broken_at 0) { other = booted 2 })
+        (booted 1) failed → ⊥ }
+    ensures may_write_settled { MayWrite small_held (store_at 0) (unsettled_at 1 0) (booted 1) done → ⊥ }
+    ensures may_write_intact { MayWrite small_held (store_at 0) (broken_at 1) (booted 1) done → ⊥ }
+
+    ensures breaks { Breaks small_held (store_at 0) (broken_at 0) Disk }
+    ensures breaks_broken { Breaks small_held (store_at 0) (record (store_at 0) { failures = 1 }) Disk → ⊥ }
+    ensures breaks_counted { Breaks small_held (store_at 0) (record (broken_at 0) { failures = 0 }) Disk → ⊥ }
+
+    ensures raises_boot { RaisesBoot small_held (store_at 0) (store_at 1) done }
+    ensures raises_boot_failed { RaisesBoot small_held (store_at 0) (broken_at 0) failed }
+    ensures raises_boot_writes { RaisesBoot small_held (store_at 0) (store_at 2) done → ⊥ }
+    ensures raises_boot_breaks { RaisesBoot small_held (store_at 0) (store_at 0) failed → ⊥ }
+    ensures raises_boot_spent { RaisesBoot small_held (store_at (4611686018427387903))
+        (record (store_at (4611686018427387903)) { failures = 1 }) spent → ⊥ }
+    ensures raises_boot_spent_broken { RaisesBoot small_held (broken_at (4611686018427387903)) (broken_at (4611686018427387903))
+        spent → ⊥ }
+    ensures raises_boot_last { RaisesBoot small_held (store_at 0) (store_at 0) spent → ⊥ }
 {}

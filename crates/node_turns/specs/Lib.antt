@@ -1,3 +1,4 @@
+pub mod Broken
 pub mod Entries
 pub mod Port
 pub mod Serving

@@ -1,9 +1,13 @@
 ghost use Rattle.std.specs.Prelude.{◌≡◌, ℕ, ◌≤◌, length, ◌∷◌, [], ◌++◌, List, Some, None, false, replicate, true};
+ghost use Rattle.floor_store.specs.Broken.{booted, broken_at, fallen_at, small_held, store_at, unsettled_at};
+ghost use Rattle.node_turns.specs.Broken.{bad_line_replied, ended_by, entries_of, entries_of_batches, floor_told, lines_replied, no_line_came, node_over, nothing_yet, run_from, served, store_failed};
+ghost use Rattle.node_turns.specs.Serving.{EndsByClock, EndsSettled, FailsAmong, IsAmong, LeavesAmong, Serves, Stands};
+ghost use Rattle.oath_node.specs.declared.fault.NodeFault.TheVariants.{Spent as NoNumber};
 ghost use Rattle.node_turns.specs.TurnExamples.{batches_of, going_with, line_without_moment, no_line, noise, order_of, run_of};
 ghost use Rattle.oath_node.specs.Cases.{idle_node};
 ghost use Rattle.node_turns.specs.Port.{Faulted, Offered, Quiet, Received};
 ghost use Rattle.node_turns.specs.Turns.{AreBatches, ComesToTheSame, DoesTheSame, Failure, GoesOn, IsBatch, Member, Nothing, Receipt, Run, moments_in, offers_in, receipts_in, run_at, run_with_batch, run_with_batches, run_with_turn, run_with_turns, without_failures};
-ghost use Rattle.node_turns.specs.declared.fault.ServeFault.TheVariants.{Clock, Port};
+ghost use Rattle.node_turns.specs.declared.fault.ServeFault.TheVariants.{Clock, Node, Port};
 ghost use Rattle.node_turns.specs.declared.port.Sender.TheVariants.{Client, Peer};
 
 /// What some turns of a member of three come to.
@@ -16,6 +20,8 @@ pub fn turns_are_worked()
     ensures faults { run_of (replicate 15 Failure) ≡ going_with 0 0 0 }
     ensures too_many_faults { run_of (replicate 17 Failure) ≡ record (going_with 0 0 0) { end = Some Port } }
     ensures faults_apart { run_of (replicate 15 Failure ++ Nothing ∷ replicate 15 Failure) ≡ going_with 0 0 1 }
+    ensures faults_apart_by_noise { run_of (replicate 15 Failure ++ noise ∷ replicate 15 Failure) ≡ going_with 1 0 0 }
+    ensures faults_apart_by_a_line { run_of (replicate 15 Failure ++ no_line ∷ replicate 15 Failure) ≡ going_with 1 1 0 }
     ensures clock { run_of (line_without_moment ∷ Nothing ∷ [])
         ≡ record (going_with 1 0 0) { end = Some Clock } }
     // the clock is asked for a client's datagram alone
@@ -85,9 +91,102 @@ pub fn differences_are_seen()
         ≡ Offered (Peer 2) [] ∷ Offered (Client 7) [] ∷ [] }
     ensures other_offer { (run : Run) → DoesTheSame (record run { entries = Offered (Peer 2) [] ∷ [] })
         (record run { entries = Offered (Client 2) [] ∷ [] }) → ⊥ }
+    ensures other_order { (run : Run) → DoesTheSame
+        (record run { entries = Offered (Peer 2) [] ∷ Offered (Peer 3) [] ∷ [] })
+        (record run { entries = Offered (Peer 3) [] ∷ Offered (Peer 2) [] ∷ [] }) → ⊥ }
     ensures other_count { (run : Run) → DoesTheSame (record run { tally = record run.tally { received = 1 } })
         (record run { tally = record run.tally { received = 2 } }) → ⊥ }
     ensures other_replies { (run : Run) → DoesTheSame (record run { tally = record run.tally { replied = 1 } })
         (record run { tally = record run.tally { replied = 2 } }) → ⊥ }
     ensures other_node { DoesTheSame (run_at (idle_node 0)) (run_at (idle_node 1)) → ⊥ }
+{}
+
+/// The entries of some runs, to whom each offer goes and in which order.
+pub fn entries_are_worked()
+    ensures quiet { entries_of (Nothing ∷ Nothing ∷ [])
+        ≡ Quiet ∷ floor_told 2 0 0 ∷ floor_told 3 0 0 ∷ Quiet ∷ floor_told 2 1 3 ∷ floor_told 3 1 3 ∷ [] }
+    ensures fault { entries_of (Failure ∷ no_line ∷ []) ≡ Faulted ∷ lines_replied 1 }
+    // the tick stands behind the reply to the 64th datagram, and before the 65th
+    ensures tick_64th { entries_of (replicate 65 no_line)
+        ≡ lines_replied 64 ++ floor_told 2 0 0 ∷ floor_told 3 0 0 ∷ lines_replied 1 }
+    ensures tick_of_a_batch { entries_of_batches (replicate 64 no_line ∷ (no_line ∷ []) ∷ [])
+        ≡ replicate 64 no_line_came ++ replicate 64 bad_line_replied
+        ++ floor_told 2 0 0 ∷ floor_told 3 0 0 ∷ lines_replied 1 }
+{}
+
+/// What is promised of a run of turns holds of the least that keeps it, and each field is broken by the least that
+/// keeps all others.
+pub fn promises_can_be_broken()
+    // a run of no turns
+    ensures serves { Serves small_held (node_over (store_at 0) []) (node_over (store_at 0) [])
+        nothing_yet nothing_yet nothing_yet nothing_yet 0 (served 0 0) }
+    ensures serves_moments { Serves small_held (node_over (store_at 0) []) (node_over (store_at 0) [])
+        nothing_yet nothing_yet nothing_yet (Some (Some 5 ∷ [])) 0 (served 0 0) → ⊥ }
+    ensures serves_receives { Serves small_held (node_over (fallen_at 0) []) (node_over (fallen_at 0) [])
+        nothing_yet (Some (Quiet ∷ [])) nothing_yet nothing_yet 0 (served 0 0) → ⊥ }
+    ensures serves_most { Serves small_held (node_over (fallen_at 0) []) (node_over (fallen_at 0) [])
+        nothing_yet (Some (Faulted ∷ [])) nothing_yet nothing_yet 0 (ended_by Port) → ⊥ }
+    ensures serves_all { Serves small_held (node_over (fallen_at 0) []) (node_over (fallen_at 0) [])
+        nothing_yet nothing_yet nothing_yet nothing_yet 1 (served 0 0) → ⊥ }
+    ensures serves_exact { Serves small_held (node_over (store_at 0) []) (node_over (store_at 1) [])
+        nothing_yet nothing_yet nothing_yet nothing_yet 0 (served 0 0) → ⊥ }
+    ensures serves_entries { Serves small_held (node_over (store_at 0) []) (node_over (store_at 0) [])
+        nothing_yet (Some (Offered (Peer 2) [] ∷ [])) nothing_yet nothing_yet 0 (served 0 0) → ⊥ }
+    ensures serves_served { Serves small_held (node_over (store_at 0) []) (node_over (store_at 0) [])
+        nothing_yet nothing_yet nothing_yet nothing_yet 0 (served 1 0) → ⊥ }
+    ensures serves_no_fault_of_the_port { Serves small_held (node_over (store_at 0) []) (node_over (store_at 0) [])
+        nothing_yet nothing_yet nothing_yet nothing_yet 0 (ended_by Port) → ⊥ }
+    ensures serves_no_fault_of_the_clock { Serves small_held (node_over (store_at 0) []) (node_over (store_at 0) [])
+        nothing_yet nothing_yet nothing_yet nothing_yet 0 (ended_by Clock) → ⊥ }
+    ensures serves_no_fault_of_the_node { Serves small_held (node_over (store_at 0) []) (node_over (store_at 0) [])
+        nothing_yet nothing_yet nothing_yet nothing_yet 0 (ended_by (Node store_failed)) → ⊥ }
+    ensures serves_settled { Serves small_held (node_over (store_at 0) []) (node_over (unsettled_at 0 1) [])
+        nothing_yet nothing_yet nothing_yet nothing_yet 0 (served 0 0) → ⊥ }
+    ensures serves_same { Serves small_held (node_over (store_at 0) []) (node_over (store_at 0) (7 ∷ []))
+        nothing_yet nothing_yet nothing_yet nothing_yet 0 (served 0 0) → ⊥ }
+
+    // the node of a run, and the port's record
+    ensures stands { Stands small_held nothing_yet (node_over (store_at 0) []) nothing_yet
+        (run_from (node_over (store_at 0) [])) }
+    ensures stands_state { Stands small_held nothing_yet (node_over (store_at 1) []) nothing_yet
+        (run_from (node_over (store_at 0) [])) → ⊥ }
+    ensures stands_entries { Stands small_held nothing_yet (node_over (store_at 0) []) (Some (Quiet ∷ []))
+        (run_from (node_over (store_at 0) [])) → ⊥ }
+
+    // the clock ends a run
+    ensures ends_by_clock { EndsByClock small_held (node_over (store_at 0) []) (node_over (store_at 0) [])
+        nothing_yet nothing_yet 1 }
+    ensures ends_by_clock_within { EndsByClock small_held (node_over (store_at 0) []) (node_over (store_at 0) [])
+        nothing_yet nothing_yet 0 → ⊥ }
+    ensures ends_by_clock_before { EndsByClock small_held (node_over (store_at 0) []) (node_over (store_at 1) [])
+        nothing_yet nothing_yet 1 → ⊥ }
+
+    // what a stop leaves at the end, and in the midst of a batch without events
+    ensures ends_settled { EndsSettled (small_held (unsettled_at 0 1)) (ended_by (Node store_failed)) }
+    ensures ok_is_settled { EndsSettled (small_held (unsettled_at 0 1)) (served 0 0) → ⊥ }
+    ensures port_is_settled { EndsSettled (small_held (unsettled_at 0 1)) (ended_by Port) → ⊥ }
+    ensures clock_is_settled { EndsSettled (small_held (unsettled_at 0 1)) (ended_by Clock) → ⊥ }
+    ensures among { (member : Member) → IsAmong member (run_from (node_over (store_at 0) [])) [] (booted 0) }
+    ensures among_is { (member : Member) → IsAmong member (run_from (node_over (store_at 0) [])) [] (booted 1) → ⊥ }
+    ensures leaves { (member : Member) → LeavesAmong (small_held (store_at 0)) member
+        (run_from (node_over (store_at 0) [])) [] }
+    ensures leaves_another { (member : Member) → LeavesAmong (small_held (unsettled_at 0 1)) member
+        (run_from (node_over (store_at 0) [])) [] → ⊥ }
+
+    // a batch whose commit fails
+    ensures fails { (member : Member) → FailsAmong small_held nothing_yet member
+        (run_from (node_over (store_at 0) [])) []
+        (record (node_over (broken_at 0) []) { running = false }) nothing_yet store_failed }
+    ensures fails_state { (member : Member) → FailsAmong small_held nothing_yet member
+        (run_from (node_over (store_at 1) [])) []
+        (record (node_over (broken_at 0) []) { running = false }) nothing_yet store_failed → ⊥ }
+    ensures fails_by_no_fault { (member : Member) → FailsAmong small_held nothing_yet member
+        (run_from (node_over (store_at 0) [])) []
+        (record (node_over (broken_at 0) []) { running = false }) nothing_yet NoNumber → ⊥ }
+    ensures fails_and_runs_on { (member : Member) → FailsAmong small_held nothing_yet member
+        (run_from (node_over (store_at 0) [])) [] (node_over (broken_at 0) []) nothing_yet store_failed → ⊥ }
+    ensures fails_and_offers { (member : Member) → FailsAmong small_held nothing_yet member
+        (run_from (node_over (store_at 0) [])) []
+        (record (node_over (broken_at 0) []) { running = false }) (Some (Offered (Peer 2) [] ∷ []))
+        store_failed → ⊥ }
 {}

@@ -1,3 +1,4 @@
+pub mod Broken
 pub mod Fault
 pub mod Parts
 pub mod Sim

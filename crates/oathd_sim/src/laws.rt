@@ -1,6 +1,17 @@
-ghost use Rattle.std.specs.Prelude.{◌≡◌, [], ◌∷◌, Ok, Err, codes};
+ghost use Rattle.std.specs.Prelude.{◌≡◌, ◌++◌, [], ◌∷◌, Some, Ok, Err, codes, false, map, true};
+ghost use Rattle.otp_core.specs.Limits.{default_limits};
+ghost use Rattle.token_file.specs.declared.fault.LineFault.TheVariants.{MissingField};
+ghost use Rattle.cluster_sim.specs.World.{ReportValue};
+ghost use Rattle.sim_script.specs.ReportText.{report_text};
+ghost use Rattle.sim_script.specs.declared.fault.ScriptFault.TheVariants as script;
+ghost use Rattle.users_input.specs.declared.fault.InputFault.TheVariants as input;
+ghost use Rattle.users_input.specs.declared.fault.UsersFault.TheVariants as users;
+ghost use Rattle.oathd_sim.specs.Broken.{IsUnreadFor, fault_at, one_tick};
+ghost use Rattle.oathd_sim.specs.Fault.{input_fault_of, script_fault_of, users_fault_of};
+ghost use Rattle.oathd_sim.specs.Parts.{HasParts, IsGivenUp};
+ghost use Rattle.oathd_sim.specs.declared.fault.Fault.TheVariants.{CannotRead, CannotWrite, Memory, ScriptLine, Users};
 ghost use Rattle.sim_script.specs.Event.{Happens, Ticks, empty_script, eventful};
-ghost use Rattle.oathd_sim.specs.Sim.{script_read};
+ghost use Rattle.oathd_sim.specs.Sim.{BadScript, EndsSo, IsTaken, Refused, Reports, script_read};
 
 /// Scripts in whole inputs, whose lines are numbered from 1 with the users file and `%%` among them.
 pub fn scripts_are_worked()
@@ -18,4 +29,54 @@ pub fn scripts_are_worked()
     ensures cut_after_lf { script_read 3 10 (codes "%%\ntick 1\n# b") ≡ Err 3 }
     ensures cut_at_lf { script_read 3 9 (codes "%%\ntick 1\n# b") ≡ Err 2 }
     ensures cut_after_marker { script_read 3 3 (codes "%%\ntick 1\n# b") ≡ Err 2 }
+{}
+
+/// What each fault below is for a simulation.
+pub fn faults_are_worked()
+    ensures inputs { map input_fault_of (input.Memory ∷ input.CannotRead ∷ []) ≡ Memory ∷ CannotRead ∷ [] }
+    ensures users { map users_fault_of (users.Memory ∷ users.File (fault_at 2 MissingField) ∷ [])
+        ≡ Memory ∷ Users (fault_at 2 MissingField) ∷ [] }
+    ensures scripts { map script_fault_of (script.Memory ∷ script.Line 4 ∷ []) ≡ Memory ∷ ScriptLine 4 ∷ [] }
+{}
+
+/// What is promised of the end of a simulation is broken by an end that differs the least.
+pub fn promises_can_be_broken()
+    ensures reported { (report : ReportValue) →
+        EndsSo (Reports report) (Ok tt) (Some []) (Some (report_text report)) }
+    ensures reported_more { (report : ReportValue) →
+        EndsSo (Reports report) (Ok tt) (Some []) (Some (report_text report ++ 10 ∷ [])) → ⊥ }
+    ensures bad_line { EndsSo (BadScript 4) (Err (ScriptLine 4)) (Some []) (Some []) }
+    ensures bad_line_overlooked { EndsSo (BadScript 4) (Ok tt) (Some []) (Some []) → ⊥ }
+    ensures other_line { EndsSo (BadScript 4) (Err (ScriptLine 5)) (Some []) (Some []) → ⊥ }
+    ensures bad_line_prints { EndsSo (BadScript 4) (Err (ScriptLine 4)) (Some []) (Some (codes "\n")) → ⊥ }
+    ensures memory { EndsSo (BadScript 4) (Err Memory) (Some []) (Some []) }
+    ensures memory_prints { EndsSo (BadScript 4) (Err Memory) (Some []) (Some (codes "\n")) → ⊥ }
+    ensures read { EndsSo (BadScript 4) (Err CannotRead) (Some []) (Some []) }
+    ensures read_prints { EndsSo (BadScript 4) (Err CannotRead) (Some []) (Some (codes "\n")) → ⊥ }
+    ensures read_users { EndsSo (Refused (fault_at 2 MissingField)) (Err CannotRead) (Some []) (Some []) → ⊥ }
+    ensures written { (report : ReportValue) → EndsSo (Reports report) (Err CannotWrite) (Some []) (Some []) }
+    ensures written_of_a_bad_line { EndsSo (BadScript 4) (Err CannotWrite) (Some []) (Some []) → ⊥ }
+    ensures users { EndsSo (Refused (fault_at 2 MissingField)) (Err (Users (fault_at 2 MissingField)))
+        (Some []) (Some []) }
+    ensures users_line { EndsSo (Refused (fault_at 2 MissingField)) (Err (Users (fault_at 1 MissingField)))
+        (Some []) (Some []) → ⊥ }
+    ensures users_print { EndsSo (Refused (fault_at 2 MissingField)) (Err (Users (fault_at 2 MissingField)))
+        (Some []) (Some (codes "\n")) → ⊥ }
+    ensures users_are_good { EndsSo (BadScript 4) (Err (Users (fault_at 2 MissingField))) (Some []) (Some []) → ⊥ }
+    ensures taken { IsTaken (BadScript 4) }
+    ensures not_taken { IsTaken (Refused (fault_at 2 MissingField)) → ⊥ }
+    ensures given_up { IsGivenUp (BadScript 4) (ScriptLine 4) × IsGivenUp (BadScript 4) Memory }
+    ensures given_up_at_another { IsGivenUp (BadScript 4) (ScriptLine 5) → ⊥ }
+    ensures given_up_for_no_reason { IsGivenUp (BadScript 4) CannotRead → ⊥ }
+    ensures unread { IsUnreadFor (codes "HOTP a -\n") (Users (fault_at 1 MissingField)) }
+    ensures unread_by_the_input { IsUnreadFor one_tick CannotRead }
+    ensures unread_at_another { IsUnreadFor (codes "HOTP a -\n") (Users (fault_at 2 MissingField)) → ⊥ }
+    ensures unread_behind_a_bad_file { IsUnreadFor (codes "HOTP a -\n%%\n") CannotRead → ⊥ }
+    ensures unread_by_the_output { IsUnreadFor one_tick CannotWrite → ⊥ }
+    ensures unread_by_the_script { IsUnreadFor one_tick (ScriptLine 3) → ⊥ }
+    ensures parts { HasParts default_limits 0 99 99 one_tick [] [] 3 (codes "tick 1") false }
+    ensures parts_import { HasParts default_limits 0 99 99 one_tick [] (5 ∷ []) 3 (codes "tick 1") false → ⊥ }
+    ensures parts_number { HasParts default_limits 0 99 99 one_tick [] [] 4 (codes "tick 1") false → ⊥ }
+    ensures parts_script { HasParts default_limits 0 99 99 one_tick [] [] 3 (codes "tick 2") false → ⊥ }
+    ensures parts_cut { HasParts default_limits 0 99 99 one_tick [] [] 3 (codes "tick 1") true → ⊥ }
 {}

@@ -1,9 +1,9 @@
 -- Quiet turns keep their pace.
-use Rattle.std.proofs.Common.{◌≡◌, ℕ, Bool, true, false, List, [], ◌∷◌, ◌+◌, ◌*◌, ◌<◌, ◌≤◌, ◌&&◌, nat_lt, arith, refl}
+use Rattle.std.proofs.Common.{◌≡◌, ℕ, List, [], ◌∷◌, ◌+◌, ◌*◌, ◌<◌, ◌≤◌, ◌&&◌, nat_lt, arith}
 use Rattle.std.specs.Prelude.{nat_le}
 use Rattle.std.proofs.lemmas.Bool.{cond_both, leb-true}
 use Rattle.std.proofs.lemmas.Bool.Decides.{nat_tests}
-use Rattle.udp_port.specs.Pace.{AreClose, AreUpTo, Paced, due_after, interval, last_of, paced_of, with_quiet}
+use Rattle.udp_port.specs.Pace.{AreClose, AreUpTo, Paced, due_after, last_of, paced_of, with_quiet}
 
 -- a quiet turn that was due is due again an interval later at least, and within an interval
 after : (moment due : ℕ) → due ≤ moment → (due + 200 ≤ due_after moment due) × (due_after moment due ≤ moment + 200)

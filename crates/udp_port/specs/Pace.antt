@@ -1,5 +1,5 @@
 -- When the quiet turns of a port are due. Moments are milliseconds since the start of a clock that never goes back.
-use Rattle.std.specs.Prelude.{ℕ, ◌+◌, ◌<◌, ◌≤◌, nat_le, nat_lt, Bool, true, false, ◌&&◌, if◌then◌else◌, List, [], ◌∷◌, Option, Some, None}
+use Rattle.std.specs.Prelude.{ℕ, ◌+◌, ◌≤◌, nat_le, nat_lt, Bool, false, ◌&&◌, if◌then◌else◌, List, [], ◌∷◌, Option, Some, None}
 
 -- the time from one quiet turn to the next, which makes five a second
 abbrev pub interval : ℕ

@@ -1,12 +1,16 @@
-ghost use Rattle.std.specs.Prelude.{◌≡◌, ℕ, ◌+◌, ◌*◌, ◌<◌, ◌≤◌, ◌∷◌, [], List, Ok, Some, None, true, false, codes};
+ghost use Rattle.std.specs.Prelude.{◌≡◌, ℕ, ◌+◌, ◌*◌, Bool, Err, ◌<◌, ◌≤◌, ◌∷◌, [], List, Ok, Some, None, true, false, codes};
 ghost use Rattle.std.specs.declared.io.ErrorKind.TheVariants.{ConnectionRefused, ConnectionReset, Interrupted, NotFound, TimedOut, WouldBlock};
-ghost use Rattle.std.specs.declared.net.socket_addr.SocketAddr.TheVariants.{V4};
+ghost use Rattle.std.specs.declared.net.socket_addr.SocketAddr.TheVariants.{V4, V6};
+ghost use Rattle.std.specs.declared.net.socket_addr.SocketAddrV6.{SocketAddrV6};
+ghost use Rattle.std.specs.declared.net.socket_addr.SocketAddrV4.{SocketAddrV4};
+ghost use Rattle.std.specs.declared.io.Error.{Error};
+ghost use Rattle.std.specs.IoError.{error_kind};
 ghost use Rattle.node_turns.specs.declared.port.Sender.TheVariants.{Client, Peer};
 ghost use Rattle.node_turns.specs.declared.port.Received.TheVariants.{Datagram, Fault, Quiet};
-ghost use Rattle.udp_port.specs.Address.{number_of, sender_of};
+ghost use Rattle.udp_port.specs.Address.{HasNoAddress, IsAddressOf, number_of, sender_of};
 ghost use Rattle.udp_port.specs.Examples.{at_host, at_local, received_by_one};
 ghost use Rattle.udp_port.specs.Pace.{AreClose, AreUpTo, due_after_quiet, due_after_start, interval, is_due, last_of, paced_of};
-ghost use Rattle.udp_port.specs.Receipt.{failure_of, is_answer};
+ghost use Rattle.udp_port.specs.Receipt.{failure_of, is_answer, receipt_of};
 
 /// Numbers of addresses, and whose datagrams come from them.
 pub fn addresses_are_worked()
@@ -71,4 +75,30 @@ pub fn quiet_turns_keep_their_pace()
         → due + interval * (paced_of due moments).quiets ≤ last + interval }
     ensures all { (before due : ℕ) (moments : List ℕ) → before < due → due ≤ before + interval → AreClose before moments
         → last_of before moments < due + interval * (paced_of due moments).quiets }
+{}
+
+/// What is promised of an address and of moments is broken by the least that is wrong, and any receive that failed comes
+/// to what its kind says.
+pub fn promises_can_be_broken()
+    ensures member { IsAddressOf (at_local 1 ∷ at_local 2 ∷ []) (Peer 2) (at_local 2) }
+    ensures member_0 { IsAddressOf (at_local 1 ∷ []) (Peer 0) (at_local 1) → ⊥ }
+    ensures another_member { IsAddressOf (at_local 1 ∷ at_local 2 ∷ []) (Peer 1) (at_local 2) → ⊥ }
+    ensures no_member { IsAddressOf (at_local 1 ∷ []) (Peer 2) (at_local 1) → ⊥ }
+    ensures client { IsAddressOf [] (Client 139637976793093) (at_local 5) }
+    ensures another_client { IsAddressOf [] (Client 139637976793092) (at_local 5) → ⊥ }
+    ensures beyond_the_members { HasNoAddress (at_local 1 ∷ []) (Peer 2) × HasNoAddress [] (Peer 0) }
+    ensures last_member { HasNoAddress (at_local 1 ∷ []) (Peer 1) → ⊥ }
+    ensures beyond_the_clients { HasNoAddress [] (Client 281474976710656) }
+    ensures last_client { HasNoAddress [] (Client 281474976710655) → ⊥ }
+    ensures up_to { AreUpTo 5 (5 ∷ 0 ∷ []) }
+    ensures later { AreUpTo 5 (6 ∷ []) → ⊥ }
+    ensures second_later { AreUpTo 5 (5 ∷ 6 ∷ []) → ⊥ }
+    ensures close { AreClose 0 (200 ∷ 200 ∷ 400 ∷ []) }
+    ensures far { AreClose 0 (201 ∷ []) → ⊥ }
+    ensures back { AreClose 5 (4 ∷ []) → ⊥ }
+    ensures second_far { AreClose 0 (200 ∷ 401 ∷ []) → ⊥ }
+    ensures failed { (skips : Bool) (members : List SocketAddrV4) (error : Error) (buffer : List ℕ) →
+        receipt_of skips members (Err error) buffer ≡ failure_of (error_kind error) }
+    ensures of_another_kind { (skips : Bool) (members : List SocketAddrV4) (length : ℕ) (address : SocketAddrV6)
+        (buffer : List ℕ) → receipt_of skips members (Ok (length, V6 address)) buffer ≡ Some Fault }
 {}

@@ -28,7 +28,8 @@ mod port;
 pub use address::{client_address, client_number};
 pub use clock::{NoClock, SystemClock};
 pub use laws::{
-    addresses_are_worked, quiet_turns_are_worked, quiet_turns_keep_their_pace, receipts_are_worked,
+    addresses_are_worked, promises_can_be_broken, quiet_turns_are_worked,
+    quiet_turns_keep_their_pace, receipts_are_worked,
 };
 pub use pace::QUIET_MILLIS;
 pub use port::{MAX_MEMBERS, UdpPort};

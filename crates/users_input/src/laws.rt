@@ -1,7 +1,9 @@
-ghost use Rattle.std.specs.Prelude.{◌≡◌, [], ◌∷◌, Some, None, codes, false};
+ghost use Rattle.std.specs.Prelude.{◌≡◌, [], ◌∷◌, Some, None, codes, false, true};
 ghost use Rattle.users_input.specs.Examples.{text_of_two_parts};
-ghost use Rattle.users_input.specs.Input.{has_marker, lines_of, rest_part, users_file};
-ghost use Rattle.users_input.specs.Users.{numbered};
+ghost use Rattle.users_input.specs.Input.{HasLine, HasRoom, IsReadTo, TakesLine, has_marker, lines_of, rest_part, users_file};
+ghost use Rattle.users_input.specs.Users.{HasRest, IsFilled, numbered, rest_left, users_left};
+ghost use Rattle.users_input.specs.declared.input.NextLine.TheVariants.{Cut, End, Whole};
+ghost use Rattle.users_input.specs.declared.users.Stage.TheVariants.{Rest, Users};
 
 /// Some inputs: their lines, and their two parts.
 pub fn inputs_are_worked()
@@ -33,4 +35,49 @@ pub fn inputs_are_worked()
     // each line has its number
     ensures numbers { numbered 4 (lines_of 4 (codes "a\n\nbc"))
         ≡ (4, Some (codes "a")) ∷ (5, Some []) ∷ (6, None) ∷ [] }
+{}
+
+/// What is promised of the next line of an input holds of the least that keeps it, and each part of it is broken by the
+/// least that keeps all others.
+pub fn promises_can_be_broken()
+    ensures takes { TakesLine Whole (codes "a\n") 5 (codes "a\nb") 3 (Some (codes "b")) }
+    ensures takes_cut { TakesLine Cut (codes "a") 1 (codes "ab") 0 (Some (codes "b")) }
+    ensures takes_end { TakesLine End [] 5 [] 5 (Some []) }
+    ensures takes_remaining { TakesLine Whole (codes "a\n") 5 (codes "a\nb") 3 None → ⊥ }
+    ensures takes_parts { TakesLine Whole (codes "a\nz") 5 (codes "a") 4 (Some []) → ⊥ }
+    ensures takes_next { TakesLine Whole (codes "a\n") 5 (codes "a\nb") 0 (Some (codes "b")) → ⊥ }
+    ensures takes_no_lf { TakesLine Whole (codes "a") 2 (codes "a\nb") 0 (Some (codes "\nb")) → ⊥ }
+    ensures takes_cut_short { TakesLine Cut (codes "a") 1 (codes "ab") 1 (Some (codes "b")) → ⊥ }
+    ensures takes_no_cut { TakesLine Cut (codes "a") 2 (codes "ab") 0 (Some (codes "b")) → ⊥ }
+    ensures takes_no_end { TakesLine End [] 5 (codes "a") 5 (Some (codes "a")) → ⊥ }
+
+    ensures line { HasLine Whole (codes "\n") × HasLine Cut (codes "a") × HasLine End [] }
+    ensures no_whole_line { HasLine Whole [] → ⊥ }
+    ensures no_cut_line { HasLine Cut [] → ⊥ }
+    ensures line_behind_the_end { HasLine End (codes "a") → ⊥ }
+    ensures room { HasRoom Whole 3 2 × HasRoom Cut 3 3 × HasRoom End 3 3 }
+    ensures whole_in_no_room { HasRoom Whole 3 3 → ⊥ }
+    ensures cut_in_more_room { HasRoom Cut 3 4 → ⊥ }
+    ensures end_in_more_room { HasRoom End 3 4 → ⊥ }
+
+    ensures read_to { IsReadTo 2 (codes "ab") (codes "ab") false × IsReadTo 1 (codes "ab") (codes "a") true }
+    ensures read_less { IsReadTo 2 (codes "ab") (codes "a") false → ⊥ }
+    ensures cut_is_not_told { IsReadTo 1 (codes "ab") (codes "a") false → ⊥ }
+
+    ensures rest { HasRest ((4, Some (codes "a")) ∷ []) 4 9 (Some (codes "a")) }
+    ensures rest_of_nothing { HasRest ((4, Some (codes "a")) ∷ []) 4 9 None → ⊥ }
+    ensures rest_with_other_numbers { HasRest ((5, Some (codes "a")) ∷ []) 4 9 (Some (codes "a")) → ⊥ }
+    ensures rest_is_lost { HasRest [] 4 9 (Some (codes "a")) → ⊥ }
+
+    ensures filled { IsFilled Users (codes "\n") × IsFilled Rest [] }
+    ensures not_filled { IsFilled Users [] → ⊥ }
+{}
+
+/// What is left of a users file and of the lines behind it, at each stage of the pull.
+pub fn stages_are_worked()
+    ensures users { users_left Users 99 (codes "a\n") (codes "b\n%%\nc") ≡ codes "a\nb\n" }
+    ensures users_pulled { users_left Rest 99 (codes "a") (codes "b\n") ≡ codes "a" }
+    ensures rest_of_users { rest_left Users 1 99 (codes "a\n") (codes "b\n%%\nc") ≡ (4, Some (codes "c")) ∷ [] }
+    ensures rest { rest_left Rest 3 99 [] (codes "c\nd")
+        ≡ (4, Some (codes "c")) ∷ (5, Some (codes "d")) ∷ [] }
 {}

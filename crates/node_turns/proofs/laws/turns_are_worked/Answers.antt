@@ -44,3 +44,11 @@ returns-clause-clock c = refl
 pub returns-clause-asked : goal.returns-clause-asked
 unfolding made_by_event made_while_running made_by_ruling made_by_proposal made_by_datagram tick digits
 returns-clause-asked c = refl
+
+pub returns-clause-faults_apart_by_noise : goal.returns-clause-faults_apart_by_noise
+unfolding made_by_event made_while_running made_by_ruling made_by_proposal made_by_datagram tick digits datagram_at tag_of body_at sha256_steps.first_words sha256_steps.schedule sha256_steps.rounds sha256_steps.compress sha256_steps.hash_after sha256_steps.digest_bytes sha256_steps.sha256
+returns-clause-faults_apart_by_noise c = refl
+
+pub returns-clause-faults_apart_by_a_line : goal.returns-clause-faults_apart_by_a_line
+unfolding made_by_event made_while_running made_by_ruling made_by_proposal made_by_datagram tick digits
+returns-clause-faults_apart_by_a_line c = refl

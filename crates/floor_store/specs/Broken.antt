@@ -1,0 +1,64 @@
+-- Small stores, each of which breaks one field of a promise. No contract cites them.
+use Rattle.std.specs.Prelude.{◌≡◌, ◌⊎◌, ℕ, Bool, true, false, IsTrue, [], Option, Some, None, Result, Ok, Err}
+use Rattle.floor_store.specs.Content.{Content}
+use Rattle.floor_store.specs.Examples.{content_at}
+use Rattle.floor_store.specs.Held.{Held}
+use Rattle.floor_store.specs.declared.fault.StoreFault.{StoreFault}
+use Rattle.floor_store.specs.declared.fault.StoreFault.TheVariants.{Disk, Spent}
+
+-- a store: a stop leaves what it holds, or this other content
+pub record SmallStore : Type 0 where
+  pub content : Content
+  pub other : Content
+  pub fault : Option StoreFault
+  pub failures : ℕ
+  pub is_clean : Bool
+
+-- what is to be seen of it
+abbrev pub small_held : SmallStore → Held
+small_held store = record {
+  content = store.content;
+  fault = store.fault;
+  failures = store.failures;
+  is_clean = IsTrue store.is_clean;
+  leaves = λ content. (content ≡ store.content) ⊎ (content ≡ store.other);
+}
+
+-- no token, at that boot
+abbrev pub booted : ℕ → Content
+booted boot = content_at boot []
+
+-- a clean store of this content alone
+abbrev pub holding : Content → SmallStore
+holding content = record { content = content; other = content; fault = None; failures = 0; is_clean = true }
+
+-- a clean store of no token, at that boot
+abbrev pub store_at : ℕ → SmallStore
+store_at boot = holding (booted boot)
+
+-- the same, where a stop may leave an earlier or a later boot
+abbrev pub unsettled_at : ℕ → ℕ → SmallStore
+unsettled_at boot other = record (store_at boot) { other = booted other }
+
+-- the same, broken by the disk at its first failure
+abbrev pub broken_at : ℕ → SmallStore
+broken_at boot = record (store_at boot) { fault = Some Disk; failures = 1 }
+
+-- the same, over a disk that returned something else
+abbrev pub fallen_at : ℕ → SmallStore
+fallen_at boot = record (store_at boot) { is_clean = false }
+
+-- a call that went well, and one that met a failure of the disk
+abbrev pub done : Result ℕ StoreFault
+done = Ok 0
+
+abbrev pub failed : Result ℕ StoreFault
+failed = Err Disk
+
+-- an opening that finds no boot left
+abbrev pub spent : Result ℕ StoreFault
+spent = Err Spent
+
+-- the boot is read
+abbrev pub IsBootOf : Content → ℕ → Type 0
+IsBootOf content boot = boot ≡ content.boot

@@ -1,0 +1,19 @@
+-- Simulations, each of which breaks a part of a promise. No contract cites them.
+use Rattle.std.specs.Prelude.{ℕ, List, codes}
+use Rattle.otp_core.specs.Limits.{default_limits}
+use Rattle.token_file.specs.declared.fault.FileFault.{FileFault}
+use Rattle.token_file.specs.declared.fault.LineFault.{LineFault}
+use Rattle.oathd_sim.specs.Parts.{IsUnread}
+use Rattle.oathd_sim.specs.declared.fault.Fault.{Fault}
+
+-- a fault of a line of a users file
+abbrev pub fault_at : ℕ → LineFault → FileFault
+fault_at line kind = record { line = line; kind = kind }
+
+-- an input of 99 bytes at most is not read for this fault
+abbrev pub IsUnreadFor : List ℕ → Fault → Type 0
+IsUnreadFor text fault = IsUnread default_limits 0 99 99 text fault
+
+-- an input of no user, and of a script of one line behind it
+abbrev pub one_tick : List ℕ
+one_tick = codes "#\n%%\ntick 1"
