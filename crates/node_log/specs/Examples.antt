@@ -1,0 +1,20 @@
+-- Worked lines and members.
+use Rattle.std.specs.Prelude.{ℕ, Bool, List, [], ◌∷◌, codes}
+use Rattle.node_log.specs.Asked.{AskedLine}
+use Rattle.node_log.specs.declared.members.Member.{Member}
+
+-- a line of client 7 with the nonce k1 for the user ann
+abbrev pub ann : AskedLine
+ann = record { client = 7; nonce = codes "k1"; user = codes "ann" }
+
+-- a line of the same client with the nonce k2 for the user bob
+abbrev pub bob : AskedLine
+bob = record { client = 7; nonce = codes "k2"; user = codes "bob" }
+
+-- the two in order
+abbrev pub two_lines : List AskedLine
+two_lines = ann ∷ bob ∷ []
+
+-- a member by its number, whether it is heard, and its quiet turns
+abbrev pub member : ℕ → Bool → ℕ → Member
+member number heard quiets = record { number = number; is_heard = heard; quiets = quiets }

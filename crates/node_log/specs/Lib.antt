@@ -1,0 +1,5 @@
+pub mod Asked
+pub mod Examples
+pub mod Log
+pub mod Members
+pub mod Text

@@ -1,0 +1,51 @@
+-- What a log says of what a port received and offered.
+use Rattle.std.specs.Prelude.{◌≡◌, ℕ, Bool, false, true, List, [], ◌∷◌, map, Option, Some}
+use Rattle.std.specs.Io.KnownBytes.{Appends}
+use Rattle.node_turns.specs.Port.{PortEvent, Received, Quiet, Faulted, Offered}
+use Rattle.node_turns.specs.declared.port.Sender.TheVariants.{Client, Peer}
+use Rattle.node_log.specs.Asked.{AskedLine, place_of, user_at, with_line, without}
+use Rattle.node_log.specs.Members.{after_datagram, after_quiet, heard_texts, silent_texts}
+use Rattle.node_log.specs.Text.{answered_line}
+use Rattle.node_log.specs.declared.members.Member.{Member}
+
+-- which lines are remembered after an entry of a port's record
+abbrev pub asked_after : PortEvent → List AskedLine → List AskedLine
+asked_after (Received (Client client) bytes) asked = with_line client bytes asked
+asked_after (Received (Peer number) bytes) asked = asked
+asked_after Quiet asked = asked
+asked_after Faulted asked = asked
+asked_after (Offered (Client client) bytes) asked = without (place_of client bytes asked) asked
+asked_after (Offered (Peer number) bytes) asked = asked
+
+-- which members are heard after it
+abbrev pub members_after : PortEvent → List Member → List Member
+members_after (Received (Client client) bytes) members = members
+members_after (Received (Peer number) bytes) members = map (after_datagram number) members
+members_after Quiet members = map after_quiet members
+members_after Faulted members = members
+members_after (Offered to bytes) members = members
+
+-- What the log says of it: a line of each answer that is offered to a client, and of each member that is heard or
+-- silent and was not so before.
+abbrev pub told_of : PortEvent → List AskedLine → List Member → List ℕ
+told_of (Received (Client client) bytes) asked members = []
+told_of (Received (Peer number) bytes) asked members = heard_texts number members
+told_of Quiet asked members = silent_texts members
+told_of Faulted asked members = []
+told_of (Offered (Client client) bytes) asked members =
+    answered_line client (user_at (place_of client bytes asked) asked) bytes
+told_of (Offered (Peer number) bytes) asked members = []
+
+-- which lines are remembered after entries
+abbrev pub asked_after_all : List PortEvent → List AskedLine → List AskedLine
+asked_after_all [] asked = asked
+asked_after_all (entry ∷ entries) asked = asked_after_all entries (asked_after entry asked)
+
+-- The lines that are remembered are those of a port's record from its beginning, where there is one.
+pub record Remembers (entries : Option (List PortEvent)) (asked : List AskedLine) : Type 0 where
+  pub remembered : (all : List PortEvent) → entries ≡ Some all → asked ≡ asked_after_all all []
+
+-- A log's text is longer by this, and it goes on, unless the log is over. One that is over writes nothing more.
+pub record Tells (old_over new_over : Bool) (old new : Option (List ℕ)) (text : List ℕ) : Type 0 where
+  pub told : new_over ≡ false → (old_over ≡ false) × Appends old new text
+  pub over : old_over ≡ true → (new_over ≡ true) × (new ≡ old)

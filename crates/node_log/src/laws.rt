@@ -1,0 +1,66 @@
+ghost use Rattle.std.specs.Prelude.{◌≡◌, ℕ, ◌∷◌, [], List, None, Some, codes, false, true};
+ghost use Rattle.node_turns.specs.Port.{Offered, Quiet, Received};
+ghost use Rattle.node_turns.specs.declared.port.Sender.TheVariants.{Client, Peer};
+ghost use Rattle.vote_wire.specs.Request.{Request, request_at};
+ghost use Rattle.node_log.specs.Asked.{AskedLine, nonce_of, place_of, user_at, with_line, without};
+ghost use Rattle.node_log.specs.Examples.{ann, bob, member, two_lines};
+ghost use Rattle.node_log.specs.Log.{asked_after, members_after, told_of};
+ghost use Rattle.node_log.specs.Text.{answered_line, client_text, end_line, shown_user, start_line};
+
+/// Lines of a log, byte by byte: an acceptance, a refusal of a line that nobody asked, and names that would end their
+/// quotation or their line.
+pub fn texts_are_worked()
+    ensures accepted { answered_line 139637976793089 (Some (codes "ann")) (codes "OK k1 37")
+        ≡ codes "accepted from=127.0.0.1:1 OK k1 37 user=\"ann\"\n" }
+    ensures refused { answered_line 281474976710655 None (codes "NO - BADLINE")
+        ≡ codes "refused from=255.255.255.255:65535 NO - BADLINE\n" }
+    ensures address { client_text 1108152156166 ≡ codes "1.2.3.4:6" }
+    ensures name { shown_user (Some (33 ∷ 34 ∷ 92 ∷ 126 ∷ 127 ∷ 10 ∷ 32 ∷ 255 ∷ []))
+        ≡ codes " user=\"!\\x22\\x5c~\\x7f\\x0a\\x20\\xff\"" }
+    ensures nobody { shown_user None ≡ [] }
+    ensures start { start_line (record { node = 1; members = 3; address = 139637976793089; boot = 7; tokens = 2 })
+        ≡ codes "start node=1 of=3 at=127.0.0.1:1 boot=7 tokens=2\n" }
+    ensures end { end_line 12 8 ≡ codes "end received=12 replied=8\n" }
+{}
+
+/// What is remembered of lines, and which of them an answer answers.
+pub fn lines_are_worked()
+    ensures remembered { with_line 7 (codes "CHECK k1 ann 755224 -") [] ≡ ann ∷ [] }
+    ensures both { with_line 7 (codes "RESYNC k2 bob 287082 359152 pin\n") (ann ∷ []) ≡ two_lines }
+    ensures outside { with_line 7 (codes "CHECK k1 ann 755224") two_lines ≡ two_lines }
+    ensures nonce { nonce_of (codes "NO k2 THROTTLED 5") ≡ codes "k2" }
+    ensures word { nonce_of (codes "OK") ≡ [] }
+    ensures place { place_of 7 (codes "OK k2 1") two_lines ≡ Some 1 }
+    ensures stranger { place_of 8 (codes "OK k2 1") two_lines ≡ None }
+    ensures user { user_at (Some 1) two_lines ≡ Some (codes "bob") }
+    ensures others { without (Some 0) two_lines ≡ bob ∷ [] }
+{}
+
+/// What a log says of a record, entry by entry: a datagram of a client is a line that is remembered, and one of a member
+/// says once that it is heard; an answer has its line, and a datagram for a member none. The 25th quiet turn in a row
+/// makes a member silent, and no other does.
+pub fn records_are_worked()
+    ensures asked { asked_after (Received (Client 7) (codes "CHECK k1 ann 755224 -")) [] ≡ ann ∷ [] }
+    ensures received { told_of (Received (Client 7) (codes "CHECK k1 ann 755224 -")) [] (member 2 false 0 ∷ []) ≡ [] }
+    ensures answered { told_of (Offered (Client 7) (codes "OK k1 0")) two_lines []
+        ≡ answered_line 7 (Some (codes "ann")) (codes "OK k1 0") }
+    ensures once { asked_after (Offered (Client 7) (codes "OK k1 0")) two_lines ≡ bob ∷ [] }
+    ensures sent { told_of (Offered (Peer 2) (codes "OK k1 0")) two_lines (member 2 false 0 ∷ []) ≡ [] }
+    ensures heard { told_of (Received (Peer 2) []) [] (member 2 false 9 ∷ member 3 false 9 ∷ [])
+        ≡ codes "heard member=2\n" }
+    ensures known { told_of (Received (Peer 2) []) [] (member 2 true 9 ∷ []) ≡ [] }
+    ensures now_heard { members_after (Received (Peer 2) []) (member 2 false 9 ∷ member 3 false 9 ∷ [])
+        ≡ member 2 true 0 ∷ member 3 false 9 ∷ [] }
+    ensures silent { told_of Quiet [] (member 2 true 23 ∷ member 3 true 24 ∷ member 4 false 25 ∷ [])
+        ≡ codes "silent member=3\n" }
+    ensures now_silent { members_after Quiet (member 2 true 23 ∷ member 3 true 24 ∷ member 4 false 25 ∷ [])
+        ≡ member 2 true 24 ∷ member 3 false 25 ∷ member 4 false 25 ∷ [] }
+{}
+
+/// What is remembered of a client's line, and so what is ever written of it, is the same whatever its codes and its
+/// password are: two lines with one nonce and one user are remembered alike.
+pub fn codes_are_not_told()
+    ensures { (line other : List ℕ) (request changed : Request) → request_at line ≡ Some request
+        → request_at other ≡ Some changed → request.nonce ≡ changed.nonce → request.user ≡ changed.user
+        → (client : ℕ) (asked : List AskedLine) → with_line client line asked ≡ with_line client other asked }
+{}

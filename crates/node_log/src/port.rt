@@ -1,0 +1,122 @@
+//! A node's port that keeps a log.
+
+ghost use Rattle.std.specs.Prelude.{◌≡◌, [], ◌≢◌, ◌∷◌, Some, IfSome};
+ghost use Rattle.node_turns.specs.declared.port.Received.TheVariants.{Quiet as QuietReceive};
+ghost use Rattle.node_turns.specs.Port.{Grows, IsWithin, Offered, entries_of_poll, event_of_receive};
+ghost use Rattle.node_log.specs.Log.{Remembers, Tells, asked_after, members_after, told_of};
+
+use crate::log::{Log, MAX_OTHERS};
+use crate::members::Member;
+use arrayvec::ArrayVec;
+use node_turns::{Port, Received, Sender};
+use std::io::Write;
+
+/// A node's port over another one, with a log of the answers that are offered to clients, and of the members that are
+/// heard or silent. A line is written once its answer is offered, and handed on before the next wait.
+#[derive(Drop)]
+pub struct LogPort<P: Port + Drop, W: Write + Drop> {
+    port: P,
+    log: Log<W>,
+    ghost remembers: { Remembers (P.events port) log.asked },
+}
+
+impl<P: Port + Drop, W: Write + Drop> LogPort<P, W> {
+    /// A port over one that has received and offered nothing yet, with the node's other members.
+    pub fn new(port: P, writer: W, members: ArrayVec<Member, MAX_OTHERS>) -> Self
+        requires { IfSome (P.events port) (λ entries. entries ≡ []) }
+        ensures port { result.port ≡ port }
+        ensures writer { result.log.writer ≡ writer }
+        ensures members { result.log.members.items ≡ members.items }
+    {
+        LogPort {
+            port,
+            log: Log::new(writer, members),
+        }
+    }
+
+    /// Whether a line of the log could not be written; nothing was written after it.
+    pub fn is_over(&self) -> bool
+        ensures { result ≡ self.now.log.is_over }
+    {
+        self.log.is_over()
+    }
+}
+
+/// Takes note of what was received.
+fn note<W: Write + Drop>(log: &mut Log<W>, received: Received, buffer: &[u8; 512])
+    requires { IsWithin received }
+    ensures asked { log.new.asked ≡ asked_after (event_of_receive received buffer.now) log.old.asked }
+    ensures members { log.new.members.items
+        ≡ members_after (event_of_receive received buffer.now) log.old.members.items }
+    ensures told { Tells log.old.is_over log.new.is_over (W.contents log.old.writer) (W.contents log.new.writer)
+        (told_of (event_of_receive received buffer.now) log.old.asked log.old.members.items) }
+{
+    match received {
+        Received::Datagram { sender, len } => match sender {
+            Sender::Client(client) => log.received(client, &buffer[..len]),
+            Sender::Peer(number) => log.heard(number),
+        },
+        Received::Quiet => log.quiet(),
+        Received::Fault => {}
+    }
+}
+
+/// Takes note of what was offered.
+fn note_offer<W: Write + Drop>(log: &mut Log<W>, to: Sender, bytes: &[u8])
+    ensures asked { log.new.asked ≡ asked_after (Offered to bytes.now) log.old.asked }
+    ensures members { log.new.members.items ≡ log.old.members.items }
+    ensures told { Tells log.old.is_over log.new.is_over (W.contents log.old.writer) (W.contents log.new.writer)
+        (told_of (Offered to bytes.now) log.old.asked log.old.members.items) }
+{
+    match to {
+        Sender::Client(client) => log.answered(client, bytes),
+        Sender::Peer(_) => {}
+    }
+}
+
+impl<P: Port + Drop, W: Write + Drop> Port for LogPort<P, W> {
+    ghost events = { λ logged. P.events logged.port };
+
+    #[tactic(auto, using(crate::proofs::LogLemmas::remembers_more, crate::proofs::LogLemmas::tells_more))]
+    fn receive(&mut self, buffer: &mut [u8; 512]) -> Received
+        ensures within { IsWithin result }
+        ensures event { Grows (P.events self.old.port) (P.events self.new.port)
+            (event_of_receive result buffer.new ∷ []) }
+        ensures told { Tells self.old.log.is_over self.new.log.is_over (W.contents self.old.log.writer)
+            (W.contents self.new.log.writer)
+            (told_of (event_of_receive result buffer.new) self.old.log.asked self.old.log.members.items) }
+    {
+        self.log.flush();
+        let received = self.port.receive(buffer);
+        note(&mut self.log, received, buffer);
+        received
+    }
+
+    #[tactic(auto, using(crate::proofs::LogLemmas::remembers_more))]
+    fn poll(&mut self, buffer: &mut [u8; 512]) -> Option<Received>
+        ensures within { IfSome result IsWithin }
+        ensures waits { result ≢ Some QuietReceive }
+        ensures event { Grows (P.events self.old.port) (P.events self.new.port) (entries_of_poll result buffer.new) }
+        ensures told { IfSome result (λ received. Tells self.old.log.is_over self.new.log.is_over
+            (W.contents self.old.log.writer) (W.contents self.new.log.writer)
+            (told_of (event_of_receive received buffer.new) self.old.log.asked self.old.log.members.items)) }
+    {
+        let received = self.port.poll(buffer);
+        if let Some(received) = received {
+            note(&mut self.log, received, buffer);
+        }
+        received
+    }
+
+    #[tactic(auto, using(crate::proofs::LogLemmas::remembers_more))]
+    fn send(&mut self, to: Sender, bytes: &[u8]) -> bool
+        ensures event { Grows (P.events self.old.port) (P.events self.new.port) (Offered to bytes.now ∷ []) }
+        ensures told { Tells self.old.log.is_over self.new.log.is_over (W.contents self.old.log.writer)
+            (W.contents self.new.log.writer)
+            (told_of (Offered to bytes.now) self.old.log.asked self.old.log.members.items) }
+    {
+        let is_taken = self.port.send(to, bytes);
+        note_offer(&mut self.log, to, bytes);
+        is_taken
+    }
+}

@@ -1,0 +1,185 @@
+//! The lines of a log as text.
+
+ghost use Rattle.std.specs.Prelude.{◌≡◌, ◌++◌, OnOk};
+ghost use Rattle.std.specs.Option.{option_copied};
+ghost use Rattle.std.specs.Fmt.{decimal};
+ghost use Rattle.std.specs.Io.KnownBytes.{Appends};
+ghost use Rattle.std.specs.List.{flat_map};
+ghost use Rattle.node_log.specs.Text.{answered_line, at_text, client_text, counts_text, end_line, event_of, is_plain};
+ghost use Rattle.node_log.specs.Text.{place_text, shown_byte, shown_user, start_line};
+
+use std::io::{self, Write};
+
+/// Whether a byte is shown as it is: a visible ASCII character, but neither a quotation mark nor a backslash.
+fn is_plain(byte: u8) -> bool
+    ensures { result ≡ is_plain byte }
+{
+    byte.is_ascii_graphic() && byte != b'"' && byte != b'\\'
+}
+
+/// Writes a byte of a name: as it is, or as `\x` and two hexadecimal digits.
+#[tactic(auto, unfolding(crate::specs::Text::shown_byte))]
+fn write_byte<W: Write>(writer: &mut W, byte: u8) -> io::Result<()>
+    ensures { OnOk result (Appends (W.contents writer.old) (W.contents writer.new) (shown_byte byte)) }
+{
+    if is_plain(byte) {
+        return writer.write_all(&[byte]);
+    }
+    let mut digits = [0; 2];
+    hex::encode_to_slice(&[byte], &mut digits).unwrap();
+    writer.write_all(b"\\x")?;
+    writer.write_all(&digits)
+}
+
+/// Writes the bytes of a name.
+fn write_name<W: Write>(writer: &mut W, name: &[u8]) -> io::Result<()>
+    ensures { OnOk result (Appends (W.contents writer.old) (W.contents writer.new) (flat_map shown_byte name.now)) }
+{
+    for byte in name {
+        write_byte(writer, *byte)?;
+    }
+    Ok(())
+}
+
+/// Writes a user's name in quotation marks, where it is known.
+#[tactic(auto, unfolding(crate::specs::Text::shown_user))]
+fn write_user<W: Write>(writer: &mut W, user: Option<&[u8]>) -> io::Result<()>
+    ensures { OnOk result (Appends (W.contents writer.old) (W.contents writer.new)
+        (shown_user (option_copied user.entry))) }
+{
+    let Some(name) = user else {
+        return Ok(());
+    };
+    writer.write_all(b" user=\"")?;
+    write_name(writer, name)?;
+    writer.write_all(b"\"")
+}
+
+/// Writes a number and what stands behind it.
+fn write_number<W: Write>(writer: &mut W, number: u64, behind: &[u8]) -> io::Result<()>
+    ensures { OnOk result (Appends (W.contents writer.old) (W.contents writer.new) (decimal number ++ behind.now)) }
+{
+    write!(writer, "{number}")?;
+    writer.write_all(behind)
+}
+
+/// Writes the address of a client by its number: an IPv4 address and a port.
+#[tactic(auto, unfolding(crate::specs::Text::client_text))]
+fn write_client<W: Write>(writer: &mut W, client: u64) -> io::Result<()>
+    ensures { OnOk result (Appends (W.contents writer.old) (W.contents writer.new) (client_text client)) }
+{
+    write_number(writer, client / 1_099_511_627_776, b".")?;
+    write_number(writer, client / 4_294_967_296 % 256, b".")?;
+    write_number(writer, client / 16_777_216 % 256, b".")?;
+    write_number(writer, client / 65_536 % 256, b":")?;
+    write_number(writer, client % 65_536, b"")
+}
+
+/// Writes what became of a line, by its answer.
+fn write_event<W: Write>(writer: &mut W, answer: &[u8]) -> io::Result<()>
+    ensures { OnOk result (Appends (W.contents writer.old) (W.contents writer.new) (event_of answer.now)) }
+{
+    if answer.starts_with(b"OK ") {
+        writer.write_all(b"accepted from=")
+    } else {
+        writer.write_all(b"refused from=")
+    }
+}
+
+/// Writes the line of an answer to a client, with the user whom it is about where that is known.
+#[tactic(auto, unfolding(crate::specs::Text::answered_line))]
+pub fn write_answered<W: Write>(
+    writer: &mut W,
+    client: u64,
+    user: Option<&[u8]>,
+    answer: &[u8],
+) -> io::Result<()>
+    ensures { OnOk result (Appends (W.contents writer.old) (W.contents writer.new)
+        (answered_line client (option_copied user.entry) answer.now)) }
+{
+    write_event(writer, answer)?;
+    write_client(writer, client)?;
+    writer.write_all(b" ")?;
+    writer.write_all(answer)?;
+    write_user(writer, user)?;
+    writer.write_all(b"\n")
+}
+
+/// What a node is served as.
+#[derive(Clone, Copy, Debug, PartialEq, Eq)]
+pub struct Start {
+    /// Its number, and how many members there are.
+    pub node: u8,
+    pub members: u8,
+    /// The number of its address, as that of a client there.
+    pub address: u64,
+    /// The number of its boot.
+    pub boot: u64,
+    /// How many tokens it has.
+    pub tokens: usize,
+}
+
+/// Writes a word and a number.
+fn write_value<W: Write>(writer: &mut W, word: &[u8], number: u64) -> io::Result<()>
+    ensures { OnOk result (Appends (W.contents writer.old) (W.contents writer.new) (word.now ++ decimal number)) }
+{
+    writer.write_all(word)?;
+    write!(writer, "{number}")
+}
+
+/// Writes a word and a small number.
+fn write_small<W: Write>(writer: &mut W, word: &[u8], number: u8) -> io::Result<()>
+    ensures { OnOk result (Appends (W.contents writer.old) (W.contents writer.new) (word.now ++ decimal number)) }
+{
+    writer.write_all(word)?;
+    write!(writer, "{number}")
+}
+
+/// Writes which member a node is, and of how many.
+#[tactic(auto, unfolding(crate::specs::Text::place_text))]
+fn write_place<W: Write>(writer: &mut W, start: Start) -> io::Result<()>
+    ensures { OnOk result (Appends (W.contents writer.old) (W.contents writer.new) (place_text start)) }
+{
+    write_small(writer, b" node=", start.node)?;
+    write_small(writer, b" of=", start.members)
+}
+
+/// Writes an address.
+#[tactic(auto, unfolding(crate::specs::Text::at_text))]
+fn write_at<W: Write>(writer: &mut W, address: u64) -> io::Result<()>
+    ensures { OnOk result (Appends (W.contents writer.old) (W.contents writer.new) (at_text address)) }
+{
+    writer.write_all(b" at=")?;
+    write_client(writer, address)
+}
+
+/// Writes the number of a boot, and how many tokens there are.
+#[tactic(auto, unfolding(crate::specs::Text::counts_text))]
+fn write_counts<W: Write>(writer: &mut W, start: Start) -> io::Result<()>
+    ensures { OnOk result (Appends (W.contents writer.old) (W.contents writer.new) (counts_text start)) }
+{
+    write_value(writer, b" boot=", start.boot)?;
+    write_value(writer, b" tokens=", start.tokens as u64)
+}
+
+/// Writes the line of a node that begins to serve.
+#[tactic(auto, unfolding(crate::specs::Text::start_line))]
+pub fn write_start<W: Write>(writer: &mut W, start: Start) -> io::Result<()>
+    ensures { OnOk result (Appends (W.contents writer.old) (W.contents writer.new) (start_line start)) }
+{
+    writer.write_all(b"start")?;
+    write_place(writer, start)?;
+    write_at(writer, start.address)?;
+    write_counts(writer, start)?;
+    writer.write_all(b"\n")
+}
+
+/// Writes the line of a node that has served: how many datagrams were handed to it, and how many replies it offered.
+#[tactic(auto, unfolding(crate::specs::Text::end_line))]
+pub fn write_end<W: Write>(writer: &mut W, received: u64, replied: u64) -> io::Result<()>
+    ensures { OnOk result (Appends (W.contents writer.old) (W.contents writer.new) (end_line received replied)) }
+{
+    write_value(writer, b"end received=", received)?;
+    write_value(writer, b" replied=", replied)?;
+    writer.write_all(b"\n")
+}
