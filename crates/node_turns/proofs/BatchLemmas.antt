@@ -501,7 +501,7 @@ gathers_more held start now asked told waits turns gathered gathers is =
 -- one receive more fits
 pub gathers_few : {S : Type 0} (held : S → Held) (start now : Scene S) (asked told : Option (List (Option ℕ))) (waits : List Item)
     (turns : ℕ) (gathered : Gathered) → GathersBatch held start now asked told waits turns (Ok gathered) → gathered.end ≡ ends.More
-    → gathered.turns < turns → start.tally.received + turns < 2 ^ 32 → (now.tally.received < 2 ^ 32) × (now.tally.faults < 16)
+    → gathered.turns < turns → start.tally.received + turns < 2 ^ 54 → (now.tally.received < 2 ^ 54) × (now.tally.faults < 16)
 unfolding has_gathered
 gathers_few held start now asked told waits turns gathered gathers is fewer below =
     let g = has_gathered held start now asked told waits turns gathered gathers in

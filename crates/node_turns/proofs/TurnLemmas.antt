@@ -30,8 +30,8 @@ pub record IsSoFar {S : Type 0} (held : S → Held) (old : Hosted S) (first : Op
   pub received : now.tally.received ≡ received_after (receipts_in batches) 0
   pub faults : now.tally.faults < 16
   pub settled : IsClean held now → IsSettled (held old.store) → IsSettled (held now.node.store)
-  pub of : IsClean held now → count < 2 ^ 32 → IsOf held first now (run_over held old batches)
-  pub going : IsClean held now → count < 2 ^ 32 → (run_over held old batches).end ≡ None
+  pub of : IsClean held now → count < 2 ^ 54 → IsOf held first now (run_over held old batches)
+  pub going : IsClean held now → count < 2 ^ 54 → (run_over held old batches).end ≡ None
 
 -- a tally of nothing
 pub zero_tally : (t : Tally) → t.received ≡ 0 → t.replied ≡ 0 → t.faults ≡ 0
@@ -121,11 +121,11 @@ many_with bs b = ap (λ (xs : List Receipt). length xs) (receipts_more bs b) ∙
 ends_so_far : {A S : Type 0} (held : S → Held) (old : Hosted S) (first : Option (List PortEvent)) (asked : Option (List (Option ℕ)))
     (count : ℕ) (now new : Scene S) (batch : List Receipt) (told said : Option (List (Option ℕ))) (result : Result A ServeFault)
     (h : IsSoFar held old first asked count now told) → StepsBatch held now new batch told said result
-    → IsClean held new → count + length batch < 2 ^ 32
+    → IsClean held new → count + length batch < 2 ^ 54
     → BatchEnds held first (held now.node.store) (member_of old) (run_over held old h.batches) batch new result
 ends_so_far held old first asked count now new batch told said result h t clean below =
     let before = t.clean clean in
-    let small : count < 2 ^ 32 = omega (arith, below) in
+    let small : count < 2 ^ 54 = omega (arith, below) in
     let run = run_over held old h.batches in
     subst (λ (m : Member). BatchEnds held first (held now.node.store) m run batch new result) (member_same old now.node h.same)
     (t.does clean (omega (arith, h.few before, below)) first run (h.of before small) (h.going before small))
@@ -139,7 +139,7 @@ pub so_far_next : (A : Type 0) {S : Type 0} (held : S → Held) (old : Hosted S)
 so_far_next A held old first asked count now new batch told said done h is t =
     let member = member_of old in
     let start = run_at (state_of held old) in
-    let whole : IsClean held new → count + length batch < 2 ^ 32
+    let whole : IsClean held new → count + length batch < 2 ^ 54
     → run_over held old (h.batches ++ batch ∷ []) ≡ run_with_batch member batch (run_over held old h.batches) =
     λ clean below. run_with_more member h.batches batch start (h.going (t.clean clean) (omega (arith, below))) in
     record {
@@ -167,7 +167,7 @@ so_far_same : (A : Type 0) {S : Type 0} (held : S → Held) (old : Hosted S) (fi
     (done : A) → IsSoFar held old first asked count now told → StepsBatch {A = A} held now new [] told said (Ok done)
     → IsSoFar held old first asked count new said
 so_far_same A held old first asked count now new told said done h t =
-    let ends : IsClean held new → count < 2 ^ 32
+    let ends : IsClean held new → count < 2 ^ 54
     → BatchEnds {A = A} held first (held now.node.store) (member_of old) (run_over held old h.batches) [] new (Ok done) =
     λ clean below. ends_so_far {A = A} held old first asked count now new [] told said (Ok done) h t clean (omega (arith, below)) in
     record {
@@ -192,8 +192,8 @@ so_far_same A held old first asked count now new told said done h t =
 -- the turns that are left fit
 pub so_far_few : {S : Type 0} (held : S → Held) (old : Hosted S) (first : Option (List PortEvent))
     (asked : Option (List (Option ℕ))) (count left turns : ℕ) (now : Scene S) (told : Option (List (Option ℕ)))
-    → IsSoFar held old first asked count now told → count + left ≡ turns → turns < 2 ^ 32
-    → (now.tally.received + left < 2 ^ 32) × (now.tally.faults < 16)
+    → IsSoFar held old first asked count now told → count + left ≡ turns → turns < 2 ^ 54
+    → (now.tally.received + left < 2 ^ 54) × (now.tally.faults < 16)
 so_far_few held old first asked count left turns now told h sum below =
     let received = h.received in
     let few = received_after_few (receipts_in h.batches) 0 in
@@ -205,7 +205,7 @@ so_far_few held old first asked count left turns now told h sum below =
 -- all turns are taken
 pub serves_all : {S : Type 0} (held : S → Held) (old : Hosted S) (first : Option (List PortEvent))
     (asked : Option (List (Option ℕ))) (turns : ℕ) (now : Scene S) (told : Option (List (Option ℕ)))
-    → turns < 2 ^ 32 → IsSoFar held old first asked turns now told
+    → turns < 2 ^ 54 → IsSoFar held old first asked turns now told
     → Serves held old now.node first now.entries asked told turns (Ok (served_in now.tally))
 serves_all held old first asked turns now told below h = record {
   batches = h.batches;
@@ -244,7 +244,7 @@ settled_so A B store Clock h = h
 -- a batch ends the run
 pub serves_less : {S : Type 0} (held : S → Held) (old : Hosted S) (first : Option (List PortEvent))
     (asked : Option (List (Option ℕ))) (count left turns : ℕ) (now new : Scene S) (told said : Option (List (Option ℕ)))
-    (fault : ServeFault) → turns < 2 ^ 32 → count + left ≡ turns → IsSoFar held old first asked count now told
+    (fault : ServeFault) → turns < 2 ^ 54 → count + left ≡ turns → IsSoFar held old first asked count now told
     → TakesBatch held now new told said left (Err fault)
     → Serves held old new.node first new.entries asked said turns (Err fault)
 serves_less held old first asked count left turns now new told said fault below sum h b =
@@ -260,7 +260,7 @@ serves_less held old first asked count left turns now new told said fault below 
       all = tt;
       exact = λ clean.
           let before = t.clean clean in
-          let small : count < 2 ^ 32 = omega (arith, below, sum) in
+          let small : count < 2 ^ 54 = omega (arith, below, sum) in
           ends_with ℕ held old new.node first (held now.node.store) h.batches batch new fault (h.going before small) (h.settled before)
           (ends_so_far {A = ℕ} held old first asked count now new batch told said (Err fault) h t clean (omega (arith, below, sum, b.most)));
       settled = λ clean settled. settled_so ℕ Served (held new.node.store) fault (t.settled clean);
@@ -289,7 +289,7 @@ served_before held old first asked count now new (x ∷ xs) told said h goes t =
 -- a batch ends the run by the clock
 by_clock : {S : Type 0} (held : S → Held) (old : Hosted S) (first : Option (List PortEvent))
     (asked : Option (List (Option ℕ))) (count left turns : ℕ) (now new : Scene S) (told said : Option (List (Option ℕ)))
-    → turns < 2 ^ 32 → count + left ≡ turns → IsSoFar held old first asked count now told
+    → turns < 2 ^ 54 → count + left ≡ turns → IsSoFar held old first asked count now told
     → TakesBatch held now new told said left (Err Clock) → EndsByClock held old new.node first asked turns
 by_clock held old first asked count left turns now new told said below sum h b =
     let c = b.clock in
@@ -309,7 +309,7 @@ by_clock held old first asked count left turns now new told said below sum h b =
 -- a batch ends the run, which is by the clock where the fault says so
 pub ends_by_clock : {S : Type 0} (held : S → Held) (old : Hosted S) (first : Option (List PortEvent))
     (asked : Option (List (Option ℕ))) (count left turns : ℕ) (now new : Scene S) (told said : Option (List (Option ℕ)))
-    (fault : ServeFault) → turns < 2 ^ 32 → count + left ≡ turns → IsSoFar held old first asked count now told
+    (fault : ServeFault) → turns < 2 ^ 54 → count + left ≡ turns → IsSoFar held old first asked count now told
     → TakesBatch held now new told said left (Err fault) → (result : Result Served ServeFault) → result ≡ Err fault
     → result ≡ Err Clock → EndsByClock held old new.node first asked turns
 ends_by_clock held old first asked count left turns now new told said (Node fault) below sum h b result is clock =

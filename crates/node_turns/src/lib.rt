@@ -23,4 +23,4 @@ pub use laws::{
 };
 pub use list_port::{Coming, ListClock, ListPort, PortEntry};
 pub use port::{MAX_DATAGRAM_LEN, Port, Received, Sender};
-pub use turns::{Served, offer, run_turns};
+pub use turns::{Served, TURNS_END, offer, run_turns};

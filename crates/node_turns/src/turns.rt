@@ -15,6 +15,9 @@ use arrayvec::ArrayVec;
 use floor_store::FloorStore;
 use oath_node::{Event, Item, Node, NodeFault, Outputs, Scratch};
 
+/// A run has fewer turns than this: 500 years of them at a million datagrams a second.
+pub const TURNS_END: u64 = 1 << 54;
+
 /// So many faults of a port in a row end a run.
 const MAX_FAULTS: u8 = 16;
 
@@ -88,7 +91,7 @@ impl BatchEnd {
 /// How many receives a batch had, and what follows the last one.
 #[derive(Clone, Copy)]
 struct Gathered {
-    turns: u32,
+    turns: u64,
     end: BatchEnd,
 }
 
@@ -125,7 +128,7 @@ fn take_received<'b, S: FloorStore, C: Clock>(
     buffer: &[u8; 512],
 ) -> Result<BatchEnd, NodeFault>
     requires within { IsWithin received }
-    requires few { (tally.old.received < 2 ^ 32) × (tally.old.faults < 16) }
+    requires few { (tally.old.received < 2 ^ 54) × (tally.old.faults < 16) }
     requires room { array_vec_len outbox.old < 64 }
     ensures { TakesReceived S.held node.old node.new (event_of_receive received buffer.now)
         (C.moments clock.old) (C.moments clock.new) tally.old tally.new outbox.old.items outbox.new.items result }
@@ -164,10 +167,10 @@ fn gather<'b, S: FloorStore, P: Port, C: Clock>(
     clock: &mut C,
     outbox: &mut Outbox<'b>,
     tally: &mut Tally,
-    turns: u32,
+    turns: u64,
 ) -> Result<Gathered, NodeFault>
     requires some { 0 < turns }
-    requires few { (tally.old.received + turns < 2 ^ 32) × (tally.old.faults < 16) }
+    requires few { (tally.old.received + turns < 2 ^ 54) × (tally.old.faults < 16) }
     requires empty { outbox.old.items ≡ [] }
     ensures { GathersBatch S.held (scene P.events node.old port.old tally.old)
         (scene P.events node.new port.new tally.new) (C.moments clock.old) (C.moments clock.new)
@@ -251,10 +254,10 @@ fn take_batch<'b, S: FloorStore, P: Port, C: Clock>(
     scratch: &mut Scratch,
     outbox: &mut Outbox<'b>,
     tally: &mut Tally,
-    turns: u32,
-) -> Result<u32, ServeFault>
+    turns: u64,
+) -> Result<u64, ServeFault>
     requires some { 0 < turns }
-    requires few { (tally.old.received + turns < 2 ^ 32) × (tally.old.faults < 16) }
+    requires few { (tally.old.received + turns < 2 ^ 54) × (tally.old.faults < 16) }
     ensures { TakesBatch S.held (scene P.events node.old port.old tally.old)
         (scene P.events node.new port.new tally.new) (C.moments clock.old) (C.moments clock.new) turns result }
 {
@@ -268,7 +271,7 @@ fn take_batch<'b, S: FloorStore, P: Port, C: Clock>(
     }
 }
 
-/// Serves a node over a port for so many turns. Each turn is a receive, or a poll that finds something.
+/// Serves a node over a port for so many turns, fewer than [`TURNS_END`]. Each turn is a receive, or a poll that finds something.
 ///
 /// A datagram is handed to the node, a client's at the moment that the clock tells then. After a quiet turn, and
 /// after each 64th datagram, some time has passed for the node. What is there already behind a datagram is handed in
@@ -283,8 +286,9 @@ pub fn run_turns<'b, S: FloorStore, P: Port, C: Clock>(
     node: &mut Node<'b, S>,
     port: &mut P,
     clock: &mut C,
-    turns: u32,
+    turns: u64,
 ) -> Result<Served, ServeFault>
+    requires few { turns < 2 ^ 54 }
     ensures serves { Serves S.held node.old node.new (P.events port.old) (P.events port.new)
         (C.moments clock.old) (C.moments clock.new) turns result }
     // a clock that fails changes nothing of the node, whatever the store is

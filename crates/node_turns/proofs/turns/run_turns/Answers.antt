@@ -26,7 +26,7 @@ take_batch-requires-clause-few g c =
     let h = c.loop-left.invariant in
     so_far_few g.S.FloorStore.held c.args.node.now (g.P.Port.events c.args.port.now) (g.C.Clock.moments c.args.clock.now) h.0
     c.loop-left.left c.args.turns (scene g.P.Port.events c.loop-left.node c.loop-left.port c.loop-left.tally)
-    (g.C.Clock.moments c.loop-left.clock) h.2 h.1 c.ranges.turns.fits
+    (g.C.Clock.moments c.loop-left.clock) h.2 h.1 c.requires.few
 
 pub returns-in_err-left-clause-serves : goal.returns-in_err-left-clause-serves
 returns-in_err-left-clause-serves g c =
@@ -41,7 +41,7 @@ returns-in_err-left-clause-serves g c =
     subst (λ (r : Result Served ServeFault). Serves held c.args.node.now new.node first new.entries asked told c.args.turns r)
     (sym (err_is c.from_residual.result fault c.from_residual.ensures.1))
     (serves_less held c.args.node.now first asked h.0 c.loop-left.left c.args.turns now new (g.C.Clock.moments c.loop-left.clock) told
-    fault c.ranges.turns.fits h.1 h.2 c.in_err-left.ensures)
+    fault c.requires.few h.1 h.2 c.in_err-left.ensures)
 
 pub returns-in_err-left-clause-clock : goal.returns-in_err-left-clause-clock
 returns-in_err-left-clause-clock g c =
@@ -51,7 +51,7 @@ returns-in_err-left-clause-clock g c =
     (g.C.Clock.moments c.args.clock.now) h.0 c.loop-left.left c.args.turns
     (scene g.P.Port.events c.loop-left.node c.loop-left.port c.loop-left.tally)
     (scene g.P.Port.events c.take_batch.new.node c.take_batch.new.port c.take_batch.new.tally)
-    (g.C.Clock.moments c.loop-left.clock) (g.C.Clock.moments c.take_batch.new.clock) fault c.ranges.turns.fits h.1
+    (g.C.Clock.moments c.loop-left.clock) (g.C.Clock.moments c.take_batch.new.clock) fault c.requires.few h.1
     h.2 c.in_err-left.ensures c.from_residual.result (err_is c.from_residual.result fault c.from_residual.ensures.1)
 
 pub loop-left-preserved : goal.loop-left-preserved
