@@ -5,13 +5,12 @@ ghost use Rattle.oathd_cluster.specs.Rounds.{IsOfOpening};
 
 use crate::fault::Fault;
 use crate::rounds::{Cluster, Member};
-use floor_store::MemStore;
 use oath_node::{Node, Scratch};
 use otp_core::{Next, Settings};
 use std::alloc::Global;
 use std::net::{Ipv4Addr, Net, SocketAddr, SocketAddrV4, UdpSocket};
 use std::time::Duration;
-use token_file::{Book, MAX_TOKENS};
+use token_file::Book;
 use udp_port::{NoClock, UdpPort};
 use vote_core::Place;
 use vote_wire::ClusterKey;
@@ -36,32 +35,6 @@ fn bind<N: Net>(net: &N) -> Result<(UdpSocket, SocketAddrV4), Fault>
     match socket.local_addr() {
         Ok(SocketAddr::V4(address)) => Ok((socket, address)),
         Ok(SocketAddr::V6(_)) | Err(_) => Err(Fault::Socket),
-    }
-}
-
-/// A node over a fresh store in memory.
-fn open_node<'b>(
-    alloc: Global,
-    book: &'b Book,
-    settings: Settings,
-    key: &'b ClusterKey,
-    place: Place,
-    floors: &[Next],
-) -> Result<Node<'b, MemStore>, Fault>
-    requires { length floors.now ≡ length book.now }
-    ensures { IfErr result IsOfOpening }
-{
-    // No book has more tokens.
-    if floors.len() > MAX_TOKENS {
-        return Err(Fault::Memory);
-    }
-    let Ok(store) = MemStore::new(alloc, floors) else {
-        return Err(Fault::Memory);
-    };
-    // A fresh store in memory can raise its boot, so that a node that isn't opened found no memory.
-    match Node::open(alloc, book, settings, place, key, store) {
-        Ok(node) => Ok(node),
-        Err(_) => Err(Fault::Memory),
     }
 }
 
@@ -101,7 +74,7 @@ fn open_member<'b>(
     ensures { IfErr result IsOfOpening }
 {
     let port = UdpPort::in_rounds(socket, addresses.to_vec(alloc)?);
-    let node = open_node(alloc, book, settings, key, place, floors)?;
+    let node = Node::in_memory(alloc, book, settings, place, key, floors)?;
     Ok(Member {
         node,
         port,
