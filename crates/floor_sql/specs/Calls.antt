@@ -8,7 +8,7 @@ use Rattle.sqlite.specs.Held as sql
 use Rattle.sqlite.specs.State.{HasCleanDisk, Survives}
 use Rattle.sqlite.specs.Effect.{Database}
 use Rattle.floor_store.specs.declared.fault.StoreFault.{StoreFault}
-use Rattle.floor_store.specs.Content.{opening_content}
+use Rattle.floor_store.specs.Content.{opening_content_at}
 use Rattle.floor_store.specs.Held.{IsSettled}
 use Rattle.floor_sql.specs.Schema as tables
 use Rattle.floor_sql.specs.Schema.{floor_schema}
@@ -38,14 +38,14 @@ module _ {S : Type 0} (g : Ghosts S) where
     pub idle : store.staged ≡ []
     pub settled : IsSettled (sql_held g store)
 
-  -- a new store of this node, with these first free factors, made in one commit
-  pub record IsMade (old : sql.Held S) (node : ℕ) (floors : List ℕ) (store : SqlHeld S) : Type 0 where
-    pub content : store.mirror ≡ opening_content floors
+  -- a new store of this node at this boot, with these first free factors, made in one commit
+  pub record IsMade (old : sql.Held S) (node boot : ℕ) (floors : List ℕ) (store : SqlHeld S) : Type 0 where
+    pub content : store.mirror ≡ opening_content_at boot floors
     pub no_passes : store.passes ≡ 0
     pub sound : IsSound store
     pub tables : HasCleanDisk (sql.state g store.conn)
-        → Commits (Opens node floors) (sql.state g old) (sql.state g store.conn)
-    pub survives : Survives (sql.state g old) (sql.state g store.conn) (MayCommit (Opens node floors) (sql.state g old))
+        → Commits (Opens node boot floors) (sql.state g old) (sql.state g store.conn)
+    pub survives : Survives (sql.state g old) (sql.state g store.conn) (MayCommit (Opens node boot floors) (sql.state g old))
 
   -- the store of this node with so many tokens that the tables of a connection hold
   pub record IsOpened (old : sql.Held S) (node tokens : ℕ) (store : SqlHeld S) : Type 0 where

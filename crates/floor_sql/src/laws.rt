@@ -87,10 +87,10 @@ pub fn promises_can_be_broken()
     ensures tables_node { HasTables (db_at 4 []) 2 0 (small_content 4) 0 → ⊥ }
     ensures tables_tokens { HasTables (db_at 4 []) 1 1 (small_content 4) 0 → ⊥ }
     ensures tables_count { HasTables (db_at 4 []) 1 0 (small_content 4) 1 → ⊥ }
-    ensures opens { (old : Database) → Opens 1 [] old (db_at 0 []) }
-    ensures opens_schema { (old : Database) → Opens 1 [] old (record (db_at 0 []) { schema = no_schema }) → ⊥ }
-    ensures opens_holds { (old : Database) → Opens 1 [] old (db_at 1 []) → ⊥ }
-    ensures opens_node { (old : Database) → Opens 2 [] old (db_at 0 []) → ⊥ }
+    ensures opens { (old : Database) → Opens 1 0 [] old (db_at 0 []) }
+    ensures opens_schema { (old : Database) → Opens 1 0 [] old (record (db_at 0 []) { schema = no_schema }) → ⊥ }
+    ensures opens_holds { (old : Database) → Opens 1 0 [] old (db_at 1 []) → ⊥ }
+    ensures opens_node { (old : Database) → Opens 2 0 [] old (db_at 0 []) → ⊥ }
     ensures raises { Raises 5 (db_at 4 []) (db_at 5 []) }
     ensures raises_schema { Raises 5 (db_at 4 []) (record (db_at 5 []) { schema = undrifted_schema }) → ⊥ }
     ensures raises_self { Raises 5 (db_at 4 []) (db_at 6 []) → ⊥ }

@@ -60,6 +60,7 @@ impl<S: Alter> SqlStore<S> {
     ghost use Rattle.floor_store.specs.Held.{Breaks, Writes};
     ghost use Rattle.floor_store.specs.declared.fault.StoreFault.TheVariants.{AlreadyThere, Unusable};
     ghost use Rattle.floor_sql.specs.Created.{IsForeign, Opens, has_own_table};
+    ghost use Rattle.floor_store.specs.Range.{IsCount};
     ghost use Rattle.floor_sql.specs.Migrate.{IsMigrated, IsUsableUndrifted, Migrates};
     ghost use Rattle.floor_sql.specs.Schema.{floor_schema};
     ghost use Rattle.floor_sql.specs.Stored.{MayCommit};
@@ -68,7 +69,7 @@ impl<S: Alter> SqlStore<S> {
     ghost use Rattle.floor_sql.specs.Usable.{HasUsableNode, HasUsablePasses, IsNode, IsUsable};
     ghost use Rattle.floor_sql.specs.Calls.{HandsBack, IsMade, IsOfNode, IsOpened, KeepsTables, ReadsAudit};
 
-    /// Makes the store of this node, with these first free factors, in a database that has no table.
+    /// Makes the store of this node, at this boot and with these first free factors, in a database that has no table.
     /// The connection stands outside a transaction and has no limit on its steps. Beside a refusal it
     /// is handed back: `AlreadyThere` where a table with the name of one of a store's is there,
     /// `Unusable` where none is and something else is.
@@ -76,12 +77,14 @@ impl<S: Alter> SqlStore<S> {
         alloc: Global,
         mut conn: Connection<S>,
         node: u8,
+        boot: u64,
         floors: &[Next],
     ) -> Result<Self, (Connection<S>, StoreFault)>
         requires idle { conn.in_transaction ≡ false }
         requires node { IsNode node }
+        requires boot { IsCount boot }
         requires tokens { length floors.now ≤ 10000 }
-        ensures opening { IfOk result (IsMade S.Store conn node floors.now) }
+        ensures opening { IfOk result (IsMade S.Store conn node boot floors.now) }
         ensures found { has_own_table conn.schema ≡ true
             → IsErrAnd result (λ e. (e.0 ≡ conn) × (e.1 ≡ StoreFault.AlreadyThere)) }
         ensures there { IfErr result (λ e. e.1 ≡ StoreFault.AlreadyThere → has_own_table conn.schema ≡ true) }
@@ -90,7 +93,7 @@ impl<S: Alter> SqlStore<S> {
             → IsForeign conn.schema) }
         ensures failure { IfErr result (λ e. e.1 ≢ StoreFault.AlreadyThere → IsTrue (is_failure e.1)) }
         ensures refused { IfErr result (λ e. HandsBack S.Store conn e.0
-            (MayCommit (Opens node floors.now) (state S.Store conn))) }
+            (MayCommit (Opens node boot floors.now) (state S.Store conn))) }
     {
         // Outside a transaction the connection sees what was last committed.
         let _ = conn.is_autocommit();
@@ -100,10 +103,10 @@ impl<S: Alter> SqlStore<S> {
         if !is_no_schema(conn.schema()) {
             return Err((conn, StoreFault::Unusable));
         }
-        let Ok(mirror) = Mirror::opening(alloc, floors) else {
+        let Ok(mirror) = Mirror::opening(alloc, boot, floors) else {
             return Err((conn, StoreFault::Memory));
         };
-        match write_opening(&mut conn, node, floors) {
+        match write_opening(&mut conn, node, boot, floors) {
             Ok(()) => Ok(SqlStore {
                 conn,
                 mirror,

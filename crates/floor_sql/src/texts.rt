@@ -17,7 +17,7 @@ pub const CREATE_PASS: &str =
         lo INTEGER NOT NULL, hi INTEGER NOT NULL, boot INTEGER NOT NULL, seq INTEGER NOT NULL) STRICT";
 
 pub const INSERT_SELF: &str =
-    "INSERT INTO self (id, version, node, tokens, boot) VALUES (1, 2, ?1, ?2, 0)";
+    "INSERT INTO self (id, version, node, tokens, boot) VALUES (1, 2, ?1, ?2, ?3)";
 
 pub const INSERT_FLOOR: &str =
     "INSERT INTO floor (token, next, fails, until) VALUES (?1, ?2, 0, 0)";

@@ -1,6 +1,6 @@
 ghost use Rattle.std.specs.Prelude.{◌≡◌, ℕ, pos, negsuc, List, [], ◌∷◌, Some, None, Ok, Err, length, true, false};
 ghost use Rattle.floor_store.specs.Broken.{IsBootOf, booted, broken_at, done, failed, fallen_at, holding, small_held, spent, store_at, unsettled_at};
-ghost use Rattle.floor_store.specs.Content.{IsContent, accepted_row, opening_content, opening_row, with_next_boot, with_row};
+ghost use Rattle.floor_store.specs.Content.{IsContent, accepted_row, opening_content, opening_content_at, opening_row, with_next_boot, with_row};
 ghost use Rattle.floor_store.specs.Examples.{content_at, free_row, granted_row, later_row, new_pass, old_pass, pass, proposal, two_rows};
 ghost use Rattle.floor_store.specs.Fault.{IsBrokenBy, IsCounted, is_failure};
 ghost use Rattle.floor_store.specs.Held.{Breaks, Commits, IsSettled, Makes, MayPut, MayWrite, OldOrNew, Puts, RaisesBoot, Reads, Writes};
@@ -29,6 +29,8 @@ pub fn contents_are_worked()
         ≡ record later_row { gate = record { fails = 0; until = 0 }; drift = pos 0 } }
     ensures opening { opening_content (5 ∷ 0 ∷ 5 ∷ [])
         ≡ record { rows = free_row 5 ∷ free_row 0 ∷ free_row 5 ∷ []; boot = 0; last = None } }
+    ensures opening_at { opening_content_at 4194304 (5 ∷ [])
+        ≡ record { rows = free_row 5 ∷ []; boot = 4194304; last = None } }
     ensures empty { opening_content [] ≡ record { rows = []; boot = 0; last = None } }
 {}
 

@@ -36,7 +36,7 @@ module _ {S : Type 0} (g : Ghosts S) where
   pub record HasMade (limits : Limits) (moment longest node : ℕ) (store : SqlHeld S) (text : List ℕ) : Type 0 where
     pub import : HasImport limits moment longest text
     pub conn : sql.Held S
-    pub made : IsMade g conn node import.floors store
+    pub made : IsMade g conn node 0 import.floors store
 
   -- The store is what the tables of some connection hold of a node with so many tokens: of this one where it is given.
   pub record HasOpened (given : Option ℕ) (tokens : ℕ) (store : SqlHeld S) : Type 0 where

@@ -4,3 +4,4 @@ pub mod File
 pub mod Tables
 pub mod Text
 pub mod Users
+pub mod Floors

@@ -39,7 +39,7 @@ pub fn init_store<R: Read + Drop, S: Alter + Drop, D: Database<S>>(
 {
     let users = read_users(alloc, users, settings, moment)?;
     let conn = database.connect()?;
-    match SqlStore::init(alloc, conn, node, &users.floors) {
+    match SqlStore::init(alloc, conn, node, 0, &users.floors) {
         Ok(store) => Ok(store),
         Err((_, fault)) => Err(Fault::Store(fault)),
     }

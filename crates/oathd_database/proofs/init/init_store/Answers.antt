@@ -16,12 +16,12 @@ use Rattle.oathd_database.proofs.init.init_store.Goals as goal
 -- the store is made
 made : (limits : Limits) (moment longest : ℕ) {S : Type 0} (g : Ghosts S) (node : ℕ) (a : Option (List ℕ)) (conn : sql.Held S) (store : SqlHeld S)
     (book : List Credential) (floors given : List ℕ) → IfSome a (IsImported limits moment longest book floors) → given ≡ floors
-    → IsMade g conn node given store → IfSome a (HasMade g limits moment longest node store)
+    → IsMade g conn node 0 given store → IfSome a (HasMade g limits moment longest node store)
 made limits moment longest g node None conn store book floors given h same is = tt
 made limits moment longest g node (Some text) conn store book floors given h same is = record {
   import = record { book = book; floors = floors; imported = h };
   conn = conn;
-  made = subst (λ (fs : List ℕ). IsMade g conn node fs store) same is;
+  made = subst (λ (fs : List ℕ). IsMade g conn node 0 fs store) same is;
 }
 
 pub returns-in_err-users-clause-fault : goal.returns-in_err-users-clause-fault

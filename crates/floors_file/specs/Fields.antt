@@ -1,0 +1,70 @@
+-- The fields of a line, between single spaces, and the numbers that they are.
+use Rattle.std.specs.Prelude.{ℕ, ◌==◌, Bool, false, List, [], ◌∷◌, Option, Some, None, Result, Ok, Err, if◌then◌else◌}
+use Rattle.std.specs.Borrow.{Bor}
+use Rattle.std.specs.List.{slice_split}
+use Rattle.field_text.specs.Number.{number_of}
+use Rattle.floors_file.specs.declared.fault.LineFault.{LineFault}
+use Rattle.floors_file.specs.declared.fault.LineFault.TheVariants.{MissingField, SurplusField, Number}
+
+-- what comes next, where there is no fault before it
+infixl 10 ◌>>=◌
+abbrev pub ◌>>=◌ : {A B E : Type 0} → Result A E → (A → Result B E) → Result B E
+Ok x >>= next = next x
+Err fault >>= next = Err fault
+
+-- the fields of a line: what stands before, between and behind its spaces
+abbrev pub fields_of : List ℕ → List (List ℕ)
+fields_of line = slice_split (λ byte. byte == 32) line
+
+-- the fields of what stands behind a space; behind the last field there are none
+abbrev pub fields_left : Option (Bor (List ℕ)) → List (List ℕ)
+fields_left None = []
+fields_left (Some rest) = fields_of rest.now
+
+-- the first field, and those behind it
+abbrev pub next_field : List (List ℕ) → Result (List ℕ × List (List ℕ)) LineFault
+next_field [] = Err MissingField
+next_field (field ∷ fields) = Ok (field, fields)
+
+-- whether a number is written with a zero before it
+abbrev pub has_leading_zero : List ℕ → Bool
+has_leading_zero [] = false
+has_leading_zero (digit ∷ []) = false
+has_leading_zero (digit ∷ next ∷ digits) = digit == 48
+
+-- the number that decimal digits are, below 2^64 and without leading zeros
+abbrev pub plain_number : List ℕ → Option ℕ
+plain_number text = if has_leading_zero text then None else number_of text
+
+-- a number that was read, with the fields behind it
+abbrev pub with_fields : Option ℕ → List (List ℕ) → Result (ℕ × List (List ℕ)) LineFault
+with_fields None fields = Err Number
+with_fields (Some number) fields = Ok (number, fields)
+
+-- the number of the first field, and the fields behind it
+abbrev pub number_field : List (List ℕ) → Result (ℕ × List (List ℕ)) LineFault
+number_field fields = do
+  field ← next_field fields
+  with_fields (plain_number field.0) field.1
+
+-- a number behind which nothing stands
+abbrev pub with_none : ℕ → List (List ℕ) → Result ℕ LineFault
+with_none number [] = Ok number
+with_none number (field ∷ fields) = Err SurplusField
+
+-- the number of the last field
+abbrev pub last_number : List (List ℕ) → Result ℕ LineFault
+last_number fields = do
+  number ← number_field fields
+  with_none number.0 number.1
+
+-- a field that the code read, with what is behind it
+abbrev pub field_value :
+    Result (Bor (List ℕ) × Option (Bor (List ℕ))) LineFault → Result (List ℕ × List (List ℕ)) LineFault
+field_value (Ok field) = Ok (field.0.now, fields_left field.1)
+field_value (Err fault) = Err fault
+
+-- a number that the code read, with what is behind it
+abbrev pub number_value : Result (ℕ × Option (Bor (List ℕ))) LineFault → Result (ℕ × List (List ℕ)) LineFault
+number_value (Ok number) = Ok (number.0, fields_left number.1)
+number_value (Err fault) = Err fault

@@ -1,0 +1,60 @@
+ghost use Rattle.std.specs.Prelude.{◌≡◌};
+ghost use Rattle.floors_file.specs.Fields.{field_value, fields_left, has_leading_zero, last_number, next_field, number_field, number_value, plain_number};
+
+use crate::fault::LineFault;
+use field_text::{cut_at, read_number};
+
+/// The first field, and what stands behind its space. What is behind the last field is none.
+pub(crate) fn next_field(rest: Option<&[u8]>) -> Result<(&[u8], Option<&[u8]>), LineFault>
+    ensures { field_value result ≡ next_field (fields_left rest.entry) }
+{
+    let Some(rest) = rest else {
+        return Err(LineFault::MissingField);
+    };
+    match cut_at(rest, b' ') {
+        Some((field, rest)) => Ok((field, Some(rest))),
+        None => Ok((rest, None)),
+    }
+}
+
+/// Whether a number is written with a zero before it.
+fn has_leading_zero(text: &[u8]) -> bool
+    ensures { result ≡ has_leading_zero text.now }
+{
+    match text {
+        [first, _, ..] => *first == b'0',
+        _ => false,
+    }
+}
+
+/// The number that decimal digits are, without leading zeros.
+fn read_plain(text: &[u8]) -> Option<u64>
+    ensures { result ≡ plain_number text.now }
+{
+    if has_leading_zero(text) {
+        return None;
+    }
+    read_number(text)
+}
+
+/// The number of the first field, and what stands behind it.
+pub(crate) fn number_field(rest: Option<&[u8]>) -> Result<(u64, Option<&[u8]>), LineFault>
+    ensures { number_value result ≡ number_field (fields_left rest.entry) }
+{
+    let (field, rest) = next_field(rest)?;
+    match read_plain(field) {
+        Some(number) => Ok((number, rest)),
+        None => Err(LineFault::Number),
+    }
+}
+
+/// The number of the last field.
+pub(crate) fn last_number(rest: Option<&[u8]>) -> Result<u64, LineFault>
+    ensures { result ≡ last_number (fields_left rest.entry) }
+{
+    let (number, rest) = number_field(rest)?;
+    match rest {
+        None => Ok(number),
+        Some(_) => Err(LineFault::SurplusField),
+    }
+}

@@ -1,0 +1,21 @@
+//! The floors file: the first free factors that a stopped node has, from which the store of a lost node is made anew.
+//!
+//! [`read_floors`] reads the file, and [`write_floors`] writes it.
+#![tactic(auto)]
+
+mod fault;
+mod fields;
+mod floors;
+mod gathered;
+mod laws;
+mod reading;
+#[cfg(test)]
+mod tests;
+mod writing;
+
+pub use fault::{FloorsFault, LineFault};
+pub use floors::{Floor, Floors, Head};
+pub use gathered::{Asked, FileFault, FilesFault, check_anew, check_lost, gather, greatest};
+pub use laws::{files_are_worked, floors_read_back, gathered_are_worked};
+pub use reading::read_floors;
+pub use writing::write_floors;

@@ -1,0 +1,238 @@
+ghost use Rattle.std.specs.Prelude.{◌≡◌, ◌≤◌, ◌+◌, [], IfErr, IfOk, OnOk, Ok, Err, false, length, map, codes};
+ghost use Rattle.std.specs.List.{list_any};
+ghost use Rattle.std.specs.Str.{bytes_eq};
+ghost use Rattle.token_file.specs.Fields.{lines_of};
+ghost use Rattle.floors_file.specs.Fields.{fields_left, fields_of};
+ghost use Rattle.floors_file.specs.Floors.{floor_value, floors_value};
+ghost use Rattle.floors_file.specs.Reading.{end_of, first_line, floors_of, has_user, head_numbers, head_of, is_memory, new_row, next_row, ranged, row_of, row_value, rows_from};
+
+use crate::fault::{FloorsFault, LineFault};
+use crate::fields::{last_number, next_field, number_field};
+use crate::floors::{Floor, Floors, Head};
+use field_text::cut_at;
+use otp_core::Next;
+use std::alloc::Global;
+use token_file::is_word;
+
+/// The most members of a cluster.
+const MAX_MEMBERS: u64 = 9;
+
+/// The most tokens of a node.
+const MAX_TOKENS: u64 = 10_000;
+
+/// One more than the last boot.
+const BOOTS_END: u64 = 1 << 62;
+
+/// One more than the last moment.
+const MOMENTS_END: u64 = 1 << 40;
+
+/// What the first line says.
+#[derive(Clone, Copy)]
+pub(crate) struct HeadLine {
+    head: Head,
+    tokens: u64,
+}
+
+/// A first line of these numbers.
+fn ranged(
+    node: u64,
+    members: u64,
+    boot: u64,
+    moment: u64,
+    tokens: u64,
+) -> Result<HeadLine, LineFault>
+    ensures { result ≡ ranged (record {
+      head = record { node = node; members = members; boot = boot; moment = moment };
+      tokens = tokens;
+    }) }
+{
+    let is_head = 1 <= node
+        && node <= members
+        && members <= MAX_MEMBERS
+        && boot < BOOTS_END
+        && moment < MOMENTS_END
+        && tokens <= MAX_TOKENS;
+    if !is_head {
+        return Err(LineFault::Range);
+    }
+    let head = Head {
+        node: node as u8,
+        members: members as u8,
+        boot,
+        moment,
+    };
+    Ok(HeadLine { head, tokens })
+}
+
+/// The numbers of a first line.
+fn head_numbers(rest: Option<&[u8]>) -> Result<HeadLine, LineFault>
+    ensures { result ≡ head_numbers (fields_left rest.entry) }
+{
+    let (node, rest) = number_field(rest)?;
+    let (members, rest) = number_field(rest)?;
+    let (boot, rest) = number_field(rest)?;
+    let (moment, rest) = number_field(rest)?;
+    let tokens = last_number(rest)?;
+    ranged(node, members, boot, moment, tokens)
+}
+
+/// Whether two texts are the same.
+pub(crate) fn is_same(text: &[u8], other: &[u8]) -> bool
+    ensures { result ≡ bytes_eq text.now other.now }
+{
+    text == other
+}
+
+/// What the first line says.
+fn read_head(line: &[u8]) -> Result<HeadLine, LineFault>
+    ensures { result ≡ head_of (fields_of line.now) }
+{
+    let (word, rest) = next_field(Some(line))?;
+    if !is_same(word, b"floors") {
+        return Err(LineFault::NotFloors);
+    }
+    let (version, rest) = next_field(rest)?;
+    if !is_same(version, b"1") {
+        return Err(LineFault::Version);
+    }
+    head_numbers(rest)
+}
+
+/// Whether one of some rows is a user's, row by row.
+fn has_row(user: &[u8], rows: &[Floor<'_>]) -> bool
+    ensures { result ≡ list_any (λ row. bytes_eq row.user.now user.now) rows.now }
+{
+    rows.iter().any(|row| is_same(row.user, user))
+}
+
+/// Whether one of some rows is a user's.
+pub(crate) fn has_user(user: &[u8], rows: &[Floor<'_>]) -> bool
+    ensures { result ≡ has_user user.now (map floor_value rows.now) }
+{
+    has_row(user, rows)
+}
+
+/// The row of a user, after other rows.
+fn new_row<'a>(rows: &[Floor<'_>], user: &'a [u8], next: u64) -> Result<Floor<'a>, LineFault>
+    ensures { row_value result ≡ new_row (map floor_value rows.now) user.now next }
+{
+    let Some(next) = Next::new(next) else {
+        return Err(LineFault::Range);
+    };
+    if has_user(user, rows) {
+        return Err(LineFault::Twice);
+    }
+    Ok(Floor { user, next })
+}
+
+/// What a line says after other rows.
+fn read_row<'a>(rows: &[Floor<'_>], line: &'a [u8]) -> Result<Floor<'a>, LineFault>
+    ensures { row_value result ≡ row_of (map floor_value rows.now) (fields_of line.now) }
+{
+    let (user, rest) = next_field(Some(line))?;
+    if !is_word(user) {
+        return Err(LineFault::UserName);
+    }
+    let next = last_number(rest)?;
+    new_row(rows, user, next)
+}
+
+/// One row more, where there are not so many yet.
+fn next_row<'a>(tokens: u64, rows: &[Floor<'_>], line: &'a [u8]) -> Result<Floor<'a>, LineFault>
+    ensures { row_value result ≡ next_row tokens (map floor_value rows.now) line.now }
+{
+    if rows.len() as u64 >= tokens {
+        return Err(LineFault::TooMany);
+    }
+    read_row(rows, line)
+}
+
+/// Looks at what stands behind the last LF, after all rows.
+fn check_end(tokens: u64, rows: &[Floor<'_>], line: &[u8]) -> Result<(), LineFault>
+    ensures ok { OnOk result (end_of tokens (map floor_value rows.now) line.now ≡ Ok (map floor_value rows.now)) }
+    ensures fault { IfErr result (λ fault. end_of tokens (map floor_value rows.now) line.now ≡ Err fault) }
+{
+    if !line.is_empty() {
+        return Err(LineFault::NoEnd);
+    }
+    if (rows.len() as u64) < tokens {
+        return Err(LineFault::TooFew);
+    }
+    Ok(())
+}
+
+/// A fault at the line behind these rows.
+fn at_row(rows: &[Floor<'_>], kind: LineFault) -> FloorsFault
+    ensures line { result.line ≡ length rows.now + 2 }
+    ensures kind { result.kind ≡ kind }
+{
+    FloorsFault {
+        line: rows.len() as u64 + 2,
+        kind,
+    }
+}
+
+/// The rows of a text, so many.
+fn read_rows(alloc: Global, tokens: u64, text: &[u8]) -> Result<Vec<Floor<'_>>, FloorsFault>
+    ensures rows { IfOk result (λ rows. rows_from tokens [] (lines_of text.now) ≡ Ok (map floor_value rows.items)) }
+    ensures fault { IfErr result (λ fault. is_memory fault.kind ≡ false →
+        rows_from tokens [] (lines_of text.now) ≡ Err (fault.line, fault.kind)) }
+{
+    let mut rows = Vec::new(alloc);
+    let mut rest = text;
+    while let Some((line, behind)) = cut_at(rest, b'\n') {
+        match next_row(tokens, &rows, line) {
+            Ok(row) => match rows.push(row) {
+                Ok(()) => {}
+                Err(_) => return Err(at_row(&rows, LineFault::Memory)),
+            },
+            Err(kind) => return Err(at_row(&rows, kind)),
+        }
+        rest = behind;
+    }
+    match check_end(tokens, &rows, rest) {
+        Ok(()) => Ok(rows),
+        Err(kind) => Err(at_row(&rows, kind)),
+    }
+}
+
+/// A fault at the first line.
+fn at_first(kind: LineFault) -> FloorsFault
+    ensures { result ≡ record { line = 1; kind = kind } }
+{
+    FloorsFault { line: 1, kind }
+}
+
+/// Why a first line that no LF ends is refused.
+fn unended(line: &[u8]) -> LineFault
+    ensures { Err result ≡ first_line [] line.now }
+{
+    match read_head(line) {
+        Ok(_) => LineFault::NoEnd,
+        Err(kind) => kind,
+    }
+}
+
+/// What the text of a floors file says, which it borrows.
+///
+/// # Errors
+/// The first fault of the first faulty line; `NoEnd`, `TooFew` and `TooMany` at the line where they show. `Memory`
+/// comes at any row.
+pub fn read_floors(alloc: Global, text: &[u8]) -> Result<Floors<'_>, FloorsFault>
+    ensures floors { IfOk result (λ floors. floors_of text.now ≡ Ok (floors_value floors)) }
+    ensures fault { IfErr result (λ fault. is_memory fault.kind ≡ false →
+        floors_of text.now ≡ Err (fault.line, fault.kind)) }
+{
+    let Some((first, rest)) = cut_at(text, b'\n') else {
+        return Err(at_first(unended(text)));
+    };
+    let line = match read_head(first) {
+        Ok(line) => line,
+        Err(kind) => return Err(at_first(kind)),
+    };
+    let rows = read_rows(alloc, line.tokens, rest)?;
+    Ok(Floors {
+        head: line.head,
+        rows,
+    })
+}
