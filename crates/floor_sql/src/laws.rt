@@ -188,11 +188,11 @@ pub fn calls_can_be_broken<S: Alter>()
     ensures sound_idle { (store : SqlHeld S) (put : Put) → IsSound S.Store (record store { staged = put ∷ [] }) → ⊥ }
     ensures stages_waits { (store : SqlHeld S) (put : Put) → store.staged ≡ [] → Stages store store put → ⊥ }
     ensures made_content { (old : Conn S) (store : SqlHeld S)
-        → IsMade S.Store old 1 [] (record store { mirror = small_content 1 }) → ⊥ }
+        → IsMade S.Store old 1 0 [] (record store { mirror = small_content 1 }) → ⊥ }
     ensures made_no_passes { (old : Conn S) (store : SqlHeld S)
-        → IsMade S.Store old 1 [] (record store { passes = 1 }) → ⊥ }
+        → IsMade S.Store old 1 0 [] (record store { passes = 1 }) → ⊥ }
     ensures made_sound { (old : Conn S) (store : SqlHeld S)
-        → IsMade S.Store old 1 [] (record store { fault = Some Disk }) → ⊥ }
+        → IsMade S.Store old 1 0 [] (record store { fault = Some Disk }) → ⊥ }
     ensures opened_sound { (old : Conn S) (store : SqlHeld S)
         → IsOpened S.Store old 1 0 (record store { fault = Some Disk }) → ⊥ }
     ensures audit_intact { (store : SqlHeld S) → store.fault ≡ Some Disk
