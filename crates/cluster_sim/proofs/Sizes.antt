@@ -8,7 +8,7 @@ use Rattle.otp_core.specs.Acceptance.{size, majority_of}
 use Rattle.vote_core.specs.NodeSet.{PlaceRecord, with_node}
 use Rattle.vote_core.specs.Rows.{row, granted_row, row_with_next}
 use Rattle.vote_core.specs.Voting.{VoterState, Voted, Ballot, with_pending, replace, with_granting, accept, granted_one, of_this_boot, denied_one, propose_alone, propose_among, propose, is_grant, reply_step, on_ask, count_grant, on_grant, raise, count_deny, on_deny, on_floor, on_message, tick, quiet_step}
-use Rattle.vote_core.specs.Schedule.{Member, Envelope, Cluster, Act, Begin, Deliver, Tick, Throttle, Idle, Event, Happens, Cut, Restart, Lost, Replaced, Opening, opening_member, may_replace, after_loss, after_replacement, lost_member, is_member, has_store, is_running, place_of, set_node, cluster_after, with_proposal_begun, with_member, stopped_member, may_begin, after_proposal, after_delivery, content_with_gate, after_act, node_of, restarted_member, last_boot, after_restart, with_sent_of, after_event}
+use Rattle.vote_core.specs.Schedule.{Member, Envelope, Cluster, Act, Begin, Deliver, Tick, Throttle, Idle, Event, Happens, Cut, Restart, Lost, Replaced, opening_member, may_replace, after_loss, after_replacement, lost_member, has_store, is_running, place_of, set_node, cluster_after, with_proposal_begun, with_member, stopped_member, may_begin, after_proposal, after_delivery, content_with_gate, after_act, node_of, restarted_member, last_boot, after_restart, with_sent_of, after_event}
 use Rattle.vote_core.proofs.Basics.{put_size, opening_size}
 use Rattle.vote_core.specs.declared.message.Message.{Message}
 use Rattle.vote_core.specs.declared.message.Message.TheVariants.{Ask, Grant, Deny, Floor}

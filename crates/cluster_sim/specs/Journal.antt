@@ -10,12 +10,12 @@ use Rattle.vote_core.specs.Schedule.{Envelope, began_in, is_member}
 use Rattle.vote_core.specs.Voting.{same_proposal}
 use Rattle.vote_wire.specs.Body.{HasSpelling}
 use Rattle.vote_wire.specs.Datagram.{datagram_bytes}
-use Rattle.oath_node.specs.Hosted.{Hosted, envelope_at, state_of}
+use Rattle.oath_node.specs.Hosted.{Hosted, state_of}
 use Rattle.oath_node.specs.Machine.{Config, NodeEvent, NodeState, made_by_event}
 use Rattle.oath_node.specs.Outputs.{OutputsRecord, no_outputs, outputs_of}
 use Rattle.oath_node.specs.declared.item.Item.{Item}
 use Rattle.oath_node.specs.declared.item.Item.TheVariants.{Datagram, Reply}
-use Rattle.cluster_sim.specs.World.{World, Told, Act as WorldAct, Says, Deliver, Ticks, Noise, WorldEvent as Event, Happens, Cut, Restart, begun_in, passes_in, with_state, with_told_of, world_after_act, world_after_event, world_after_events, world_after_turn}
+use Rattle.cluster_sim.specs.World.{World, Told, Act as WorldAct, WorldEvent as Event, begun_in, passes_in, with_state, with_told_of, world_after_act, world_after_event, world_after_events, world_after_turn}
 
 -- a datagram, the node that sent it, and the one that it is for
 pub record Letter : Type 0 where

@@ -7,7 +7,7 @@ use Rattle.std.proofs.lemmas.List.{length-map}
 use Rattle.std.proofs.lemmas.List.Elements.{filter-append}
 use Rattle.std.proofs.lemmas.List.Filters.{length-filter_both}
 use Rattle.floor_store.specs.Content.{Content}
-use Rattle.floor_store.specs.Records.{PassRecord, ProposalRecord}
+use Rattle.floor_store.specs.Records.{ProposalRecord}
 use Rattle.otp_core.specs.Acceptance.{majority_of, size}
 use Rattle.vote_core.specs.NodeSet.{PlaceRecord, members, others, with_node}
 use Rattle.vote_core.specs.Rows.{row}

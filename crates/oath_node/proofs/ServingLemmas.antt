@@ -7,11 +7,9 @@ use Rattle.token_file.specs.Credential.{Credential}
 use Rattle.admit_core.specs.Gate.{clear_gate}
 use Rattle.floor_store.specs.Content.{Content, opening_content}
 use Rattle.floor_store.specs.Held.{Held}
-use Rattle.floor_store.specs.declared.fault.StoreFault.{StoreFault}
-use Rattle.floor_store.specs.declared.fault.StoreFault.TheVariants as broken
 use Rattle.vote_core.specs.NodeSet.{PlaceRecord}
 use Rattle.oath_node.specs.Alone.{IsAlone, ServesAlone, alone_place, drifts_in, floors_in, gates_in, gates_of}
-use Rattle.oath_node.specs.Calls.{FailsBy, IsMade, IsRefused}
+use Rattle.oath_node.specs.Calls.{FailsBy, IsMade}
 use Rattle.oath_node.specs.Hosted.{Hosted, IsSameNode, config_of}
 use Rattle.oath_node.specs.Machine.{Client, Config, Made, NodeEvent, NodeState, made_by_event, opened_node}
 use Rattle.oath_node.specs.Outputs.{OutputsRecord, items_of}
@@ -19,8 +17,6 @@ use Rattle.oath_node.specs.ReferenceServer.{Line, Server, server_at, service_of}
 use Rattle.oath_node.specs.Serving.{IsServing, state_in_memory}
 use Rattle.oath_node.specs.declared.fault.NodeFault.{NodeFault}
 use Rattle.oath_node.specs.declared.fault.NodeFault.TheVariants as node
-use Rattle.oath_node.specs.declared.fault.OpenFault.{OpenFault}
-use Rattle.oath_node.specs.declared.fault.OpenFault.TheVariants as opening
 use Rattle.oath_node.specs.declared.item.Item.{Item}
 use Rattle.oath_node.specs.declared.item.Item.TheVariants.{Datagram, Reply}
 
@@ -101,19 +97,6 @@ alone_at_start floors = record {
 -- what is seen of a store in memory
 abbrev pub held_in_memory : Content → Held
 held_in_memory content = record { content = content; fault = None; failures = 0; is_clean = Unit {0}; leaves = λ left. left ≡ content }
-
--- such a store meets no failure, and one that was just made isn't at its last boot
-never : (fault : StoreFault) → None ≡ Some fault → ⊥
-never fault e = cc
-
-pub opens_in_memory : (floors : List ℕ) (left : Content) (fault : OpenFault) → IsRefused held_in_memory (opening_content floors) left fault
-    → fault ≡ opening.Memory
-opens_in_memory floors left opening.Memory h = refl
-opens_in_memory floors left (opening.Store broken.Spent) h = let last : 0 + 1 ≡ 2 ^ 62 = h.last refl tt in absurd (omega (arith, last))
-opens_in_memory floors left (opening.Store broken.Memory) h = absurd (never broken.Memory (h.breaks (λ e. cc)).broken.is)
-opens_in_memory floors left (opening.Store broken.Disk) h = absurd (never broken.Disk (h.breaks (λ e. cc)).broken.is)
-opens_in_memory floors left (opening.Store broken.Unusable) h = absurd (never broken.Unusable (h.breaks (λ e. cc)).broken.is)
-opens_in_memory floors left (opening.Store broken.AlreadyThere) h = absurd (never broken.AlreadyThere (h.breaks (λ e. cc)).broken.is)
 
 -- a server over a store in memory refuses no line before 2^62 of them
 pub refused_late : (old new : Hosted Content) (event : NodeEvent) (fault : NodeFault) → FailsBy held_in_memory old new event fault
