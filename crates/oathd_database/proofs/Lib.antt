@@ -3,3 +3,4 @@ mod FaultLemmas
 mod TextLemmas
 mod UsersLemmas
 mod FloorsLemmas
+mod LostLemmas

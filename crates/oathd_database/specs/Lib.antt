@@ -5,3 +5,4 @@ pub mod Tables
 pub mod Text
 pub mod Users
 pub mod Floors
+pub mod Lost

@@ -1,0 +1,30 @@
+use Rattle.std.proofs.Common.{map}
+use Rattle.oathd_database.proofs.LostLemmas.{gathered_fit, refused_late, remade, ungathered, unread_users}
+use Rattle.oathd_database.proofs.lost.init_lost_store.Goals as goal
+
+pub returns-in-Err-clause-fault : goal.returns-in-Err-clause-fault
+returns-in-Err-clause-fault g c =
+    unread_users c.args.settings c.args.moment 16777216 c.args.lost (map (λ text. text.items) c.args.texts.now)
+    (g.R.Read.remaining c.args.users) c.in-Err.fault c.in-Err.ensures.fault
+
+pub returns-in-Err-lost_floors-clause-fault : goal.returns-in-Err-lost_floors-clause-fault
+returns-in-Err-lost_floors-clause-fault g c =
+    ungathered c.args.settings c.args.moment 16777216 c.args.lost (map (λ text. text.items) c.args.texts.now) c.in-Ok.users.book
+    c.in-Ok.users.floors.items (g.R.Read.remaining c.args.users) c.in-Err-lost_floors.fault c.in-Ok.ensures.imported
+    c.in-Err-lost_floors.ensures.fault
+
+pub init-requires-clause-tokens : goal.init-requires-clause-tokens
+init-requires-clause-tokens g c =
+    gathered_fit _ _ _ c.in-Ok.users.book c.in-Ok.users.floors.items (map (λ text. text.items) c.args.texts.now) c.in-Ok-lost_floors.floors.items
+    c.deref.result.now c.deref.ensures.value c.in-Ok.users.few c.in-Ok-lost_floors.ensures.floors
+
+pub returns-in-Ok-init-clause-made : goal.returns-in-Ok-init-clause-made
+returns-in-Ok-init-clause-made g c =
+    remade c.args.settings c.args.moment 16777216 c.args.lost (map (λ text. text.items) c.args.texts.now) c.in-Ok.users.book
+    c.in-Ok.users.floors.items g.S.Store (g.R.Read.remaining c.args.users) _ c.in-Ok-init.store c.in-Ok-lost_floors.floors.items _
+    c.in-Ok.ensures.imported c.deref.ensures.value c.in-Ok-lost_floors.ensures.floors c.in-Ok-init.ensures.opening
+
+pub returns-clause-fault : goal.returns-clause-fault
+returns-clause-fault g c =
+    refused_late c.args.settings c.args.moment 16777216 c.args.lost (map (λ text. text.items) c.args.texts.now) c.in-Ok.users.book
+    c.in-Ok.users.floors.items (g.R.Read.remaining c.args.users) c.in-Err-init.fault c.in-Ok.ensures.imported

@@ -1,0 +1,183 @@
+//! The command `init` with lost nodes: the store of one is made anew, by the floors files of the others.
+
+ghost use Rattle.std.specs.Prelude.{◌≡◌, ◌*◌, ◌^◌, ◌≤◌, [], length, map, false, IfErr, IfOk, IfSome, Ok, Err};
+ghost use Rattle.otp_core.specs.Range.{IsMoment};
+ghost use Rattle.floor_sql.specs.Usable.{IsNode};
+ghost use Rattle.floors_file.specs.Floors.{floors_value};
+ghost use Rattle.floors_file.specs.Reading.{is_memory};
+ghost use Rattle.oathd_database.specs.Lost.{HasRemade, IsGathered, IsNotRemade, IsUngathered, IsUnreadFile, files_after};
+
+use crate::database::Database;
+use crate::fault::Fault;
+use crate::file::DatabaseFile;
+use crate::users::{Users, read_users};
+use command_line::ProgramFault;
+use floor_sql::SqlStore;
+use floors_file::{Asked, FilesFault, Floors, FloorsFault, check_lost, gather, read_floors};
+use otp_core::{Next, Settings};
+use sqlite::Alter;
+use std::alloc::Global;
+use std::io::Read;
+use thiserror::Error;
+
+/// What ends the command before its time. The text lacks the program's name.
+#[derive(Clone, Copy, Debug, PartialEq, Eq, Error)]
+pub enum LostFault {
+    /// As any command over a store.
+    #[error("{0}")]
+    Command(Fault),
+    /// The floors file with this number, from 1, has a fault.
+    #[error("floors {0} {1}")]
+    Floors(usize, FloorsFault),
+    /// The floors files, together, don't tell enough.
+    #[error("{0}")]
+    Files(FilesFault),
+}
+
+/// The node whose store is made, and those that are lost with it.
+#[derive(Clone, Copy, Debug)]
+pub struct LostNode<'a> {
+    /// The node, 1 to 9.
+    pub node: u8,
+    /// The lost nodes, among which it is.
+    pub lost: &'a [u8],
+    /// The moment from which on the floors files were read.
+    pub since: u64,
+}
+
+/// What texts of floors files say.
+fn read_files(alloc: Global, texts: &[Vec<u8>]) -> Result<Vec<Floors<'_>>, LostFault>
+    ensures read { IfOk result (λ files.
+        files_after [] (map (λ text. text.items) texts.now) ≡ Ok (map floors_value files.items)) }
+    ensures fault { IfErr result (IsUnreadFile (map (λ text. text.items) texts.now)) }
+{
+    let mut files = Vec::new(alloc);
+    for text in texts {
+        let file = match read_floors(alloc, text) {
+            Ok(file) => file,
+            Err(fault) => return Err(LostFault::Floors(files.len() + 1, fault)),
+        };
+        match files.push(file) {
+            Ok(()) => {}
+            Err(_) => return Err(LostFault::Command(Fault::Memory)),
+        }
+    }
+    Ok(files)
+}
+
+/// The first free factors for the store of a lost node: the greatest of the floors files.
+fn lost_floors(
+    alloc: Global,
+    asked: Asked,
+    node: u8,
+    lost: &[u8],
+    users: &Users,
+    texts: &[Vec<u8>],
+) -> Result<Vec<Next>, LostFault>
+    ensures floors { IfOk result (λ floors. IsGathered asked node lost.now users.now.book users.now.floors.items
+        (map (λ text. text.items) texts.now) floors.items) }
+    ensures fault { IfErr result (IsUngathered asked node lost.now users.now.book
+        (map (λ text. text.items) texts.now)) }
+{
+    let files = match read_files(alloc, texts) {
+        Ok(files) => files,
+        Err(fault) => return Err(fault),
+    };
+    match check_lost(asked, node, lost, &users.book, &files) {
+        Ok(()) => {}
+        Err(fault) => return Err(LostFault::Files(fault)),
+    }
+    match gather(alloc, &files, &users.book, &users.floors) {
+        Ok(floors) => Ok(floors),
+        Err(_) => Err(LostFault::Command(Fault::Memory)),
+    }
+}
+
+/// One more than the boots of a second: a node that starts more often than that uses those of the next one.
+const BOOTS: u64 = 1 << 20;
+
+/// Makes the store of a lost node anew, while others go on: at the boot that is the moment times 2^20, with the greatest
+/// first free factors of the floors files, whose texts are given. The lost nodes and those of the files are the members,
+/// fewer lost than a majority. The database has no table. Of the settings the skew is looked at.
+///
+/// # Errors
+/// `Command` as for [`init_store`](crate::init_store); `Floors` with the first text that is no floors file; `Files` where
+/// they don't tell enough (`lost_fault`). The database is not opened then.
+pub fn init_lost_store<R: Read + Drop, S: Alter + Drop, D: Database<S>>(
+    alloc: Global,
+    users: R,
+    settings: Settings,
+    moment: u64,
+    lost: LostNode<'_>,
+    texts: &[Vec<u8>],
+    database: D,
+) -> Result<SqlStore<S>, LostFault>
+    requires moment { IsMoment moment }
+    requires node { IsNode lost.node }
+    ensures made { IfOk result (λ store. IfSome (R.remaining users)
+        (HasRemade S.Store settings moment 16777216 lost.entry (map (λ text. text.items) texts.now) store)) }
+    ensures fault { IfErr result (λ fault. IfSome (R.remaining users)
+        (IsNotRemade settings moment 16777216 lost.entry (map (λ text. text.items) texts.now) fault)) }
+{
+    let users = match read_users(alloc, users, settings, moment) {
+        Ok(users) => users,
+        Err(fault) => return Err(LostFault::Command(fault)),
+    };
+    let boot = moment * BOOTS;
+    let asked = Asked {
+        since: lost.since,
+        boot,
+    };
+    let floors = match lost_floors(alloc, asked, lost.node, lost.lost, &users, texts) {
+        Ok(floors) => floors,
+        Err(fault) => return Err(fault),
+    };
+    let conn = match database.connect() {
+        Ok(conn) => conn,
+        Err(fault) => return Err(LostFault::Command(Fault::Store(fault))),
+    };
+    match SqlStore::init(alloc, conn, lost.node, boot, &floors) {
+        Ok(store) => Ok(store),
+        Err((_, fault)) => Err(LostFault::Command(Fault::Store(fault))),
+    }
+}
+
+/// Makes the store of a lost node anew in the file with this path, which is made where it isn't there, as
+/// [`init_lost_store`] does.
+///
+/// # Errors
+/// Those of [`init_lost_store`].
+pub fn init_lost_file<R: Read + Drop>(
+    alloc: Global,
+    rt: &HostRuntime,
+    path: &str,
+    users: R,
+    settings: Settings,
+    moment: u64,
+    lost: LostNode<'_>,
+    texts: &[Vec<u8>],
+) -> Result<(), LostFault>
+    requires moment { IsMoment moment }
+    requires node { IsNode lost.node }
+    ensures fault { IfErr result (λ fault. IfSome (R.remaining users)
+        (IsNotRemade settings moment 16777216 lost.entry (map (λ text. text.items) texts.now) fault)) }
+{
+    let database = DatabaseFile::found_or_made(rt, path);
+    match init_lost_store(alloc, users, settings, moment, lost, texts, database) {
+        Ok(_store) => Ok(()),
+        Err(fault) => Err(fault),
+    }
+}
+
+impl ProgramFault for LostFault {
+    ghost use Rattle.oathd_database.specs.Lost.{lost_status};
+
+    ghost status_of = { lost_status };
+
+    fn status(self) -> u8 {
+        match self {
+            LostFault::Command(fault) => fault.status(),
+            LostFault::Floors(..) | LostFault::Files(_) => 1,
+        }
+    }
+}
