@@ -52,9 +52,15 @@ at_text address = codes " at=" ++ client_text address
 unfoldable pub counts_text : Start → List ℕ
 counts_text start = valued (codes " boot=") start.boot ++ valued (codes " tokens=") start.tokens
 
+-- a fingerprint
+unfoldable pub print_text : List ℕ → List ℕ
+print_text fingerprint = codes " fingerprint=" ++ fingerprint
+
 -- the line of a node that begins to serve
 unfoldable pub start_line : Start → List ℕ
-start_line start = codes "start" ++ place_text start ++ at_text start.address ++ counts_text start ++ codes "\n"
+start_line start =
+    codes "start" ++ place_text start ++ at_text start.address ++ counts_text start ++ print_text start.fingerprint
+    ++ codes "\n"
 
 -- the line of a node that has served: the datagrams that were handed to it, and the replies that it offered
 unfoldable pub end_line : ℕ → ℕ → List ℕ

@@ -18,8 +18,14 @@ pub fn texts_are_worked()
     ensures name { shown_user (Some (33 ∷ 34 ∷ 92 ∷ 126 ∷ 127 ∷ 10 ∷ 32 ∷ 255 ∷ []))
         ≡ codes " user=\"!\\x22\\x5c~\\x7f\\x0a\\x20\\xff\"" }
     ensures nobody { shown_user None ≡ [] }
-    ensures start { start_line (record { node = 1; members = 3; address = 139637976793089; boot = 7; tokens = 2 })
-        ≡ codes "start node=1 of=3 at=127.0.0.1:1 boot=7 tokens=2\n" }
+    ensures start { start_line (record {
+      node = 1;
+      members = 3;
+      address = 139637976793089;
+      boot = 7;
+      tokens = 2;
+      fingerprint = codes "b1061f3a2d61dfbd";
+    }) ≡ codes "start node=1 of=3 at=127.0.0.1:1 boot=7 tokens=2 fingerprint=b1061f3a2d61dfbd\n" }
     ensures end { end_line 12 8 ≡ codes "end received=12 replied=8\n" }
 {}
 

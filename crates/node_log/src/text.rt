@@ -6,7 +6,7 @@ ghost use Rattle.std.specs.Fmt.{decimal};
 ghost use Rattle.std.specs.Io.KnownBytes.{Appends};
 ghost use Rattle.std.specs.List.{flat_map};
 ghost use Rattle.node_log.specs.Text.{answered_line, at_text, client_text, counts_text, end_line, event_of, is_plain};
-ghost use Rattle.node_log.specs.Text.{place_text, shown_byte, shown_user, start_line};
+ghost use Rattle.node_log.specs.Text.{place_text, print_text, shown_byte, shown_user, start_line};
 
 use std::io::{self, Write};
 
@@ -117,6 +117,8 @@ pub struct Start {
     pub boot: u64,
     /// How many tokens it has.
     pub tokens: usize,
+    /// The fingerprint of the key under which it tags its datagrams: 16 hexadecimal digits.
+    pub fingerprint: [u8; 16],
 }
 
 /// Writes a word and a number.
@@ -162,6 +164,15 @@ fn write_counts<W: Write>(writer: &mut W, start: Start) -> io::Result<()>
     write_value(writer, b" tokens=", start.tokens as u64)
 }
 
+/// Writes a fingerprint.
+#[tactic(auto, unfolding(crate::specs::Text::print_text))]
+fn write_print<W: Write>(writer: &mut W, fingerprint: &[u8]) -> io::Result<()>
+    ensures { OnOk result (Appends (W.contents writer.old) (W.contents writer.new) (print_text fingerprint.now)) }
+{
+    writer.write_all(b" fingerprint=")?;
+    writer.write_all(fingerprint)
+}
+
 /// Writes the line of a node that begins to serve.
 #[tactic(auto, unfolding(crate::specs::Text::start_line))]
 pub fn write_start<W: Write>(writer: &mut W, start: Start) -> io::Result<()>
@@ -171,6 +182,7 @@ pub fn write_start<W: Write>(writer: &mut W, start: Start) -> io::Result<()>
     write_place(writer, start)?;
     write_at(writer, start.address)?;
     write_counts(writer, start)?;
+    write_print(writer, &start.fingerprint)?;
     writer.write_all(b"\n")
 }
 

@@ -2,7 +2,7 @@
 use Rattle.std.proofs.Common.{refl}
 use Rattle.std.specs.Fmt.{digits}
 use Rattle.hex.specs.Hex.{encode_with}
-use Rattle.node_log.specs.Text.{answered_line, at_text, client_text, counts_text, end_line, place_text, shown_byte, shown_user, start_line}
+use Rattle.node_log.specs.Text.{answered_line, at_text, client_text, counts_text, end_line, place_text, print_text, shown_byte, shown_user, start_line}
 use Rattle.node_log.proofs.laws.texts_are_worked.Goals as goal
 
 pub returns-clause-accepted : goal.returns-clause-accepted
@@ -26,9 +26,9 @@ unfolding digits encode_with answered_line client_text shown_byte shown_user
 returns-clause-nobody c = refl
 
 pub returns-clause-start : goal.returns-clause-start
-unfolding digits start_line end_line place_text at_text counts_text client_text
+unfolding digits start_line end_line place_text at_text counts_text print_text client_text
 returns-clause-start c = refl
 
 pub returns-clause-end : goal.returns-clause-end
-unfolding digits start_line end_line place_text at_text counts_text client_text
+unfolding digits start_line end_line place_text at_text counts_text print_text client_text
 returns-clause-end c = refl
