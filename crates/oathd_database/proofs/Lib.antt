@@ -4,3 +4,4 @@ mod TextLemmas
 mod UsersLemmas
 mod FloorsLemmas
 mod LostLemmas
+mod KeyLemmas
