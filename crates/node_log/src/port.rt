@@ -4,6 +4,7 @@ ghost use Rattle.std.specs.Prelude.{◌≡◌, [], ◌≢◌, ◌∷◌, Some, I
 ghost use Rattle.node_turns.specs.declared.port.Received.TheVariants.{Quiet as QuietReceive};
 ghost use Rattle.node_turns.specs.Port.{Grows, IsWithin, Offered, entries_of_poll, event_of_receive};
 ghost use Rattle.node_log.specs.Log.{Remembers, Tells, asked_after, members_after, told_of};
+ghost use Rattle.node_log.specs.Text.{end_line};
 
 use crate::log::{Log, MAX_OTHERS};
 use crate::members::Member;
@@ -32,6 +33,15 @@ impl<P: Port + Drop, W: Write + Drop> LogPort<P, W> {
             port,
             log: Log::new(writer, members),
         }
+    }
+
+    /// Writes the line of a node that has served: how many datagrams were handed to it, and how many replies it offered.
+    pub fn end(&mut self, received: u64, replied: u64)
+        ensures port { self.new.port ≡ self.old.port }
+        ensures told { Tells self.old.log.is_over self.new.log.is_over (W.contents self.old.log.writer)
+            (W.contents self.new.log.writer) (end_line received replied) }
+    {
+        self.log.end(received, replied);
     }
 
     /// Whether a line of the log could not be written; nothing was written after it.

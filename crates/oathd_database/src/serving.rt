@@ -1,4 +1,4 @@
-ghost use Rattle.std.specs.Prelude.{◌≡◌, length};
+ghost use Rattle.std.specs.Prelude.{◌≡◌, ◌<◌, ◌^◌, length};
 ghost use Rattle.oathd_database.specs.NodeKey.{agreed_members, agreed_settings};
 
 use crate::node_key::NodeKey;
@@ -16,8 +16,11 @@ pub struct Serving<'a> {
     pub members: Vec<SocketAddrV4>,
     /// Where the key comes from under which it tags its datagrams.
     pub key: NodeKey<'a>,
-    /// How many receives it makes.
-    pub turns: u32,
+    /// How many receives it makes: fewer than 2^54.
+    pub turns: u64,
+    /// Whether it writes a log.
+    pub is_logged: bool,
+    ghost few: { turns < 2 ^ 54 },
     ghost each: { length members.items ≡ place.n },
     ghost settings_agreed: { settings ≡ agreed_settings key settings },
     ghost members_agreed: { members.items ≡ agreed_members key members.items },

@@ -8,7 +8,7 @@ use Rattle.otp_core.specs.Limits.{Limits}
 use Rattle.vote_core.specs.NodeSet.{PlaceRecord}
 use Rattle.oathd_words.specs.Members.{AreMembers, SayAddresses, parts_of}
 use Rattle.oathd_words.specs.Given.{GivesLimits, GivesMember}
-use Rattle.oathd_words.specs.StoreWords.{AsksForAction, AsksForCluster, GivesPlace, GivesTurns}
+use Rattle.oathd_words.specs.StoreWords.{AsksForAction, AsksForCluster, GivesPlace, turns_given}
 use Rattle.oathd_words.specs.declared.store_words.Action.{Action}
 use Rattle.oathd_words.specs.declared.store_words.Action.TheVariants.{Init, Serve, Export, Audit, Migrate}
 use Rattle.oathd_words.specs.declared.store_words.ClusterWords.{ClusterWords}
@@ -50,15 +50,15 @@ module _ (found : Found) where
   -- where nothing is said of a cluster, nothing is asked for
   pub no_cluster : ((cluster : ClusterWords) → AsksForCluster found cluster → ⊥) → (action : Action) → AsksForAction (codes "serve") found action → ⊥
   no_cluster none (Init node settings moment) asks = apart (codes "serve") _ _ asks.0 refl (lit< tt)
-  no_cluster none (Serve cluster turns) asks = none cluster asks.1
+  no_cluster none (Serve cluster turns is_logged) asks = none cluster asks.1
   no_cluster none Export asks = apart (codes "serve") _ _ asks refl (lit< tt)
   no_cluster none (Audit node) asks = apart (codes "serve") _ _ asks.0 refl (lit< tt)
   no_cluster none (Migrate node) asks = apart (codes "serve") _ _ asks.0 refl (lit< tt)
 
   -- where the turns are none
-  pub no_turns : ((turns : ℕ) → GivesTurns found turns → ⊥) → (action : Action) → AsksForAction (codes "serve") found action → ⊥
+  pub no_turns : turns_given found ≡ None → (action : Action) → AsksForAction (codes "serve") found action → ⊥
   no_turns none (Init node settings moment) asks = apart (codes "serve") _ _ asks.0 refl (lit< tt)
-  no_turns none (Serve cluster turns) asks = none turns asks.2
+  no_turns none (Serve cluster turns is_logged) asks = let clash = sym none ∙ asks.2 in absurd cc
   no_turns none Export asks = apart (codes "serve") _ _ asks refl (lit< tt)
   no_turns none (Audit node) asks = apart (codes "serve") _ _ asks.0 refl (lit< tt)
   no_turns none (Migrate node) asks = apart (codes "serve") _ _ asks.0 refl (lit< tt)

@@ -1,5 +1,6 @@
 -- What the words of the commands over a database ask for, by the values that clap found.
-use Rattle.std.specs.Prelude.{◌≡◌, ◌<◌, ◌≤◌, ◌^◌, ℕ, List, length, Option, Some, None, codes}
+use Rattle.std.specs.Prelude.{◌≡◌, ◌<◌, ◌≤◌, ◌^◌, ◌-◌, ℕ, nat_lt, Bool, false, if◌then◌else◌, List, length, Option, Some, None, codes}
+use Rattle.std.specs.Str.{bytes_eq}
 use Rattle.clap.specs.Matches.{first_value}
 use Rattle.clap.specs.declared.parser.matches.Found.{Found}
 use Rattle.command_line.specs.Number.{number_at}
@@ -34,9 +35,21 @@ AsksForImport found (imports.Given settings) =
     (first_value found (codes "cluster") ≡ None) × GivesImport found settings
 AsksForImport found (imports.Named path) = first_value found (codes "cluster") ≡ Some path.now
 
--- so many turns are given, and below 2^32
-abbrev pub GivesTurns : Found → ℕ → Type 0
-GivesTurns found turns = (number_at found (codes "turns") ≡ Some turns) × (turns < 2 ^ 32)
+-- whether a flag is given, by the value that clap has for it
+abbrev pub is_flag : Option (List ℕ) → Bool
+is_flag None = false
+is_flag (Some text) = bytes_eq text (codes "true")
+
+-- a number of turns below 2^32
+abbrev pub few_turns : Option ℕ → Option ℕ
+few_turns None = None
+few_turns (Some turns) = if nat_lt turns (2 ^ 32) then Some turns else None
+
+-- the number of turns that is given, or the most that there are, for a node that goes on until it is stopped
+abbrev pub turns_given : Found → Option ℕ
+turns_given found =
+    if is_flag (first_value found (codes "forever")) then Some (2 ^ 54 - 1)
+    else few_turns (number_at found (codes "turns"))
 
 -- which member the node is, of how many
 pub record GivesPlace (found : Found) (place : PlaceRecord) : Type 0 where
@@ -67,8 +80,9 @@ abbrev pub AsksForAction : List ℕ → Found → Action → Type 0
 AsksForAction name found (Init node import moment) =
     (name ≡ codes "init") × GivesMember found (codes "node") node × AsksForImport found import
     × GivesMoment found moment
-AsksForAction name found (Serve cluster turns) =
-    (name ≡ codes "serve") × AsksForCluster found cluster × GivesTurns found turns
+AsksForAction name found (Serve cluster turns is_logged) =
+    (name ≡ codes "serve") × AsksForCluster found cluster × (turns_given found ≡ Some turns)
+    × (is_logged ≡ is_flag (first_value found (codes "log")))
 AsksForAction name found Export = name ≡ codes "export"
 AsksForAction name found (Audit node) = (name ≡ codes "audit") × GivesMember found (codes "node") node
 AsksForAction name found (Migrate node) = (name ≡ codes "migrate") × GivesMember found (codes "node") node
@@ -88,7 +102,7 @@ IsClusterInRange (Named node path) = (1 ≤ node) × (node ≤ 9)
 abbrev pub IsActionInRange : Action → Type 0
 IsActionInRange (Init node import None) = (1 ≤ node) × (node ≤ 9)
 IsActionInRange (Init node import (Some moment)) = (1 ≤ node) × (node ≤ 9) × IsMoment moment
-IsActionInRange (Serve cluster turns) = IsClusterInRange cluster
+IsActionInRange (Serve cluster turns is_logged) = IsClusterInRange cluster × (turns < 2 ^ 54)
 IsActionInRange Export = Unit {0}
 IsActionInRange (Audit node) = (1 ≤ node) × (node ≤ 9)
 IsActionInRange (Migrate node) = (1 ≤ node) × (node ≤ 9)

@@ -79,7 +79,7 @@ import_path (imports.Named path) = Some path.now
 -- the cluster file that an action names
 abbrev pub path_of_action : Action → Option (List ℕ)
 path_of_action (Init node import moment) = import_path import
-path_of_action (Serve cluster turns) = named_path cluster
+path_of_action (Serve cluster turns is_logged) = named_path cluster
 path_of_action Export = None
 path_of_action (Audit node) = None
 path_of_action (Migrate node) = None

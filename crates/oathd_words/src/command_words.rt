@@ -5,8 +5,9 @@ use crate::help::{
     PROGRAM_HELP, SECRET_HELP, SERVE_HELP, SERVE_USAGE, SIM_HELP,
 };
 use crate::option_words::{
-    CHECKED_CLUSTER, CLOCK_MOMENT, CLUSTER, DATABASE, DRIFT, HEX, IMPORT_CLUSTER, KEY,
-    KEY_OR_ZEROS, LOOK_AHEAD, MEMBERS, MOMENT, NODE, NODE_COUNT, RANGE, SKEW, TURNS, USERS, Word,
+    CHECKED_CLUSTER, CLOCK_MOMENT, CLUSTER, DATABASE, DRIFT, FOREVER, HEX, IMPORT_CLUSTER, KEY,
+    KEY_OR_ZEROS, LOG, LOOK_AHEAD, MEMBERS, MOMENT, NODE, NODE_COUNT, RANGE, SKEW, TURNS, USERS,
+    Word,
 };
 use clap::error::ErrorKind;
 use clap::{ArgMatches, Command, Error};
@@ -123,6 +124,8 @@ pub(crate) const COMMANDS: [CommandWords; 10] = [
             Word::Number(RANGE),
             Word::Number(DRIFT),
             Word::Number(TURNS),
+            Word::Flag(FOREVER),
+            Word::Flag(LOG),
         ],
         numbers: &[LOOK_AHEAD, SKEW, RANGE, DRIFT, TURNS],
     },

@@ -135,13 +135,16 @@ answers each datagram of a client, which is one line:
     RESYNC NONCE USER CODE NEXT-CODE PASSWORD
 What comes from the address of another member is that member's vote. The moment
 is the system's. It ends after T receives, each of which waits 200 milliseconds
-at most, and prints nothing.
+at most, and prints nothing without --log.
 
 No factor of a token is accepted twice, whichever members are asked, and
 whenever nodes stop and start again. An answer comes as long as more than half
 of the members run and hear each other.
 
 The status is 3 where the database fails, and 4 where the socket does.
+
+With --log it prints a line for each answer, with the client's address, the
+answer as it was sent, and the user; never a code, a password or a secret.
 
 A cluster file stands for --members, --key and the numbers of a look. Nodes
 with one hear each other only where their files say the same, and their users

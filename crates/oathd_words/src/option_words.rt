@@ -49,11 +49,33 @@ impl TextWord {
     }
 }
 
+/// An option without a value.
+#[derive(Clone, Copy)]
+pub(crate) struct FlagWord {
+    /// Its name, by which clap knows it too, without its dashes.
+    name: &'static str,
+    /// The options that can't stand beside it.
+    conflicts: &'static [&'static str],
+    help: &'static str,
+}
+
+impl FlagWord {
+    /// The option as clap's.
+    fn arg<'a>(&self, alloc: Global) -> Result<Arg<'a>, AllocError> {
+        Arg::new(alloc, self.name)
+            .long(self.name)
+            .action(ArgAction::SetTrue)
+            .help(self.help)
+            .conflicts_with_all(self.conflicts)
+    }
+}
+
 /// A word of a command.
 #[derive(Clone, Copy)]
 pub(crate) enum Word {
     Number(NumberOption),
     Text(TextWord),
+    Flag(FlagWord),
 }
 
 impl Word {
@@ -62,6 +84,7 @@ impl Word {
         match self {
             Word::Number(option) => Ok(option.arg(alloc)),
             Word::Text(word) => word.arg(alloc),
+            Word::Flag(flag) => flag.arg(alloc),
         }
     }
 }
@@ -229,6 +252,21 @@ pub(crate) const CLUSTER: TextWord = TextWord {
     is_digit: false,
     help: "A cluster file, which says the members, the key and how far a code is\n\
         looked for in place of those options",
+};
+
+/// Whether a node goes on until it is stopped.
+pub(crate) const FOREVER: FlagWord = FlagWord {
+    name: "forever",
+    conflicts: &["turns"],
+    help: "Go on until the process is stopped",
+};
+
+/// Whether a node writes a log.
+pub(crate) const LOG: FlagWord = FlagWord {
+    name: "log",
+    conflicts: &[],
+    help: "Print a line for each answer, for each member that is heard or silent,\n\
+        and for the start and the end",
 };
 
 /// The cluster file of an import.

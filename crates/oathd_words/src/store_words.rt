@@ -5,7 +5,7 @@ ghost use Rattle.std.specs.Option.{option_map};
 ghost use Rattle.clap.specs.Matches.{first_value, found_of};
 ghost use Rattle.otp_core.specs.Limits.{Limits};
 ghost use Rattle.vote_core.specs.NodeSet.{PlaceRecord};
-ghost use Rattle.oathd_words.specs.StoreWords.{AsksForAction, AsksForCluster, AsksForImport, GivesImport, GivesMoment, GivesPlace, GivesTurns};
+ghost use Rattle.oathd_words.specs.StoreWords.{AsksForAction, AsksForCluster, AsksForImport, GivesImport, GivesMoment, GivesPlace, few_turns, is_flag, turns_given};
 ghost use Rattle.oathd_words.specs.Words.{path_of_action};
 ghost use Rattle.oathd_words.specs.declared.store_words.Action.{Action as AnyAction};
 ghost use Rattle.oathd_words.specs.declared.store_words.ClusterWords.{ClusterWords as AnyCluster};
@@ -66,8 +66,10 @@ pub enum Action<'a> {
     /// To serve its node.
     Serve {
         cluster: ClusterWords<'a>,
-        /// How many receives there are.
-        turns: u32,
+        /// How many receives there are: fewer than 2^54.
+        turns: u64,
+        /// Whether it writes a log.
+        is_logged: bool,
     },
     /// To write the users file that it makes.
     Export,
@@ -136,12 +138,38 @@ fn import_words<'a>(matches: &ArgMatches<'a>) -> Option<ImportWords<'a>>
     }
 }
 
-/// How often a node receives, or `None` where it isn't a number below 2^32 in digits alone.
-fn turns_of(matches: &ArgMatches<'_>) -> Option<u32>
-    ensures some { IfSome result (GivesTurns (found_of matches.now)) }
-    ensures none { IfNone result ((turns : ℕ) → GivesTurns (found_of matches.now) turns → ⊥) }
+/// So many receives make a node go on until it is stopped: 500 years of them at a million datagrams a second.
+const TURNS_FOREVER: u64 = (1 << 54) - 1;
+
+/// Whether a flag with this name is given.
+fn is_given(matches: &ArgMatches<'_>, name: &str) -> bool
+    ensures { result ≡ is_flag (first_value (found_of matches.now) name.now) }
 {
-    u32::try_from(number_of(matches, "turns")?).ok()
+    match matches.get_str(name) {
+        Some(text) => text.as_bytes() == b"true".as_slice(),
+        None => false,
+    }
+}
+
+/// A number of receives that is given, or `None` where it isn't one below 2^32.
+fn few_turns(turns: Option<u64>) -> Option<u64>
+    ensures { result ≡ few_turns turns }
+{
+    match turns {
+        Some(turns) if turns < 1 << 32 => Some(turns),
+        _ => None,
+    }
+}
+
+/// How often a node receives, or `None` where that isn't a number below 2^32 in digits alone, and it isn't to go on until
+/// it is stopped.
+fn turns_of(matches: &ArgMatches<'_>) -> Option<u64>
+    ensures { result ≡ turns_given (found_of matches.now) }
+{
+    if is_given(matches, "forever") {
+        return Some(TURNS_FOREVER);
+    }
+    few_turns(number_of(matches, "turns"))
 }
 
 /// Which member a node is of so many, or `None` where it is none of them.
@@ -235,7 +263,12 @@ fn serve_action<'a>(
     let Some(turns) = turns_of(matches) else {
         return Ok(None);
     };
-    Ok(Some(Action::Serve { cluster, turns }))
+    let is_logged = is_given(matches, "log");
+    Ok(Some(Action::Serve {
+        cluster,
+        turns,
+        is_logged,
+    }))
 }
 
 /// What the values of the command `audit` ask for, or `None` where they ask for nothing.
