@@ -1,13 +1,16 @@
 -- What is written in turn.
 use Rattle.std.proofs.Common.{◌≡◌, ℕ, ◌+◌, ◌<◌, List, [], ◌∷◌, ◌++◌, length, map, take, Option, Some, None, get_or, sym, ap, subst, ◌∙◌, arith}
-use Rattle.std.specs.Prelude.{slice_get}
+use Rattle.std.specs.Prelude.{slice_get, if◌then◌else◌, Result, Ok, Err, OnOk}
 use Rattle.std.specs.Io.KnownBytes.{Appends}
 use Rattle.std.specs.List.{flat_map}
 use Rattle.std.proofs.lemmas.Grind.{flat_map-append}
 use Rattle.std.proofs.lemmas.List.{append-nil, append_assoc, map-append, take_more, length-map, length-take-le}
 use Rattle.std.proofs.lemmas.Option.{slice_get_within, slice_get-get_or, get_or_from_slice_get}
 use Rattle.std.specs.declared.net.socket_addr.SocketAddrV4.{SocketAddrV4}
+use Rattle.token_file.specs.Credential.{Credential}
+use Rattle.token_file.specs.declared.token.Kind.{Kind}
 use Rattle.cluster_file.specs.Address.{Address, address_value}
+use Rattle.cluster_file.specs.Check.{is_kind, kind_count}
 use Rattle.cluster_file.specs.Shared.{member_line, members_text}
 
 -- one text, and then another
@@ -67,3 +70,23 @@ append_member_at members place default old middle new number within next h k =
     let member = get_or members place default in
     append_member members place member old middle new number within
     (sym (get_or_from_slice_get members place member member (slice_get-get_or members place default within))) next h k
+
+-- how many of a kind there are up to a token, and with it
+counted_more : (kind : Kind) (front : List Credential) (token : Credential)
+    → kind_count kind (front ++ token ∷ []) ≡ kind_count kind front + (if is_kind kind token.kind then 1 else 0)
+counted_more kind [] token = omega arith
+counted_more kind (x ∷ front) token =
+    ap (λ n. (if is_kind kind x.kind then 1 else 0) + n) (counted_more kind front token) ∙ omega arith
+
+pub count_item : (kind : Kind) (book : List Credential) (place : ℕ) (token : Credential) → place < length book → token ≡ get_or book place token
+    → kind_count kind (take (place + 1) book) ≡ kind_count kind (take place book) + (if is_kind kind token.kind then 1 else 0)
+count_item kind book place token within is =
+    ap (kind_count kind) (take_more book place token within ∙ ap (λ x. take place book ++ x ∷ []) (sym is)) ∙ counted_more kind (take place book) token
+
+-- five texts one after another, of which the last may fail
+pub five_on : {E : Type 0} (result : Result Unit E) (a b c d e f : Option (List ℕ)) (t u v w x : List ℕ)
+    → Appends a b t → Appends b c u → Appends c d v → Appends d e w → OnOk result (Appends e f x) → OnOk result (Appends a f (t ++ u ++ v ++ w ++ x))
+five_on (Ok one) a b c d e f t u v w x h i j k l =
+    append_more a e f (t ++ u ++ v ++ w) x
+    (append_more a d e (t ++ u ++ v) w (append_more a c d (t ++ u) v (append_more a b c t u h i) j) k) l
+five_on (Err fault) a b c d e f t u v w x h i j k l = tt

@@ -1,4 +1,5 @@
 pub mod Address
+pub mod Check
 pub mod Fields
 pub mod Said
 pub mod ClusterFile

@@ -6,6 +6,8 @@ ghost use Rattle.cluster_file.specs.Address.{address_of, address_text, address_v
 ghost use Rattle.token_file.specs.Credential.{Credential};
 ghost use Rattle.token_file.specs.Writing.{IsCredential};
 ghost use Rattle.std.specs.List.{AllByRecursion};
+ghost use Rattle.token_file.specs.declared.token.Kind.TheVariants.{Event, Time30, Time60};
+ghost use Rattle.cluster_file.specs.Check.{check_text, is_kind, summary_text};
 ghost use Rattle.cluster_file.specs.ClusterFile.{ClusterRecord, cluster_of, is_memory, outcome_of};
 ghost use Rattle.cluster_file.specs.Examples.{address_at, after_each, after_text, all_given, faults, key_of_32, small_cluster, small_file, text_of, three_cluster, three_file, three_key, three_shared, with_members, word_of, zeros};
 ghost use Rattle.cluster_file.specs.Fields.{key_of, life_of, word_of as spec_word_of};
@@ -139,4 +141,15 @@ pub fn keys_are_worked()
         ∷ (codes "HOTP/T60/6" ++ 9 ∷ codes "u" ++ 9 ∷ codes "-" ++ 9 ∷ codes "31") ∷ []) }
     ensures key { shared_key_of key_of_32 three_shared ≡ three_key }
     ensures fingerprint { fingerprint_of three_key ≡ codes "b1061f3a2d61dfbd" }
+{}
+
+/// What a check prints, worked through.
+pub fn checks_are_worked()
+    ensures kinds { map (λ kind. map (is_kind kind) (Event ∷ Time30 ∷ Time60 ∷ [])) (Event ∷ Time30 ∷ Time60 ∷ [])
+        ≡ (true ∷ false ∷ false ∷ []) ∷ (false ∷ true ∷ false ∷ []) ∷ (false ∷ false ∷ true ∷ []) ∷ [] }
+    ensures summary { summary_text three_shared (codes "b1061f3a2d61dfbd") ≡ text_of (codes "life 2026-11a"
+        ∷ codes "member 1 192.0.2.1:7101" ∷ codes "member 2 192.0.2.2:7101" ∷ codes "member 3 192.0.2.3:7101"
+        ∷ codes "look-ahead 10" ∷ codes "skew 2" ∷ codes "range 100" ∷ codes "drift 0" ∷ codes "tokens HOTP/E 1"
+        ∷ codes "tokens HOTP/T30 0" ∷ codes "tokens HOTP/T60 1" ∷ codes "fingerprint b1061f3a2d61dfbd" ∷ []) }
+    ensures check { check_text key_of_32 three_shared ≡ summary_text three_shared (codes "b1061f3a2d61dfbd") }
 {}

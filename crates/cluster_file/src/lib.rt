@@ -4,13 +4,14 @@
 //! members in order, the settings, and the users in order. It is one-to-one (`shared_texts_tell`). [`shared_key`] is
 //! the HMAC of that text under the cluster's key: members that tag their datagrams under it have the same key only
 //! where all of it is equal, or their texts collide (`shared_keys_tell`). [`fingerprint`] is 16 digits by which two
-//! sites compare their shared keys.
+//! sites compare their shared keys, and [`write_summary`] writes them with the rest that sites compare.
 //!
 //! No two of these MACs are over the same bytes: those of datagrams begin with `OV`, the shared text with `wakdulg`,
 //! and the fingerprint's are the word `fingerprint`.
 #![tactic(auto)]
 
 mod address;
+mod check;
 mod cluster;
 mod fault;
 mod fields;
@@ -19,16 +20,15 @@ mod laws;
 mod reading;
 mod said;
 mod shared;
-#[cfg(test)]
-mod tests;
 mod word;
 
+pub use check::write_summary;
 pub use cluster::{Cluster, KeySource};
 pub use fault::{ClusterFault, LineFault};
 pub use key::{fingerprint, shared_key};
 pub use laws::{
-    addresses_are_spelled, clusters_are_shared, fields_are_worked, files_are_worked,
-    keys_are_worked, lines_are_worked, shared_keys_tell, shared_texts_tell,
+    addresses_are_spelled, checks_are_worked, clusters_are_shared, fields_are_worked,
+    files_are_worked, keys_are_worked, lines_are_worked, shared_keys_tell, shared_texts_tell,
 };
 pub use reading::{MAX_CLUSTER_LEN, read_cluster};
 pub use shared::shared_text;

@@ -14,7 +14,7 @@ use token_file::{Book, Token, TokenId, write_row};
 
 /// Writes a word and a text on a line.
 #[tactic(auto, unfolding(crate::specs::Shared::word_line))]
-fn write_word<W: Write>(writer: &mut W, word: &[u8], text: &[u8]) -> io::Result<()>
+pub(crate) fn write_word<W: Write>(writer: &mut W, word: &[u8], text: &[u8]) -> io::Result<()>
     ensures { OnOk result (Appends (W.contents writer.old) (W.contents writer.new) (word_line word.now text.now)) }
 {
     writer.write_all(word)?;
@@ -25,7 +25,7 @@ fn write_word<W: Write>(writer: &mut W, word: &[u8], text: &[u8]) -> io::Result<
 
 /// Writes a word and a number on a line.
 #[tactic(auto, unfolding(crate::specs::Shared::word_line))]
-fn write_number<W: Write>(writer: &mut W, word: &[u8], number: u64) -> io::Result<()>
+pub(crate) fn write_number<W: Write>(writer: &mut W, word: &[u8], number: u64) -> io::Result<()>
     ensures { OnOk result (Appends (W.contents writer.old) (W.contents writer.new)
         (word_line word.now (decimal number))) }
 {
@@ -54,7 +54,7 @@ fn write_member<W: Write>(writer: &mut W, number: u64, member: SocketAddrV4) -> 
 }
 
 /// Writes the lines of members, from 1 on.
-fn write_members<W: Write>(writer: &mut W, members: &[SocketAddrV4]) -> io::Result<()>
+pub(crate) fn write_members<W: Write>(writer: &mut W, members: &[SocketAddrV4]) -> io::Result<()>
     ensures { OnOk result (Appends (W.contents writer.old) (W.contents writer.new)
         (members_text 1 (map address_value members.now))) }
 {
@@ -68,7 +68,7 @@ fn write_members<W: Write>(writer: &mut W, members: &[SocketAddrV4]) -> io::Resu
 
 /// Writes the settings, each on a line.
 #[tactic(auto, unfolding(crate::specs::Shared::settings_text))]
-fn write_settings<W: Write>(writer: &mut W, settings: Settings) -> io::Result<()>
+pub(crate) fn write_settings<W: Write>(writer: &mut W, settings: Settings) -> io::Result<()>
     ensures { OnOk result (Appends (W.contents writer.old) (W.contents writer.new) (settings_text settings)) }
 {
     write_number(writer, b"look-ahead", settings.look_ahead())?;
@@ -92,7 +92,7 @@ fn write_token<W: Write>(writer: &mut W, token: &Token) -> io::Result<()>
 }
 
 /// The token with a number. A book has no more tokens than there are numbers of tokens.
-fn token_at(number: usize) -> io::Result<TokenId>
+pub(crate) fn token_at(number: usize) -> io::Result<TokenId>
     ensures { IfOk result (λ id. id ≡ number) }
 {
     match u32::try_from(number) {

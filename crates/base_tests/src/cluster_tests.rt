@@ -1,10 +1,12 @@
-use crate::{
+//! A cluster file, what its members share, and what a check prints of it.
+
+use cluster_file::{
     ClusterFault, KeySource, LineFault, fingerprint, read_cluster, shared_key, shared_text,
+    write_summary,
 };
 use otp_core::Settings;
 use std::alloc::Global;
 use token_file::{Book, FromRead, read_book};
-use vote_wire::ClusterKey;
 
 /// A cluster of three members.
 const CLUSTER: &[u8] = b"# three\n\
@@ -31,6 +33,20 @@ drift 0\n\
 HOTP/E/6\ta\t-\t31\t0\n\
 HOTP/T60/6\tu\t-\t31\n";
 
+/// What a check prints of both.
+const SUMMARY: &[u8] = b"life 2026-11a\n\
+member 1 192.0.2.1:7101\n\
+member 2 192.0.2.2:7101\n\
+member 3 192.0.2.3:7101\n\
+look-ahead 10\n\
+skew 2\n\
+range 100\n\
+drift 0\n\
+tokens HOTP/E 1\n\
+tokens HOTP/T30 0\n\
+tokens HOTP/T60 1\n\
+fingerprint b1061f3a2d61dfbd\n";
+
 /// The book of some users.
 fn book_of(alloc: Global, users: &[u8], settings: Settings) -> Option<Book> {
     let (book, _) = read_book(alloc, &mut FromRead::new(users), settings, 0).ok()?;
@@ -53,6 +69,20 @@ fn is_shared(alloc: Global, print: &[u8]) -> Option<bool> {
 fn shared_by_three(rt: HostRuntime) {
     assert!(rt; is_shared(rt.alloc(), b"b1061f3a2d61dfbd") == Some(true));
     assert!(rt; is_shared(rt.alloc(), b"b1061f3a2d61dfbe") == Some(false));
+}
+
+/// Whether this is what a check prints of the cluster and its users.
+fn is_summary(alloc: Global, summary: &[u8]) -> Option<bool> {
+    let cluster = read_cluster(alloc, CLUSTER).ok()?;
+    let book = book_of(alloc, USERS, cluster.settings)?;
+    let mut text = Vec::new(alloc);
+    write_summary(&mut text, &cluster, &book, b"b1061f3a2d61dfbd").ok()?;
+    Some(text.as_slice() == summary)
+}
+
+#[test]
+fn summary_of_three(rt: HostRuntime) {
+    assert!(rt; is_summary(rt.alloc(), SUMMARY) == Some(true));
 }
 
 /// The fault of a text.

@@ -1,0 +1,17 @@
+-- Each case is computed.
+use Rattle.std.proofs.Common.{refl}
+use Rattle.std.specs.Fmt.{digits}
+use Rattle.hex.specs.Hex.{encode_with}
+use Rattle.hmac_core.specs.Unfolded.sha256_steps
+use Rattle.cluster_file.specs.Address.{address_text}
+use Rattle.cluster_file.specs.Check.{count_line, counts_text}
+use Rattle.cluster_file.specs.Shared.{book_text, member_line, settings_text, word_line}
+use Rattle.cluster_file.proofs.laws.checks_are_worked.Goals as goal
+
+pub returns-clause-summary : goal.returns-clause-summary
+unfolding digits word_line member_line settings_text count_line counts_text address_text
+returns-clause-summary c = refl
+
+pub returns-clause-check : goal.returns-clause-check
+unfolding digits word_line member_line settings_text count_line counts_text book_text address_text encode_with sha256_steps.first_words sha256_steps.schedule sha256_steps.rounds sha256_steps.compress sha256_steps.hash_after sha256_steps.digest_bytes sha256_steps.sha256
+returns-clause-check c = refl

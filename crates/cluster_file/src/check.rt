@@ -1,0 +1,95 @@
+ghost use Rattle.std.specs.Prelude.{◌≡◌, ◌≤◌, IfOk, OnOk, if◌then◌else◌};
+ghost use Rattle.std.specs.Io.KnownBytes.{Appends};
+ghost use Rattle.token_file.specs.Writing.{kind_word};
+ghost use Rattle.cluster_file.specs.Check.{count_line, counts_text, is_kind, kind_count, summary_text};
+ghost use Rattle.cluster_file.specs.ClusterFile.{cluster_value};
+ghost use Rattle.cluster_file.specs.Shared.{shared_of};
+
+use crate::cluster::Cluster;
+use crate::shared::{token_at, write_members, write_number, write_settings, write_word};
+use std::io::{self, Write};
+use token_file::{Book, Kind, Token};
+
+/// Whether a kind is another one.
+fn is_kind(kind: Kind, other: Kind) -> bool
+    ensures { result ≡ is_kind kind other }
+{
+    match (kind, other) {
+        (Kind::Event, Kind::Event) => true,
+        (Kind::Time30, Kind::Time30) => true,
+        (Kind::Time60, Kind::Time60) => true,
+        _ => false,
+    }
+}
+
+/// The word of a kind.
+fn kind_text(kind: Kind) -> &'static [u8]
+    ensures { result.now ≡ kind_word kind }
+{
+    match kind {
+        Kind::Event => b"HOTP/E",
+        Kind::Time30 => b"HOTP/T30",
+        Kind::Time60 => b"HOTP/T60",
+    }
+}
+
+/// How many tokens of a kind a token is: one or none.
+fn one_of_kind(token: &Token, kind: Kind) -> u64
+    ensures value { result ≡ (if is_kind kind token.now.kind then 1 else 0) }
+    ensures bound { result ≤ 1 }
+{
+    if is_kind(kind, token.kind()) { 1 } else { 0 }
+}
+
+/// How many tokens of a book are of a kind.
+fn kind_count(book: &Book, kind: Kind) -> io::Result<u64>
+    ensures { IfOk result (λ count. count ≡ kind_count kind book.now) }
+{
+    let mut count: u64 = 0;
+    for number in 0..book.len() {
+        let id = token_at(number)?;
+        count += one_of_kind(book.token(id), kind);
+    }
+    Ok(count)
+}
+
+/// Writes the line of a kind.
+#[tactic(auto, unfolding(crate::specs::Check::count_line))]
+fn write_count<W: Write>(writer: &mut W, book: &Book, kind: Kind) -> io::Result<()>
+    ensures { OnOk result (Appends (W.contents writer.old) (W.contents writer.new) (count_line kind book.now)) }
+{
+    let count = kind_count(book, kind)?;
+    writer.write_all(b"tokens ")?;
+    write_number(writer, kind_text(kind), count)
+}
+
+/// Writes the lines of the three kinds.
+#[tactic(auto, unfolding(crate::specs::Check::counts_text))]
+fn write_counts<W: Write>(writer: &mut W, book: &Book) -> io::Result<()>
+    ensures { OnOk result (Appends (W.contents writer.old) (W.contents writer.new) (counts_text book.now)) }
+{
+    write_count(writer, book, Kind::Event)?;
+    write_count(writer, book, Kind::Time30)?;
+    write_count(writer, book, Kind::Time60)
+}
+
+/// Writes what two sites compare of a cluster with this book, with the fingerprint of its shared key: the life, the
+/// members, the settings, how many tokens there are of each kind, and the fingerprint, each on a line.
+///
+/// # Errors
+/// Those of the writer. A front of the text may have been written then.
+pub fn write_summary<W: Write>(
+    writer: &mut W,
+    cluster: &Cluster,
+    book: &Book,
+    fingerprint: &[u8],
+) -> io::Result<()>
+    ensures { OnOk result (Appends (W.contents writer.old) (W.contents writer.new)
+        (summary_text (shared_of (cluster_value cluster.now) book.now) fingerprint.now)) }
+{
+    write_word(writer, b"life", cluster.life)?;
+    write_members(writer, &cluster.members)?;
+    write_settings(writer, cluster.settings)?;
+    write_counts(writer, book)?;
+    write_word(writer, b"fingerprint", fingerprint)
+}
