@@ -3,11 +3,11 @@ _oathd() {
     local cur prev words cword split command options= files=
     _init_completion -s || return
     if ((cword == 1)); then
-        COMPREPLY=($(compgen -W 'lines sim cluster init serve export audit migrate secret --help --version' -- "$cur"))
+        COMPREPLY=($(compgen -W 'lines sim cluster init serve export audit migrate check secret --help --version' -- "$cur"))
         return
     fi
     case $prev in
-        --key) _filedir; return ;;
+        --key | --cluster) _filedir; return ;;
         --node) COMPREPLY=($(compgen -W '1 2 3 4 5 6 7 8 9' -- "$cur")); return ;;
         --look-ahead | --skew | --range | --drift | --moment | --members | --turns) return ;;
     esac
@@ -15,10 +15,11 @@ _oathd() {
     case $command in
         lines | sim) options='--look-ahead --skew --range --drift --moment --key' ;;
         cluster) options='--look-ahead --skew --range --drift --moment --key' files=yes ;;
-        init) options='--node --skew --moment' files=yes ;;
-        serve) options='--node --members --key --look-ahead --skew --range --drift --turns' files=yes ;;
+        init) options='--node --cluster --skew --moment' files=yes ;;
+        serve) options='--node --cluster --members --key --look-ahead --skew --range --drift --turns' files=yes ;;
         export) files=yes ;;
         audit | migrate) options='--node' files=yes ;;
+        check) options='--cluster' files=yes ;;
         secret) ;;
         *) return ;;
     esac

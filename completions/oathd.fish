@@ -8,6 +8,7 @@ complete -c oathd -n __fish_use_subcommand -a serve -d 'Serve a node over a UDP 
 complete -c oathd -n __fish_use_subcommand -a export -d 'Print a users file with the first free factors of a store'
 complete -c oathd -n __fish_use_subcommand -a audit -d 'Print what a node accepted'
 complete -c oathd -n __fish_use_subcommand -a migrate -d 'Make the store of a node one of the present version'
+complete -c oathd -n __fish_use_subcommand -a check -d 'Print what the members of a cluster have to share'
 complete -c oathd -n __fish_use_subcommand -a secret -d 'Print a secret in base32'
 complete -c oathd -s h -l help -d 'Print help'
 complete -c oathd -n __fish_use_subcommand -s V -l version -d 'Print version'
@@ -15,12 +16,14 @@ complete -c oathd -n __fish_use_subcommand -s V -l version -d 'Print version'
 # The commands that have an option.
 set -l nodes '__fish_seen_subcommand_from init serve audit migrate'
 set -l serving '__fish_seen_subcommand_from serve'
+set -l agreed '__fish_seen_subcommand_from init serve check'
 set -l answering '__fish_seen_subcommand_from lines sim cluster serve'
 set -l importing '__fish_seen_subcommand_from lines sim cluster init'
 set -l skewed '__fish_seen_subcommand_from lines sim cluster serve init'
 
-complete -c oathd -n '__fish_seen_subcommand_from cluster init serve export audit migrate' -F
+complete -c oathd -n '__fish_seen_subcommand_from cluster init serve export audit migrate check' -F
 complete -c oathd -n $nodes -l node -x -a '1 2 3 4 5 6 7 8 9' -d 'Number of the node'
+complete -c oathd -n $agreed -l cluster -r -F -d 'Cluster file'
 complete -c oathd -n $serving -l members -x -d 'Addresses in order of their numbers'
 complete -c oathd -n $serving -l turns -x -d 'How many receives the node has'
 complete -c oathd -n $answering -l key -r -F -d 'File of the cluster key'

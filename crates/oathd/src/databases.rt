@@ -1,21 +1,27 @@
 //! The commands over a database.
 
-ghost use Rattle.std.specs.Prelude.{IfOk};
+ghost use Rattle.std.specs.Prelude.{◌≡◌, ◌≤◌, length, IfOk};
 ghost use Rattle.otp_core.specs.Range.{IsMoment};
-ghost use Rattle.oathd_words.specs.StoreWords.{IsActionInRange};
+ghost use Rattle.oathd_words.specs.StoreWords.{IsActionInRange, IsClusterInRange};
+ghost use Rattle.oathd.specs.Cluster.{IsImportOf};
 
 use crate::fault::Fault;
+use cluster_file::Cluster;
 use node_turns::Clock;
-use oathd_database::{Serving, audit_file, export_file, init_file, migrate_file, serve_file};
-use oathd_memory::read_key;
-use oathd_words::Action;
-use otp_core::MOMENTS_END;
-use std::alloc::Global;
+use oathd_database::{
+    NodeKey, Serving, audit_file, export_file, init_file, migrate_file, serve_file,
+};
+use oathd_memory::{cluster_in, cluster_key, member_place, read_key};
+use oathd_words::{Action, ClusterWords, ImportWords};
+use otp_core::{MOMENTS_END, Settings};
+use std::alloc::{AllocError, Global};
 use std::fs;
 use std::io::Write;
 use std::rt::Files;
 use std::time::Clock as TimeSource;
 use udp_port::SystemClock;
+use vote_core::Place;
+use vote_wire::ClusterKey;
 
 /// The present moment.
 fn present_moment<'a, T: TimeSource>(source: &T) -> Result<u64, Fault<'a>>
@@ -35,14 +41,116 @@ fn open_users<'a, F: Files>(files: &F, path: &'a str) -> Result<F::File, Fault<'
     }
 }
 
-/// Does what is asked with the store of a database, whose users file is at this path. The output holds back what it is
-/// given until it is flushed.
+/// The settings of the import of a node: those that the words give, or those of the cluster that the text of a cluster
+/// file says, of which it has to be a member.
+fn import_settings<'a>(
+    alloc: Global,
+    import: ImportWords<'a>,
+    node: u8,
+    text: &'a [u8],
+) -> Result<Settings, Fault<'a>>
+    requires { 1 ≤ node }
+    ensures given { IfOk result (λ settings. IsImportOf import.entry text.now settings) }
+{
+    match import {
+        ImportWords::Given(settings) => Ok(settings),
+        ImportWords::Named(_) => {
+            let cluster = cluster_in(alloc, text)?;
+            member_place(&cluster, node)?;
+            Ok(cluster.settings)
+        }
+    }
+}
+
+/// What a member of the cluster of a cluster file is served with, by this key of the cluster.
+fn serving_of<'a>(
+    cluster: &'a Cluster<'a>,
+    key: ClusterKey,
+    place: Place,
+    turns: u32,
+) -> Result<Serving<'a>, AllocError>
+    requires { place.n ≡ length cluster.now.members.items }
+{
+    Ok(Serving {
+        settings: cluster.settings,
+        place,
+        members: cluster.members.clone()?,
+        key: NodeKey::Shared(key, cluster),
+        turns,
+    })
+}
+
+/// Serves the member with this number of the cluster that the text of a cluster file says.
+fn serve_member<'a>(
+    alloc: Global,
+    rt: &HostRuntime,
+    database: &str,
+    users: &'a str,
+    node: u8,
+    text: &'a [u8],
+    turns: u32,
+) -> Result<(), Fault<'a>>
+    requires { 1 ≤ node }
+{
+    let cluster = cluster_in(alloc, text)?;
+    let place = member_place(&cluster, node)?;
+    let key = cluster_key(alloc, rt, &cluster.key)?;
+    let file = open_users(rt, users)?;
+    match serving_of(&cluster, key, place, turns) {
+        Ok(serving) => {
+            serve_file(alloc, rt, database, file, serving)?;
+            Ok(())
+        }
+        Err(_) => Err(Fault::Database(oathd_database::Fault::Memory)),
+    }
+}
+
+/// Serves a node of the cluster that the words say, or the text of the cluster file that they name.
+fn serve<'a>(
+    alloc: Global,
+    rt: &HostRuntime,
+    database: &str,
+    users: &'a str,
+    cluster: ClusterWords<'a>,
+    text: &'a [u8],
+    turns: u32,
+) -> Result<(), Fault<'a>>
+    requires { IsClusterInRange cluster }
+{
+    match cluster {
+        ClusterWords::Given {
+            settings,
+            place,
+            members,
+            key,
+        } => {
+            let key = NodeKey::Own(read_key(alloc, rt, Some(key))?);
+            let file = open_users(rt, users)?;
+            let serving = Serving {
+                settings,
+                place,
+                members,
+                key,
+                turns,
+            };
+            serve_file(alloc, rt, database, file, serving)?;
+            Ok(())
+        }
+        ClusterWords::Named { node, .. } => {
+            serve_member(alloc, rt, database, users, node, text, turns)
+        }
+    }
+}
+
+/// Does what is asked with the store of a database, whose users file is at this path, with the text of the cluster file
+/// that is named. The output holds back what it is given until it is flushed.
 pub(crate) fn perform_action<'a, O: Write>(
     alloc: Global,
     rt: &HostRuntime,
     database: &str,
     users: &'a str,
     action: Action<'a>,
+    cluster_file: &'a [u8],
     held: &mut O,
 ) -> Result<(), Fault<'a>>
     requires { IsActionInRange action }
@@ -50,9 +158,10 @@ pub(crate) fn perform_action<'a, O: Write>(
     match action {
         Action::Init {
             node,
-            settings,
+            import,
             moment,
         } => {
+            let settings = import_settings(alloc, import, node, cluster_file)?;
             let moment = match moment {
                 Some(moment) => moment,
                 None => present_moment(rt)?,
@@ -60,23 +169,8 @@ pub(crate) fn perform_action<'a, O: Write>(
             let file = open_users(rt, users)?;
             init_file(alloc, rt, database, file, settings, moment, node)?;
         }
-        Action::Serve {
-            settings,
-            place,
-            members,
-            key,
-            turns,
-        } => {
-            let key = read_key(alloc, rt, Some(key))?;
-            let file = open_users(rt, users)?;
-            let serving = Serving {
-                settings,
-                place,
-                members,
-                key: &key,
-                turns,
-            };
-            serve_file(alloc, rt, database, file, serving)?;
+        Action::Serve { cluster, turns } => {
+            serve(alloc, rt, database, users, cluster, cluster_file, turns)?;
         }
         Action::Export => export_file(alloc, rt, database, open_users(rt, users)?, held)?,
         Action::Audit { node } => {

@@ -1,24 +1,24 @@
+ghost use Rattle.oathd_words.specs.Words.{IsInRange};
+
 use crate::databases::perform_action;
 use crate::fault::Fault;
 use command_line::{OutsideFault, exit_status, explain};
-use oathd_memory::perform;
+use oathd_memory::{cluster_text, perform};
 use oathd_words::{Task, read_words};
 use std::alloc::Global;
 use std::io::{BufWriter, Read, Write};
 
-/// Does what the words ask for, or writes what clap has to say of them. Gives the exit status.
-fn follow<'a, R: Read, O: Write, E: Write>(
+/// Does what a task asks for, with the text of the cluster file that it names. Gives the exit status.
+fn perform_task<'a, R: Read, O: Write>(
     alloc: Global,
     rt: &HostRuntime,
-    words: &'a [String],
+    task: Task<'a>,
+    cluster: &'a [u8],
     reader: &mut R,
     output: &mut O,
-    errors: &mut E,
-) -> Result<u8, Fault<'a>> {
-    let task = match read_words(alloc, words) {
-        Ok(task) => task,
-        Err(error) => return Ok(explain(output, errors, &error)?),
-    };
+) -> Result<u8, Fault<'a>>
+    requires { IsInRange task }
+{
     let Ok(mut held) = BufWriter::new(alloc, &mut *output) else {
         return Err(Fault::from(OutsideFault::Memory));
     };
@@ -27,10 +27,48 @@ fn follow<'a, R: Read, O: Write, E: Write>(
             database,
             users,
             action,
-        } => perform_action(alloc, rt, database, users, action, &mut held)?,
-        task => perform(alloc, rt, &task, reader, &mut held)?,
+        } => perform_action(alloc, rt, database, users, action, cluster, &mut held)?,
+        task => perform(alloc, rt, &task, cluster, reader, &mut held)?,
     }
     Ok(0)
+}
+
+/// Reads the cluster file that a task names, if it names one, and does what the task asks for. Gives the exit status.
+fn follow_task<R: Read, O: Write, E: Write>(
+    alloc: Global,
+    rt: &HostRuntime,
+    task: Task<'_>,
+    reader: &mut R,
+    output: &mut O,
+    errors: &mut E,
+) -> u8
+    requires { IsInRange task }
+{
+    match cluster_text(alloc, rt, task.cluster_path()) {
+        Ok(text) => {
+            let end = perform_task(alloc, rt, task, &text, reader, output);
+            exit_status(errors, "oathd", end)
+        }
+        Err(fault) => exit_status(errors, "oathd", Err(Fault::from(fault))),
+    }
+}
+
+/// Does what the words ask for, or writes what clap has to say of them. Gives the exit status.
+fn follow<R: Read, O: Write, E: Write>(
+    alloc: Global,
+    rt: &HostRuntime,
+    words: &[String],
+    reader: &mut R,
+    output: &mut O,
+    errors: &mut E,
+) -> u8 {
+    match read_words(alloc, words) {
+        Ok(task) => follow_task(alloc, rt, task, reader, output, errors),
+        Err(error) => match explain(output, errors, &error) {
+            Ok(status) => status,
+            Err(fault) => exit_status(errors, "oathd", Err(Fault::from(fault))),
+        },
+    }
 }
 
 /// Does what the words of the process ask for, where they could be had. The text of a fault goes to the errors,
@@ -44,10 +82,7 @@ pub(crate) fn run<R: Read, O: Write, E: Write>(
     errors: &mut E,
 ) -> u8 {
     match words {
-        Ok(words) => {
-            let end = follow(alloc, rt, &words, reader, output, errors);
-            exit_status(errors, "oathd", end)
-        }
+        Ok(words) => follow(alloc, rt, &words, reader, output, errors),
         Err(fault) => exit_status(errors, "oathd", Err(Fault::from(fault))),
     }
 }

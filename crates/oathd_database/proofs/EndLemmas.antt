@@ -1,6 +1,6 @@
 -- How a command ends.
 use Rattle.std.proofs.Common.{◌≡◌, ℕ, List, Option, Some, None, IfSome, length, subst, sym}
-use Rattle.std.specs.Prelude.{Result, Ok, Err, IfErr, IfOk, IsErrAnd, OnOk}
+use Rattle.std.specs.Prelude.{Result, Ok, Err, IfErr, IfOk, OnOk}
 use Rattle.std.specs.Io.KnownBytes.{Appends}
 use Rattle.std.proofs.lemmas.Option.{IfSome_then}
 use Rattle.sqlite.specs.Store.{Ghosts}
@@ -19,6 +19,7 @@ use Rattle.node_turns.specs.declared.fault.ServeFault.TheVariants as turns
 use Rattle.node_turns.specs.declared.turns.Served.{Served}
 use Rattle.oathd_database.specs.Commands.{EndsOutput, EndsServing, HasAudited, HasExported, HasImport, HasOpened, HasServed, IsRefused}
 use Rattle.oathd_database.specs.Fault.{IsOpenFault, IsOutputFault, serve_end, serve_fault_of}
+use Rattle.oathd_database.specs.NodeKey.{tag_key}
 use Rattle.oathd_database.specs.Tables.{KeepsTables, WritesAudit}
 use Rattle.oathd_database.specs.Text.{export_text}
 use Rattle.oathd_database.specs.Users.{IsImported}
@@ -136,7 +137,7 @@ module _ (limits : Limits) (moment longest : ℕ) where
 module _ {S : Type 0} (g : Ghosts S) (serving : Serving) (a : Option (List ℕ)) (book : List Credential) (floors : List ℕ) (found : SqlHeld S)
     (first last : Hosted (SqlHeld S)) (imported : IfSome a (IsImported serving.settings 0 16777216 book floors))
     (opened : HasOpened g (Some serving.place.me) (length book) found) (in_boot : IsOpened (sql_held g) found first) (of_book : first.book ≡ book)
-    (of_limits : first.limits ≡ serving.settings) (of_key : first.key ≡ serving.key.now) (of_place : first.voter.place ≡ serving.place) where
+    (of_limits : first.limits ≡ serving.settings) (of_key : first.key ≡ tag_key serving.key book) (of_place : first.voter.place ≡ serving.place) where
   -- a node is served
   pub has_served : (result : Result Served Fault) (end : Result Served ServeFault) → result ≡ serve_end end
       → Serves (sql_held g) first last None None None None serving.turns end → IfOk result (λ served. IfSome a (HasServed g serving served))

@@ -2,3 +2,4 @@ mod EndLemmas
 mod FaultLemmas
 mod TextLemmas
 mod UsersLemmas
+mod KeyLemmas

@@ -13,6 +13,7 @@ use Rattle.oath_node.specs.Calls.{IsOpened as IsOpenedNode}
 use Rattle.oath_node.specs.Hosted.{Hosted}
 use Rattle.node_turns.specs.Serving.{Serves}
 use Rattle.node_turns.specs.declared.turns.Served.{Served}
+use Rattle.oathd_database.specs.NodeKey.{tag_key}
 use Rattle.oathd_database.specs.Tables.{KeepsTables, WritesAudit}
 use Rattle.oathd_database.specs.Text.{export_text}
 use Rattle.oathd_database.specs.Users.{IsImported, IsUnread}
@@ -81,7 +82,7 @@ module _ {S : Type 0} (g : Ghosts S) where
     pub in_boot : IsOpenedNode (sql_held g) found first
     pub of_book : first.book ≡ import.book
     pub of_limits : first.limits ≡ serving.settings
-    pub of_key : first.key ≡ serving.key.now
+    pub of_key : first.key ≡ tag_key serving.key import.book
     pub of_place : first.voter.place ≡ serving.place
     pub last : Hosted (SqlHeld S)
     pub serves : Serves (sql_held g) first last None None None None serving.turns (Ok served)

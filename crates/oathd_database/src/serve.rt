@@ -11,6 +11,7 @@ ghost use Rattle.oathd_database.specs.Fault.{IsOpenFault, serve_end};
 use crate::database::{Database, open_store};
 use crate::fault::Fault;
 use crate::file::DatabaseFile;
+use crate::node_key::tag_key;
 use crate::serving::Serving;
 use floor_store::FloorStore;
 use node_turns::{Clock, Port, Served, run_turns};
@@ -114,7 +115,8 @@ pub fn serve_store<R: Read + Drop, S: Alter + Drop, D: Database<S>, N: Net + Tim
         turns,
     } = serving;
     let (users, store) = open_store(alloc, users, settings, Some(place.me()), database)?;
-    let mut node = open_node(alloc, &users.book, settings, place, key, store)?;
+    let key = tag_key(alloc, key, &users.book)?;
+    let mut node = open_node(alloc, &users.book, settings, place, &key, store)?;
     let address = members[usize::from(place.me()) - 1];
     let mut port = UdpPort::new(socket_at(outside, address)?, members, outside);
     serve_node(&mut node, &mut port, &mut SystemClock::new(outside), turns)

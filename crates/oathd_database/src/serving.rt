@@ -1,9 +1,10 @@
 ghost use Rattle.std.specs.Prelude.{◌≡◌, length};
+ghost use Rattle.oathd_database.specs.NodeKey.{agreed_members, agreed_settings};
 
+use crate::node_key::NodeKey;
 use otp_core::Settings;
 use std::net::SocketAddrV4;
 use vote_core::Place;
-use vote_wire::ClusterKey;
 
 /// What a node is served with.
 #[derive(Drop)]
@@ -13,8 +14,11 @@ pub struct Serving<'a> {
     pub place: Place,
     /// The addresses of the members, in order of their numbers.
     pub members: Vec<SocketAddrV4>,
-    pub key: &'a ClusterKey,
+    /// Where the key comes from under which it tags its datagrams.
+    pub key: NodeKey<'a>,
     /// How many receives it makes.
     pub turns: u32,
     ghost each: { length members.items ≡ place.n },
+    ghost settings_agreed: { settings ≡ agreed_settings key settings },
+    ghost members_agreed: { members.items ≡ agreed_members key members.items },
 }

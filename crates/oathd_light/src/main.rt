@@ -2,31 +2,69 @@
 //! `tools/program` runs it for these commands as long as there is no current build of `oathd`.
 #![tactic(auto)]
 
+ghost use Rattle.oathd_words.specs.Words.{IsInRange};
+
 use command_line::{OutsideFault, exit_status, explain, process_words};
-use oathd_memory::{Fault, perform};
-use oathd_words::read_words;
+use oathd_memory::{Fault, cluster_text, perform};
+use oathd_words::{Task, read_words};
 use std::alloc::Global;
 use std::io::{self, BufWriter, Read, Write};
 use std::process::ExitCode;
 
-/// Does what the words ask for, or writes what clap has to say of them. Gives the exit status.
-fn follow<'a, R: Read, O: Write, E: Write>(
+/// Does what a task asks for, with the text of the cluster file that it names. Gives the exit status.
+fn perform_task<'a, R: Read, O: Write>(
     alloc: Global,
     rt: &HostRuntime,
-    words: &'a [String],
+    task: Task<'a>,
+    cluster: &'a [u8],
     reader: &mut R,
     output: &mut O,
-    errors: &mut E,
-) -> Result<u8, Fault<'a>> {
-    let task = match read_words(alloc, words) {
-        Ok(task) => task,
-        Err(error) => return Ok(explain(output, errors, &error)?),
-    };
+) -> Result<u8, Fault<'a>>
+    requires { IsInRange task }
+{
     let Ok(mut held) = BufWriter::new(alloc, &mut *output) else {
         return Err(Fault::from(OutsideFault::Memory));
     };
-    perform(alloc, rt, &task, reader, &mut held)?;
+    perform(alloc, rt, &task, cluster, reader, &mut held)?;
     Ok(0)
+}
+
+/// Reads the cluster file that a task names, if it names one, and does what the task asks for. Gives the exit status.
+fn follow_task<R: Read, O: Write, E: Write>(
+    alloc: Global,
+    rt: &HostRuntime,
+    task: Task<'_>,
+    reader: &mut R,
+    output: &mut O,
+    errors: &mut E,
+) -> u8
+    requires { IsInRange task }
+{
+    match cluster_text(alloc, rt, task.cluster_path()) {
+        Ok(text) => {
+            let end = perform_task(alloc, rt, task, &text, reader, output);
+            exit_status(errors, "oathd", end)
+        }
+        Err(fault) => exit_status(errors, "oathd", Err(fault)),
+    }
+}
+
+/// Does what the words ask for, or writes what clap has to say of them. Gives the exit status.
+fn follow<R: Read, O: Write, E: Write>(
+    alloc: Global,
+    rt: &HostRuntime,
+    words: &[String],
+    reader: &mut R,
+    output: &mut O,
+    errors: &mut E,
+) -> u8 {
+    match read_words(alloc, words) {
+        Ok(task) => follow_task(alloc, rt, task, reader, output, errors),
+        Err(error) => match explain(output, errors, &error) {
+            Ok(status) => status,
+            Err(fault) => exit_status(errors, "oathd", Err(Fault::from(fault))),
+        },
+    }
 }
 
 fn main(rt: HostRuntime) -> ExitCode {
@@ -34,17 +72,14 @@ fn main(rt: HostRuntime) -> ExitCode {
     let errors = rt.stderr();
     let mut errors = io::writer(&errors);
     let status = match process_words(&rt, alloc) {
-        Ok(words) => {
-            let end = follow(
-                alloc,
-                &rt,
-                &words,
-                &mut rt.reader(),
-                &mut io::writer(&rt),
-                &mut errors,
-            );
-            exit_status(&mut errors, "oathd", end)
-        }
+        Ok(words) => follow(
+            alloc,
+            &rt,
+            &words,
+            &mut rt.reader(),
+            &mut io::writer(&rt),
+            &mut errors,
+        ),
         Err(fault) => exit_status(&mut errors, "oathd", Err(Fault::from(fault))),
     };
     ExitCode::from(status)

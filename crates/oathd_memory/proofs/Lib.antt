@@ -1,2 +1,3 @@
+pub mod CheckLemmas
 mod FlushLemmas
 mod LinesLemmas

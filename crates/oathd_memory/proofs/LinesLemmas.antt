@@ -95,3 +95,6 @@ lines_without_key limits moment input (program_fault.CannotReadFile path) out is
 lines_without_key limits moment input (program_fault.Sim fault) out is = absurd is
 lines_without_key limits moment input (program_fault.Cluster fault) out is = absurd is
 lines_without_key limits moment input program_fault.NoDatabases out is = absurd is
+lines_without_key limits moment input (program_fault.ClusterFile fault) out is = absurd is
+lines_without_key limits moment input (program_fault.NoMember node) out is = absurd is
+lines_without_key limits moment input program_fault.KeyPath out is = refl

@@ -3,7 +3,7 @@ use Rattle.std.specs.Prelude.{ℕ}
 use Rattle.oathd_lines.specs.Fault as lines
 use Rattle.oathd_cluster.specs.Fault as cluster
 use Rattle.oathd_memory.specs.declared.fault.Fault.{Fault}
-use Rattle.oathd_memory.specs.declared.fault.Fault.TheVariants.{Run, Sim, Cluster, CannotReadFile, NoDatabases}
+use Rattle.oathd_memory.specs.declared.fault.Fault.TheVariants.{Run, Sim, Cluster, CannotReadFile, NoDatabases, ClusterFile, NoMember, KeyPath}
 
 -- the exit status: that of a run or a cluster, or 1
 abbrev pub status_of : Fault → ℕ
@@ -12,3 +12,6 @@ status_of (Sim fault) = 1
 status_of (Cluster fault) = cluster.status_of fault
 status_of (CannotReadFile path) = 1
 status_of NoDatabases = 1
+status_of (ClusterFile fault) = 1
+status_of (NoMember node) = 1
+status_of KeyPath = 1

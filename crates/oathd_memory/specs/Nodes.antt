@@ -8,10 +8,11 @@ use Rattle.oathd_cluster.specs.Run as cluster
 use Rattle.oathd_cluster.specs.Line.{LinesRead, node_lines}
 use Rattle.oathd_sim.specs.Sim as sim
 use Rattle.oathd_words.specs.declared.words.Task.{Task}
-use Rattle.oathd_words.specs.declared.words.Task.TheVariants.{Lines, Sim as SimTask, Cluster as ClusterTask, Store, Secret}
+use Rattle.oathd_words.specs.declared.words.Task.TheVariants.{Lines, Sim as SimTask, Cluster as ClusterTask, Store, Check, Secret}
 use Rattle.users_input.specs.Input.{lines_of}
+use Rattle.oathd_memory.specs.Check.{CheckEndsSo}
 use Rattle.oathd_memory.specs.declared.fault.Fault.{Fault}
-use Rattle.oathd_memory.specs.declared.fault.Fault.TheVariants.{Run, Sim, Cluster, CannotReadFile, NoDatabases}
+use Rattle.oathd_memory.specs.declared.fault.Fault.TheVariants.{Run, Sim, Cluster, CannotReadFile, NoDatabases, KeyPath}
 
 -- A key is that of the file that is named, of which nothing is said; where none is named it is 32 zeros.
 abbrev pub IsKeyOf : {A : Type 0} → Option A → List ℕ → Type 0
@@ -22,6 +23,7 @@ abbrev pub IsOfKey : Fault → Type 0
 IsOfKey (Run lines.Memory) = Unit {0}
 IsOfKey (Run (lines.BadKey fault)) = Unit {0}
 IsOfKey (CannotReadFile path) = Unit {0}
+IsOfKey KeyPath = Unit {0}
 IsOfKey fault = ⊥
 
 -- The command `lines` ends so over its input, where that is known, and its output: as the run over that input does,
@@ -70,12 +72,14 @@ SecretEndsSo hex (Ok done) old new = EndsWithText hex (Ok tt) old new
 SecretEndsSo hex (Err (Run fault)) old new = (fault ≡ lines.CannotWrite) ⊎ EndsWithText hex (Err fault) old new
 SecretEndsSo hex (Err fault) old new = ⊥
 
--- What is asked for ends so. Nothing is done with a database.
-abbrev pub EndsAsAsked : Task → Option (List ℕ) → Result Unit Fault → Option (List ℕ) → Option (List ℕ) → Type 0
-EndsAsAsked (Lines settings moment key) input result old new = LinesEndSo settings moment input result old new
-EndsAsAsked (SimTask nodes settings moment key) input result old new =
+-- What is asked for ends so, with this text of the cluster file that is named. Nothing is done with a database.
+abbrev pub EndsAsAsked : Task → List ℕ → Option (List ℕ) → Result Unit Fault
+    → Option (List ℕ) → Option (List ℕ) → Type 0
+EndsAsAsked (Lines settings moment key) text input result old new = LinesEndSo settings moment input result old new
+EndsAsAsked (SimTask nodes settings moment key) text input result old new =
     SimEndsSo nodes settings moment key input result old new
-EndsAsAsked (ClusterTask users nodes settings moment key) input result old new =
+EndsAsAsked (ClusterTask users nodes settings moment key) text input result old new =
     ClusterEndsSo nodes input result old new
-EndsAsAsked (Store database users action) input result old new = (result ≡ Err NoDatabases) × (new ≡ old)
-EndsAsAsked (Secret hex) input result old new = SecretEndsSo hex.now result old new
+EndsAsAsked (Store database users action) text input result old new = (result ≡ Err NoDatabases) × (new ≡ old)
+EndsAsAsked (Check users cluster) text input result old new = CheckEndsSo text result old new
+EndsAsAsked (Secret hex) text input result old new = SecretEndsSo hex.now result old new

@@ -5,6 +5,7 @@ ghost use Rattle.oathd_lines.specs.Secret.{EndsWithText};
 ghost use Rattle.oathd_memory.specs.Nodes.{ClusterEndsSo, EndsAsAsked, LinesEndSo, SimEndsSo};
 ghost use Rattle.oathd_words.specs.Words.{IsInRange};
 
+use crate::check::check;
 use crate::fault::Fault;
 use crate::key::read_key;
 use command_line::flushed;
@@ -147,7 +148,8 @@ fn run_nodes<'a, F: Files + Net, R: Read, O: Write>(
     }
 }
 
-/// Does what is asked for, but nothing with a database. The output holds back what it is given until it is flushed.
+/// Does what is asked for, but nothing with a database, with the text of the cluster file that the task names. The
+/// output holds back what it is given until it is flushed.
 ///
 /// # Errors
 /// What ends the command before its time, and `NoDatabases` where a command over a database is asked for.
@@ -155,11 +157,13 @@ pub fn perform<'a, F: Files + Net, R: Read, O: Write>(
     alloc: Global,
     files: &F,
     task: &Task<'a>,
+    cluster: &'a [u8],
     reader: &mut R,
     held: &mut O,
 ) -> Result<(), Fault<'a>>
     requires { IsInRange task.now }
-    ensures ends { EndsAsAsked task.now (R.remaining reader.old) result (O.contents held.old) (O.contents held.new) }
+    ensures ends { EndsAsAsked task.now cluster.now (R.remaining reader.old) result
+        (O.contents held.old) (O.contents held.new) }
 {
     match task {
         Task::Lines {
@@ -182,6 +186,7 @@ pub fn perform<'a, F: Files + Net, R: Read, O: Write>(
         } => run_nodes(
             alloc, files, users, *nodes, *settings, *moment, *key, reader, held,
         ),
+        Task::Check { users, .. } => check(alloc, files, cluster, users, held),
         Task::Secret { hex } => match print(hex, held) {
             Ok(()) => Ok(()),
             Err(fault) => Err(Fault::Run(fault)),

@@ -1,3 +1,4 @@
+use cluster_file::ClusterFault;
 use command_line::{OutsideFault, ProgramFault};
 use thiserror::Error;
 
@@ -19,6 +20,15 @@ pub enum Fault<'a> {
     /// A command over a database is asked of a program that has none.
     #[error("no databases")]
     NoDatabases,
+    /// The cluster file has a fault.
+    #[error("cluster {0}")]
+    ClusterFile(ClusterFault),
+    /// The cluster file has no member with this number.
+    #[error("cluster has no member {0}")]
+    NoMember(u8),
+    /// The path of the key in the cluster file is not UTF-8.
+    #[error("cluster key-file is not text")]
+    KeyPath,
 }
 
 impl ProgramFault for Fault<'_> {
@@ -30,7 +40,12 @@ impl ProgramFault for Fault<'_> {
         match self {
             Fault::Run(fault) => fault.status(),
             Fault::Cluster(fault) => fault.status(),
-            Fault::Sim(_) | Fault::CannotReadFile(_) | Fault::NoDatabases => 1,
+            Fault::Sim(_)
+            | Fault::CannotReadFile(_)
+            | Fault::NoDatabases
+            | Fault::ClusterFile(_)
+            | Fault::NoMember(_)
+            | Fault::KeyPath => 1,
         }
     }
 }

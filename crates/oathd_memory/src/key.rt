@@ -13,7 +13,7 @@ use std::io::{ErrorKind, Read};
 use std::rt::Files;
 use vote_wire::{ClusterKey, without_lf};
 
-/// The most bytes of a key file. The longest key has 128 digits.
+/// The most bytes of a key file, of which the longest key has 128, and of a cluster file.
 const MAX_KEY_FILE_LEN: u32 = 65_536;
 
 /// The key that the text of a file says: hexadecimal digits, and at most one LF behind them.
@@ -31,8 +31,12 @@ fn key_of_zeros() -> ClusterKey
     ClusterKey::new(&[0; 32]).unwrap()
 }
 
-/// The text of a file, which has at most so many bytes.
-fn file_text<'a, F: Files>(alloc: Global, files: &F, path: &'a str) -> Result<Vec<u8>, Fault<'a>>
+/// The text of a file, up to the first byte past so many.
+pub(crate) fn file_text<'a, F: Files>(
+    alloc: Global,
+    files: &F,
+    path: &'a str,
+) -> Result<Vec<u8>, Fault<'a>>
     ensures fault { IfErr result IsOfKey }
 {
     let Ok(file) = fs::open(files, path) else {

@@ -11,6 +11,10 @@ use Rattle.vote_core.specs.State.{IsPlace}
 use Rattle.oathd_words.specs.Given.{GivesLimits, GivesMember}
 use Rattle.oathd_words.specs.Members.{AreMembers}
 use Rattle.oathd_words.specs.declared.store_words.Action.{Action}
+use Rattle.oathd_words.specs.declared.store_words.ClusterWords.{ClusterWords}
+use Rattle.oathd_words.specs.declared.store_words.ClusterWords.TheVariants.{Given, Named}
+use Rattle.oathd_words.specs.declared.store_words.ImportWords.{ImportWords}
+use Rattle.oathd_words.specs.declared.store_words.ImportWords.TheVariants as imports
 use Rattle.oathd_words.specs.declared.store_words.Action.TheVariants.{Init, Serve, Export, Audit, Migrate}
 
 -- a moment in its range is given, or none is
@@ -24,6 +28,12 @@ pub record GivesImport (found : Found) (limits : Limits) : Type 0 where
   pub usual : limits ≡ limits_of 10 limits.skew 100
   pub in_range : AreLimits limits
 
+-- the settings of an import are given, where no cluster file is named, or the cluster file at this path says them
+abbrev pub AsksForImport : Found → ImportWords → Type 0
+AsksForImport found (imports.Given settings) =
+    (first_value found (codes "cluster") ≡ None) × GivesImport found settings
+AsksForImport found (imports.Named path) = first_value found (codes "cluster") ≡ Some path.now
+
 -- so many turns are given, and below 2^32
 abbrev pub GivesTurns : Found → ℕ → Type 0
 GivesTurns found turns = (number_at found (codes "turns") ≡ Some turns) × (turns < 2 ^ 32)
@@ -33,9 +43,9 @@ pub record GivesPlace (found : Found) (place : PlaceRecord) : Type 0 where
   pub node_given : GivesMember found (codes "node") place.me
   pub within : IsPlace place
 
--- a node is to be served: this member of these, with these limits and the key at this path, for so many turns
-pub record AsksToServe (found : Found) (limits : Limits) (place : PlaceRecord) (members : List SocketAddrV4)
-    (key : List ℕ) (turns : ℕ) : Type 0 where
+-- a node is to be served: this member of these, with these limits and the key at this path
+pub record AsksForMembers (found : Found) (limits : Limits) (place : PlaceRecord) (members : List SocketAddrV4)
+    (key : List ℕ) : Type 0 where
   pub place_given : GivesPlace found place
   pub text : List ℕ
   pub text_given : first_value found (codes "members") ≡ Some text
@@ -43,15 +53,22 @@ pub record AsksToServe (found : Found) (limits : Limits) (place : PlaceRecord) (
   pub each : place.n ≡ length members
   pub limits_given : GivesLimits found limits
   pub key_given : first_value found (codes "key") ≡ Some key
-  pub turns_given : GivesTurns found turns
+
+-- what a cluster is, is said so: by the words, where no cluster file is named, or by the cluster file at this path, of
+-- which the node is this member
+abbrev pub AsksForCluster : Found → ClusterWords → Type 0
+AsksForCluster found (Given settings place members key) =
+    (first_value found (codes "cluster") ≡ None) × AsksForMembers found settings place members.items key.now
+AsksForCluster found (Named node path) =
+    (first_value found (codes "cluster") ≡ Some path.now) × GivesMember found (codes "node") node
 
 -- the command with this name, and these values, ask for this with a store
 abbrev pub AsksForAction : List ℕ → Found → Action → Type 0
-AsksForAction name found (Init node settings moment) =
-    (name ≡ codes "init") × GivesMember found (codes "node") node × GivesImport found settings
+AsksForAction name found (Init node import moment) =
+    (name ≡ codes "init") × GivesMember found (codes "node") node × AsksForImport found import
     × GivesMoment found moment
-AsksForAction name found (Serve settings place members key turns) =
-    (name ≡ codes "serve") × AsksToServe found settings place members.items key.now turns
+AsksForAction name found (Serve cluster turns) =
+    (name ≡ codes "serve") × AsksForCluster found cluster × GivesTurns found turns
 AsksForAction name found Export = name ≡ codes "export"
 AsksForAction name found (Audit node) = (name ≡ codes "audit") × GivesMember found (codes "node") node
 AsksForAction name found (Migrate node) = (name ≡ codes "migrate") × GivesMember found (codes "node") node
@@ -62,11 +79,16 @@ AsksForStore name found database users action =
     (first_value found (codes "DB") ≡ Some database) × (first_value found (codes "USERS") ≡ Some users)
     × AsksForAction name found action
 
+-- the numbers of what is said of a cluster are in their ranges
+abbrev pub IsClusterInRange : ClusterWords → Type 0
+IsClusterInRange (Given settings place members key) = length members.items ≡ place.n
+IsClusterInRange (Named node path) = (1 ≤ node) × (node ≤ 9)
+
 -- the numbers of what is asked for are in their ranges
 abbrev pub IsActionInRange : Action → Type 0
-IsActionInRange (Init node settings None) = (1 ≤ node) × (node ≤ 9)
-IsActionInRange (Init node settings (Some moment)) = (1 ≤ node) × (node ≤ 9) × IsMoment moment
-IsActionInRange (Serve settings place members key turns) = length members.items ≡ place.n
+IsActionInRange (Init node import None) = (1 ≤ node) × (node ≤ 9)
+IsActionInRange (Init node import (Some moment)) = (1 ≤ node) × (node ≤ 9) × IsMoment moment
+IsActionInRange (Serve cluster turns) = IsClusterInRange cluster
 IsActionInRange Export = Unit {0}
 IsActionInRange (Audit node) = (1 ≤ node) × (node ≤ 9)
 IsActionInRange (Migrate node) = (1 ≤ node) × (node ≤ 9)

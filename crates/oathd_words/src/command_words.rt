@@ -1,12 +1,12 @@
 //! The commands of `oathd`, as clap is told of them.
 
 use crate::help::{
-    AUDIT_HELP, CLUSTER_HELP, EXPORT_HELP, INIT_HELP, LINES_HELP, MIGRATE_HELP, PROGRAM_HELP,
-    SECRET_HELP, SERVE_HELP, SERVE_USAGE, SIM_HELP,
+    AUDIT_HELP, CHECK_HELP, CLUSTER_HELP, EXPORT_HELP, INIT_HELP, LINES_HELP, MIGRATE_HELP,
+    PROGRAM_HELP, SECRET_HELP, SERVE_HELP, SERVE_USAGE, SIM_HELP,
 };
 use crate::option_words::{
-    CLOCK_MOMENT, DATABASE, DRIFT, HEX, KEY, KEY_OR_ZEROS, LOOK_AHEAD, MEMBERS, MOMENT, NODE,
-    NODE_COUNT, RANGE, SKEW, TURNS, USERS, Word,
+    CHECKED_CLUSTER, CLOCK_MOMENT, CLUSTER, DATABASE, DRIFT, HEX, IMPORT_CLUSTER, KEY,
+    KEY_OR_ZEROS, LOOK_AHEAD, MEMBERS, MOMENT, NODE, NODE_COUNT, RANGE, SKEW, TURNS, USERS, Word,
 };
 use clap::error::ErrorKind;
 use clap::{ArgMatches, Command, Error};
@@ -32,7 +32,7 @@ pub(crate) struct CommandWords {
 }
 
 /// The commands, in the order of the help.
-pub(crate) const COMMANDS: [CommandWords; 9] = [
+pub(crate) const COMMANDS: [CommandWords; 10] = [
     CommandWords {
         word: "lines",
         whole: "oathd lines",
@@ -98,6 +98,7 @@ pub(crate) const COMMANDS: [CommandWords; 9] = [
             Word::Text(DATABASE),
             Word::Text(USERS),
             Word::Text(NODE),
+            Word::Text(IMPORT_CLUSTER),
             Word::Number(SKEW),
             Word::Text(CLOCK_MOMENT),
         ],
@@ -114,6 +115,7 @@ pub(crate) const COMMANDS: [CommandWords; 9] = [
             Word::Text(DATABASE),
             Word::Text(USERS),
             Word::Text(NODE),
+            Word::Text(CLUSTER),
             Word::Text(MEMBERS),
             Word::Text(KEY),
             Word::Number(LOOK_AHEAD),
@@ -155,6 +157,16 @@ pub(crate) const COMMANDS: [CommandWords; 9] = [
         numbers: &[],
     },
     CommandWords {
+        word: "check",
+        whole: "oathd check",
+        about: "Prints what the members of a cluster have to share",
+        usage: None,
+        after_help: CHECK_HELP,
+        next_line_help: true,
+        words: &[Word::Text(USERS), Word::Text(CHECKED_CLUSTER)],
+        numbers: &[],
+    },
+    CommandWords {
         word: "secret",
         whole: "oathd secret",
         about: "Prints a secret in base32, the text that authenticator apps take",
@@ -178,7 +190,7 @@ impl CommandWords {
             None => command,
         };
         for word in self.words {
-            command = command.arg(word.arg(alloc))?;
+            command = command.arg(word.arg(alloc)?)?;
         }
         Ok(command)
     }

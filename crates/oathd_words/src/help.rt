@@ -6,7 +6,8 @@ oathd init makes a database with what a node keeps, and oathd serve serves the
 node: no moving factor of a token (counter or time step) is accepted twice,
 whichever members are asked, and whenever nodes stop and start again. The
 commands lines, sim and cluster keep nothing between two runs: first free
-factors and the throttle begin anew with each users file.
+factors and the throttle begin anew with each users file. oathd check prints
+what the members of a cluster have to share.
 
 The status is 0 where all is done, 1 where a fault of the input, memory, clock
 or output, which standard error names, ended the run, 2 where the words are
@@ -142,8 +143,13 @@ of the members run and hear each other.
 
 The status is 3 where the database fails, and 4 where the socket does.
 
-Example of a node alone:
-    oathd serve node1.db users --node 1 --members 127.0.0.1:7001 --key key";
+A cluster file stands for --members, --key and the numbers of a look. Nodes
+with one hear each other only where their files say the same, and their users
+files have the same users, in the same order. oathd check prints what is shared.
+
+Example of a node alone, and of a member of a cluster:
+    oathd serve node1.db users --node 1 --members 127.0.0.1:7001 --key key
+    oathd serve node1.db users --node 1 --cluster cluster";
 
 /// What the help of the command `export` says besides its words.
 pub(crate) const EXPORT_HELP: &str = "\
@@ -172,6 +178,23 @@ step, or nothing.
 
 The status is 3 where the database fails, holds no such store, or is of the
 present version.";
+
+/// What the help of the command `check` says besides its words.
+pub(crate) const CHECK_HELP: &str = "\
+FILE is the cluster file of oathd serve, and USERS its users file. Both are read
+as oathd serve reads them, with the file of the key, and these lines are
+printed:
+    life TEXT
+    member NUMBER ADDRESS           for each member
+    look-ahead COUNT
+    skew COUNT
+    range COUNT
+    drift COUNT
+    tokens TYPE COUNT               for HOTP/E, HOTP/T30 and HOTP/T60
+    fingerprint DIGITS
+Members that print the same fingerprint hear each other: their files say the
+same members, settings and life, they have the same users, and the same key.
+Those that print another hear nothing of each other.";
 
 /// What the help of the command `secret` says besides its word.
 pub(crate) const SECRET_HELP: &str = "\

@@ -10,5 +10,5 @@ mod store_words;
 mod words;
 
 pub use members::read_members;
-pub use store_words::Action;
+pub use store_words::{Action, ClusterWords, ImportWords};
 pub use words::{Task, read_words};

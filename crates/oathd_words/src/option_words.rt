@@ -3,7 +3,7 @@
 use clap::{Arg, ArgAction};
 use command_line::NumberOption;
 use otp_core::MOMENTS_END;
-use std::alloc::Global;
+use std::alloc::{AllocError, Global};
 
 /// A value that is no number of any size: it stands by its place, or it is that of an option.
 #[derive(Clone, Copy)]
@@ -13,6 +13,10 @@ pub(crate) struct TextWord {
     /// What stands for the value of an option in the help.
     value_name: Option<&'static str>,
     is_required: bool,
+    /// An option without which it is required, if there is one.
+    unless: Option<&'static str>,
+    /// The options that can't stand beside it.
+    conflicts: &'static [&'static str],
     /// Whether it is one of the numbers from 1 to 9.
     is_digit: bool,
     help: &'static str,
@@ -23,21 +27,25 @@ const DIGITS: [&str; 9] = ["1", "2", "3", "4", "5", "6", "7", "8", "9"];
 
 impl TextWord {
     /// The value or option as clap's.
-    fn arg<'a>(&self, alloc: Global) -> Arg<'a> {
-        let arg = Arg::new(alloc, self.name)
+    fn arg<'a>(&self, alloc: Global) -> Result<Arg<'a>, AllocError> {
+        let mut arg = Arg::new(alloc, self.name)
             .required(self.is_required)
             .action(ArgAction::Set)
-            .help(self.help);
+            .help(self.help)
+            .conflicts_with_all(self.conflicts)?;
+        if let Some(other) = self.unless {
+            arg = arg.required_unless_present(other)?;
+        }
         let arg = match self.value_name {
             Some(value_name) => arg.long(self.name).value_name(value_name),
             None => arg,
         };
-        if self.is_digit {
+        Ok(if self.is_digit {
             arg.hide_possible_values(true)
                 .value_parser(DIGITS.as_slice())
         } else {
             arg
-        }
+        })
     }
 }
 
@@ -50,9 +58,9 @@ pub(crate) enum Word {
 
 impl Word {
     /// The word as clap's.
-    pub(crate) fn arg<'a>(&self, alloc: Global) -> Arg<'a> {
+    pub(crate) fn arg<'a>(&self, alloc: Global) -> Result<Arg<'a>, AllocError> {
         match self {
-            Word::Number(option) => option.arg(alloc),
+            Word::Number(option) => Ok(option.arg(alloc)),
             Word::Text(word) => word.arg(alloc),
         }
     }
@@ -126,6 +134,8 @@ pub(crate) const NODE_COUNT: TextWord = TextWord {
     name: "N",
     value_name: None,
     is_required: true,
+    unless: None,
+    conflicts: &[],
     is_digit: true,
     help: "How many nodes there are, 1 to 9",
 };
@@ -135,6 +145,8 @@ pub(crate) const USERS: TextWord = TextWord {
     name: "USERS",
     value_name: None,
     is_required: true,
+    unless: None,
+    conflicts: &[],
     is_digit: false,
     help: "The path of the users file",
 };
@@ -144,6 +156,8 @@ pub(crate) const DATABASE: TextWord = TextWord {
     name: "DB",
     value_name: None,
     is_required: true,
+    unless: None,
+    conflicts: &[],
     is_digit: false,
     help: "The path of the database",
 };
@@ -153,6 +167,8 @@ pub(crate) const HEX: TextWord = TextWord {
     name: "HEX",
     value_name: None,
     is_required: true,
+    unless: None,
+    conflicts: &[],
     is_digit: false,
     help: "The secret in hexadecimal: two digits for each of 1 to 128 bytes",
 };
@@ -162,6 +178,8 @@ pub(crate) const NODE: TextWord = TextWord {
     name: "node",
     value_name: Some("I"),
     is_required: true,
+    unless: None,
+    conflicts: &[],
     is_digit: true,
     help: "The number of the node, 1 to 9",
 };
@@ -171,6 +189,8 @@ pub(crate) const CLOCK_MOMENT: TextWord = TextWord {
     name: "moment",
     value_name: Some("SECONDS"),
     is_required: false,
+    unless: None,
+    conflicts: &[],
     is_digit: false,
     help: "The moment at which the users are imported, in seconds since\n\
         1970-01-01 00:00:00 UTC, 0 to 1099511627775 [default: the clock]",
@@ -180,7 +200,9 @@ pub(crate) const CLOCK_MOMENT: TextWord = TextWord {
 pub(crate) const MEMBERS: TextWord = TextWord {
     name: "members",
     value_name: Some("A,B,.."),
-    is_required: true,
+    is_required: false,
+    unless: Some("cluster"),
+    conflicts: &[],
     is_digit: false,
     help: "The addresses of the members in order of their numbers, 1 to 9 of\n\
         the form 127.0.0.1:7001, each another",
@@ -190,9 +212,45 @@ pub(crate) const MEMBERS: TextWord = TextWord {
 pub(crate) const KEY: TextWord = TextWord {
     name: "key",
     value_name: Some("PATH"),
-    is_required: true,
+    is_required: false,
+    unless: Some("cluster"),
+    conflicts: &[],
     is_digit: false,
     help: "A file of the cluster's key: 16 to 64 bytes in hexadecimal",
+};
+
+/// The cluster file.
+pub(crate) const CLUSTER: TextWord = TextWord {
+    name: "cluster",
+    value_name: Some("FILE"),
+    is_required: false,
+    unless: None,
+    conflicts: &["members", "key", "look-ahead", "skew", "range", "drift"],
+    is_digit: false,
+    help: "A cluster file, which says the members, the key and how far a code is\n\
+        looked for in place of those options",
+};
+
+/// The cluster file of an import.
+pub(crate) const IMPORT_CLUSTER: TextWord = TextWord {
+    name: "cluster",
+    value_name: Some("FILE"),
+    is_required: false,
+    unless: None,
+    conflicts: &["skew"],
+    is_digit: false,
+    help: "A cluster file, which says the skew in place of that option",
+};
+
+/// The cluster file of a check.
+pub(crate) const CHECKED_CLUSTER: TextWord = TextWord {
+    name: "cluster",
+    value_name: Some("FILE"),
+    is_required: true,
+    unless: None,
+    conflicts: &[],
+    is_digit: false,
+    help: "The cluster file",
 };
 
 /// The file of the key, which need not be named.
@@ -200,6 +258,8 @@ pub(crate) const KEY_OR_ZEROS: TextWord = TextWord {
     name: "key",
     value_name: Some("PATH"),
     is_required: false,
+    unless: None,
+    conflicts: &[],
     is_digit: false,
     help: "A file of the cluster's key: 16 to 64 bytes in hexadecimal.\nWithout it the key is 32 zeros",
 };

@@ -1,11 +1,15 @@
 //! The words of the commands over a database.
 
-ghost use Rattle.std.specs.Prelude.{◌≡◌, ◌≤◌, ℕ, Option, codes, IfNone, IfOk, IfSome};
-ghost use Rattle.clap.specs.Matches.{found_of};
+ghost use Rattle.std.specs.Prelude.{◌≡◌, ◌≤◌, ℕ, None, Option, codes, IfNone, IfOk, IfSome};
+ghost use Rattle.std.specs.Option.{option_map};
+ghost use Rattle.clap.specs.Matches.{first_value, found_of};
 ghost use Rattle.otp_core.specs.Limits.{Limits};
 ghost use Rattle.vote_core.specs.NodeSet.{PlaceRecord};
-ghost use Rattle.oathd_words.specs.StoreWords.{AsksForAction, GivesImport, GivesMoment, GivesPlace, GivesTurns};
+ghost use Rattle.oathd_words.specs.StoreWords.{AsksForAction, AsksForCluster, AsksForImport, GivesImport, GivesMoment, GivesPlace, GivesTurns};
+ghost use Rattle.oathd_words.specs.Words.{path_of_action};
 ghost use Rattle.oathd_words.specs.declared.store_words.Action.{Action as AnyAction};
+ghost use Rattle.oathd_words.specs.declared.store_words.ClusterWords.{ClusterWords as AnyCluster};
+ghost use Rattle.oathd_words.specs.declared.store_words.ImportWords.{ImportWords as AnyImport};
 
 use crate::members::read_members;
 use crate::words::{member_number, settings_of};
@@ -16,20 +20,11 @@ use std::alloc::{AllocError, Global};
 use std::net::SocketAddrV4;
 use vote_core::Place;
 
-/// What is done with the store of a node.
+/// What the words say of a cluster.
 #[derive(Drop)]
-pub enum Action<'a> {
-    /// To make it.
-    Init {
-        /// The number of the node: 1 to 9.
-        node: u8,
-        settings: Settings,
-        /// The moment at which the users are imported, in seconds since 1970-01-01 00:00:00 UTC: 0 to
-        /// 1099511627775. It is the present one where none is given.
-        moment: Option<u64>,
-    },
-    /// To serve its node.
-    Serve {
+pub enum ClusterWords<'a> {
+    /// All of it.
+    Given {
         settings: Settings,
         /// Which member the node is, and of how many.
         place: Place,
@@ -37,6 +32,40 @@ pub enum Action<'a> {
         members: Vec<SocketAddrV4>,
         /// The path of the file of the cluster's key.
         key: &'a str,
+    },
+    /// Which file says it.
+    Named {
+        /// The number of the node: 1 to 9.
+        node: u8,
+        /// The path of the cluster file.
+        path: &'a str,
+    },
+}
+
+/// What the words say of an import.
+#[derive(Drop)]
+pub enum ImportWords<'a> {
+    /// Its settings, of which an import looks at the skew.
+    Given(Settings),
+    /// The path of the cluster file that says them.
+    Named(&'a str),
+}
+
+/// What is done with the store of a node.
+#[derive(Drop)]
+pub enum Action<'a> {
+    /// To make it.
+    Init {
+        /// The number of the node: 1 to 9.
+        node: u8,
+        import: ImportWords<'a>,
+        /// The moment at which the users are imported, in seconds since 1970-01-01 00:00:00 UTC: 0 to
+        /// 1099511627775. It is the present one where none is given.
+        moment: Option<u64>,
+    },
+    /// To serve its node.
+    Serve {
+        cluster: ClusterWords<'a>,
         /// How many receives there are.
         turns: u32,
     },
@@ -52,6 +81,25 @@ pub enum Action<'a> {
         /// The number of the node: 1 to 9.
         node: u8,
     },
+}
+
+impl<'a> Action<'a> {
+    /// The path of the cluster file that the action names, if it names one.
+    pub(crate) fn cluster_path(&self) -> Option<&'a str>
+        ensures { option_map (λ path. path.now) result ≡ path_of_action self.now }
+    {
+        match self {
+            Action::Init {
+                import: ImportWords::Named(path),
+                ..
+            } => Some(*path),
+            Action::Serve {
+                cluster: ClusterWords::Named { path, .. },
+                ..
+            } => Some(*path),
+            _ => None,
+        }
+    }
 }
 
 /// The moment that is given, if any, or `None` where it isn't one in digits alone.
@@ -75,6 +123,17 @@ fn import_settings(matches: &ArgMatches<'_>) -> Option<Settings>
     ensures none { IfNone result ((limits : Limits) → GivesImport (found_of matches.now) limits → ⊥) }
 {
     Settings::new(10, number_of(matches, "skew")?, 100)
+}
+
+/// What the words say of an import, or `None` where they say nothing.
+fn import_words<'a>(matches: &ArgMatches<'a>) -> Option<ImportWords<'a>>
+    ensures some { IfSome result (AsksForImport (found_of matches.now)) }
+    ensures none { IfNone result ((import : AnyImport) → AsksForImport (found_of matches.now) import → ⊥) }
+{
+    match matches.get_str("cluster") {
+        Some(path) => Some(ImportWords::Named(path)),
+        None => Some(ImportWords::Given(import_settings(matches)?)),
+    }
 }
 
 /// How often a node receives, or `None` where it isn't a number below 2^32 in digits alone.
@@ -101,21 +160,27 @@ fn init_action<'a>(matches: &ArgMatches<'a>) -> Option<Action<'a>>
     ensures none { IfNone result ((action : AnyAction)
         → AsksForAction (codes "init") (found_of matches.now) action → ⊥) }
 {
-    Some(Action::Init {
-        node: member_number(matches, "node")?,
-        settings: import_settings(matches)?,
-        moment: moment_of(matches)?,
-    })
+    let node = member_number(matches, "node")?;
+    let moment = moment_of(matches)?;
+    match import_words(matches) {
+        Some(import) => Some(Action::Init {
+            node,
+            import,
+            moment,
+        }),
+        None => None,
+    }
 }
 
-/// What the values of the command `serve` ask for, or `None` where they ask for nothing.
-fn serve_action<'a>(
+/// What the values of the command `serve` say of a cluster without its file, or `None` where they say nothing.
+fn given_cluster<'a>(
     alloc: Global,
     matches: &ArgMatches<'a>,
-) -> Result<Option<Action<'a>>, AllocError>
-    ensures some { IfOk result (λ read. IfSome read (AsksForAction (codes "serve") (found_of matches.now))) }
-    ensures none { IfOk result (λ read. IfNone read ((action : AnyAction)
-        → AsksForAction (codes "serve") (found_of matches.now) action → ⊥)) }
+) -> Result<Option<ClusterWords<'a>>, AllocError>
+    requires { first_value (found_of matches.now) (codes "cluster") ≡ None }
+    ensures some { IfOk result (λ read. IfSome read (AsksForCluster (found_of matches.now))) }
+    ensures none { IfOk result (λ read. IfNone read ((cluster : AnyCluster)
+        → AsksForCluster (found_of matches.now) cluster → ⊥)) }
 {
     let (Some(key), Some(text)) = (matches.get_str("key"), matches.get_str("members")) else {
         return Ok(None);
@@ -129,16 +194,48 @@ fn serve_action<'a>(
     let Some(settings) = settings_of(matches) else {
         return Ok(None);
     };
-    let Some(turns) = turns_of(matches) else {
-        return Ok(None);
-    };
-    Ok(Some(Action::Serve {
+    Ok(Some(ClusterWords::Given {
         settings,
         place,
         members,
         key,
-        turns,
     }))
+}
+
+/// What the values of the command `serve` say of a cluster, or `None` where they say nothing.
+fn cluster_words<'a>(
+    alloc: Global,
+    matches: &ArgMatches<'a>,
+) -> Result<Option<ClusterWords<'a>>, AllocError>
+    ensures some { IfOk result (λ read. IfSome read (AsksForCluster (found_of matches.now))) }
+    ensures none { IfOk result (λ read. IfNone read ((cluster : AnyCluster)
+        → AsksForCluster (found_of matches.now) cluster → ⊥)) }
+{
+    let Some(path) = matches.get_str("cluster") else {
+        return given_cluster(alloc, matches);
+    };
+    match member_number(matches, "node") {
+        Some(node) => Ok(Some(ClusterWords::Named { node, path })),
+        None => Ok(None),
+    }
+}
+
+/// What the values of the command `serve` ask for, or `None` where they ask for nothing.
+fn serve_action<'a>(
+    alloc: Global,
+    matches: &ArgMatches<'a>,
+) -> Result<Option<Action<'a>>, AllocError>
+    ensures some { IfOk result (λ read. IfSome read (AsksForAction (codes "serve") (found_of matches.now))) }
+    ensures none { IfOk result (λ read. IfNone read ((action : AnyAction)
+        → AsksForAction (codes "serve") (found_of matches.now) action → ⊥)) }
+{
+    let Some(cluster) = cluster_words(alloc, matches)? else {
+        return Ok(None);
+    };
+    let Some(turns) = turns_of(matches) else {
+        return Ok(None);
+    };
+    Ok(Some(Action::Serve { cluster, turns }))
 }
 
 /// What the values of the command `audit` ask for, or `None` where they ask for nothing.

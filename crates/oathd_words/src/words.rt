@@ -1,10 +1,11 @@
 ghost use Rattle.std.specs.Prelude.{◌≡◌, ◌≤◌, ℕ, List, Option, Some, codes, IfSome, IfNone, IfOk};
+ghost use Rattle.std.specs.Option.{option_map};
 ghost use Rattle.clap.specs.Matches.{first_value, found_of};
 ghost use Rattle.command_line.specs.Number.{number_at};
 ghost use Rattle.otp_core.specs.Limits.{Limits};
 ghost use Rattle.oathd_words.specs.StoreWords.{AsksForStore};
 ghost use Rattle.oathd_words.specs.Given.{GivesLimits, GivesMember};
-ghost use Rattle.oathd_words.specs.Words.{AsksFor, AsksForNothing, AsksForNodes, GivesNumbers, IsInRange};
+ghost use Rattle.oathd_words.specs.Words.{AsksFor, AsksForNothing, AsksForNodes, AsksToCheck, GivesNumbers, IsInRange, cluster_path_of};
 ghost use Rattle.oathd_words.specs.declared.store_words.Action.{Action as AnyAction};
 
 use crate::command_words::{COMMANDS, CommandWords, program, value_error};
@@ -59,12 +60,32 @@ pub enum Task<'a> {
         users: &'a str,
         action: Action<'a>,
     },
+    /// To read what a node would be served with, but its database, and to print what all members share.
+    Check {
+        /// The path of the users file.
+        users: &'a str,
+        /// The path of the cluster file.
+        cluster: &'a str,
+    },
     /// To print the base32 text of a secret.
     Secret {
         /// The secret in hexadecimal, two digits for each byte. Any text may be given, and is refused where it
         /// is not so.
         hex: &'a str,
     },
+}
+
+impl<'a> Task<'a> {
+    /// The path of the cluster file that the task names, if it names one.
+    pub fn cluster_path(&self) -> Option<&'a str>
+        ensures { option_map (λ path. path.now) result ≡ cluster_path_of self.now }
+    {
+        match self {
+            Task::Check { cluster, .. } => Some(*cluster),
+            Task::Store { action, .. } => action.cluster_path(),
+            _ => None,
+        }
+    }
 }
 
 /// The limits that the options give, or `None` where a number is out of its range or written with anything but digits.
@@ -158,6 +179,16 @@ fn cluster_task<'a>(matches: &ArgMatches<'a>) -> Option<Task<'a>>
     })
 }
 
+/// What the values of the command `check` ask for, or `None` where they ask for nothing.
+fn check_task<'a>(matches: &ArgMatches<'a>) -> Option<Task<'a>>
+    ensures some { IfSome result (AsksFor (codes "check") (found_of matches.now)) }
+    ensures none { IfNone result ((users cluster : List ℕ) → AsksToCheck (found_of matches.now) users cluster → ⊥) }
+{
+    let users = matches.get_str("USERS")?;
+    let cluster = matches.get_str("cluster")?;
+    Some(Task::Check { users, cluster })
+}
+
 /// What the value of the command `secret` asks for, or `None` where there is none.
 fn secret_task<'a>(matches: &ArgMatches<'a>) -> Option<Task<'a>>
     ensures some { IfSome result (AsksFor (codes "secret") (found_of matches.now)) }
@@ -203,6 +234,7 @@ fn task_of<'a>(
         "lines" => Ok(lines_task(matches)),
         "sim" => Ok(sim_task(matches)),
         "cluster" => Ok(cluster_task(matches)),
+        "check" => Ok(check_task(matches)),
         "secret" => Ok(secret_task(matches)),
         _ => store_task(alloc, name, matches),
     }

@@ -1,4 +1,4 @@
-use Rattle.std.proofs.Common.{IfSome, Some, length, subst}
+use Rattle.std.proofs.Common.{IfSome, Some, length, subst, ◌∙◌}
 use Rattle.oathd_database.specs.Commands.{HasOpened}
 use Rattle.oathd_database.specs.declared.fault.Fault.{Fault}
 use Rattle.oathd_database.specs.Commands.{EndsServing}
@@ -13,7 +13,8 @@ returns-clause-served g c =
     let opened = subst (λ n. HasOpened g.S.Store (Some n) (length book) found) c.me.ensures.value c.in_ok-users.ensures.opened in
     let turns = c.serve_node.ensures.turns in
     has_served g.S.Store c.args.serving (g.R.Read.remaining c.args.users) book c.in_ok-users.users.floors.items found c.in_ok-node.node c.serve_node.new.node
-    c.in_ok-users.ensures.users opened c.in_ok-node.ensures.opened c.in_ok-node.ensures.book c.in_ok-node.ensures.limits c.in_ok-node.ensures.key
+    c.in_ok-users.ensures.users opened c.in_ok-node.ensures.opened c.in_ok-node.ensures.book c.in_ok-node.ensures.limits
+    (c.in_ok-node.ensures.key ∙ c.in_ok-key.ensures.key)
     c.in_ok-node.ensures.place c.serve_node.result turns.0 turns.2 turns.1
 
 pub returns-clause-fault : goal.returns-clause-fault

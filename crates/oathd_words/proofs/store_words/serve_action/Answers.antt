@@ -1,18 +1,5 @@
-use Rattle.std.proofs.Common.{subst, arith}
-use Rattle.oathd_words.specs.Members.{AreMembers}
-use Rattle.oathd_words.proofs.MembersLemmas.{some_at}
-use Rattle.oathd_words.proofs.ServeLemmas.{no_limits, no_place, no_turns}
+use Rattle.oathd_words.proofs.ServeLemmas.{no_turns}
 use Rattle.oathd_words.proofs.store_words.serve_action.Goals as goal
-
-pub returns-in_default-place_of-clause-none : goal.returns-in_default-place_of-clause-none
-returns-in_default-place_of-clause-none c =
-    let read = some_at c.in_ok-members.field-0 c.in-Some.members _ c.in-Some.is c.in_ok-members.ensures.some in
-    let are = subst (λ t. AreMembers t c.in-Some.members.items) c.as_bytes.ensures.value read in
-    no_place _ c.in-Some-Some.text.now c.in-Some.members.items _ c.in-Some-Some.ensures' are (omega (arith, c.len.ensures, are.few))
-    c.in_default-place_of.ensures.none
-
-pub returns-in_default-settings_of-clause-none : goal.returns-in_default-settings_of-clause-none
-returns-in_default-settings_of-clause-none c = no_limits _ c.in_default-settings_of.ensures.none
 
 pub returns-in_default-turns_of-clause-none : goal.returns-in_default-turns_of-clause-none
 returns-in_default-turns_of-clause-none c = no_turns _ c.in_default-turns_of.ensures.none

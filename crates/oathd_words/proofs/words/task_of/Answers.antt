@@ -1,4 +1,4 @@
-use Rattle.oathd_words.proofs.WordsLemmas.{none_then, not_for_cluster, not_for_lines, not_for_secret, not_for_sim}
+use Rattle.oathd_words.proofs.WordsLemmas.{none_then, not_for_check, not_for_cluster, not_for_lines, not_for_secret, not_for_sim}
 use Rattle.oathd_words.proofs.words.task_of.Goals as goal
 
 pub returns-in-lines-clause-none : goal.returns-in-lines-clause-none
@@ -15,3 +15,6 @@ returns-in-cluster-clause-none c =
 pub returns-in-secret-clause-none : goal.returns-in-secret-clause-none
 returns-in-secret-clause-none c =
     none_then c.secret_task.result _ _ c.secret_task.ensures.none (not_for_secret c.args.name.now _ c.in-secret.is)
+
+pub returns-in-check-clause-none : goal.returns-in-check-clause-none
+returns-in-check-clause-none c = none_then c.check_task.result _ _ c.check_task.ensures.none (not_for_check c.args.name.now _ c.in-check.is)

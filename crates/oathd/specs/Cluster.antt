@@ -1,0 +1,12 @@
+-- What a cluster file that is named says of an import.
+use Rattle.std.specs.Prelude.{◌≡◌, List, ℕ, Ok}
+use Rattle.otp_core.specs.Limits.{Limits}
+use Rattle.cluster_file.specs.ClusterFile.{ClusterRecord, cluster_of}
+use Rattle.oathd_words.specs.declared.store_words.ImportWords.{ImportWords}
+use Rattle.oathd_words.specs.declared.store_words.ImportWords.TheVariants.{Given, Named}
+
+-- the settings of an import are those that the words give, or those of the cluster that the text of a cluster file says
+abbrev pub IsImportOf : ImportWords → List ℕ → Limits → Type 0
+IsImportOf (Given settings) text limits = limits ≡ settings
+IsImportOf (Named path) text limits =
+    (cluster : ClusterRecord) × (cluster_of text ≡ Ok cluster) × (limits ≡ cluster.settings)

@@ -1,0 +1,47 @@
+ghost use Rattle.std.specs.Prelude.{◌≡◌, List, IfErr, IfOk, None, Some};
+ghost use Rattle.token_file.specs.Credential.{Credential};
+ghost use Rattle.cluster_file.specs.Key.{IsCollision, shared_key_of};
+ghost use Rattle.cluster_file.specs.Shared.{IsShared, Shared as AllShared, shared_text};
+ghost use Rattle.oathd_database.specs.NodeKey.{own_key, shared_by, tag_key};
+ghost use Rattle.oathd_database.specs.declared.node_key.NodeKey.{NodeKey as AnyKey};
+
+use crate::fault::Fault;
+use cluster_file::{Cluster, shared_key};
+use std::alloc::Global;
+use token_file::Book;
+use vote_wire::ClusterKey;
+
+/// The key of a node that is served.
+#[derive(Drop)]
+pub enum NodeKey<'a> {
+    /// The cluster's own.
+    Own(ClusterKey),
+    /// The one that follows from the cluster's own, the cluster file and the users file.
+    Shared(ClusterKey, &'a Cluster<'a>),
+}
+
+/// The key under which a node with these tokens tags its datagrams.
+pub(crate) fn tag_key(alloc: Global, key: NodeKey<'_>, book: &Book) -> Result<ClusterKey, Fault>
+    ensures key { IfOk result (λ tagging. tagging ≡ tag_key key.entry book.now) }
+    ensures fault { IfErr result (λ fault. fault ≡ Fault.Memory) }
+{
+    match key {
+        NodeKey::Own(key) => Ok(key),
+        NodeKey::Shared(key, cluster) => match shared_key(alloc, &key, cluster, book) {
+            Ok(tagging) => Ok(tagging),
+            Err(_) => Err(Fault::Memory),
+        },
+    }
+}
+
+/// A node without a cluster file tags under the cluster's own key, and one with a cluster file under the shared key.
+/// Two of these with one key of the cluster that don't share the same tag under different keys, or their shared texts
+/// collide.
+pub fn node_keys_tell()
+    ensures own { (a : AnyKey) (book : List Credential) → shared_by a book ≡ None → tag_key a book ≡ own_key a }
+    ensures shared { (a : AnyKey) (book : List Credential) (s : AllShared) → shared_by a book ≡ Some s →
+        tag_key a book ≡ shared_key_of (own_key a) s }
+    ensures apart { (a b : AnyKey) (book tokens : List Credential) (s t : AllShared) → shared_by a book ≡ Some s →
+        shared_by b tokens ≡ Some t → IsShared s → IsShared t → own_key a ≡ own_key b → (s ≡ t → ⊥) →
+        tag_key a book ≡ tag_key b tokens → IsCollision (own_key a) (shared_text s) (shared_text t) }
+{}
