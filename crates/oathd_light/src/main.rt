@@ -15,17 +15,17 @@ use std::process::ExitCode;
 fn perform_task<'a, R: Read, O: Write>(
     alloc: Global,
     rt: &HostRuntime,
-    task: &Task<'a>,
+    task: Task<'a>,
     cluster: &'a [u8],
     reader: &mut R,
     output: &mut O,
 ) -> Result<u8, Fault<'a>>
-    requires { IsInRange task.now }
+    requires { IsInRange task }
 {
     let Ok(mut held) = BufWriter::new(alloc, &mut *output) else {
         return Err(Fault::from(OutsideFault::Memory));
     };
-    perform(alloc, rt, task, cluster, reader, &mut held)?;
+    perform(alloc, rt, &task, cluster, reader, &mut held)?;
     Ok(0)
 }
 
@@ -33,12 +33,12 @@ fn perform_task<'a, R: Read, O: Write>(
 fn follow_task<R: Read, O: Write, E: Write>(
     alloc: Global,
     rt: &HostRuntime,
-    task: &Task<'_>,
+    task: Task<'_>,
     reader: &mut R,
     output: &mut O,
     errors: &mut E,
 ) -> u8
-    requires { IsInRange task.now }
+    requires { IsInRange task }
 {
     match cluster_text(alloc, rt, task.cluster_path()) {
         Ok(text) => {
@@ -59,7 +59,7 @@ fn follow<R: Read, O: Write, E: Write>(
     errors: &mut E,
 ) -> u8 {
     match read_words(alloc, words) {
-        Ok(task) => follow_task(alloc, rt, &task, reader, output, errors),
+        Ok(task) => follow_task(alloc, rt, task, reader, output, errors),
         Err(error) => match explain(output, errors, &error) {
             Ok(status) => status,
             Err(fault) => exit_status(errors, "oathd", Err(Fault::from(fault))),
