@@ -1,6 +1,6 @@
 //! The commands over a database.
 
-ghost use Rattle.std.specs.Prelude.{◌≡◌, ◌≤◌, length, IfOk};
+ghost use Rattle.std.specs.Prelude.{◌≡◌, ◌<◌, ◌≤◌, ◌^◌, length, IfOk};
 ghost use Rattle.otp_core.specs.Range.{IsMoment};
 ghost use Rattle.oathd_words.specs.StoreWords.{IsActionInRange, IsClusterInRange};
 ghost use Rattle.oathd.specs.Cluster.{IsImportOf};
@@ -67,9 +67,11 @@ fn serving_of<'a>(
     cluster: &'a Cluster<'a>,
     key: ClusterKey,
     place: Place,
-    turns: u32,
+    turns: u64,
+    is_logged: bool,
 ) -> Result<Serving<'a>, AllocError>
-    requires { place.n ≡ length cluster.now.members.items }
+    requires place { place.n ≡ length cluster.now.members.items }
+    requires turns { turns < 2 ^ 54 }
 {
     Ok(Serving {
         settings: cluster.settings,
@@ -77,28 +79,32 @@ fn serving_of<'a>(
         members: cluster.members.clone()?,
         key: NodeKey::Shared(key, cluster),
         turns,
+        is_logged,
     })
 }
 
 /// Serves the member with this number of the cluster that the text of a cluster file says.
-fn serve_member<'a>(
+fn serve_member<'a, O: Write>(
     alloc: Global,
     rt: &HostRuntime,
     database: &str,
     users: &'a str,
     node: u8,
     text: &'a [u8],
-    turns: u32,
+    turns: u64,
+    is_logged: bool,
+    held: &mut O,
 ) -> Result<(), Fault<'a>>
-    requires { 1 ≤ node }
+    requires node { 1 ≤ node }
+    requires turns { turns < 2 ^ 54 }
 {
     let cluster = cluster_in(alloc, text)?;
     let place = member_place(&cluster, node)?;
     let key = cluster_key(alloc, rt, &cluster.key)?;
     let file = open_users(rt, users)?;
-    match serving_of(&cluster, key, place, turns) {
+    match serving_of(&cluster, key, place, turns, is_logged) {
         Ok(serving) => {
-            serve_file(alloc, rt, database, file, serving)?;
+            serve_file(alloc, rt, database, file, serving, held)?;
             Ok(())
         }
         Err(_) => Err(Fault::Database(oathd_database::Fault::Memory)),
@@ -106,16 +112,19 @@ fn serve_member<'a>(
 }
 
 /// Serves a node of the cluster that the words say, or the text of the cluster file that they name.
-fn serve<'a>(
+fn serve<'a, O: Write>(
     alloc: Global,
     rt: &HostRuntime,
     database: &str,
     users: &'a str,
     cluster: ClusterWords<'a>,
     text: &'a [u8],
-    turns: u32,
+    turns: u64,
+    is_logged: bool,
+    held: &mut O,
 ) -> Result<(), Fault<'a>>
-    requires { IsClusterInRange cluster }
+    requires cluster { IsClusterInRange cluster }
+    requires turns { turns < 2 ^ 54 }
 {
     match cluster {
         ClusterWords::Given {
@@ -132,12 +141,15 @@ fn serve<'a>(
                 members,
                 key,
                 turns,
+                is_logged,
             };
-            serve_file(alloc, rt, database, file, serving)?;
+            serve_file(alloc, rt, database, file, serving, held)?;
             Ok(())
         }
         ClusterWords::Named { node, .. } => {
-            serve_member(alloc, rt, database, users, node, text, turns)
+            serve_member(
+                alloc, rt, database, users, node, text, turns, is_logged, held,
+            )
         }
     }
 }
@@ -169,8 +181,22 @@ pub(crate) fn perform_action<'a, O: Write>(
             let file = open_users(rt, users)?;
             init_file(alloc, rt, database, file, settings, moment, node)?;
         }
-        Action::Serve { cluster, turns } => {
-            serve(alloc, rt, database, users, cluster, cluster_file, turns)?;
+        Action::Serve {
+            cluster,
+            turns,
+            is_logged,
+        } => {
+            serve(
+                alloc,
+                rt,
+                database,
+                users,
+                cluster,
+                cluster_file,
+                turns,
+                is_logged,
+                held,
+            )?;
         }
         Action::Export => export_file(alloc, rt, database, open_users(rt, users)?, held)?,
         Action::Audit { node } => {

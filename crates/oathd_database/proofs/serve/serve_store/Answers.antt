@@ -11,17 +11,17 @@ returns-clause-served g c =
     let book = c.in_ok-users.users.book in
     let found = c.in_ok-users.store in
     let opened = subst (λ n. HasOpened g.S.Store (Some n) (length book) found) c.me.ensures.value c.in_ok-users.ensures.opened in
-    let turns = c.serve_node.ensures.turns in
-    has_served g.S.Store c.args.serving (g.R.Read.remaining c.args.users) book c.in_ok-users.users.floors.items found c.in_ok-node.node c.serve_node.new.node
+    let turns = c.serve_port.ensures.turns in
+    has_served g.S.Store c.args.serving (g.R.Read.remaining c.args.users) book c.in_ok-users.users.floors.items found c.in_ok-node.node c.serve_port.new.node
     c.in_ok-users.ensures.users opened c.in_ok-node.ensures.opened c.in_ok-node.ensures.book c.in_ok-node.ensures.limits
     (c.in_ok-node.ensures.key ∙ c.in_ok-key.ensures.key)
-    c.in_ok-node.ensures.place c.serve_node.result turns.0 turns.2 turns.1
+    c.in_ok-node.ensures.place c.serve_port.result turns.0 turns.2 turns.1
 
 pub returns-clause-fault : goal.returns-clause-fault
 returns-clause-fault g c =
-    let turns = c.serve_node.ensures.turns in
+    let turns = c.serve_port.ensures.turns in
     ends_turns c.args.serving.settings 0 16777216 (g.R.Read.remaining c.args.users) c.in_ok-users.users.book c.in_ok-users.users.floors.items
-    c.in_ok-users.ensures.users c.serve_node.result turns.0 turns.2
+    c.in_ok-users.ensures.users c.serve_port.result turns.0 turns.2
 
 pub returns-in_err-socket_at-clause-fault : goal.returns-in_err-socket_at-clause-fault
 returns-in_err-socket_at-clause-fault g c =
