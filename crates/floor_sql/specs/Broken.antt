@@ -42,6 +42,10 @@ shut_state now committed = record (small_state now committed) { is_open = false 
 abbrev pub IsSecond : Database → Database → Type 0
 IsSecond old new = new ≡ small_db 2
 
+-- the value that is read is 1, whatever the tables
+abbrev pub IsOne : Database → ℕ → Type 0
+IsOne db value = value ≡ 1
+
 -- the refusal by this fault
 abbrev pub refused : StoreFault → Refusal
 refused fault = record { 0 = fault }

@@ -8,7 +8,7 @@ ghost use Rattle.sqlite_wal.specs.Recovery.{Image};
 ghost use Rattle.sqlite_store.specs.declared.store.FileStore.{FileStore};
 ghost use Rattle.floor_store.specs.Examples.{free_row, old_pass, proposal};
 ghost use Rattle.floor_store.specs.Content.{opening_content};
-ghost use Rattle.floor_sql.specs.Broken.{IsSecond, db_at, refused, shut_state, small_content, small_state, tables_at, trees_of};
+ghost use Rattle.floor_sql.specs.Broken.{IsOne, IsSecond, db_at, refused, shut_state, small_content, small_state, tables_at, trees_of};
 ghost use Rattle.floor_sql.specs.Created.{AreMade, IsForeign, Opens, first_schema, no_schema};
 ghost use Rattle.floor_sql.specs.Held.{HasSame, HasTables, SqlHeld};
 ghost use Rattle.floor_sql.specs.Schema.{floor_schema, undrifted_schema};
@@ -140,8 +140,8 @@ pub fn promises_can_be_broken()
     ensures audit_hi { IsAudit (record old_pass { lo = 4611686018427387903; hi = 4611686018427387904 }) → ⊥ }
 {}
 
-/// What is promised of a call on a connection, whatever the connection is over: each field is broken by the least change of
-/// the connection, or by the least answer, that keeps all others.
+/// What is promised of a call on a connection, whatever it is over: each field is broken by the least change of the
+/// connection, or by the least answer, that keeps all others.
 pub fn calls_can_be_broken<S: Alter>()
     ensures reads { (conn : Conn S) → ReadsOnly S.Store {A = ℕ} conn conn (Ok 0) }
     ensures reads_read { (conn : Conn S) → HasCleanDisk (state S.Store conn) → conn.schema ≡ floor_schema
@@ -151,13 +151,13 @@ pub fn calls_can_be_broken<S: Alter>()
         → ReadsOnly S.Store {A = ℕ} conn (record conn { in_transaction = true }) (Ok 0) → ⊥ }
     ensures reads_crash { (conn : Conn S) → conn.step_limit ≡ None
         → ReadsOnly S.Store {A = ℕ} conn (record conn { step_limit = Some 7 }) (Ok 0) → ⊥ }
-    ensures reads_tables { (conn : Conn S) → ReadsTables S.Store {A = ℕ} conn conn (λ db value. value ≡ 1) (λ db. ⊤) (Ok 1) }
+    ensures reads_tables { (conn : Conn S) → ReadsTables S.Store {A = ℕ} conn conn IsOne (λ db. ⊤) (Ok 1) }
     ensures reads_tables_only { (conn : Conn S) → conn.step_limit ≡ None
-        → ReadsTables S.Store {A = ℕ} conn (record conn { step_limit = Some 7 }) (λ db value. value ≡ 1) (λ db. ⊤) (Ok 1) → ⊥ }
+        → ReadsTables S.Store {A = ℕ} conn (record conn { step_limit = Some 7 }) IsOne (λ db. ⊤) (Ok 1) → ⊥ }
     ensures reads_tables_value { (conn : Conn S) → HasCleanDisk (state S.Store conn)
-        → ReadsTables S.Store {A = ℕ} conn conn (λ db value. value ≡ 1) (λ db. ⊤) (Ok 2) → ⊥ }
+        → ReadsTables S.Store {A = ℕ} conn conn IsOne (λ db. ⊤) (Ok 2) → ⊥ }
     ensures reads_tables_unusable { (conn : Conn S) → HasCleanDisk (state S.Store conn)
-        → ReadsTables S.Store {A = ℕ} conn conn (λ db value. value ≡ 1) (λ db. ⊤) (Err (refused Unusable)) → ⊥ }
+        → ReadsTables S.Store {A = ℕ} conn conn IsOne (λ db. ⊤) (Err (refused Unusable)) → ⊥ }
     ensures transacts_idle { (conn : Conn S) → Transacts S.Store {A = ℕ} (λ fault. fault) conn
         (record conn { in_transaction = true }) (λ old new. ⊤) (λ db. ⊤) (Err Disk) → ⊥ }
     ensures transacts_ok { (conn : Conn S) → HasCleanDisk (state S.Store conn)

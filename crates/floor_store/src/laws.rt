@@ -139,9 +139,10 @@ pub fn promises_can_be_broken()
     ensures raises_boot_failed { RaisesBoot small_held (store_at 0) (broken_at 0) failed }
     ensures raises_boot_writes { RaisesBoot small_held (store_at 0) (store_at 2) done → ⊥ }
     ensures raises_boot_breaks { RaisesBoot small_held (store_at 0) (store_at 0) failed → ⊥ }
-    ensures raises_boot_spent { RaisesBoot small_held (store_at (4611686018427387903))
-        (record (store_at (4611686018427387903)) { failures = 1 }) spent → ⊥ }
-    ensures raises_boot_spent_broken { RaisesBoot small_held (broken_at (4611686018427387903)) (broken_at (4611686018427387903))
+    ensures raises_boot_spent { RaisesBoot small_held (store_at 4611686018427387903)
+        (record (store_at 4611686018427387903) { failures = 1 }) spent → ⊥ }
+    ensures raises_boot_spent_broken { RaisesBoot small_held (broken_at 4611686018427387903)
+        (broken_at 4611686018427387903)
         spent → ⊥ }
     ensures raises_boot_last { RaisesBoot small_held (store_at 0) (store_at 0) spent → ⊥ }
 {}

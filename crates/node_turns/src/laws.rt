@@ -21,7 +21,8 @@ pub fn turns_are_worked()
     ensures too_many_faults { run_of (replicate 17 Failure) ≡ record (going_with 0 0 0) { end = Some Port } }
     ensures faults_apart { run_of (replicate 15 Failure ++ Nothing ∷ replicate 15 Failure) ≡ going_with 0 0 1 }
     ensures faults_apart_by_noise { run_of (replicate 15 Failure ++ noise ∷ replicate 15 Failure) ≡ going_with 1 0 0 }
-    ensures faults_apart_by_a_line { run_of (replicate 15 Failure ++ no_line ∷ replicate 15 Failure) ≡ going_with 1 1 0 }
+    ensures faults_apart_by_a_line { run_of (replicate 15 Failure ++ no_line ∷ replicate 15 Failure)
+        ≡ going_with 1 1 0 }
     ensures clock { run_of (line_without_moment ∷ Nothing ∷ [])
         ≡ record (going_with 1 0 0) { end = Some Clock } }
     // the clock is asked for a client's datagram alone

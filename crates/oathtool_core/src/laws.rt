@@ -12,7 +12,7 @@ ghost use Rattle.oathtool_core.specs.Fault.{outside_fault_of, status_of};
 ghost use Rattle.oathtool_core.specs.Key.{IsKeyOf, key_refusal};
 ghost use Rattle.oathtool_core.specs.Offset.{HasNoNearest, HasNoOffset, IsLeastOffset, IsNearestOffset};
 ghost use Rattle.oathtool_core.specs.Plan.{HasBadTime, HasKey, HasTimes, IsGenerator, IsNoTime, IsReady, IsTimeGiven, Stops, first_of, hash_of, moment_of, step_at};
-ghost use Rattle.oathtool_core.specs.Run.{IsPrinted};
+ghost use Rattle.oathtool_core.specs.Run.{EndsSo, Fails, FindsNone, IsPrinted};
 ghost use Rattle.oathtool_core.specs.StepSize.{step_size_of};
 ghost use Rattle.oathtool_core.specs.Time.{fields_of};
 ghost use Rattle.oathtool_core.specs.TimeFault.{fault_of};
@@ -164,4 +164,25 @@ pub fn offsets_are_worked()
         → IsPrinted (Totp Sha1) (Some otp) generator 9 20 (codes "-3" ++ 10 ∷ []) }
     ensures nearest_after_printed { (generator : Generator) (otp : List ℕ) → IsNearestOffset generator otp 9 20 (pos 3)
         → IsPrinted (Totp Sha1) (Some otp) generator 9 20 (codes "3" ++ 10 ∷ []) }
+{}
+
+/// What is promised of a run's end: a run that fails has written nothing, but where the output failed; it finds no
+/// match where an OTP was given; and one that prints, prints what its words ask for and nothing else.
+pub fn ends_are_told()
+    ensures nothing_written { (words : Words) (clock : Option ℕ) (fault : Fault) (text : List ℕ)
+        → Fails words clock fault (Some []) (Some text) → (fault ≡ CannotWrite → ⊥) → text ≡ [] }
+    ensures nothing_known { (words : Words) (clock : Option ℕ) (fault : Fault)
+        → Fails words clock fault (Some []) None → fault ≡ CannotWrite }
+    ensures no_otp { (words : Words) (clock : Option ℕ) (old new : Option (List ℕ))
+        → FindsNone (record words { otp = None }) clock old new → ⊥ }
+    ensures one_code { (words : Words) (clock : Option ℕ) (text : List ℕ) → words.key.now ≡ codes "61"
+        → EndsSo (record words {
+          mode = Hotp;
+          counter = 7;
+          window = 0;
+          digits = Eight;
+          is_base32 = false;
+          otp = None;
+        }) clock (Ok tt) (Some []) (Some text)
+        → text ≡ line_of (code_of Sha1 (97 ∷ []) 7 8) }
 {}

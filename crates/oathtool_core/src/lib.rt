@@ -37,5 +37,7 @@ mod words;
 
 pub use emulator::run;
 pub use fault::Fault;
-pub use laws::{faults_are_in_order, offsets_are_worked, plans_are_worked, times_are_worked};
+pub use laws::{
+    ends_are_told, faults_are_in_order, offsets_are_worked, plans_are_worked, times_are_worked,
+};
 pub use words::{MAX_WINDOW, Mode, Words};

@@ -77,8 +77,8 @@ pub fn quiet_turns_keep_their_pace()
         → last_of before moments < due + interval * (paced_of due moments).quiets }
 {}
 
-/// What is promised of an address and of moments is broken by the least that is wrong, and any receive that failed comes
-/// to what its kind says.
+/// What is promised of an address and of moments is broken by the least that is wrong, and any receive that failed
+/// comes to what its kind says.
 pub fn promises_can_be_broken()
     ensures member { IsAddressOf (at_local 1 ∷ at_local 2 ∷ []) (Peer 2) (at_local 2) }
     ensures member_0 { IsAddressOf (at_local 1 ∷ []) (Peer 0) (at_local 1) → ⊥ }
