@@ -1,5 +1,5 @@
 -- Tokens that are told one after the other.
-use Rattle.std.proofs.Common.{◌≡◌, ℕ, zero, suc, ◌+◌, ◌<◌, List, [], ◌∷◌, ◌++◌, map, take, length, Option, Some, None, refl, sym, ap, ◌∙◌, arith, subst}
+use Rattle.std.proofs.Common.{◌≡◌, ℕ, zero, suc, ◌+◌, ◌<◌, List, [], ◌∷◌, ◌++◌, map, take, length, Option, Some, sym, ap, ◌∙◌, arith}
 use Rattle.std.specs.Prelude.{Result, Ok, Err, IfErr, IfOk, OnOk, slice_get, IfSome}
 use Rattle.std.specs.Io.KnownBytes.{Appends}
 use Rattle.std.proofs.lemmas.Option.{IfSome_then}
@@ -18,7 +18,7 @@ use Rattle.std.proofs.lemmas.Option.{none-some, same_Some}
 use Rattle.token_file.specs.Credential.{Credential}
 use Rattle.floor_store.specs.Records.{RowRecord}
 use Rattle.floors_file.specs.declared.floors.Floor.{Floor}
-use Rattle.floors_file.specs.Floors.{FloorRecord, floor_value}
+use Rattle.floors_file.specs.Floors.{floor_value}
 use Rattle.oathd_database.specs.Floors.{HasToldFloors, IsToldFault, told_floors, told_rows}
 
 -- one token more

@@ -1,7 +1,8 @@
 -- Files that are read one after the other.
-use Rattle.std.proofs.Common.{◌≡◌, ℕ, ◌+◌, ◌<◌, ◌≤◌, List, [], ◌∷◌, ◌++◌, map, drop, length, suc, add-one, refl, sym, ap, ◌∙◌, arith, subst, get_or}
+use Rattle.std.proofs.Common.{◌≡◌, ℕ, ◌+◌, ◌<◌, ◌≤◌, List, [], ◌∷◌, ◌++◌, map, drop, length, suc, add-one, sym, ap, ◌∙◌, arith, subst, get_or}
 use Rattle.std.specs.Prelude.{Ok, Err, Option, IfSome}
 use Rattle.std.proofs.lemmas.Option.{IfSome_then}
+use Rattle.std.specs.Borrow.{Bor}
 use Rattle.sqlite.specs.Store.{Ghosts}
 use Rattle.sqlite.specs.Held.{Held}
 use Rattle.otp_core.specs.Limits.{Limits}
@@ -60,7 +61,7 @@ files_bad text_of texts before number text line kind at within is reads counted 
     ∙ ap (λ n. Err (n, line, kind)) (ap (λ n. n + 1) (length-map before floors_value) ∙ sym counted)
 
 -- what ends the reading ends the gathering
-pub unread_ungathered : (asked : Asked) (node : ℕ) (lost : List ℕ) (book : List Credential) (texts : List (List ℕ)) (fault : LostFault)
+pub unread_ungathered : (asked : Asked) (node : ℕ) (lost : Option (Bor (List ℕ))) (book : List Credential) (texts : List (List ℕ)) (fault : LostFault)
     → IsUnreadFile texts fault → IsUngathered asked node lost book texts fault
 unread_ungathered asked node lost book texts (Command fault) h = h
 unread_ungathered asked node lost book texts (LostFaults.Floors number fault) h = h
@@ -82,14 +83,14 @@ module _ (limits : Limits) (moment longest : ℕ) (lost : LostNode) (texts : Lis
 
   module _ (book : List Credential) (floors : List ℕ) where
     ungathered_at : (fault : LostFault) (text : List ℕ) → IsImported limits moment longest book floors text
-        → IsUngathered (asked_at lost.since moment) lost.node lost.lost.now book texts fault → IsNotRemade limits moment longest lost texts fault text
+        → IsUngathered (asked_at lost.since moment) lost.node lost.lost book texts fault → IsNotRemade limits moment longest lost texts fault text
     ungathered_at (Command fault) text i h = subst (λ f. IsRefused limits moment longest f text) (sym h) tt
     ungathered_at (LostFaults.Floors number fault) text i h = record { import = record { book = book; floors = floors; imported = i }; cause = h }
     ungathered_at (Files fault) text i h = record { import = record { book = book; floors = floors; imported = i }; cause = h }
 
     -- the texts don't tell enough
     pub ungathered : (a : Option (List ℕ)) (fault : LostFault) → IfSome a (IsImported limits moment longest book floors)
-        → IsUngathered (asked_at lost.since moment) lost.node lost.lost.now book texts fault → IfSome a (IsNotRemade limits moment longest lost texts fault)
+        → IsUngathered (asked_at lost.since moment) lost.node lost.lost book texts fault → IfSome a (IsNotRemade limits moment longest lost texts fault)
     ungathered a fault h is = IfSome_then a h (λ text i. ungathered_at fault text i is)
 
     -- the store refuses
@@ -100,7 +101,7 @@ module _ (limits : Limits) (moment longest : ℕ) (lost : LostNode) (texts : Lis
     -- the store is made
     pub remade : {S : Type 0} (g : Ghosts S) (a : Option (List ℕ)) (conn : Held S) (store : SqlHeld S) (gathered given : List ℕ)
         → IfSome a (IsImported limits moment longest book floors) → given ≡ gathered
-        → IsGathered (asked_at lost.since moment) lost.node lost.lost.now book floors texts gathered
+        → IsGathered (asked_at lost.since moment) lost.node lost.lost book floors texts gathered
         → IsMade g conn lost.node (boot_at moment) given store → IfSome a (HasRemade g limits moment longest lost texts store)
     remade g a conn store gathered given h same is made = IfSome_then a h (λ text i. record {
       import = record { book = book; floors = floors; imported = i };
@@ -116,7 +117,7 @@ few_gathered files [] own = omega arith
 few_gathered files (token ∷ book) [] = omega arith
 few_gathered files (token ∷ book) (floor ∷ own) = let rest = few_gathered files book own in omega (arith, rest)
 
-pub gathered_fit : (asked : Asked) (node : ℕ) (lost : List ℕ) (book : List Credential) (own : List ℕ) (texts : List (List ℕ)) (floors given : List ℕ)
+pub gathered_fit : (asked : Asked) (node : ℕ) (lost : Option (Bor (List ℕ))) (book : List Credential) (own : List ℕ) (texts : List (List ℕ)) (floors given : List ℕ)
     → given ≡ floors → length book ≤ 10000 → IsGathered asked node lost book own texts floors → length given ≤ 10000
 gathered_fit asked node lost book own texts floors given same few is =
     let bound = few_gathered is.files book own in

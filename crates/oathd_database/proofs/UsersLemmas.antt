@@ -1,5 +1,5 @@
 -- A users file is read, or is not.
-use Rattle.std.proofs.Common.{◌≡◌, ℕ, List, length, Option, Some, None, IfSome, IfOk, IfErr, refl, sym, subst}
+use Rattle.std.proofs.Common.{◌≡◌, ℕ, List, Option, Some, None, IfSome, IfOk, IfErr, refl, sym, subst}
 use Rattle.std.specs.Prelude.{Result, Ok, Err, IsTrue}
 use Rattle.sqlite.specs.Store.{Ghosts}
 use Rattle.sqlite.specs.Held as sql
@@ -9,10 +9,10 @@ use Rattle.floor_sql.specs.Calls.{IsOpened}
 use Rattle.floor_sql.specs.Held.{SqlHeld}
 use Rattle.token_file.specs.Credential.{Credential}
 use Rattle.token_file.specs.Source.{OfText}
-use Rattle.token_file.specs.UsersFile.{IsCutOff, book_of, import_of, instant_of, is_of_text}
+use Rattle.token_file.specs.UsersFile.{IsCutOff, book_of, instant_of, is_of_text}
 use Rattle.token_file.specs.declared.fault.FileFault.{FileFault}
 use Rattle.token_file.specs.declared.fault.LineFault.TheVariants.{Read}
-use Rattle.oathd_database.specs.Commands.{HasImport, HasOpened, IsRefused}
+use Rattle.oathd_database.specs.Commands.{HasOpened, IsRefused}
 use Rattle.oathd_database.specs.Fault.{IsStoreFault}
 use Rattle.oathd_database.specs.Users.{IsImported, IsUnread}
 use Rattle.oathd_database.specs.declared.fault.Fault.{Fault}

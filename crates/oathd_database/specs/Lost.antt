@@ -1,5 +1,6 @@
 -- The store of a lost node is made anew, by the floors files of the others.
-use Rattle.std.specs.Prelude.{◌≡◌, ℕ, ◌+◌, ◌*◌, ◌^◌, List, [], ◌∷◌, ◌++◌, length, map, Option, Some, None, Result, Ok, Err, false}
+use Rattle.std.specs.Prelude.{◌≡◌, ℕ, ◌+◌, ◌*◌, ◌^◌, List, [], ◌∷◌, ◌++◌, length, Option, Some, None, Result, Ok, Err, false}
+use Rattle.std.specs.Borrow.{Bor}
 use Rattle.sqlite.specs.Store.{Ghosts}
 use Rattle.sqlite.specs.Held as sql
 use Rattle.otp_core.specs.Limits.{Limits}
@@ -8,7 +9,7 @@ use Rattle.floor_sql.specs.Calls.{IsMade}
 use Rattle.floor_sql.specs.Held.{SqlHeld}
 use Rattle.floors_file.specs.Fields.{◌>>=◌}
 use Rattle.floors_file.specs.Floors.{FloorsRecord}
-use Rattle.floors_file.specs.Gathered.{gathered_floors, lost_fault}
+use Rattle.floors_file.specs.Gathered.{anew_fault, gathered_floors, lost_fault}
 use Rattle.floors_file.specs.Reading.{floors_of, is_memory}
 use Rattle.floors_file.specs.declared.fault.LineFault.{LineFault}
 use Rattle.floors_file.specs.declared.gathered.Asked.{Asked}
@@ -40,12 +41,19 @@ boot_at moment = moment * 2 ^ 20
 abbrev pub asked_at : ℕ → ℕ → Asked
 asked_at since moment = record { since = since; boot = boot_at moment }
 
+-- Why files don't tell enough to make the store of a lost node, or where none is named lost that of a node of a whole
+-- cluster that is made anew.
+abbrev pub gather_fault :
+    Asked → ℕ → Option (Bor (List ℕ)) → List Credential → List FloorsRecord → Option FilesFault
+gather_fault asked node None book files = anew_fault asked book files
+gather_fault asked node (Some lost) book files = lost_fault asked node lost.now book files
+
 -- The texts are floors files that together tell enough, and these are the greatest first free factors of them.
-pub record IsGathered (asked : Asked) (node : ℕ) (lost : List ℕ) (book : List Credential) (own : List ℕ)
+pub record IsGathered (asked : Asked) (node : ℕ) (lost : Option (Bor (List ℕ))) (book : List Credential) (own : List ℕ)
     (texts : List (List ℕ)) (floors : List ℕ) : Type 0 where
   pub files : List FloorsRecord
   pub read : files_after [] texts ≡ Ok files
-  pub told : lost_fault asked node lost book files ≡ None
+  pub told : gather_fault asked node lost book files ≡ None
   pub greatest : floors ≡ gathered_floors files book own
 
 -- not all texts are read: no memory was left, or a text is no floors file and none before it
@@ -56,15 +64,15 @@ IsUnreadFile texts (Floors number fault) =
 IsUnreadFile texts (Files fault) = ⊥
 
 -- texts are floors files that together have this fault
-pub record HasFault (asked : Asked) (node : ℕ) (lost : List ℕ) (book : List Credential) (texts : List (List ℕ))
+pub record HasFault (asked : Asked) (node : ℕ) (lost : Option (Bor (List ℕ))) (book : List Credential) (texts : List (List ℕ))
     (fault : FilesFault) : Type 0 where
   pub files : List FloorsRecord
   pub read : files_after [] texts ≡ Ok files
-  pub told : lost_fault asked node lost book files ≡ Some fault
+  pub told : gather_fault asked node lost book files ≡ Some fault
 
 -- No first free factors are gathered: no memory was left, a text is no floors file and none before it, or they don't
 -- tell enough.
-abbrev pub IsUngathered : Asked → ℕ → List ℕ → List Credential → List (List ℕ) → LostFault → Type 0
+abbrev pub IsUngathered : Asked → ℕ → Option (Bor (List ℕ)) → List Credential → List (List ℕ) → LostFault → Type 0
 IsUngathered asked node lost book texts (Command fault) = fault ≡ Memory
 IsUngathered asked node lost book texts (Floors number fault) =
     is_memory fault.kind ≡ false → files_after [] texts ≡ Err (number, fault.line, fault.kind)
@@ -74,7 +82,7 @@ IsUngathered asked node lost book texts (Files fault) = HasFault asked node lost
 pub record IsUngatheredFor (limits : Limits) (moment longest : ℕ) (lost : LostNode) (texts : List (List ℕ))
     (fault : LostFault) (text : List ℕ) : Type 0 where
   pub import : HasImport limits moment longest text
-  pub cause : IsUngathered (asked_at lost.since moment) lost.node lost.lost.now import.book texts fault
+  pub cause : IsUngathered (asked_at lost.since moment) lost.node lost.lost import.book texts fault
 
 -- No store is made anew: as where any is made, or the texts don't tell enough.
 abbrev pub IsNotRemade : Limits → ℕ → ℕ → LostNode → List (List ℕ) → LostFault → List ℕ → Type 0
@@ -92,7 +100,7 @@ module _ {S : Type 0} (g : Ghosts S) where
     pub import : HasImport limits moment longest text
     pub floors : List ℕ
     pub gathered :
-        IsGathered (asked_at lost.since moment) lost.node lost.lost.now import.book import.floors texts floors
+        IsGathered (asked_at lost.since moment) lost.node lost.lost import.book import.floors texts floors
     pub conn : sql.Held S
     pub made : IsMade g conn lost.node (boot_at moment) floors store
 

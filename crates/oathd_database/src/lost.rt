@@ -4,8 +4,9 @@ ghost use Rattle.std.specs.Prelude.{◌≡◌, ◌*◌, ◌^◌, ◌≤◌, [], 
 ghost use Rattle.otp_core.specs.Range.{IsMoment};
 ghost use Rattle.floor_sql.specs.Usable.{IsNode};
 ghost use Rattle.floors_file.specs.Floors.{floors_value};
+ghost use Rattle.floors_file.specs.Gathered.{fault_of};
 ghost use Rattle.floors_file.specs.Reading.{is_memory};
-ghost use Rattle.oathd_database.specs.Lost.{HasRemade, IsGathered, IsNotRemade, IsUngathered, IsUnreadFile, files_after};
+ghost use Rattle.oathd_database.specs.Lost.{HasRemade, IsGathered, IsNotRemade, IsUngathered, IsUnreadFile, files_after, gather_fault};
 
 use crate::database::Database;
 use crate::fault::Fault;
@@ -13,12 +14,15 @@ use crate::file::DatabaseFile;
 use crate::users::{Users, read_users};
 use command_line::ProgramFault;
 use floor_sql::SqlStore;
-use floors_file::{Asked, FilesFault, Floors, FloorsFault, check_lost, gather, read_floors};
+use floors_file::{
+    Asked, FilesFault, Floors, FloorsFault, check_anew, check_lost, gather, read_floors,
+};
 use otp_core::{Next, Settings};
 use sqlite::Alter;
 use std::alloc::Global;
 use std::io::Read;
 use thiserror::Error;
+use token_file::Book;
 
 /// What ends the command before its time. The text lacks the program's name.
 #[derive(Clone, Copy, Debug, PartialEq, Eq, Error)]
@@ -34,13 +38,13 @@ pub enum LostFault {
     Files(FilesFault),
 }
 
-/// The node whose store is made, and those that are lost with it.
+/// The node whose store is made anew, and those that are lost with it.
 #[derive(Clone, Copy, Debug)]
 pub struct LostNode<'a> {
     /// The node, 1 to 9.
     pub node: u8,
-    /// The lost nodes, among which it is.
-    pub lost: &'a [u8],
+    /// The lost nodes, among which it is; or `None` where a whole cluster is made anew.
+    pub lost: Option<&'a [u8]>,
     /// The moment from which on the floors files were read.
     pub since: u64,
 }
@@ -65,25 +69,42 @@ fn read_files(alloc: Global, texts: &[Vec<u8>]) -> Result<Vec<Floors<'_>>, LostF
     Ok(files)
 }
 
+/// Whether files tell enough to make the store of a node anew.
+fn check(
+    asked: Asked,
+    node: u8,
+    lost: Option<&[u8]>,
+    book: &Book,
+    files: &[Floors<'_>],
+) -> Result<(), FilesFault>
+    requires { length book.now ≤ 10000 }
+    ensures { fault_of result ≡ gather_fault asked node lost.entry book.now (map floors_value files.now) }
+{
+    match lost {
+        Some(lost) => check_lost(asked, node, lost, book, files),
+        None => check_anew(asked, book, files),
+    }
+}
+
 /// The first free factors for the store of a lost node: the greatest of the floors files.
 fn lost_floors(
     alloc: Global,
     asked: Asked,
     node: u8,
-    lost: &[u8],
+    lost: Option<&[u8]>,
     users: &Users,
     texts: &[Vec<u8>],
 ) -> Result<Vec<Next>, LostFault>
-    ensures floors { IfOk result (λ floors. IsGathered asked node lost.now users.now.book users.now.floors.items
+    ensures floors { IfOk result (λ floors. IsGathered asked node lost.entry users.now.book users.now.floors.items
         (map (λ text. text.items) texts.now) floors.items) }
-    ensures fault { IfErr result (IsUngathered asked node lost.now users.now.book
+    ensures fault { IfErr result (IsUngathered asked node lost.entry users.now.book
         (map (λ text. text.items) texts.now)) }
 {
     let files = match read_files(alloc, texts) {
         Ok(files) => files,
         Err(fault) => return Err(fault),
     };
-    match check_lost(asked, node, lost, &users.book, &files) {
+    match check(asked, node, lost, &users.book, &files) {
         Ok(()) => {}
         Err(fault) => return Err(LostFault::Files(fault)),
     }
@@ -96,13 +117,14 @@ fn lost_floors(
 /// One more than the boots of a second: a node that starts more often than that uses those of the next one.
 const BOOTS: u64 = 1 << 20;
 
-/// Makes the store of a lost node anew, while others go on: at the boot that is the moment times 2^20, with the greatest
-/// first free factors of the floors files, whose texts are given. The lost nodes and those of the files are the members,
-/// fewer lost than a majority. The database has no table. Of the settings the skew is looked at.
+/// Makes the store of a lost node anew, while others go on: at the boot that is the moment times 2^20, with the
+/// greatest first free factors of the floors files, whose texts are given. The lost nodes and those of the files are
+/// the members, fewer lost than a majority. Where none is named lost, it is the store of a node of a whole cluster that is made anew:
+/// each majority of the former members has a file, and a user in none begins as at an import. The database has no table. Of the settings the skew is looked at.
 ///
 /// # Errors
-/// `Command` as for [`init_store`](crate::init_store); `Floors` with the first text that is no floors file; `Files` where
-/// they don't tell enough (`lost_fault`). The database is not opened then.
+/// `Command` as for [`init_store`](crate::init_store); `Floors` with the first text that is no floors file; `Files`
+/// where they don't tell enough (`lost_fault`, `anew_fault`). The database is not opened then.
 pub fn init_lost_store<R: Read + Drop, S: Alter + Drop, D: Database<S>>(
     alloc: Global,
     users: R,
