@@ -3,7 +3,7 @@ use Rattle.oathd_database.specs.Commands.{HasOpened}
 use Rattle.oathd_database.specs.declared.fault.Fault.{Fault}
 use Rattle.oathd_database.specs.Commands.{EndsServing}
 use Rattle.oathd_database.proofs.FaultLemmas.{err_is}
-use Rattle.oathd_database.proofs.EndLemmas.{ends_socket, ends_turns, has_served}
+use Rattle.oathd_database.proofs.EndLemmas.{ends_opening, ends_socket, ends_turns, has_served}
 use Rattle.oathd_database.proofs.serve.serve_store.Goals as goal
 
 pub returns-clause-served : goal.returns-clause-served
@@ -32,3 +32,13 @@ returns-in_err-socket_at-clause-fault g c =
     c.from_residual-in_err-socket_at.ensures.1
     (ends_socket limits 0 16777216 a c.in_ok-users.users.book c.in_ok-users.users.floors.items c.in_ok-users.ensures.users fault
     c.in_err-socket_at.ensures)
+
+pub returns-in_err-node-clause-fault : goal.returns-in_err-node-clause-fault
+returns-in_err-node-clause-fault g c =
+    let a = g.R.Read.remaining c.args.users in
+    let fault = c.in_err-node.field-0.0 in
+    let limits = c.args.serving.settings in
+    err_is c.from_residual-in_err-node.result fault (λ (x : Fault). IfSome a (EndsServing limits 0 16777216 x))
+    c.from_residual-in_err-node.ensures.1
+    (ends_opening limits 0 16777216 a c.in_ok-users.users.book c.in_ok-users.users.floors.items c.in_ok-users.ensures.users fault
+    c.in_err-node.ensures.fault)
