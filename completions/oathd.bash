@@ -16,7 +16,7 @@ _oathd() {
         lines | sim) options='--look-ahead --skew --range --drift --moment --key' ;;
         cluster) options='--look-ahead --skew --range --drift --moment --key' files=yes ;;
         init) options='--node --cluster --skew --moment' files=yes ;;
-        serve) options='--node --cluster --members --key --look-ahead --skew --range --drift --turns' files=yes ;;
+        serve) options='--node --cluster --members --key --look-ahead --skew --range --drift --turns --forever --log' files=yes ;;
         export) files=yes ;;
         audit | migrate) options='--node' files=yes ;;
         check) options='--cluster' files=yes ;;

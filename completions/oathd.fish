@@ -26,6 +26,8 @@ complete -c oathd -n $nodes -l node -x -a '1 2 3 4 5 6 7 8 9' -d 'Number of the 
 complete -c oathd -n $agreed -l cluster -r -F -d 'Cluster file'
 complete -c oathd -n $serving -l members -x -d 'Addresses in order of their numbers'
 complete -c oathd -n $serving -l turns -x -d 'How many receives the node has'
+complete -c oathd -n $serving -l forever -d 'Go on until the process is stopped'
+complete -c oathd -n $serving -l log -d 'Print a line for each answer'
 complete -c oathd -n $answering -l key -r -F -d 'File of the cluster key'
 complete -c oathd -n $answering -l look-ahead -x -d 'How far an event code is looked for, 0 to 100'
 complete -c oathd -n $skewed -l skew -x -d 'Time steps before and after the present one, 0 to 10'

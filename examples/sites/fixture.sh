@@ -178,7 +178,7 @@ answers() {
 
 start_node() {
     "$oathd" serve "$work/node$1.db" "$work/users" --node "$1" --key "${2:-$work/key}" --members "$nodes" \
-        --turns 4294967295 &
+        --forever &
     pids[$1]=$!
     await answers "$1"
 }
