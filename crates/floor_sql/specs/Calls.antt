@@ -45,7 +45,8 @@ module _ {S : Type 0} (g : Ghosts S) where
     pub sound : IsSound store
     pub tables : HasCleanDisk (sql.state g store.conn)
         → Commits (Opens node boot floors) (sql.state g old) (sql.state g store.conn)
-    pub survives : Survives (sql.state g old) (sql.state g store.conn) (MayCommit (Opens node boot floors) (sql.state g old))
+    pub survives :
+        Survives (sql.state g old) (sql.state g store.conn) (MayCommit (Opens node boot floors) (sql.state g old))
 
   -- the store of this node with so many tokens that the tables of a connection hold
   pub record IsOpened (old : sql.Held S) (node tokens : ℕ) (store : SqlHeld S) : Type 0 where

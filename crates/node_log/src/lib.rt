@@ -2,8 +2,8 @@
 //!
 //! A [`LogPort`] is a node's port over another one. It remembers of each client's line who asks and by which nonce. It
 //! writes a line for each answer once that is offered, and for each member that is heard or silent and was not so
-//! before. Nothing that it keeps or writes has room for a code, a password or a secret (`codes_are_not_told`). A log that
-//! can't be written ends, and the node goes on.
+//! before. Nothing that it keeps or writes has room for a code, a password or a secret (`codes_are_not_told`). A log
+//! that can't be written ends, and the node goes on.
 #![tactic(auto)]
 
 mod asked;

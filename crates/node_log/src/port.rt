@@ -35,7 +35,8 @@ impl<P: Port + Drop, W: Write + Drop> LogPort<P, W> {
         }
     }
 
-    /// Writes the line of a node that has served: how many datagrams were handed to it, and how many replies it offered.
+    /// Writes the line of a node that has served: how many datagrams were handed to it, and how many replies it
+    /// offered.
     pub fn end(&mut self, received: u64, replied: u64)
         ensures port { self.new.port ≡ self.old.port }
         ensures told { Tells self.old.log.is_over self.new.log.is_over (W.contents self.old.log.writer)

@@ -271,7 +271,8 @@ fn take_batch<'b, S: FloorStore, P: Port, C: Clock>(
     }
 }
 
-/// Serves a node over a port for so many turns, fewer than [`TURNS_END`]. Each turn is a receive, or a poll that finds something.
+/// Serves a node over a port for so many turns, fewer than [`TURNS_END`]. Each turn is a receive, or a poll that finds
+/// something.
 ///
 /// A datagram is handed to the node, a client's at the moment that the clock tells then. After a quiet turn, and
 /// after each 64th datagram, some time has passed for the node. What is there already behind a datagram is handed in

@@ -64,8 +64,8 @@ IsUnreadFile texts (Floors number fault) =
 IsUnreadFile texts (Files fault) = ⊥
 
 -- texts are floors files that together have this fault
-pub record HasFault (asked : Asked) (node : ℕ) (lost : Option (Bor (List ℕ))) (book : List Credential) (texts : List (List ℕ))
-    (fault : FilesFault) : Type 0 where
+pub record HasFault (asked : Asked) (node : ℕ) (lost : Option (Bor (List ℕ))) (book : List Credential)
+    (texts : List (List ℕ)) (fault : FilesFault) : Type 0 where
   pub files : List FloorsRecord
   pub read : files_after [] texts ≡ Ok files
   pub told : gather_fault asked node lost book files ≡ Some fault

@@ -119,8 +119,9 @@ const BOOTS: u64 = 1 << 20;
 
 /// Makes the store of a lost node anew, while others go on: at the boot that is the moment times 2^20, with the
 /// greatest first free factors of the floors files, whose texts are given. The lost nodes and those of the files are
-/// the members, fewer lost than a majority. Where none is named lost, it is the store of a node of a whole cluster that is made anew:
-/// each majority of the former members has a file, and a user in none begins as at an import. The database has no table. Of the settings the skew is looked at.
+/// the members, fewer lost than a majority. Where none is named lost, it is the store of a node of a whole cluster that
+/// is made anew: each majority of the former members has a file, and a user in none begins as at an import. The database
+/// has no table. Of the settings the skew is looked at.
 ///
 /// # Errors
 /// `Command` as for [`init_store`](crate::init_store); `Floors` with the first text that is no floors file; `Files`

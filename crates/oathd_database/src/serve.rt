@@ -114,8 +114,8 @@ fn other_members(place: Place) -> ArrayVec<Member, MAX_OTHERS> {
     others
 }
 
-/// Serves a node over a socket as [`serve_node`] does, and writes a log. What can't be written ends the log, and not the
-/// node.
+/// Serves a node over a socket as [`serve_node`] does, and writes a log. What can't be written ends the log, and not
+/// the node.
 fn serve_logged<S: FloorStore, N: TimeSource, W: Write>(
     node: &mut Node<'_, S>,
     port: UdpPort<&N>,

@@ -161,8 +161,8 @@ fn few_turns(turns: Option<u64>) -> Option<u64>
     }
 }
 
-/// How often a node receives, or `None` where that isn't a number below 2^32 in digits alone, and it isn't to go on until
-/// it is stopped.
+/// How often a node receives, or `None` where that isn't a number below 2^32 in digits alone, and it isn't to go on
+/// until it is stopped.
 fn turns_of(matches: &ArgMatches<'_>) -> Option<u64>
     ensures { result ≡ turns_given (found_of matches.now) }
 {
