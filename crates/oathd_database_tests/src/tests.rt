@@ -76,7 +76,8 @@ fn turned(
     };
     let (users, store) = open_store(alloc, SILVER, settings, Some(1), database)?;
     let mut node = open_node(alloc, &users.book, settings, place, &key, store)?;
-    let end = serve_node(&mut node, port, &mut ListClock::new(alloc, moments), turns);
+    let mut clock = ListClock::new(alloc, moments);
+    let end = serve_node(&mut node, port, &mut clock, u64::from(turns));
     Ok((closed(node.close()), end))
 }
 
