@@ -1,6 +1,6 @@
 //! Users files, and the bytes of a datagram.
 
-use floor_store::Proposal;
+use floor_store::{Proposal, Span};
 use otp_core::{Factor, Next, Settings};
 use std::alloc::{AllocError, Global};
 use std::io::{self, Error, ErrorKind, Read};
@@ -277,12 +277,10 @@ const ASK: [u8; 59] = [
 
 /// Whether the Ask is written so under a key, and read of these bytes.
 fn is_datagram(key: &ClusterKey) -> Option<bool> {
-    let lo = Factor::new(1)?;
     let ask = Message::Ask {
         proposal: Proposal::new(1, 2, 0)?,
         token: 0,
-        lo,
-        hi: lo,
+        span: Span::one(Factor::new(1)?),
     };
     let is_written = write_message(key, 1, 2, &ask).as_slice() == ASK.as_slice();
     Some(is_written && read_message(key, &ASK) == Some((1, 2, ask)))

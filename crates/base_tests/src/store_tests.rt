@@ -2,7 +2,7 @@
 
 ghost use Rattle.std.specs.Prelude.{◌<◌, length};
 
-use floor_store::{FloorStore, FuseStore, MemStore, Pass, Proposal, Row, StoreFault};
+use floor_store::{FloorStore, FuseStore, MemStore, Pass, Proposal, Row, Span, StoreFault};
 use otp_core::{Factor, Next};
 use std::alloc::{AllocError, Global};
 
@@ -28,16 +28,16 @@ fn keeps<S: FloorStore>(store: &mut S, row: Row, pass: Option<Pass>) -> Option<b
 /// The same of a fresh store, with a grant and a pass.
 fn keeps_a_grant(alloc: Global) -> Option<bool> {
     let proposal = Proposal::new(2, 1, 3)?;
-    let (lo, hi) = (Factor::new(7)?, Factor::new(8)?);
+    let span = Span::new(Factor::new(7)?, Factor::new(8)?)?;
     let row = Row::opening(Next::new(0)?).with_next(Next::new(9)?);
     let row = Row::new(
         row.next(),
-        Some((proposal, lo, hi)),
+        Some((proposal, span)),
         row.gate(),
         row.drift(),
-    )?;
+    );
     let mut store = stored(alloc)?;
-    keeps(&mut store, row, Pass::new(0, lo, hi, 1, 3))
+    keeps(&mut store, row, Pass::new(0, span, 1, 3))
 }
 
 #[test]

@@ -1,7 +1,7 @@
 -- Histories to reckon with: one node, and three, with the one token of RFC 4226, Appendix D.
 use Rattle.std.specs.Prelude.{ℕ, Bool, true, false, List, [], ◌∷◌, replicate, Some, None, codes}
 use Rattle.floor_store.specs.Content.{Content}
-use Rattle.floor_store.specs.Records.{ProposalRecord}
+use Rattle.floor_store.specs.Records.{ProposalRecord, span_of}
 use Rattle.vote_core.specs.Schedule.{Envelope}
 use Rattle.vote_core.specs.declared.message.Message.TheVariants.{Ask, Grant, Floor}
 use Rattle.vote_wire.specs.Datagram.{datagram_bytes}
@@ -72,11 +72,11 @@ first_proposal = record { node = 1; boot = 1; seq = 0 }
 
 -- node 1 asks node 2 for the first factor
 abbrev pub ask : Envelope
-ask = record { sender = 1; receiver = 2; message = Ask first_proposal 0 0 0 }
+ask = record { sender = 1; receiver = 2; message = Ask first_proposal 0 (span_of 0 0) }
 
 -- node 2 grants it
 abbrev pub grant : Envelope
-grant = record { sender = 2; receiver = 1; message = Grant first_proposal 0 0 0 }
+grant = record { sender = 2; receiver = 1; message = Grant first_proposal 0 (span_of 0 0) }
 
 -- an envelope of the three nodes, as the bytes of a datagram
 abbrev pub bytes_of : Envelope → List ℕ

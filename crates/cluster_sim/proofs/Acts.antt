@@ -27,7 +27,7 @@ down e i x moment (Again text) w h = refl
 down e i x moment Waiting w h = refl
 down e i x moment (Denied nonce reason) w h = refl
 down e i x moment (Wrong nonce reason token) w h = sym (cond-false (is_running w i) _ _ h)
-down e i x moment (Fitting nonce t lo hi drift) w h = sym (cond-false (may_begin w i t lo hi) _ _ (ap (λ b. b && (ltb t (length (w.nodes i).content.rows) && (leb (row (w.nodes i).content t).next lo && ((eqb hi lo || eqb hi (lo + 1)) && ltb (length (w.nodes i).voter.pending) 32)))) h))
+down e i x moment (Fitting nonce t span drift) w h = sym (cond-false (may_begin w i t span.lo span.hi) _ _ (ap (λ b. b && (ltb t (length (w.nodes i).content.rows) && (leb (row (w.nodes i).content t).next span.lo && ((eqb span.hi span.lo || eqb span.hi (span.lo + 1)) && ltb (length (w.nodes i).voter.pending) 32)))) h))
 
 -- an event at a node: what it is where the node runs, and that it is nothing where it doesn't
 gated : (config : Config) (e i : ℕ) (x : NodeEvent) (w : World) (V : Cluster)
@@ -120,8 +120,8 @@ says_same config e i client moment text line w sized up running (Denied nonce re
 says_same config e i client moment text line w sized up running (Wrong nonce reason token) h =
     made_after e i (made_by_ruling (place_at w i) client moment line (Wrong nonce reason token) (w.nodes i)) [] w refl running
     ∙ sym (cond-true (is_running (cluster_of w) i) (cluster_after e i (quiet_step (content_with_gate token (gate_with_failure (w.nodes i).content token moment) (w.nodes i).content) (w.nodes i).voter) (cluster_of w)) (cluster_of w) up)
-says_same config e i client moment text line w sized up running (Fitting nonce t lo hi drift) h =
-    proposes_same e i client line nonce t lo hi drift w running (fitting_may config client moment text line nonce i t lo hi drift w sized up h)
+says_same config e i client moment text line w sized up running (Fitting nonce t span drift) h =
+    proposes_same e i client line nonce t span.lo span.hi drift w running (fitting_may config client moment text line nonce i t span.lo span.hi drift w sized up h)
 
 -- ---- a letter
 
@@ -230,7 +230,7 @@ line_node i x moment (Again text) w = refl
 line_node i x moment Waiting w = refl
 line_node i x moment (Denied nonce reason) w = refl
 line_node i x moment (Wrong nonce reason token) w = refl
-line_node i x moment (Fitting nonce t lo hi drift) w = refl
+line_node i x moment (Fitting nonce t span drift) w = refl
 
 letter_node : (config : Config) (w : World) (i k : ℕ) (o : Option Envelope) → slice_get w.sent k ≡ o → vote_node (vote_on_datagram config w i k o) (cluster_of w) ≡ node_if_sent i o
 letter_node config w i k None at = ap receiver_of at

@@ -10,7 +10,7 @@ use Rattle.cluster_sim.specs.Results.{results_in, results_with_failure, results_
 use Rattle.cluster_sim.specs.Rounds.{AreUp, deliveries, drift_at, is_between, is_live, next_at}
 use Rattle.cluster_sim.specs.World.{Deliver, Happens, World, told_reply, world_after_event, world_after_events, world_with_made}
 use Rattle.floor_store.specs.Content.{Content, with_row}
-use Rattle.floor_store.specs.Records.{PassRecord, ProposalRecord, RowRecord}
+use Rattle.floor_store.specs.Records.{PassRecord, ProposalRecord, RowRecord, span_of, SpanRecord}
 use Rattle.oath_node.specs.Machine.{Config, Made, NodeState, made_by_vote}
 use Rattle.otp_core.specs.Acceptance.{size}
 use Rattle.vote_core.proofs.Basics.{Each, each_weaker, row_cases, row_here}
@@ -66,25 +66,25 @@ made_silent live e i o w up running answers replies pass failed drifts = record 
 
 -- ---- one Ask
 
-not_granted : (p : ProposalRecord) (lo hi next : ℕ) (o : Option (ProposalRecord × ℕ × ℕ)) → IsUnder next o → next ≤ lo → lo ≤ hi → is_grant p lo hi o ≡ false
+not_granted : (p : ProposalRecord) (lo hi next : ℕ) (o : Option (ProposalRecord × SpanRecord)) → IsUnder next o → next ≤ lo → lo ≤ hi → is_grant p lo hi o ≡ false
 not_granted p lo hi next None h low le = refl
 not_granted p lo hi next (Some g) h low le =
-    and_right (same_proposal g.0 p) (eqb g.1 lo && eqb g.2 hi) (and_right (eqb g.1 lo) (eqb g.2 hi) (ne_eqb g.2 hi (λ q. absurd (omega (arith, q, h, low, le)))))
+    and_right (same_proposal g.0 p) (eqb g.1.lo lo && eqb g.1.hi hi) (and_right (eqb g.1.lo lo) (eqb g.1.hi hi) (ne_eqb g.1.hi hi (λ q. absurd (omega (arith, q, h, low, le)))))
 
 asked : (from : ℕ) (p : ProposalRecord) (t lo hi : ℕ) (c : Content) (v : VoterState) → Each Lies c.rows → (row c t).next ≤ lo → lo ≤ hi
-    → on_ask from p t lo hi c v ≡ reply_step from (Grant p t lo hi) (with_row c t (granted_row p lo hi (row c t)) None) v
+    → on_ask from p t lo hi c v ≡ reply_step from (Grant p t (span_of lo hi)) (with_row c t (granted_row p lo hi (row c t)) None) v
 unfolding on_ask
 asked from p t lo hi c v h low le =
-    let grants = reply_step from (Grant p t lo hi) (with_row c t (granted_row p lo hi (row c t)) None) v in
+    let grants = reply_step from (Grant p t (span_of lo hi)) (with_row c t (granted_row p lo hi (row c t)) None) v in
     let denies = reply_step from (Deny p t (row c t).next) c v in
-    cond-false (is_grant p lo hi (row c t).grant) (reply_step from (Grant p t lo hi) c v) (cond (leb (row c t).next lo) grants denies) (not_granted p lo hi (row c t).next (row c t).grant (lies_row c t h) low le)
+    cond-false (is_grant p lo hi (row c t).grant) (reply_step from (Grant p t (span_of lo hi)) c v) (cond (leb (row c t).next lo) grants denies) (not_granted p lo hi (row c t).next (row c t).grant (lies_row c t h) low le)
     ∙ cond-true (leb (row c t).next lo) grants denies (le-leb (row c t).next lo low)
 
 pub row_off : (c : Content) (t : ℕ) (r : RowRecord) (p : Option PassRecord) (u : ℕ) → (u ≡ t → ⊥) → row (with_row c t r p) u ≡ row c u
 row_off c t r p u ne = ⊎_elim (λ (e : row (with_row c t r p) u ≡ row c u). e) (λ (z : (u ≡ t) × (row (with_row c t r p) u ≡ r)). absurd (ne z.0)) (row_cases c t r p u)
 
 abbrev pub grant_to : ℕ → ProposalRecord → ℕ → ℕ → ℕ → ℕ → Envelope
-grant_to i p t lo hi g = record { sender = g; receiver = i; message = Grant p t lo hi }
+grant_to i p t lo hi g = record { sender = g; receiver = i; message = Grant p t (span_of lo hi) }
 
 record Answered (live : List ℕ) (i : ℕ) (p : ProposalRecord) (t lo hi g : ℕ) (w v : World) : Type 0 where
   silent : Silent live w v
@@ -95,12 +95,12 @@ record Answered (live : List ℕ) (i : ℕ) (p : ProposalRecord) (t lo hi g : �
   sent : v.sent ≡ w.sent ++ grant_to i p t lo hi g ∷ []
 
 ask_made : (live : List ℕ) (tokens e i : ℕ) (p : ProposalRecord) (t lo hi g : ℕ) (w : World) → AreUp live w → is_live live g ≡ true → length (w.nodes g).content.rows ≡ tokens → t < tokens
-    → Answered live i p t lo hi g w (world_with_made e g (made_by_vote (w.nodes g).owners None (reply_step i (Grant p t lo hi) (with_row (w.nodes g).content t (granted_row p lo hi (row (w.nodes g).content t)) None) (w.nodes g).voter) (w.nodes g)) w)
+    → Answered live i p t lo hi g w (world_with_made e g (made_by_vote (w.nodes g).owners None (reply_step i (Grant p t (span_of lo hi)) (with_row (w.nodes g).content t (granted_row p lo hi (row (w.nodes g).content t)) None) (w.nodes g).voter) (w.nodes g)) w)
 unfolding world_with_made
 ask_made live tokens e i p t lo hi g w up here size known =
     let x = w.nodes g in
     let r = granted_row p lo hi (row x.content t) in
-    let o = made_by_vote x.owners None (reply_step i (Grant p t lo hi) (with_row x.content t r None) x.voter) x in
+    let o = made_by_vote x.owners None (reply_step i (Grant p t (span_of lo hi)) (with_row x.content t r None) x.voter) x in
     record {
       silent = made_silent live e g o w up (up g here).1 refl refl refl refl (λ u. same_drift x.content t r None u refl);
       voters = λ j. set_all (λ m y. y.voter ≡ (w.nodes m).voter) g o.state w.nodes refl (λ m. refl) j;
@@ -110,12 +110,12 @@ ask_made live tokens e i p t lo hi g w up here size known =
       sent = refl;
     }
 
-ask_delivered : (config : Config) (live : List ℕ) (i : ℕ) (p : ProposalRecord) (t lo hi g k e : ℕ) (w : World) → slice_get w.sent k ≡ Some (record { sender = i; receiver = g; message = Ask p t lo hi })
+ask_delivered : (config : Config) (live : List ℕ) (i : ℕ) (p : ProposalRecord) (t lo hi g k e : ℕ) (w : World) → slice_get w.sent k ≡ Some (record { sender = i; receiver = g; message = Ask p t (span_of lo hi) })
     → AllSound (length config.book) w → AreUp live w → is_live live i ≡ true → is_live live g ≡ true → (g ≡ i → ⊥) → t < length config.book → lo ≤ hi → next_at w g t ≤ lo
     → Answered live i p t lo hi g w (world_after_event config e (Happens (Deliver g k)) w)
 unfolding on_message
 ask_delivered config live i p t lo hi g k e w at sound up asks here other known le low =
-    let l : Envelope = record { sender = i; receiver = g; message = Ask p t lo hi } in
+    let l : Envelope = record { sender = i; receiver = g; message = Ask p t (span_of lo hi) } in
     let x = w.nodes g in
     let hears = is_heard_at config w l (λ q. other (sym q)) (up i asks).0 known in
     let same = hands config e k l w at (up g here).0 (up g here).1 hears ∙ ap (λ s. world_with_made e g (made_by_vote x.owners None s x) w) (asked i p t lo hi x.content x.voter (sound g).kept.lies low le) in
@@ -124,7 +124,7 @@ ask_delivered config live i p t lo hi g k e w at sound up asks here other known 
 -- ---- all Asks
 
 abbrev pub ask_letters : ℕ → ProposalRecord → ℕ → ℕ → ℕ → List ℕ → List Envelope
-ask_letters i p t lo hi gs = map (envelope_from i) (to_each (Ask p t lo hi) gs)
+ask_letters i p t lo hi gs = map (envelope_from i) (to_each (Ask p t (span_of lo hi)) gs)
 
 pub record AllAnswered (live : List ℕ) (i : ℕ) (p : ProposalRecord) (t lo hi : ℕ) (gs : List ℕ) (w v : World) : Type 0 where
   pub silent : Silent live w v

@@ -144,10 +144,10 @@ ruling_drifted config events h e place x client moment text line sized comes k W
 ruling_drifted config events h e place x client moment text line sized comes k (Denied nonce reason) g = quiet_drifted config events h e place.me x _ refl refl refl refl (λ _. refl) k
 ruling_drifted config events h e place x client moment text line sized comes k (Wrong nonce reason token) g =
     quiet_drifted config events h e place.me x _ refl refl refl refl (gated_drift x.content token (gate_with_failure x.content token moment)) k
-ruling_drifted config events h e place x client moment text line sized comes k (Fitting nonce token lo hi drift) g =
+ruling_drifted config events h e place x client moment text line sized comes k (Fitting nonce token span drift) g =
     let given : drift ≡ drift_by config.limits (slice_get config.book token) (moment_in (slice_get events e)) hi =
-    g.kept ∙ ap (λ m. drift_by config.limits (Some g.credential) m hi) (sym comes) ∙ ap (λ o. drift_by config.limits o (moment_in (slice_get events e)) hi) (sym g.is_token) in
-    proposal_drifted config events h e place x client line nonce token lo hi drift sized given k
+    g.kept ∙ ap (λ m. drift_by config.limits (Some g.credential) m span.hi) (sym comes) ∙ ap (λ o. drift_by config.limits o (moment_in (slice_get events e)) span.hi) (sym g.is_token) in
+    proposal_drifted config events h e place x client line nonce token span.lo span.hi drift sized given k
 
 -- the event is a line at this moment, or a stop inside that
 abbrev ComesAt : List WorldEvent → ℕ → NodeEvent → Type 0

@@ -116,11 +116,11 @@ ruling_right law config rs place x client moment text line sized h (Wrong nonce 
   gates = wrong_gates law (length config.book) rs x token moment sized h;
   opened = wrong_opened law (length config.book) rs x token moment g.within h g.is_open;
 }
-ruling_right law config rs place x client moment text line sized h (Fitting nonce t lo hi drift) g =
-    let s = propose place t lo hi drift x.content x.voter in
+ruling_right law config rs place x client moment text line sized h (Fitting nonce t span drift) g =
+    let s = propose place t span.lo span.hi drift x.content x.voter in
     let owner : Owner = record { seq = x.voter.seq; client = client; line = line; nonce = nonce } in
-    cond_both (ltb x.voter.seq (2 ^ 62)) (made_by_vote (x.owners ++ owner ∷ []) (Some (next_beginning place t lo hi x)) s x) (quiet_made (stopped_node x)) (λ o. MadeRight (length config.book) rs o)
-    (λ _. voted_right law (length config.book) rs x (x.owners ++ owner ∷ []) (Some (next_beginning place t lo hi x)) s sized h (propose_gate place t lo hi drift x.content x.voter))
+    cond_both (ltb x.voter.seq (2 ^ 62)) (made_by_vote (x.owners ++ owner ∷ []) (Some (next_beginning place t span.lo span.hi x)) s x) (quiet_made (stopped_node x)) (λ o. MadeRight (length config.book) rs o)
+    (λ _. voted_right law (length config.book) rs x (x.owners ++ owner ∷ []) (Some (next_beginning place t span.lo span.hi x)) s sized h (propose_gate place t span.lo span.hi drift x.content x.voter))
     (λ _. quiet_right _ rs (quiet_made (stopped_node x)) h refl refl)
 
 event_right : GroundLaw → GateLaw → (config : Config) (rs : ℕ → List Result) (place : PlaceRecord) (x : NodeState) → length x.content.rows ≡ length config.book → GatedAt (length config.book) rs x

@@ -13,7 +13,7 @@ use Rattle.cluster_sim.specs.Results.{results_in, results_with_pass}
 use Rattle.cluster_sim.specs.Rounds.{AreUp, IsAscending, deliveries, is_between, is_live}
 use Rattle.cluster_sim.specs.World.{Deliver, Happens, World, WorldEvent, place_at, world_after_event, world_after_events, world_with_made}
 use Rattle.floor_store.specs.Content.{Content, accepted_row, with_row}
-use Rattle.floor_store.specs.Records.{PassRecord, ProposalRecord}
+use Rattle.floor_store.specs.Records.{PassRecord, ProposalRecord, span_of}
 use Rattle.oath_node.specs.Machine.{Config, Made, NodeState, Owner, made_by_vote}
 use Rattle.otp_core.specs.Acceptance.{majority_of, size}
 use Rattle.vote_core.proofs.Basics.{Each, each_weaker}
@@ -115,7 +115,7 @@ found c i s g t lo hi drift sq turn G out =
 
 accepts : (place : PlaceRecord) (c : Content) (i s g t lo hi : ℕ) (drift : ℤ) (sq turn client : ℕ) (line nonce : List ℕ) (A : List KeptAnswer) (G : ℕ → Bool) → G g ≡ false → leb (majority_of place.n) (size place.n (with_node g G)) ≡ true
     → (let x = waiting c sq turn (record { seq = s; client = client; line = line; nonce = nonce }) A (asking s t lo hi drift G) in
-    made_by_vote x.owners None (on_message place g (Grant (record { node = i; boot = c.boot; seq = s }) t lo hi) x.content x.voter) x) ≡ passing c s sq turn t lo hi drift client line nonce A
+    made_by_vote x.owners None (on_message place g (Grant (record { node = i; boot = c.boot; seq = s }) t (span_of lo hi)) x.content x.voter) x) ≡ passing c s sq turn t lo hi drift client line nonce A
 unfolding on_message on_grant count_grant accept
 accepts place c i s g t lo hi drift sq turn client line nonce A G out many =
     let o : Owner = record { seq = s; client = client; line = line; nonce = nonce } in
@@ -129,7 +129,7 @@ accepts place c i s g t lo hi drift sq turn client line nonce A G out many =
 -- counted, and not yet enough
 counts : (place : PlaceRecord) (c : Content) (i s g t lo hi : ℕ) (drift : ℤ) (sq turn client : ℕ) (line nonce : List ℕ) (A : List KeptAnswer) (G : ℕ → Bool) → G g ≡ false → leb (majority_of place.n) (size place.n (with_node g G)) ≡ false
     → (let x = waiting c sq turn (record { seq = s; client = client; line = line; nonce = nonce }) A (asking s t lo hi drift G) in
-    made_by_vote x.owners None (on_message place g (Grant (record { node = i; boot = c.boot; seq = s }) t lo hi) x.content x.voter) x)
+    made_by_vote x.owners None (on_message place g (Grant (record { node = i; boot = c.boot; seq = s }) t (span_of lo hi)) x.content x.voter) x)
     ≡ still (waiting c sq turn (record { seq = s; client = client; line = line; nonce = nonce }) A (asking s t lo hi drift (with_node g G)))
 unfolding on_message on_grant count_grant
 counts place c i s g t lo hi drift sq turn client line nonce A G out few =
@@ -143,7 +143,7 @@ counts place c i s g t lo hi drift sq turn client line nonce A G out few =
 
 -- too late
 passes_by : (place : PlaceRecord) (c : Content) (g t lo hi sq turn : ℕ) (p : ProposalRecord) (A : List KeptAnswer)
-    → (let x = settled c sq turn A in made_by_vote x.owners None (on_message place g (Grant p t lo hi) x.content x.voter) x) ≡ still (settled c sq turn A)
+    → (let x = settled c sq turn A in made_by_vote x.owners None (on_message place g (Grant p t (span_of lo hi)) x.content x.voter) x) ≡ still (settled c sq turn A)
 unfolding on_message on_grant count_grant
 passes_by place c g t lo hi sq turn p A =
     let x = settled c sq turn A in
@@ -163,10 +163,10 @@ heard_node e i x w = set_at i x w.nodes
 -- what is delivered_event to node i, by what that node is
 granted_at : (config : Config) (live : List ℕ) (i k e : ℕ) (p : ProposalRecord) (t lo hi g : ℕ) (w : World) (x : NodeState) → slice_get w.sent k ≡ Some (grant_to i p t lo hi g) → AreUp live w → is_live live i ≡ true → is_live live g ≡ true
     → (g ≡ i → ⊥) → t < length config.book → w.nodes i ≡ x
-    → world_after_event config e (Happens (Deliver i k)) w ≡ world_with_made e i (made_by_vote x.owners None (on_message (place_at w i) g (Grant p t lo hi) x.content x.voter) x) w
+    → world_after_event config e (Happens (Deliver i k)) w ≡ world_with_made e i (made_by_vote x.owners None (on_message (place_at w i) g (Grant p t (span_of lo hi)) x.content x.voter) x) w
 granted_at config live i k e p t lo hi g w x at up here from other known is =
     hands config e k (grant_to i p t lo hi g) w at (up i here).0 (up i here).1 (is_heard_at config w (grant_to i p t lo hi g) other (up g from).0 known)
-    ∙ ap (λ y. world_with_made e i (made_by_vote y.owners None (on_message (place_at w i) g (Grant p t lo hi) y.content y.voter) y) w) is
+    ∙ ap (λ y. world_with_made e i (made_by_vote y.owners None (on_message (place_at w i) g (Grant p t (span_of lo hi)) y.content y.voter) y) w) is
 
 -- ---- late Grants
 

@@ -27,7 +27,7 @@ spent_ruling place x client moment line (Again text) h s = absurd h
 spent_ruling place x client moment line Waiting h s = absurd h
 spent_ruling place x client moment line (Denied nonce reason) h s = absurd h
 spent_ruling place x client moment line (Wrong nonce reason token) h s = absurd h
-spent_ruling place x client moment line (Fitting nonce token lo hi drift) h s = cond-false (ltb x.voter.seq (2 ^ 62)) _ (quiet_made (stopped_node x)) (ap (λ k. ltb k (2 ^ 62)) s)
+spent_ruling place x client moment line (Fitting nonce token span drift) h s = cond-false (ltb x.voter.seq (2 ^ 62)) _ (quiet_made (stopped_node x)) (ap (λ k. ltb k (2 ^ 62)) s)
 
 -- a stopped node is the same once it is stopped
 halted_same : (x : NodeState) → x.running ≡ false → quiet_made x ≡ quiet_made (stopped_node x)

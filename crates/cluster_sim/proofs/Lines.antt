@@ -55,12 +55,12 @@ line_back law config w drifts gated drifted p i client moment text line (Again k
 line_back law config w drifts gated drifted p i client moment text line Waiting g h = absurd h
 line_back law config w drifts gated drifted p i client moment text line (Denied nonce reason) g h = absurd h
 line_back law config w drifts gated drifted p i client moment text line (Wrong nonce reason t) g h = absurd h
-line_back law config w drifts gated drifted p i client moment text line (Fitting nonce t lo hi drift) g h = (
+line_back law config w drifts gated drifted p i client moment text line (Fitting nonce t span drift) g h = (
   h.0,
   subst (λ m. IsGround config moment text p.token (row (w.nodes p.node).content p.token).next (drifts p.node p.token) (results_in w.history p.node p.token) p.lo m) h.3
-      (subst (λ m. IsGround config moment text p.token (row (w.nodes p.node).content p.token).next (drifts p.node p.token) (results_in w.history p.node p.token) m hi) h.2
-      (subst (λ m. IsGround config moment text m (row (w.nodes p.node).content m).next (drifts p.node m) (results_in w.history p.node m) lo hi) h.1
-      (subst (λ m. IsGround config moment text t (row (w.nodes m).content t).next (drifts m t) (results_in w.history m t) lo hi) h.0 (ground law config w drifts i client moment text line nonce t lo hi drift gated drifted g)))),
+      (subst (λ m. IsGround config moment text p.token (row (w.nodes p.node).content p.token).next (drifts p.node p.token) (results_in w.history p.node p.token) m span.hi) h.2
+      (subst (λ m. IsGround config moment text m (row (w.nodes p.node).content m).next (drifts p.node m) (results_in w.history p.node m) span.lo span.hi) h.1
+      (subst (λ m. IsGround config moment text t (row (w.nodes m).content t).next (drifts m t) (results_in w.history m t) span.lo span.hi) h.0 (ground law config w drifts i client moment text line nonce t span.lo span.hi drift gated drifted g)))),
 )
 
 letter_back : (config : Config) (w : World) (p : Acceptance) (i k : ℕ) (o : Option Envelope) → IsProposalOf p (vote_on_datagram config w i k o) → ⊥

@@ -188,8 +188,8 @@ ruling_alike law config b q e c seq turn s client moment line h below (Wrong non
   sends = refl;
   replies = refl;
 }
-ruling_alike law config b q e c seq turn s client moment line h below (Fitting nonce token lo hi drift) =
-    fitting_alike law (length config.book) b q e c seq turn s client line nonce token lo hi drift h below
+ruling_alike law config b q e c seq turn s client moment line h below (Fitting nonce token span drift) =
+    fitting_alike law (length config.book) b q e c seq turn s client line nonce token span.lo span.hi drift h below
 
 same_standing : GateLaw → (tokens b q : ℕ) (c : Content) (seq turn : ℕ) (s : Server) (client moment : ℕ) (line : List ℕ) → Rows tokens b q c seq s
     → IsSameStanding tokens (standing_at (lone c seq turn (s.fronts 1).answers) client moment line) (standing_of s (s.fronts 1) client moment line)

@@ -17,7 +17,7 @@ use Rattle.cluster_sim.specs.Results.{results_in, results_with_pass}
 use Rattle.cluster_sim.specs.Rounds.{AreUp, IsSettled, RoundLine, deliveries, drift_at, is_between, is_live, line_event, next_at, round_events}
 use Rattle.cluster_sim.specs.World.{Deliver, Happens, World, WorldEvent, place_at, with_state, world_after_event, world_after_events, world_with_made}
 use Rattle.floor_store.specs.Content.{Content, accepted_row, with_row}
-use Rattle.floor_store.specs.Records.{PassRecord, ProposalRecord, RowRecord}
+use Rattle.floor_store.specs.Records.{PassRecord, ProposalRecord, RowRecord, span_of}
 use Rattle.oath_node.specs.Machine.{Beginning, Config, Made, NodeState, Owner, made_by_proposal, made_by_ruling, made_by_vote, next_beginning, quiet_made, ruling_at, stopped_node}
 use Rattle.oath_node.specs.declared.ruling.Ruling.TheVariants.{Fitting}
 use Rattle.otp_core.specs.Acceptance.{majority_of, size}
@@ -97,7 +97,7 @@ alone_made i c s turn t lo hi drift client line nonce A b = record {
 abbrev pub among_made : PlaceRecord → Content → ℕ → ℕ → ℕ → ℕ → ℕ → ℤ → ℕ → List ℕ → List ℕ → List KeptAnswer → Option Beginning → Made
 among_made place c s turn t lo hi drift client line nonce A b = record {
   state = waiting (with_row c t (granted_row (proposal place.me c s) lo hi (row c t)) None) (s + 1) turn (record { seq = s; client = client; line = line; nonce = nonce }) A (asking s t lo hi drift (with_node place.me nobody));
-  sends = to_each (Ask (proposal place.me c s) t lo hi) (others place);
+  sends = to_each (Ask (proposal place.me c s) t (span_of lo hi)) (others place);
   replies = [];
   began = b;
   pass = None;
@@ -121,7 +121,7 @@ proposed_made place x client line nonce t lo hi drift alone =
     cond alone (alone_made place.me x.content x.voter.seq x.voter.turn t lo hi drift client line nonce x.answers b) (among_made place x.content x.voter.seq x.voter.turn t lo hi drift client line nonce x.answers b)
 
 proposes_is : (place : PlaceRecord) (x : NodeState) (client moment : ℕ) (line nonce : List ℕ) (t lo hi : ℕ) (drift : ℤ) → x.voter.pending ≡ [] → x.owners ≡ [] → x.running ≡ true → x.voter.seq < 2 ^ 62
-    → made_by_ruling place client moment line (Fitting nonce t lo hi drift) x ≡ proposed_made place x client line nonce t lo hi drift (eqb place.n 1)
+    → made_by_ruling place client moment line (Fitting nonce t (span_of lo hi) drift) x ≡ proposed_made place x client line nonce t lo hi drift (eqb place.n 1)
 unfolding made_by_ruling made_by_proposal propose
 proposes_is place x client moment line nonce t lo hi drift p q r lt =
     let y = settled x.content x.voter.seq x.voter.turn x.answers in
@@ -141,7 +141,7 @@ pub record Proposing (config : Config) (live : List ℕ) (w : World) (l : RoundL
   pub sound : AllSound (length config.book) w
   pub calm : IsSettled config live w
   pub here : is_live live l.node ≡ true
-  pub judged : ruling_at config (w.nodes l.node) l.client l.moment l.line ≡ Fitting nonce t lo hi drift
+  pub judged : ruling_at config (w.nodes l.node) l.client l.moment l.line ≡ Fitting nonce t (span_of lo hi) drift
   pub known : t < length config.book
   pub free : next_at w l.node t ≤ lo
   pub span : lo ≤ hi

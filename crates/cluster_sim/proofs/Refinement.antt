@@ -30,7 +30,7 @@ vote_on_ruling node x moment Waiting = Idle node
 vote_on_ruling node x moment (Denied nonce reason) = Idle node
 vote_on_ruling node x moment (Wrong nonce reason token) =
     Throttle node token (gate_with_failure x.content token moment)
-vote_on_ruling node x moment (Fitting nonce token lo hi drift) = Begin node token lo hi drift
+vote_on_ruling node x moment (Fitting nonce token span drift) = Begin node token span.lo span.hi drift
 
 -- a datagram that is heard is a delivery; one that is dropped does nothing
 abbrev pub vote_on_datagram : Config → World → ℕ → ℕ → Option Envelope → Vote

@@ -21,7 +21,7 @@ use Rattle.cluster_sim.specs.Results.{results_in, results_with_failure, results_
 use Rattle.cluster_sim.specs.Rounds.{AreAnswersTo, AreAtLive, HaveNumbers, IsAnswerTo, IsSettled, RoundLine, RoundsAreTheReference, RoundsByCount, ServesAsOne, SweepSettles, drift_at, first_of, front_at, is_live, line_event, next_at, round_events, rounds_events, server_after_lines, server_of, sweep_events}
 use Rattle.cluster_sim.specs.World.{Told, World, opening_world, place_at, told_reply, world_after_event, world_after_events, world_of, world_with_made}
 use Rattle.floor_store.specs.Content.{Content}
-use Rattle.floor_store.specs.Records.{RowRecord}
+use Rattle.floor_store.specs.Records.{RowRecord, span_of}
 use Rattle.oath_node.specs.Grounds.{HasGrounds, IsSameStanding}
 use Rattle.oath_node.specs.Machine.{Config, Made, NodeState, gate_with_failure, is_owned, made_by_ruling, node_with_answer, node_with_failure, reply_made, ruling_at, standing_at}
 use Rattle.oath_node.specs.declared.ruling.Ruling.{Ruling}
@@ -272,7 +272,7 @@ wrong_round config live e w l nonce reason token calm here q =
 
 -- the line proposes, and what it proposes is accepted
 fitting_round : (config : Config) (live : List ℕ) (e : ℕ) (w : World) (l : RoundLine) (nonce : List ℕ) (token lo hi : ℕ) (drift : ℤ) → Proposing config live w l nonce token lo hi drift
-    → Done config live e w l (in_server live w l (Fitting nonce token lo hi drift))
+    → Done config live e w l (in_server live w l (Fitting nonce token (span_of lo hi) drift))
 fitting_round config live e w l nonce t lo hi drift h =
     let i = l.node in
     let calm = h.calm in
@@ -325,8 +325,8 @@ by_ruling grounds config live e w l sound calm here room Waiting q g =
     absurd (both_ways (is_owned (w.nodes l.node).owners l.client (without_lf l.line)) idle g)
 by_ruling grounds config live e w l sound calm here room (Denied nonce reason) q g = denied_round config live e w l nonce reason calm here q
 by_ruling grounds config live e w l sound calm here room (Wrong nonce reason token) q g = wrong_round config live e w l nonce reason token calm here q
-by_ruling grounds config live e w l sound calm here room (Fitting nonce token lo hi drift) q g =
-    fitting_round config live e w l nonce token lo hi drift (record { sound = sound; calm = calm; here = here; judged = q; known = g.within; free = g.free; span = g.span.ordered; room = room })
+by_ruling grounds config live e w l sound calm here room (Fitting nonce token span drift) q g =
+    fitting_round config live e w l nonce token span.lo span.hi drift (record { sound = sound; calm = calm; here = here; judged = q; known = g.within; free = g.free; span = g.span.ordered; room = room })
 
 -- ---- one round, and all
 

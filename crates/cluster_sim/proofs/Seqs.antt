@@ -5,7 +5,7 @@ use Rattle.std.proofs.lemmas.List.{append-nil, append_assoc}
 use Rattle.cluster_sim.proofs.Waves.{set_all}
 use Rattle.cluster_sim.specs.World.{Cut, Happens, Restart, World, WorldEvent, acting_node, node_event_of, node_of, place_at, with_told_of, world_after_act, world_after_event, world_after_events, world_after_restart, world_after_turn, world_with_made}
 use Rattle.floor_store.specs.Content.{Content, with_row}
-use Rattle.floor_store.specs.Records.{ProposalRecord}
+use Rattle.floor_store.specs.Records.{ProposalRecord, span_of}
 use Rattle.oath_node.specs.Machine.{Client, Config, Made, NodeEvent, NodeState, Peer, Tick, is_heard, made_by_datagram, made_by_event, made_by_proposal, made_by_ruling, made_by_vote, made_while_running, next_beginning, quiet_made, restarted_node, ruling_at, stopped_node}
 use Rattle.oath_node.specs.declared.ruling.Ruling.{Ruling}
 use Rattle.oath_node.specs.declared.ruling.Ruling.TheVariants.{Again, Denied, Fitting, Outside, Waiting, Wrong}
@@ -25,9 +25,9 @@ OneMore seq s = s.voter.seq ≤ seq + 1
 ask_seq : (from : ℕ) (p : ProposalRecord) (t lo hi : ℕ) (c : Content) (v : VoterState) → OneMore v.seq (on_ask from p t lo hi c v)
 unfolding on_ask
 ask_seq from p t lo hi c v =
-    let grants = reply_step from (Grant p t lo hi) (with_row c t (granted_row p lo hi (row c t)) None) v in
+    let grants = reply_step from (Grant p t (span_of lo hi)) (with_row c t (granted_row p lo hi (row c t)) None) v in
     let denies = reply_step from (Deny p t (row c t).next) c v in
-    cond_both (is_grant p lo hi (row c t).grant) (reply_step from (Grant p t lo hi) c v) (cond (leb (row c t).next lo) grants denies) (λ s. OneMore v.seq s) (λ _. omega arith)
+    cond_both (is_grant p lo hi (row c t).grant) (reply_step from (Grant p t (span_of lo hi)) c v) (cond (leb (row c t).next lo) grants denies) (λ s. OneMore v.seq s) (λ _. omega arith)
     (λ _. cond_both (leb (row c t).next lo) grants denies (λ s. OneMore v.seq s) (λ _. omega arith) (λ _. omega arith))
 
 count_seq : (place : PlaceRecord) (from : ℕ) (c : Content) (v : VoterState) (o : Option Ballot) → OneMore v.seq (count_grant place from c v o)
@@ -47,8 +47,8 @@ discount_seq place from c v (Some q) =
 
 message_seq : (place : PlaceRecord) (from : ℕ) (m : Message) (c : Content) (v : VoterState) → OneMore v.seq (on_message place from m c v)
 unfolding on_message on_grant on_deny on_floor
-message_seq place from (Ask p t lo hi) c v = ask_seq from p t lo hi c v
-message_seq place from (Grant p t lo hi) c v = count_seq place from c v (granted_one from t lo hi (of_this_boot c p v))
+message_seq place from (Ask p t span) c v = ask_seq from p t span.lo span.hi c v
+message_seq place from (Grant p t span) c v = count_seq place from c v (granted_one from t span.lo span.hi (of_this_boot c p v))
 message_seq place from (Deny p t next) c v = discount_seq place from (raise t next c) v (denied_one from t (of_this_boot c p v))
 message_seq place from (Floor t next) c v = omega arith
 
@@ -72,9 +72,9 @@ ruled_seq place x client moment line (Again answer) = omega arith
 ruled_seq place x client moment line Waiting = omega arith
 ruled_seq place x client moment line (Denied nonce reason) = omega arith
 ruled_seq place x client moment line (Wrong nonce reason token) = omega arith
-ruled_seq place x client moment line (Fitting nonce t lo hi drift) =
-    cond_both (ltb x.voter.seq (2 ^ 62)) (made_by_vote (x.owners ++ record { seq = x.voter.seq; client = client; line = line; nonce = nonce } ∷ []) (Some (next_beginning place t lo hi x)) (propose place t lo hi drift x.content x.voter) x) (quiet_made (stopped_node x)) (λ o. MadeOne x o)
-    (λ _. propose_seq place t lo hi drift x.content x.voter) (λ _. omega arith)
+ruled_seq place x client moment line (Fitting nonce t span drift) =
+    cond_both (ltb x.voter.seq (2 ^ 62)) (made_by_vote (x.owners ++ record { seq = x.voter.seq; client = client; line = line; nonce = nonce } ∷ []) (Some (next_beginning place t span.lo span.hi x)) (propose place t span.lo span.hi drift x.content x.voter) x) (quiet_made (stopped_node x)) (λ o. MadeOne x o)
+    (λ _. propose_seq place t span.lo span.hi drift x.content x.voter) (λ _. omega arith)
 
 event_seq : (config : Config) (place : PlaceRecord) (x : NodeState) (v : NodeEvent) → MadeOne x (made_while_running config place v x)
 unfolding made_while_running made_by_datagram

@@ -3,7 +3,7 @@ use Rattle.std.proofs.Common.{◌≡◌, ℕ, ℤ, ◌^◌, true, false, cond, l
 use Rattle.std.specs.List.{slice_get}
 use Rattle.std.proofs.lemmas.Bool.{cond_both}
 use Rattle.floor_store.specs.Content.{Content, with_row}
-use Rattle.floor_store.specs.Records.{ProposalRecord}
+use Rattle.floor_store.specs.Records.{ProposalRecord, span_of}
 use Rattle.otp_core.specs.Acceptance.{size, majority_of}
 use Rattle.vote_core.specs.NodeSet.{PlaceRecord, with_node}
 use Rattle.vote_core.specs.Rows.{row, granted_row, row_with_next}
@@ -19,9 +19,9 @@ Same c s = length s.content.rows ≡ length c.rows
 ask_size : (from : ℕ) (p : ProposalRecord) (t lo hi : ℕ) (c : Content) (v : VoterState) → Same c (on_ask from p t lo hi c v)
 unfolding on_ask
 ask_size from p t lo hi c v =
-    let grants = reply_step from (Grant p t lo hi) (with_row c t (granted_row p lo hi (row c t)) None) v in
+    let grants = reply_step from (Grant p t (span_of lo hi)) (with_row c t (granted_row p lo hi (row c t)) None) v in
     let denies = reply_step from (Deny p t (row c t).next) c v in
-    cond_both (is_grant p lo hi (row c t).grant) (reply_step from (Grant p t lo hi) c v) (cond (leb (row c t).next lo) grants denies) (λ s. Same c s)
+    cond_both (is_grant p lo hi (row c t).grant) (reply_step from (Grant p t (span_of lo hi)) c v) (cond (leb (row c t).next lo) grants denies) (λ s. Same c s)
     (λ _. refl)
     (λ _. cond_both (leb (row c t).next lo) grants denies (λ s. Same c s) (λ _. put_size c t (granted_row p lo hi (row c t)) None) (λ _. refl))
 
@@ -51,8 +51,8 @@ deny_size place from p t next c v = discount_size place from (raise t next c) v 
 
 message_size : (place : PlaceRecord) (from : ℕ) (m : Message) (c : Content) (v : VoterState) → Same c (on_message place from m c v)
 unfolding on_message on_floor
-message_size place from (Ask p t lo hi) c v = ask_size from p t lo hi c v
-message_size place from (Grant p t lo hi) c v = grant_size place from p t lo hi c v
+message_size place from (Ask p t span) c v = ask_size from p t span.lo span.hi c v
+message_size place from (Grant p t span) c v = grant_size place from p t span.lo span.hi c v
 message_size place from (Deny p t next) c v = deny_size place from p t next c v
 message_size place from (Floor t next) c v = raise_size t next c
 

@@ -6,7 +6,7 @@ use Rattle.std.proofs.lemmas.List.{length-set}
 use Rattle.admit_core.specs.Gate.{GateRecord}
 use Rattle.cluster_sim.specs.World.{Cut, Happens, Restart, World, WorldEvent, acting_node, floor_at, node_event_of, node_of, opening_world, place_at, with_state, with_told_of, world_after_act, world_after_event, world_after_events, world_after_restart, world_after_turn, world_with_made}
 use Rattle.floor_store.specs.Content.{Content, accepted_row, with_row}
-use Rattle.floor_store.specs.Records.{ProposalRecord, RowRecord}
+use Rattle.floor_store.specs.Records.{ProposalRecord, RowRecord, span_of, SpanRecord}
 use Rattle.oath_node.specs.Machine.{Beginning, Client, Config, Made, NodeEvent, NodeState, Owner, Peer, Tick, is_heard, is_pending, made_by_datagram, made_by_event, made_by_proposal, made_by_ruling, made_by_vote, made_while_running, next_beginning, quiet_made, restarted_node, ruling_at, stopped_node}
 use Rattle.oath_node.specs.declared.ruling.Ruling.{Ruling}
 use Rattle.oath_node.specs.declared.ruling.Ruling.TheVariants.{Again, Denied, Fitting, Outside, Waiting, Wrong}
@@ -20,9 +20,9 @@ use Rattle.vote_core.specs.declared.message.Message.{Message}
 use Rattle.vote_core.specs.declared.message.Message.TheVariants.{Ask, Deny, Floor, Grant}
 use Rattle.vote_wire.specs.Request.{without_lf}
 
-abbrev pub IsUnder : ℕ → Option (ProposalRecord × ℕ × ℕ) → Type 0
+abbrev pub IsUnder : ℕ → Option (ProposalRecord × SpanRecord) → Type 0
 IsUnder next None = Unit {0}
-IsUnder next (Some g) = g.2 < next
+IsUnder next (Some g) = g.1.hi < next
 
 abbrev pub Lies : RowRecord → Type 0
 Lies r = IsUnder r.next r.grant
@@ -65,9 +65,9 @@ StepKept tokens c v s = Kept tokens c v → Kept tokens s.content s.voter
 ask_kept : (tokens from : ℕ) (p : ProposalRecord) (t lo hi : ℕ) (c : Content) (v : VoterState) → StepKept tokens c v (on_ask from p t lo hi c v)
 unfolding on_ask
 ask_kept tokens from p t lo hi c v h =
-    let grants = reply_step from (Grant p t lo hi) (with_row c t (granted_row p lo hi (row c t)) None) v in
+    let grants = reply_step from (Grant p t (span_of lo hi)) (with_row c t (granted_row p lo hi (row c t)) None) v in
     let denies = reply_step from (Deny p t (row c t).next) c v in
-    cond_both (is_grant p lo hi (row c t).grant) (reply_step from (Grant p t lo hi) c v) (cond (leb (row c t).next lo) grants denies) (λ (s : Voted). Kept tokens s.content s.voter)
+    cond_both (is_grant p lo hi (row c t).grant) (reply_step from (Grant p t (span_of lo hi)) c v) (cond (leb (row c t).next lo) grants denies) (λ (s : Voted). Kept tokens s.content s.voter)
     (λ _. h)
     (λ _. cond_both (leb (row c t).next lo) grants denies (λ (s : Voted). Kept tokens s.content s.voter) (λ _. grant_kept tokens c v.turn t lo hi (row c t) p h) (λ _. h))
 
@@ -78,7 +78,7 @@ count_kept tokens place from c v (Some q) h =
     cond_both (leb (majority_of place.n) (size place.n (with_node from q.granting))) (accept (with_granting from q) c v) (quiet_step c (with_pending (replace (with_granting from q) v.pending) v)) (λ (s : Voted). Kept tokens s.content s.voter)
     (λ _. accepted_kept tokens c v.turn q.token q.drift h) (λ _. h)
 
-under_more : (old next : ℕ) (o : Option (ProposalRecord × ℕ × ℕ)) → old < next → IsUnder old o → IsUnder next o
+under_more : (old next : ℕ) (o : Option (ProposalRecord × SpanRecord)) → old < next → IsUnder old o → IsUnder next o
 under_more old next None lt h = tt
 under_more old next (Some g) lt h = omega (arith, lt, h)
 
@@ -97,8 +97,8 @@ discount_kept tokens place from c v (Some q) h =
 
 message_kept : (tokens : ℕ) (place : PlaceRecord) (from : ℕ) (m : Message) (c : Content) (v : VoterState) → StepKept tokens c v (on_message place from m c v)
 unfolding on_message on_floor on_grant on_deny
-message_kept tokens place from (Ask p t lo hi) c v h = ask_kept tokens from p t lo hi c v h
-message_kept tokens place from (Grant p t lo hi) c v h = count_kept tokens place from c v (granted_one from t lo hi (of_this_boot c p v)) h
+message_kept tokens place from (Ask p t span) c v h = ask_kept tokens from p t span.lo span.hi c v h
+message_kept tokens place from (Grant p t span) c v h = count_kept tokens place from c v (granted_one from t span.lo span.hi (of_this_boot c p v)) h
 message_kept tokens place from (Deny p t next) c v h = discount_kept tokens place from (raise t next c) v (denied_one from t (of_this_boot c p v)) (raise_kept tokens t next c v h)
 message_kept tokens place from (Floor t next) c v h = raise_kept tokens t next c v h
 
@@ -131,11 +131,11 @@ ruled_sound tokens place x client moment line h (Again answer) = h
 ruled_sound tokens place x client moment line h Waiting = h
 ruled_sound tokens place x client moment line h (Denied nonce reason) = record { kept = h.kept; owned = h.owned }
 ruled_sound tokens place x client moment line h (Wrong nonce reason token) = record { kept = gate_kept tokens x.content x.voter.turn token _ h.kept; owned = h.owned }
-ruled_sound tokens place x client moment line h (Fitting nonce t lo hi drift) =
-    let s = propose place t lo hi drift x.content x.voter in
+ruled_sound tokens place x client moment line h (Fitting nonce t span drift) =
+    let s = propose place t span.lo span.hi drift x.content x.voter in
     let owners = x.owners ++ record { seq = x.voter.seq; client = client; line = line; nonce = nonce } ∷ [] in
-    cond_both (ltb x.voter.seq (2 ^ 62)) (made_by_vote owners (Some (next_beginning place t lo hi x)) s x) (quiet_made (stopped_node x)) (λ (o : Made). Sound tokens o.state)
-    (λ _. voted_sound tokens x owners (Some (next_beginning place t lo hi x)) s h (propose_kept tokens place t lo hi drift x.content x.voter)) (λ _. record { kept = h.kept; owned = h.owned })
+    cond_both (ltb x.voter.seq (2 ^ 62)) (made_by_vote owners (Some (next_beginning place t span.lo span.hi x)) s x) (quiet_made (stopped_node x)) (λ (o : Made). Sound tokens o.state)
+    (λ _. voted_sound tokens x owners (Some (next_beginning place t span.lo span.hi x)) s h (propose_kept tokens place t span.lo span.hi drift x.content x.voter)) (λ _. record { kept = h.kept; owned = h.owned })
 
 event_sound : (config : Config) (tokens : ℕ) (place : PlaceRecord) (x : NodeState) → Sound tokens x → (v : NodeEvent) → Sound tokens (made_while_running config place v x).state
 unfolding made_while_running made_by_datagram

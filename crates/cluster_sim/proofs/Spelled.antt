@@ -7,7 +7,7 @@ use Rattle.std.proofs.lemmas.Option.{none-some, same_Some}
 use Rattle.admit_core.specs.Window.{InWindow}
 use Rattle.floor_store.specs.Content.{Content, accepted_row, with_row, with_next_boot}
 use Rattle.floor_store.specs.Range.{IsProposal, IsSpan}
-use Rattle.floor_store.specs.Records.{PassRecord, ProposalRecord, RowRecord}
+use Rattle.floor_store.specs.Records.{PassRecord, ProposalRecord, RowRecord, span_of}
 use Rattle.otp_core.specs.Acceptance.{majority_of, size}
 use Rattle.otp_core.specs.Limits.{Limits}
 use Rattle.token_file.specs.declared.token.Kind.{Kind}
@@ -133,7 +133,7 @@ proposed place t lo hi drift c v p h room small l u span =
           ballots_fine _ v _ (v.seq + 1) v.turn x (omega (arith, room))
           (each_append IsBallotIn v.pending _ h.pending (record { seq = room; token = small; lo = l; hi = u; span = span }, tt)));
       sends = to_others place _ (others place) (all_others place)
-          (λ g o. (ends place g t p o small, record { in_range = proposal_in place c.boot v.seq p h.boot room; of_node = refl; lo_below = l; hi_below = u; span = span }));
+          (λ g o. (ends place g t p o small, record { in_range = proposal_in place c.boot v.seq p h.boot room; of_node = refl; lo_below = l; hi_below = u; spanned = span }));
     })
 
 -- a message comes back to where it came from
@@ -147,12 +147,12 @@ back from me token h = record {
   token_below = h.token_below;
 }
 
-asked : (me from : ℕ) (p : ProposalRecord) (t lo hi : ℕ) (c : Content) (v : VoterState) → IsFine c v → HasEnds from me t → IsVoteOn from p lo hi → IsFineStep me (on_ask from p t lo hi c v)
+asked : (me from : ℕ) (p : ProposalRecord) (t lo hi : ℕ) (c : Content) (v : VoterState) → IsFine c v → HasEnds from me t → IsVoteOn from p (span_of lo hi) → IsFineStep me (on_ask from p t lo hi c v)
 unfolding on_ask
 asked me from p t lo hi c v h e vote =
-    let grants = reply_step from (Grant p t lo hi) (with_row c t (granted_row p lo hi (row c t)) None) v in
+    let grants = reply_step from (Grant p t (span_of lo hi)) (with_row c t (granted_row p lo hi (row c t)) None) v in
     let denies = reply_step from (Deny p t (row c t).next) c v in
-    cond_both (is_grant p lo hi (row c t).grant) (reply_step from (Grant p t lo hi) c v) (cond (leb (row c t).next lo) grants denies) (λ s. IsFineStep me s)
+    cond_both (is_grant p lo hi (row c t).grant) (reply_step from (Grant p t (span_of lo hi)) c v) (cond (leb (row c t).next lo) grants denies) (λ s. IsFineStep me s)
     (λ _. record { fine = h; sends = ((back from me t e, vote), tt) })
     (λ _. cond_both (leb (row c t).next lo) grants denies (λ s. IsFineStep me s)
     (λ _. record { fine = put_fine c v t _ None h (omega (arith, vote.hi_below)); sends = ((back from me t e, vote), tt) })
@@ -194,10 +194,10 @@ discounted place from c v (Some q) h ok =
 
 heard : (place : PlaceRecord) (from : ℕ) (m : Message) (c : Content) (v : VoterState) → IsFine c v → HasSpelling from place.me m → IsFineStep place.me (on_message place from m c v)
 unfolding on_message on_grant on_deny on_floor
-heard place from (Ask p t lo hi) c v h m = asked place.me from p t lo hi c v h m.0 m.1
-heard place from (Grant p t lo hi) c v h m =
-    counted place from c v (granted_one from t lo hi (of_this_boot c p v)) h
-    (λ q e. find_each IsBallotIn p.seq v.pending q h.pending (grant_fits place.me from t lo hi p c v q e).found)
+heard place from (Ask p t span) c v h m = asked place.me from p t span.lo span.hi c v h m.0 m.1
+heard place from (Grant p t span) c v h m =
+    counted place from c v (granted_one from t span.lo span.hi (of_this_boot c p v)) h
+    (λ q e. find_each IsBallotIn p.seq v.pending q h.pending (grant_fits place.me from t span.lo span.hi p c v q e).found)
 heard place from (Deny p t next) c v h m =
     discounted place from (raise t next c) v (denied_one from t (of_this_boot c p v)) (raised_fine t next c v h m.1.next_below)
     (λ q e. find_each IsBallotIn p.seq v.pending q h.pending (deny_found from t p c v q e))
@@ -214,7 +214,7 @@ ticked place c v p h =
           (each_flat_map (IsSpelledFrom place.me) (asks_again place c.boot) _
           (each_weaker IsBallotIn (λ q. Each (IsSpelledFrom place.me) (asks_again place c.boot q))
           (λ q b. to_others place _ _ (each_filter (IsOtherThan place.me place.n) (λ g. not (has_answered q g)) (others place) (all_others place))
-          (λ g o. (ends place g q.token p o b.token, record { in_range = proposal_in place c.boot q.seq p h.boot b.seq; of_node = refl; lo_below = b.lo; hi_below = b.hi; span = b.span })))
+          (λ g o. (ends place g q.token p o b.token, record { in_range = proposal_in place c.boot q.seq p h.boot b.seq; of_node = refl; lo_below = b.lo; hi_below = b.hi; spanned = b.span })))
           _ young))
           (cond_both (ltb v.turn (length c.rows)) (to_each (Floor v.turn (row c v.turn).next) (others place)) [] (λ l. Each (IsSpelledFrom place.me) l)
           (λ b. to_others place (Floor v.turn (row c v.turn).next) (others place) (all_others place)
@@ -251,10 +251,10 @@ ruled config place x client moment text line Waiting few p h g = record { fine =
 ruled config place x client moment text line (Denied nonce reason) few p h g = record { fine = h; sends = tt }
 ruled config place x client moment text line (Wrong nonce reason token) few p h g =
     record { fine = put_fine x.content x.voter token _ None h (h.next token); sends = tt }
-ruled config place x client moment text line (Fitting nonce token lo hi drift) few p h g =
+ruled config place x client moment text line (Fitting nonce token span drift) few p h g =
     cond_both (ltb x.voter.seq (2 ^ 62)) _ (quiet_made (stopped_node x)) (λ m. IsFineMade place.me m)
-    (λ b. (let s = proposed place token lo hi drift x.content x.voter p h (ltb-true x.voter.seq (2 ^ 62) b) (omega (arith, g.within, few))
-    (window_factor g.credential.kind _ config.limits _ _ moment lo g.fit.first) (window_factor g.credential.kind _ config.limits _ _ moment hi g.fit.last) g.span in
+    (λ b. (let s = proposed place token span.lo span.hi drift x.content x.voter p h (ltb-true x.voter.seq (2 ^ 62) b) (omega (arith, g.within, few))
+    (window_factor g.credential.kind _ config.limits _ _ moment span.lo g.fit.first) (window_factor g.credential.kind _ config.limits _ _ moment span.hi g.fit.last) g.span in
     record { fine = s.fine; sends = s.sends }))
     (λ _. record { fine = h; sends = tt })
 

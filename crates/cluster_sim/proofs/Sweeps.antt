@@ -69,8 +69,8 @@ levels_then live B w v u h k = record { up = k.up; mono = λ j t. omega (arith, 
 -- ---- one Floor
 
 abbrev pub FloorFits : ℕ → (ℕ → ℕ) → Message → Type 0
-FloorFits tokens B (Ask p t lo hi) = Unit {0}
-FloorFits tokens B (Grant p t lo hi) = Unit {0}
+FloorFits tokens B (Ask p t span) = Unit {0}
+FloorFits tokens B (Grant p t span) = Unit {0}
 FloorFits tokens B (Deny p t next) = Unit {0}
 FloorFits tokens B (Floor t next) = (t < tokens) × (next ≤ B t)
 
@@ -82,8 +82,8 @@ pub record OfTick (tokens : ℕ) (B : ℕ → ℕ) (i : ℕ) (l : Envelope) : Ty
 
 -- what the message says has come to node j
 abbrev pub ReachedBy : World → ℕ → Message → Type 0
-ReachedBy v j (Ask p t lo hi) = Unit {0}
-ReachedBy v j (Grant p t lo hi) = Unit {0}
+ReachedBy v j (Ask p t span) = Unit {0}
+ReachedBy v j (Grant p t span) = Unit {0}
 ReachedBy v j (Deny p t next) = Unit {0}
 ReachedBy v j (Floor t next) = next ≤ next_at v j t
 
@@ -91,8 +91,8 @@ abbrev pub Reached : List ℕ → World → Envelope → Type 0
 Reached live v l = is_live live l.receiver ≡ true → ReachedBy v l.receiver l.message
 
 reached_later : (v u : World) (j : ℕ) → ((t : ℕ) → next_at v j t ≤ next_at u j t) → (m : Message) → ReachedBy v j m → ReachedBy u j m
-reached_later v u j mono (Ask p t lo hi) h = tt
-reached_later v u j mono (Grant p t lo hi) h = tt
+reached_later v u j mono (Ask p t span) h = tt
+reached_later v u j mono (Grant p t span) h = tt
 reached_later v u j mono (Deny p t next) h = tt
 reached_later v u j mono (Floor t next) h = omega (arith, h, mono t)
 
@@ -130,8 +130,8 @@ floor_delivered : (config : Config) (live : List ℕ) (B : ℕ → ℕ) (i e k :
     → is_member w.n i ≡ true → OfTick (length config.book) B i l → is_live live l.receiver ≡ true → (m : Message) → l.message ≡ m → is_floor m ≡ true
     → Delivered live B i w (world_after_event config e (Happens (Deliver l.receiver k)) w) l
 unfolding on_message on_floor
-floor_delivered config live B i e k l w at sound up bound member h here (Ask p t lo hi) is f = absurd (both_ways false refl f)
-floor_delivered config live B i e k l w at sound up bound member h here (Grant p t lo hi) is f = absurd (both_ways false refl f)
+floor_delivered config live B i e k l w at sound up bound member h here (Ask p t span) is f = absurd (both_ways false refl f)
+floor_delivered config live B i e k l w at sound up bound member h here (Grant p t span) is f = absurd (both_ways false refl f)
 floor_delivered config live B i e k l w at sound up bound member h here (Deny p t next) is f = absurd (both_ways false refl f)
 floor_delivered config live B i e k l w at sound up bound member h here (Floor t n) is f =
     let j = l.receiver in
@@ -149,8 +149,8 @@ pub record Waved (live : List ℕ) (B : ℕ → ℕ) (i : ℕ) (w v : World) (ls
   pub reached : Each (Reached live v) ls
 
 passed_over : (live : List ℕ) (v : World) (l : Envelope) → is_floor_to live l ≡ false → (m : Message) → l.message ≡ m → is_live live l.receiver ≡ true → ReachedBy v l.receiver m
-passed_over live v l off (Ask p t lo hi) is here = tt
-passed_over live v l off (Grant p t lo hi) is here = tt
+passed_over live v l off (Ask p t span) is here = tt
+passed_over live v l off (Grant p t span) is here = tt
 passed_over live v l off (Deny p t next) is here = tt
 passed_over live v l off (Floor t n) is here = absurd (both_ways (is_floor_to live l) off (and_from (is_floor l.message) (is_live live l.receiver) (ap is_floor is) here))
 

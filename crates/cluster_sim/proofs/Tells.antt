@@ -369,8 +369,8 @@ ruling_tells config events h e place x client moment text comes k Waiting g = qu
 ruling_tells config events h e place x client moment text comes k (Denied nonce reason) g = refused_tells events h e place.me _ x client (without_lf text) nonce reason None k
 ruling_tells config events h e place x client moment text comes k (Wrong nonce reason token) g =
     refused_tells events h e place.me _ (node_with_failure token moment x) client (without_lf text) nonce reason (Some (token, moment)) (record { owners = k.owners; owned = k.owned; answers = k.answers })
-ruling_tells config events h e place x client moment text comes k (Fitting nonce token lo hi drift) g =
-    proposing_tells events h e place _ x client (without_lf text) nonce token lo hi drift k
+ruling_tells config events h e place x client moment text comes k (Fitting nonce token span drift) g =
+    proposing_tells events h e place _ x client (without_lf text) nonce token span.lo span.hi drift k
     (comes (without_lf text) nonce (record { request = g.request; grammar = g.grammar; nonce_is = g.nonce_is; line_is = refl }))
 
 -- ---- each event

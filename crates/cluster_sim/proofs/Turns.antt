@@ -3,6 +3,7 @@ use Rattle.std.proofs.Common.{◌≡◌, ◌≢◌, ℕ, zero, suc, ◌+◌, ◌
 use Rattle.std.specs.List.{filter, flat_map}
 use Rattle.std.proofs.lemmas.Bool.{cond_both, cond-true, cond-false, cases_Bool, not_from_false, ne_eqb, lt-ltb, eqb-true, eq-eqb, ltb-true, ltb-false, leb-true, and_parts, or_cases, or_left, or_right, not-true, both_ways, cases_order, cases_eq, cases_lt}
 use Rattle.std.proofs.lemmas.List.{drop_at}
+use Rattle.floor_store.specs.Records.{span_of}
 use Rattle.cluster_sim.proofs.Sound.{AllSound, IsTurn, happens_sound, no_owners, run_sound, start_sound}
 use Rattle.cluster_sim.proofs.Sweeps.{Bounded, FloorFits, Levels, OfTick, Reached, floors_wave, levels_none, levels_then, pending_at}
 use Rattle.cluster_sim.proofs.Waves.{run_append, set_all, set_at, stands_last, ticks}
@@ -91,8 +92,8 @@ letters_fit tokens B w i size low =
     each_map (OfTick tokens B i) (envelope_from i) (ticked w i).sends
     (each_append P (flat_map (asks_again place x.content.boot) qs) (floor_sends place x.content t)
     (each_flat_map P (asks_again place x.content.boot) qs (each_all (λ q. Each P (asks_again place x.content.boot q))
-    (λ q. each_map P (λ g. (g, Ask (record { node = i; boot = x.content.boot; seq = q.seq }) q.token q.lo q.hi)) (filter (λ g. not (has_answered q g)) (others place))
-    (each_filter (λ g. P (g, Ask (record { node = i; boot = x.content.boot; seq = q.seq }) q.token q.lo q.hi)) (λ g. not (has_answered q g)) (others place) (each_other (Ask (record { node = i; boot = x.content.boot; seq = q.seq }) q.token q.lo q.hi) tt))) qs))
+    (λ q. each_map P (λ g. (g, Ask (record { node = i; boot = x.content.boot; seq = q.seq }) q.token (span_of q.lo q.hi))) (filter (λ g. not (has_answered q g)) (others place))
+    (each_filter (λ g. P (g, Ask (record { node = i; boot = x.content.boot; seq = q.seq }) q.token (span_of q.lo q.hi))) (λ g. not (has_answered q g)) (others place) (each_other (Ask (record { node = i; boot = x.content.boot; seq = q.seq }) q.token (span_of q.lo q.hi)) tt))) qs))
     (cond_both (ltb t (length x.content.rows)) (to_each (Floor t (row x.content t).next) (others place)) [] (λ l. Each P l)
     (λ q. each_map P (λ g. (g, Floor t (row x.content t).next)) (others place) (each_other (Floor t (row x.content t).next) (subst (λ n. t < n) size (ltb-true t (length x.content.rows) q), low t)))
     (λ _. tt)))

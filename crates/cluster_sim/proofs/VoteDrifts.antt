@@ -2,7 +2,7 @@
 use Rattle.std.proofs.Common.{◌≡◌, ℕ, ℤ, ◌-◌, ◌<◌, ◌≤◌, [], ◌∷◌, ⊎_elim, cond, length, Option, Some, None, refl, sym, ap, ◌∙◌, subst, arith, eqb, leb, ltb, not, filter}
 use Rattle.std.proofs.lemmas.Bool.{cond_both, eqb-true, eqb-false}
 use Rattle.floor_store.specs.Content.{Content, accepted_row, with_row}
-use Rattle.floor_store.specs.Records.{ProposalRecord, RowRecord, PassRecord}
+use Rattle.floor_store.specs.Records.{ProposalRecord, RowRecord, PassRecord, span_of}
 use Rattle.otp_core.specs.Acceptance.{size, majority_of}
 use Rattle.vote_core.specs.NodeSet.{PlaceRecord, with_node}
 use Rattle.vote_core.specs.Rows.{row, granted_row, row_with_next}
@@ -53,9 +53,9 @@ same_drift c t r p u same =
 ask_drift : (P : Keeping) (from : ℕ) (p : ProposalRecord) (t lo hi : ℕ) (c : Content) (v : VoterState) → Each (IsKept P) v.pending → IsDriftStep P c v (on_ask from p t lo hi c v)
 unfolding on_ask
 ask_drift P from p t lo hi c v h =
-    let grants = reply_step from (Grant p t lo hi) (with_row c t (granted_row p lo hi (row c t)) None) v in
+    let grants = reply_step from (Grant p t (span_of lo hi)) (with_row c t (granted_row p lo hi (row c t)) None) v in
     let denies = reply_step from (Deny p t (row c t).next) c v in
-    cond_both (is_grant p lo hi (row c t).grant) (reply_step from (Grant p t lo hi) c v) (cond (leb (row c t).next lo) grants denies) (λ s. IsDriftStep P c v s)
+    cond_both (is_grant p lo hi (row c t).grant) (reply_step from (Grant p t (span_of lo hi)) c v) (cond (leb (row c t).next lo) grants denies) (λ s. IsDriftStep P c v s)
     (λ _. record { boot = refl; seq = omega arith; pending = h; drifts = λ u. refl })
     (λ _. cond_both (leb (row c t).next lo) grants denies (λ s. IsDriftStep P c v s)
     (λ _. record { boot = refl; seq = omega arith; pending = h; drifts = λ u. same_drift c t (granted_row p lo hi (row c t)) None u refl })
@@ -92,10 +92,10 @@ discount_drift P place from c d v (Some q) same rows h ok =
 
 pub message_drift : (P : Keeping) (place : PlaceRecord) (from : ℕ) (m : Message) (c : Content) (v : VoterState) → Each (IsKept P) v.pending → IsDriftStep P c v (on_message place from m c v)
 unfolding on_message on_grant on_deny on_floor
-message_drift P place from (Ask p t lo hi) c v h = ask_drift P from p t lo hi c v h
-message_drift P place from (Grant p t lo hi) c v h =
-    count_drift P place from c v (granted_one from t lo hi (of_this_boot c p v)) h
-    (λ q e. find_each (IsKept P) p.seq v.pending q h (grant_fits place.me from t lo hi p c v q e).found)
+message_drift P place from (Ask p t span) c v h = ask_drift P from p t span.lo span.hi c v h
+message_drift P place from (Grant p t span) c v h =
+    count_drift P place from c v (granted_one from t span.lo span.hi (of_this_boot c p v)) h
+    (λ q e. find_each (IsKept P) p.seq v.pending q h (grant_fits place.me from t span.lo span.hi p c v q e).found)
 message_drift P place from (Deny p t next) c v h =
     discount_drift P place from c (raise t next c) v (denied_one from t (of_this_boot c p v)) (raise_boot t next c) (raise_drift t next c) h
     (λ q e. find_each (IsKept P) p.seq v.pending q h (deny_found from t p c v q e))

@@ -4,7 +4,7 @@ use Rattle.std.proofs.Common.{◌≡◌, ℕ, ℤ, ◌-◌, ◌<◌, [], ◌∷�
 use Rattle.std.proofs.lemmas.Bool.{cond_both, eqb-true, eqb-false}
 use Rattle.admit_core.specs.Gate.{GateRecord, clear_gate}
 use Rattle.floor_store.specs.Content.{Content, accepted_row, with_row}
-use Rattle.floor_store.specs.Records.{ProposalRecord, RowRecord, PassRecord}
+use Rattle.floor_store.specs.Records.{ProposalRecord, RowRecord, PassRecord, span_of}
 use Rattle.otp_core.specs.Acceptance.{size, majority_of}
 use Rattle.vote_core.specs.NodeSet.{PlaceRecord, with_node}
 use Rattle.vote_core.specs.Rows.{row, granted_row, row_with_next}
@@ -35,9 +35,9 @@ same_gate c t r p u same =
 ask_gate : (from : ℕ) (p : ProposalRecord) (t lo hi : ℕ) (c : Content) (v : VoterState) → GateStep c (on_ask from p t lo hi c v)
 unfolding on_ask
 ask_gate from p t lo hi c v =
-    let grants = reply_step from (Grant p t lo hi) (with_row c t (granted_row p lo hi (row c t)) None) v in
+    let grants = reply_step from (Grant p t (span_of lo hi)) (with_row c t (granted_row p lo hi (row c t)) None) v in
     let denies = reply_step from (Deny p t (row c t).next) c v in
-    cond_both (is_grant p lo hi (row c t).grant) (reply_step from (Grant p t lo hi) c v) (cond (leb (row c t).next lo) grants denies) (λ s. GateStep c s)
+    cond_both (is_grant p lo hi (row c t).grant) (reply_step from (Grant p t (span_of lo hi)) c v) (cond (leb (row c t).next lo) grants denies) (λ s. GateStep c s)
     (λ _ u h. refl)
     (λ _. cond_both (leb (row c t).next lo) grants denies (λ s. GateStep c s) (λ _ u h. same_gate c t (granted_row p lo hi (row c t)) None u refl) (λ _ u h. refl))
 
@@ -72,8 +72,8 @@ deny_gate place from p t next c v u h =
 
 pub message_gate : (place : PlaceRecord) (from : ℕ) (m : Message) (c : Content) (v : VoterState) → GateStep c (on_message place from m c v)
 unfolding on_message on_floor
-message_gate place from (Ask p t lo hi) c v = ask_gate from p t lo hi c v
-message_gate place from (Grant p t lo hi) c v = grant_gate place from p t lo hi c v
+message_gate place from (Ask p t span) c v = ask_gate from p t span.lo span.hi c v
+message_gate place from (Grant p t span) c v = grant_gate place from p t span.lo span.hi c v
 message_gate place from (Deny p t next) c v = deny_gate place from p t next c v
 message_gate place from (Floor t next) c v = λ u h. raise_gate t next c u
 

@@ -4,7 +4,7 @@ use Rattle.std.proofs.Common.{◌≡◌, ℕ, ℤ, ◌+◌, ◌-◌, ◌≤◌, 
 use Rattle.std.specs.List.{filter}
 use Rattle.std.proofs.lemmas.Bool.{cond_both}
 use Rattle.floor_store.specs.Content.{Content, with_row}
-use Rattle.floor_store.specs.Records.{ProposalRecord, PassRecord}
+use Rattle.floor_store.specs.Records.{ProposalRecord, PassRecord, span_of}
 use Rattle.otp_core.specs.Acceptance.{size, majority_of}
 use Rattle.vote_core.specs.NodeSet.{PlaceRecord, with_node}
 use Rattle.vote_core.specs.Rows.{row, granted_row, row_with_next}
@@ -44,9 +44,9 @@ answer_step P to m c d v same h = record { boot = same; seq = omega arith; pendi
 ask_step : (P : ℕ → Type 0) (from : ℕ) (p : ProposalRecord) (t lo hi : ℕ) (c : Content) (v : VoterState) → Numbered P v.pending → IsStep P c v (on_ask from p t lo hi c v)
 unfolding on_ask
 ask_step P from p t lo hi c v h =
-    let grants = reply_step from (Grant p t lo hi) (with_row c t (granted_row p lo hi (row c t)) None) v in
+    let grants = reply_step from (Grant p t (span_of lo hi)) (with_row c t (granted_row p lo hi (row c t)) None) v in
     let denies = reply_step from (Deny p t (row c t).next) c v in
-    cond_both (is_grant p lo hi (row c t).grant) (reply_step from (Grant p t lo hi) c v) (cond (leb (row c t).next lo) grants denies) (λ s. IsStep P c v s)
+    cond_both (is_grant p lo hi (row c t).grant) (reply_step from (Grant p t (span_of lo hi)) c v) (cond (leb (row c t).next lo) grants denies) (λ s. IsStep P c v s)
     (λ _. answer_step P from _ c c v refl h)
     (λ _. cond_both (leb (row c t).next lo) grants denies (λ s. IsStep P c v s)
     (λ _. answer_step P from _ c (with_row c t (granted_row p lo hi (row c t)) None) v refl h) (λ _. answer_step P from _ c c v refl h))
@@ -99,8 +99,8 @@ deny_step P place from c d v (Some q) same h f =
 
 pub message_step : (P : ℕ → Type 0) (place : PlaceRecord) (from : ℕ) (m : Message) (c : Content) (v : VoterState) → Numbered P v.pending → IsStep P c v (on_message place from m c v)
 unfolding on_message on_grant on_deny on_floor
-message_step P place from (Ask p t lo hi) c v h = ask_step P from p t lo hi c v h
-message_step P place from (Grant p t lo hi) c v h = grant_step P place from c v _ h (found_granted P from t lo hi (of_this_boot c p v) (found_here P c p v h))
+message_step P place from (Ask p t span) c v h = ask_step P from p t span.lo span.hi c v h
+message_step P place from (Grant p t span) c v h = grant_step P place from c v _ h (found_granted P from t span.lo span.hi (of_this_boot c p v) (found_here P c p v h))
 message_step P place from (Deny p t next) c v h = deny_step P place from c (raise t next c) v _ (raise_boot t next c) h (found_denied P from t (of_this_boot c p v) (found_here P c p v h))
 message_step P place from (Floor t next) c v h = only_step P c (raise t next c) v (raise_boot t next c) h
 

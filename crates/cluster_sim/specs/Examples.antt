@@ -1,5 +1,6 @@
 -- Scripts to reckon with: nodes with the one token of RFC 4226, Appendix D.
 use Rattle.std.specs.Prelude.{ℕ, ℤ, pos, zero, suc, ◌+◌, ◌++◌, List, [], ◌∷◌, map, Option, Bool, true, false, Some, None, codes}
+use Rattle.floor_store.specs.Records.{span_of}
 use Rattle.hmac_core.specs.declared.hash.Hash.TheVariants.{Sha1}
 use Rattle.otp_core.specs.Acceptance.{Acceptance}
 use Rattle.otp_core.specs.declared.digits.Digits.TheVariants.{Six}
@@ -138,7 +139,7 @@ span_against_one =
 -- a datagram that asks for the first factor, as node 1 sends it to node 2
 abbrev pub forged_ask : Envelope
 forged_ask =
-    record { sender = 1; receiver = 2; message = Ask (record { node = 1; boot = 1; seq = 0 }) 0 0 0 }
+    record { sender = 1; receiver = 2; message = Ask (record { node = 1; boot = 1; seq = 0 }) 0 (span_of 0 0) }
 
 -- What does nothing: a datagram at another node, bytes that say none, one with the key of the cluster from the address
 -- of its sender or of another node, a stop inside noise, a line at a node that is none. Then a stop that keeps an

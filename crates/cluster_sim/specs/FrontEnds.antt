@@ -82,10 +82,10 @@ served_by_ruling server place client moment line (Wrong nonce reason token) =
     let text = answer_bytes (Reply nonce (Refused reason)) in
     let front = front_with_answer client line text (front_with_result token (Failed moment) (server.fronts place)) in
     record { server = server_with_front place front server; reply = Some text }
-served_by_ruling server place client moment line (Fitting nonce token lo hi drift) =
-    let text = answer_bytes (Reply nonce (Accepted hi)) in
+served_by_ruling server place client moment line (Fitting nonce token span drift) =
+    let text = answer_bytes (Reply nonce (Accepted span.hi)) in
     let front = front_with_answer client line text (front_with_acceptance token drift (server.fronts place)) in
-    record { server = server_with_front place front (server_with_used token hi server); reply = Some text }
+    record { server = server_with_front place front (server_with_used token span.hi server); reply = Some text }
 
 -- what a client's line at a front end makes of the server, as it came
 abbrev pub served_line : Config → Server → ℕ → ℕ → ℕ → List ℕ → Served

@@ -56,8 +56,8 @@ is_between live envelope = is_live live envelope.sender && is_live live envelope
 
 -- the message tells a floor
 abbrev pub is_floor : Message → Bool
-is_floor (Ask proposal token lo hi) = false
-is_floor (Grant proposal token lo hi) = false
+is_floor (Ask proposal token span) = false
+is_floor (Grant proposal token span) = false
 is_floor (Deny proposal token next) = false
 is_floor (Floor token next) = true
 

@@ -134,8 +134,7 @@ impl Journal {
                     ended: event,
                     node,
                     token: pass.token(),
-                    lo: pass.lo(),
-                    hi: pass.hi(),
+                    span: pass.span(),
                 })?;
             }
         }

@@ -1,23 +1,23 @@
 ghost use Rattle.std.specs.Prelude.{◌≡◌};
 
 use arrayvec::ArrayVec;
-use otp_core::Factor;
+use floor_store::Span;
 use std::marker::Model;
 use vote_wire::MAX_SENT_LEN;
 
 /// An accepted submission: the events in which it began and was accepted, the node, the number of the
-/// token, and its first and its last factor.
+/// token, and the span that it used up.
 #[derive(Clone, Copy, Debug, PartialEq, Eq)]
 pub struct WorldPass {
     pub began: u64,
     pub ended: u64,
     pub node: u8,
     pub token: u32,
-    pub lo: Factor,
-    pub hi: Factor,
+    pub span: Span,
 }
 
 impl Model for WorldPass {
+    ghost use Rattle.floor_store.specs.Records.{span_of};
     ghost use Rattle.otp_core.specs.Acceptance.{Acceptance};
 
     ghost Value = { Acceptance };
@@ -27,8 +27,8 @@ impl Model for WorldPass {
       ended = pass.ended;
       node = pass.node;
       token = pass.token;
-      lo = pass.lo;
-      hi = pass.hi;
+      lo = pass.span.lo;
+      hi = pass.span.hi;
     } };
 
     ghost inverse = { λ pass. record {
@@ -36,8 +36,7 @@ impl Model for WorldPass {
       ended = pass.ended;
       node = pass.node;
       token = pass.token;
-      lo = pass.lo;
-      hi = pass.hi;
+      span = span_of pass.lo pass.hi;
     } };
 }
 

@@ -99,7 +99,7 @@ fn are_passes(passes: &[WorldPass], want: &[Pass]) -> bool {
         if pass.began != began || pass.ended != ended || pass.node != node || pass.token != 0 {
             return false;
         }
-        if pass.lo.value() != lo || pass.hi.value() != hi {
+        if pass.span.lo().value() != lo || pass.span.hi().value() != hi {
             return false;
         }
     }

@@ -7,7 +7,7 @@ use Rattle.sqlite.specs.declared.types.Value.TheVariants.{Int}
 use Rattle.sqlite.specs.Order.{Row}
 use Rattle.sqlite.specs.Tree.{Trees, has_rowid, without_rowid}
 use Rattle.sqlite.specs.Effect.{Database}
-use Rattle.floor_store.specs.Records.{ProposalRecord, RowRecord, PassRecord}
+use Rattle.floor_store.specs.Records.{ProposalRecord, RowRecord, PassRecord, SpanRecord}
 use Rattle.floor_store.specs.Content.{Content, with_row, with_next_boot}
 use Rattle.floor_sql.specs.Schema.{floor_schema}
 use Rattle.floor_sql.specs.Stored.{HasRow, Holds, HoldsSelf, HoldsRow, HoldsRows, HoldsPasses, IsAppended, PutsRow, Puts, Raises, floor_columns, floor_values, row_values, grant_values, drift_columns, drift_values, self_columns, version_values, self_row, pass_columns, pass_row, pass_rows}
@@ -22,7 +22,7 @@ same_row a b e drift = go a.grant b.grant refl refl e
     made : a.next ≡ b.next → a.grant ≡ b.grant → a.gate.fails ≡ b.gate.fails → a.gate.until ≡ b.gate.until → a ≡ b
     made next grant fails until = λ i. record { next = next i; grant = grant i; gate = record { fails = fails i; until = until i }; drift = drift i }
 
-    go : (x y : Option (ProposalRecord × ℕ × ℕ)) → a.grant ≡ x → b.grant ≡ y
+    go : (x y : Option (ProposalRecord × SpanRecord)) → a.grant ≡ x → b.grant ≡ y
         → Int (pos a.next) ∷ grant_values x ++ Int (pos a.gate.fails) ∷ Int (pos a.gate.until) ∷ [] ≡ Int (pos b.next) ∷ grant_values y ++ Int (pos b.gate.fails) ∷ Int (pos b.gate.until) ∷ [] → a ≡ b
     go None None is_x is_y h = made (cc) (is_x ∙ sym is_y) (cc) (cc)
     go None (Some y) is_x is_y h = absurd (cc)

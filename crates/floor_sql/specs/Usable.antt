@@ -7,7 +7,7 @@ use Rattle.sqlite.specs.Tree.{Trees, rowid, has_rowid}
 use Rattle.sqlite.specs.Effect.{Database}
 use Rattle.otp_core.specs.Range.{IsDrift, IsFactor, IsNext}
 use Rattle.admit_core.specs.Gate.{IsGate}
-use Rattle.floor_store.specs.Records.{ProposalRecord, RowRecord, PassRecord}
+use Rattle.floor_store.specs.Records.{ProposalRecord, RowRecord, PassRecord, SpanRecord, span_of}
 use Rattle.floor_store.specs.Range.{IsCount, IsProposal, IsSpan, IsPass}
 use Rattle.floor_sql.specs.Schema as tables
 use Rattle.floor_sql.specs.Schema.{floor_schema}
@@ -26,24 +26,27 @@ pub record IsOwn (own : ℕ × ℕ × ℕ) : Type 0 where
   pub tokens : own.1 ≤ 10000
   pub boot : IsCount own.2
 
--- the columns of a grant, one by one
-pub record IsGrant (grant : ProposalRecord × ℕ × ℕ) : Type 0 where
+-- a span of factors in range
+pub record IsSpanOfFactors (span : SpanRecord) : Type 0 where
+  pub lo : IsFactor span.lo
+  pub hi : IsFactor span.hi
+  pub spanned : IsSpan span.lo span.hi
+
+-- the columns of a grant
+pub record IsGrant (grant : ProposalRecord × SpanRecord) : Type 0 where
   pub proposal : IsProposal grant.0
-  pub lo : IsFactor grant.1
-  pub hi : IsFactor grant.2
+  pub span : IsSpanOfFactors grant.1
 
 -- the values of a row of floors, the drift aside
 pub record IsRow (row : RowRecord) : Type 0 where
   pub next : IsNext row.next
   pub grant : ForSome row.grant IsGrant
-  pub span : ForSome row.grant (λ g. IsSpan g.1 g.2)
   pub gate : IsGate row.gate.fails row.gate.until
 
 -- the values of a row of passes
 pub record IsAudit (pass : PassRecord) : Type 0 where
   pub whole : IsPass pass
-  pub lo : IsFactor pass.lo
-  pub hi : IsFactor pass.hi
+  pub span : IsSpanOfFactors (span_of pass.lo pass.hi)
 
 -- those of all of them
 abbrev pub AreAudit : List PassRecord → Type 0

@@ -8,13 +8,14 @@ ghost use Rattle.sqlite_wal.specs.Recovery.{Image};
 ghost use Rattle.sqlite_store.specs.declared.store.FileStore.{FileStore};
 ghost use Rattle.floor_store.specs.Examples.{free_row, old_pass, proposal};
 ghost use Rattle.floor_store.specs.Content.{opening_content};
+ghost use Rattle.floor_store.specs.Records.{span_of};
 ghost use Rattle.floor_sql.specs.Broken.{IsOne, IsSecond, db_at, refused, shut_state, small_content, small_state, tables_at, trees_of};
 ghost use Rattle.floor_sql.specs.Created.{AreMade, IsForeign, Opens, first_schema, no_schema};
 ghost use Rattle.floor_sql.specs.Held.{HasSame, HasTables, SqlHeld};
 ghost use Rattle.floor_sql.specs.Schema.{floor_schema, undrifted_schema};
 ghost use Rattle.floor_sql.specs.Shown.{IsLeft, IsRead, ShowsNode};
 ghost use Rattle.floor_sql.specs.Stored.{Commits, HasKey, HasOneRow, HasRow, Holds, HoldsRow, IsAppended, KeepsCommit, Raises, drift_columns, drift_row, drift_values, floor_row, pass_row, self_row};
-ghost use Rattle.floor_sql.specs.Usable.{IsAudit, IsGrant, IsNode, IsOwn, IsRow};
+ghost use Rattle.floor_sql.specs.Usable.{IsAudit, IsGrant, IsNode, IsOwn, IsRow, IsSpanOfFactors};
 ghost use Rattle.floor_sql.specs.Steps.{ReadsOnly, ReadsTables, Transacts};
 ghost use Rattle.floor_sql.specs.Calls.{HandsBack, IsMade, IsOpened, IsSound, KeepsTables, ReadsAudit, Stages};
 ghost use Rattle.floor_sql.specs.declared.put.Put.{Put};
@@ -126,18 +127,19 @@ pub fn promises_can_be_broken()
     ensures own_node { IsOwn (0, 0, 0) → ⊥ }
     ensures own_tokens { IsOwn (1, 10001, 0) → ⊥ }
     ensures own_boot { IsOwn (1, 0, 4611686018427387904) → ⊥ }
-    ensures grant { IsGrant (proposal 1 0 0, 4611686018427387903, 0) }
-    ensures grant_proposal { IsGrant (proposal 0 0 0, 0, 0) → ⊥ }
-    ensures grant_lo { IsGrant (proposal 1 0 0, 4611686018427387904, 0) → ⊥ }
-    ensures grant_hi { IsGrant (proposal 1 0 0, 0, 4611686018427387904) → ⊥ }
+    ensures span { IsSpanOfFactors (span_of 4611686018427387902 4611686018427387903) }
+    ensures span_hi { IsSpanOfFactors (span_of 4611686018427387903 4611686018427387904) → ⊥ }
+    ensures span_spanned { IsSpanOfFactors (span_of 5 7) → ⊥ }
+    ensures grant { IsGrant (proposal 1 0 0, span_of 5 6) }
+    ensures grant_proposal { IsGrant (proposal 0 0 0, span_of 5 5) → ⊥ }
+    ensures grant_span { IsGrant (proposal 1 0 0, span_of 5 7) → ⊥ }
     ensures in_range { IsRow (free_row 4611686018427387904) }
     ensures row_next { IsRow (free_row 4611686018427387905) → ⊥ }
-    ensures row_grant { IsRow (record (free_row 9) { grant = Some (proposal 0 0 0, 5, 5) }) → ⊥ }
-    ensures row_span { IsRow (record (free_row 9) { grant = Some (proposal 1 0 0, 5, 7) }) → ⊥ }
+    ensures row_grant { IsRow (record (free_row 9) { grant = Some (proposal 0 0 0, span_of 5 5) }) → ⊥ }
     ensures row_gate { IsRow (record (free_row 9) { gate = record { fails = 10001; until = 0 } }) → ⊥ }
     ensures audit { IsAudit old_pass }
     ensures audit_whole { IsAudit (record old_pass { token = 10000 }) → ⊥ }
-    ensures audit_hi { IsAudit (record old_pass { lo = 4611686018427387903; hi = 4611686018427387904 }) → ⊥ }
+    ensures audit_span { IsAudit (record old_pass { lo = 5; hi = 7 }) → ⊥ }
 {}
 
 /// What is promised of a call on a connection, whatever it is over: each field is broken by the least change of the

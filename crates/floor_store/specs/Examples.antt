@@ -1,13 +1,13 @@
 -- A written-out content of two tokens, and the ends of the ranges of what it keeps.
 use Rattle.std.specs.Prelude.{ℕ, pos, negsuc, List, [], ◌∷◌, Option, Some, None}
 use Rattle.floor_store.specs.Content.{Content}
-use Rattle.floor_store.specs.Records.{PassRecord, ProposalRecord, RowRecord}
+use Rattle.floor_store.specs.Records.{PassRecord, ProposalRecord, RowRecord, span_of}
 
 -- a row that a node's proposal has used up to factor 5
 abbrev pub granted_row : RowRecord
 granted_row = record {
   next = 6;
-  grant = Some (record { node = 2; boot = 7; seq = 3 }, 5, 5);
+  grant = Some (record { node = 2; boot = 7; seq = 3 }, span_of 5 5);
   gate = record { fails = 2; until = 130 };
   drift = negsuc 2;
 }
@@ -16,7 +16,7 @@ granted_row = record {
 abbrev pub later_row : RowRecord
 later_row = record {
   next = 2;
-  grant = Some (record { node = 1; boot = 4; seq = 9 }, 0, 1);
+  grant = Some (record { node = 1; boot = 4; seq = 9 }, span_of 0 1);
   gate = record { fails = 1; until = 65 };
   drift = pos 10;
 }

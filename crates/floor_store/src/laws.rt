@@ -4,8 +4,8 @@ ghost use Rattle.floor_store.specs.Content.{IsContent, accepted_row, opening_con
 ghost use Rattle.floor_store.specs.Examples.{content_at, free_row, granted_row, later_row, new_pass, old_pass, pass, proposal, two_rows};
 ghost use Rattle.floor_store.specs.Fault.{IsBrokenBy, IsCounted, is_failure};
 ghost use Rattle.floor_store.specs.Held.{Breaks, Commits, IsSettled, Makes, MayPut, MayWrite, OldOrNew, Puts, RaisesBoot, Reads, Writes};
-ghost use Rattle.floor_store.specs.Range.{HasSpan, IsPass, IsProposal, IsSpan};
-ghost use Rattle.floor_store.specs.Records.{RowRecord};
+ghost use Rattle.floor_store.specs.Range.{IsPass, IsProposal, IsSpan};
+ghost use Rattle.floor_store.specs.Records.{RowRecord, span_of};
 ghost use Rattle.floor_store.specs.declared.fault.StoreFault.TheVariants.{AlreadyThere, Disk, Memory, Spent, Unusable};
 
 /// What each write makes of a content, worked through.
@@ -46,17 +46,14 @@ pub fn ranges_are_worked()
     ensures node_10 { IsProposal (proposal 10 0 0) → ⊥ }
     ensures proposal_boot { IsProposal (proposal 1 4611686018427387904 0) → ⊥ }
     ensures proposal_seq { IsProposal (proposal 1 0 4611686018427387904) → ⊥ }
+    ensures span { span_of 5 6 ≡ record { lo = 5; hi = 6 } }
     ensures one_factor { IsSpan 5 5 }
     ensures two_factors { IsSpan 5 6 }
     ensures three_factors { IsSpan 5 7 → ⊥ }
     ensures backwards { IsSpan 6 5 → ⊥ }
-    ensures no_grant { HasSpan None }
-    ensures short_grant { HasSpan (Some (proposal 1 0 0, 5, 6)) }
-    ensures long_grant { HasSpan (Some (proposal 1 0 0, 5, 7)) → ⊥ }
     ensures first_pass { IsPass (pass 0 5 6 0 0) }
     ensures last_pass { IsPass (pass 9999 5 5 4611686018427387903 4611686018427387903) }
     ensures pass_token { IsPass (pass 10000 5 5 0 0) → ⊥ }
-    ensures pass_span { IsPass (pass 0 5 7 0 0) → ⊥ }
     ensures pass_boot { IsPass (pass 0 5 5 4611686018427387904 0) → ⊥ }
     ensures pass_seq { IsPass (pass 0 5 5 0 4611686018427387904) → ⊥ }
     ensures memory { is_failure Memory ≡ true }

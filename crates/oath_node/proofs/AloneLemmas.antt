@@ -8,7 +8,7 @@ use Rattle.admit_core.specs.Gate.{GateRecord, clear_gate, with_failure}
 use Rattle.admit_core.specs.Throttle.{Result, Failed, Accepted as Passed, gate_after}
 use Rattle.answer_ring.specs.Answers.{KeptAnswer}
 use Rattle.floor_store.specs.Content.{Content, accepted_row}
-use Rattle.floor_store.specs.Records.{PassRecord, RowRecord}
+use Rattle.floor_store.specs.Records.{PassRecord, RowRecord, span_of}
 use Rattle.vote_core.specs.Rows.{granted_row, no_row, row, row_with_gate}
 use Rattle.vote_core.specs.Voting.{Ballot, pass_of, propose, propose_alone}
 use Rattle.vote_core.specs.declared.step.Decision.TheVariants.{Accepted as Won}
@@ -81,7 +81,7 @@ wrong_content law c s l nonce token reason h =
     }
 
 fitting_content : (c : Content) (s : Server) (l : Line) (nonce : List ℕ) (seq turn token lo hi : ℕ) (drift : ℤ) → IsContentOf c s
-    → IsContentOf (propose_alone alone_place token lo hi drift c (record { pending = []; seq = seq; turn = turn })).content (service_by s l (Fitting nonce token lo hi drift)).server
+    → IsContentOf (propose_alone alone_place token lo hi drift c (record { pending = []; seq = seq; turn = turn })).content (service_by s l (Fitting nonce token (span_of lo hi) drift)).server
 unfolding propose_alone
 fitting_content c s l nonce seq turn token lo hi drift h =
     let r : RowRecord = accepted_row drift (granted_row (record { node = 1; boot = c.boot; seq = seq }) lo hi (row c token)) in
@@ -106,7 +106,7 @@ RunsOn made = made.state.running ≡ true
 -- a proposal of a lone node is accepted at once, unless it finds no number
 fitting_alone : (count : ℕ) (c : Content) (seq turn : ℕ) (s : Server) (l : Line) (nonce : List ℕ) (token lo hi : ℕ) (drift : ℤ) → IsContentOf c s → seq ≤ count
     → RunsOn (made_by_proposal alone_place l.client (without_lf l.text) nonce token lo hi drift (lone c seq turn s.front.answers))
-    → ServesAlone count (made_by_proposal alone_place l.client (without_lf l.text) nonce token lo hi drift (lone c seq turn s.front.answers)) l (service_by s l (Fitting nonce token lo hi drift))
+    → ServesAlone count (made_by_proposal alone_place l.client (without_lf l.text) nonce token lo hi drift (lone c seq turn s.front.answers)) l (service_by s l (Fitting nonce token (span_of lo hi) drift))
 unfolding made_by_proposal propose propose_alone
 fitting_alone count c seq turn s l nonce token lo hi drift h begun =
     let x = lone c seq turn s.front.answers in
@@ -118,7 +118,7 @@ fitting_alone count c seq turn s l nonce token lo hi drift h begun =
     let told : answers_to_decisions (owner ∷ []) v.decisions ≡ one ∷ [] = told_own owner pass in
     let rows = fitting_content c s l nonce seq turn token lo hi drift h in
     cond_both (nat_lt seq (2 ^ 62)) (made_by_vote (owner ∷ []) (Some (next_beginning alone_place token lo hi x)) v x) (quiet_made (stopped_node x))
-    (λ o. RunsOn o → ServesAlone count o l (service_by s l (Fitting nonce token lo hi drift)))
+    (λ o. RunsOn o → ServesAlone count o l (service_by s l (Fitting nonce token (span_of lo hi) drift)))
     (λ _ on. record {
       sends = refl;
       replies = ap (λ ks. map reply_with ks) told;
@@ -168,8 +168,8 @@ ruling_alone law book limits count c seq turn s l h begun (Wrong nonce reason to
       pass = refl;
       state = record { running = refl; pending = refl; owners = refl; answers = refl; floors = rows.floors; gates = rows.gates; drifts = rows.drifts; begun = omega (arith, begun) };
     }
-ruling_alone law book limits count c seq turn s l h begun (Fitting nonce token lo hi drift) g on =
-    fitting_alone count c seq turn s l nonce token lo hi drift h begun on
+ruling_alone law book limits count c seq turn s l h begun (Fitting nonce token span drift) g on =
+    fitting_alone count c seq turn s l nonce token span.lo span.hi drift h begun on
 
 same_standing : (tokens : ℕ) (c : Content) (seq turn : ℕ) (s : Server) (l : Line) → IsContentOf c s
     → IsSameStanding tokens (standing_at (lone c seq turn s.front.answers) l.client l.moment (without_lf l.text)) (standing_of s l)
@@ -213,7 +213,7 @@ ruling_runs c seq turn answers client moment line (Again text) below = refl
 ruling_runs c seq turn answers client moment line Waiting below = refl
 ruling_runs c seq turn answers client moment line (Denied nonce reason) below = refl
 ruling_runs c seq turn answers client moment line (Wrong nonce reason token) below = refl
-ruling_runs c seq turn answers client moment line (Fitting nonce token lo hi drift) below = fitting_runs c seq turn answers client line nonce token lo hi drift below
+ruling_runs c seq turn answers client moment line (Fitting nonce token span drift) below = fitting_runs c seq turn answers client line nonce token span.lo span.hi drift below
 
 pub line_runs : (config : Config) (count : ℕ) (x : NodeState) (s : Server) (l : Line) → IsAlone count x s → count < 2 ^ 62
     → RunsOn (made_by_event config alone_place (Client l.client l.moment l.text) x)

@@ -7,7 +7,7 @@ use Rattle.std.proofs.lemmas.List.{length-map}
 use Rattle.std.proofs.lemmas.List.Elements.{filter-append}
 use Rattle.std.proofs.lemmas.List.Filters.{length-filter_both}
 use Rattle.floor_store.specs.Content.{Content}
-use Rattle.floor_store.specs.Records.{ProposalRecord}
+use Rattle.floor_store.specs.Records.{ProposalRecord, span_of}
 use Rattle.otp_core.specs.Acceptance.{majority_of, size}
 use Rattle.vote_core.specs.NodeSet.{PlaceRecord, members, others, with_node}
 use Rattle.vote_core.specs.Rows.{row}
@@ -70,7 +70,7 @@ length-each m (g ∷ to) = ap suc (length-each m to)
 asks_few : (place : PlaceRecord) (boot : ℕ) (q : Ballot) → IsPlace place → length (asks_again place boot q) ≤ 8
 asks_few place boot q h =
     let silent = filter (λ g. not (has_answered q g)) (others place) in
-    omega (arith, length-each (Ask (record { node = place.me; boot = boot; seq = q.seq }) q.token q.lo q.hi) silent, filter_le (λ g. not (has_answered q g)) (others place), others_few place h)
+    omega (arith, length-each (Ask (record { node = place.me; boot = boot; seq = q.seq }) q.token (span_of q.lo q.hi)) silent, filter_le (λ g. not (has_answered q g)) (others place), others_few place h)
 
 each_few : (place : PlaceRecord) (m : Message) → IsPlace place → length (to_each m (others place)) ≤ 8
 each_few place m h = omega (arith, length-each m (others place), others_few place h)
@@ -112,8 +112,8 @@ deny_few place from c v (Some q) =
 
 message_few : (place : PlaceRecord) (from : ℕ) (m : Message) (c : Content) (v : VoterState) → Few (on_message place from m c v)
 unfolding on_message on_grant on_deny on_floor
-message_few place from (Ask p t lo hi) c v = ask_few from p t lo hi c v
-message_few place from (Grant p t lo hi) c v = grant_few place from c v _
+message_few place from (Ask p t span) c v = ask_few from p t span.lo span.hi c v
+message_few place from (Grant p t span) c v = grant_few place from c v _
 message_few place from (Deny p t next) c v = deny_few place from (raise t next c) v _
 message_few place from (Floor t next) c v = omega arith
 
@@ -121,7 +121,7 @@ propose_few : (place : PlaceRecord) (t lo hi : ℕ) (drift : ℤ) (c : Content) 
 unfolding propose propose_alone propose_among
 propose_few place t lo hi drift c v h =
     cond_both (place.n == 1) _ _ Few (λ _. omega arith)
-    (λ _. omega (arith, each_few place (Ask (record { node = place.me; boot = c.boot; seq = v.seq }) t lo hi) h))
+    (λ _. omega (arith, each_few place (Ask (record { node = place.me; boot = c.boot; seq = v.seq }) t (span_of lo hi)) h))
 
 -- ---- the node's: so many messages and replies
 
@@ -158,7 +158,7 @@ ruling_brief place client moment line (Again text) x h = omega arith
 ruling_brief place client moment line Waiting x h = omega arith
 ruling_brief place client moment line (Denied nonce reason) x h = omega arith
 ruling_brief place client moment line (Wrong nonce reason token) x h = omega arith
-ruling_brief place client moment line (Fitting nonce token lo hi drift) x h = proposal_brief place client line nonce token lo hi drift x h
+ruling_brief place client moment line (Fitting nonce token span drift) x h = proposal_brief place client line nonce token span.lo span.hi drift x h
 
 datagram_brief : (config : Config) (place : PlaceRecord) (from : ℕ) (read : Option Envelope) (x : NodeState) → IsBrief (made_by_datagram config place from read x)
 unfolding made_by_datagram

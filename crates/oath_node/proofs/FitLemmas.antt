@@ -1,18 +1,18 @@
--- What the rules propose is a span, and free.
-use Rattle.std.proofs.Common.{◌≡◌, ℕ, ◌^◌, ◌≤◌, ◌<◌, false, Option, Some, None, refl, arith, List, ℤ}
-use Rattle.std.specs.Prelude.{◌==◌, nat_lt, slice_get}
+-- What the rules propose is free.
+use Rattle.std.proofs.Common.{◌≡◌, ℕ, ◌^◌, ◌≤◌, ◌<◌, false, Option, Some, None, refl, List, ℤ}
+use Rattle.std.specs.Prelude.{◌==◌, nat_lt, option_map, slice_get}
 use Rattle.std.proofs.lemmas.Bool.{cond_both, lt-ltb, le-ltb, ne_eqb}
 use Rattle.otp_core.specs.Limits.{Limits}
 use Rattle.token_file.specs.Credential.{Credential, place_of}
 use Rattle.token_file.specs.declared.token.Kind.{Kind}
 use Rattle.token_file.specs.declared.token.Kind.TheVariants.{Event, Time30, Time60}
-use Rattle.admit_core.specs.Fit.{Submission, Check, Resync, Fits, least_fit, reach_of}
+use Rattle.admit_core.specs.Fit.{least_fit, reach_of}
 use Rattle.admit_core.specs.Password.{PasswordFits}
 use Rattle.admit_core.specs.Window.{InWindow}
-use Rattle.floor_store.specs.Range.{IsSpan}
+use Rattle.floor_store.specs.Records.{SpanRecord, span_of}
 use Rattle.oath_node.specs.Column.{column_fits}
 use Rattle.oath_node.specs.Recording.{IfKept, IfProposes}
-use Rattle.oath_node.specs.Rules.{Standing, fit_ruling, remaining_ruling, open_ruling, token_ruling, request_ruling}
+use Rattle.oath_node.specs.Rules.{Standing, fit_ruling, fitting_span, remaining_ruling, open_ruling, token_ruling, request_ruling}
 use Rattle.oath_node.specs.declared.ruling.Ruling.{Ruling}
 use Rattle.oath_node.specs.declared.ruling.Ruling.TheVariants.{Outside, Again, Waiting, Denied, Wrong, Fitting}
 use Rattle.oath_node.proofs.ColumnLemmas.{decides_column}
@@ -20,40 +20,36 @@ use Rattle.oath_node.proofs.GroundLemmas.{FitLaw}
 use Rattle.vote_wire.specs.Request.{Request}
 use Rattle.vote_wire.specs.declared.answer.Reason.TheVariants.{Exhausted, Password, Throttled}
 
--- a proposed span is free from a factor on
+-- a proposed span is of the token, and free from a factor on
 abbrev pub Suits : ℕ → ℕ → Ruling → Type 0
-Suits token next v = IfProposes v (λ t lo hi. IsSpan lo hi) × IfProposes v (λ t lo hi. (t ≡ token) × (next ≤ lo))
+Suits token next v = IfProposes v (λ t span. (t ≡ token) × (next ≤ span.lo))
 
 free_of_window : (kind : Kind) (reach : ℕ) (limits : Limits) (next : ℕ) (drift : ℤ) (moment m : ℕ) → InWindow kind reach limits next drift moment m → next ≤ m
 free_of_window Event reach limits next drift moment m h = h.free
 free_of_window Time30 reach limits next drift moment m h = h.free
 free_of_window Time60 reach limits next drift moment m h = h.free
 
-span_of_fit : (c : Credential) (s : Submission) (lo hi : ℕ) → Fits c s lo hi → IsSpan lo hi
-span_of_fit c (Check code) lo hi h = record { ordered = omega (arith, h.0); short = omega (arith, h.0) }
-span_of_fit c (Resync first second) lo hi h = record { ordered = omega (arith, h.0); short = omega (arith, h.0) }
-
 fit_suits : FitLaw → (limits : Limits) (next : ℕ) (drift : ℤ) (moment : ℕ) (r : Request) (token : ℕ) (c : Credential)
-    → (fit : Option (ℕ × ℕ)) → least_fit c limits next drift moment r.submission ≡ fit → Suits token next (fit_ruling c.kind limits moment r token fit)
-fit_suits law limits next drift moment r token c None e = (tt, tt)
+    → (fit : Option (ℕ × ℕ)) → least_fit c limits next drift moment r.submission ≡ fit → Suits token next (fit_ruling c.kind limits moment r token (option_map (λ f. span_of f.0 f.1) fit))
+fit_suits law limits next drift moment r token c None e = tt
 fit_suits law limits next drift moment r token c (Some (lo, hi)) e =
     let least = (law c limits next drift moment r.submission lo hi).0 e in
-    (span_of_fit c r.submission lo hi least.fits, (refl, free_of_window c.kind (reach_of limits r.submission) limits next drift moment lo least.first))
+    (refl, free_of_window c.kind (reach_of limits r.submission) limits next drift moment lo least.first)
 
 remaining_suits : FitLaw → (limits : Limits) (next : ℕ) (drift : ℤ) (moment : ℕ) (r : Request) (token : ℕ) (c : Credential) → Suits token next (remaining_ruling limits next drift moment r token c)
 remaining_suits law limits next drift moment r token c =
-    cond_both (next == 2 ^ 62) (Denied r.nonce Exhausted) (fit_ruling c.kind limits moment r token (least_fit c limits next drift moment r.submission)) (Suits token next)
-    (λ _. (tt, tt)) (λ _. fit_suits law limits next drift moment r token c _ refl)
+    cond_both (next == 2 ^ 62) (Denied r.nonce Exhausted) (fit_ruling c.kind limits moment r token (fitting_span c limits next drift moment r.submission)) (Suits token next)
+    (λ _. tt) (λ _. fit_suits law limits next drift moment r token c _ refl)
 
 open_suits : FitLaw → (limits : Limits) (next : ℕ) (drift : ℤ) (moment : ℕ) (r : Request) (token : ℕ) (c : Credential) → Suits token next (open_ruling limits next drift moment r token c)
 open_suits law limits next drift moment r token c =
     cond_both (column_fits c.password r.password) (remaining_ruling limits next drift moment r token c) (Wrong r.nonce Password token) (Suits token next)
-    (λ _. remaining_suits law limits next drift moment r token c) (λ _. (tt, tt))
+    (λ _. remaining_suits law limits next drift moment r token c) (λ _. tt)
 
 pub token_suits : FitLaw → (limits : Limits) (next : ℕ) (drift : ℤ) (wait moment : ℕ) (r : Request) (token : ℕ) (c : Credential) → Suits token next (token_ruling limits next drift wait moment r token c)
 token_suits law limits next drift wait moment r token c =
     cond_both (nat_lt 0 wait) (Denied r.nonce (Throttled wait)) (open_ruling limits next drift moment r token c) (Suits token next)
-    (λ _. (tt, tt)) (λ _. open_suits law limits next drift moment r token c)
+    (λ _. tt) (λ _. open_suits law limits next drift moment r token c)
 
 -- a request at a moment in range, where there is room, for a user
 pub request_token : (book : List Credential) (limits : Limits) (s : Standing) (moment : ℕ) (r : Request) (token : ℕ) (c : Credential)
@@ -69,7 +65,7 @@ token_open limits next drift wait moment r token c none = rw (le-ltb 0 wait none
 -- a password that fits, and a factor that is left
 pub open_fit : (limits : Limits) (next : ℕ) (drift : ℤ) (moment : ℕ) (r : Request) (token : ℕ) (c : Credential)
     → PasswordFits c.password r.password → (next ≡ 2 ^ 62 → ⊥)
-    → open_ruling limits next drift moment r token c ≡ fit_ruling c.kind limits moment r token (least_fit c limits next drift moment r.submission)
+    → open_ruling limits next drift moment r token c ≡ fit_ruling c.kind limits moment r token (fitting_span c limits next drift moment r.submission)
 open_fit limits next drift moment r token c given left = rw ((decides_column c.password r.password).1 given, ne_eqb next (2 ^ 62) left) refl
 
 -- what holds anyway
@@ -79,13 +75,13 @@ if_kept (Again text) P h = tt
 if_kept Waiting P h = tt
 if_kept (Denied nonce reason) P h = h
 if_kept (Wrong nonce reason t) P h = h
-if_kept (Fitting nonce t lo hi drift) P h = h
+if_kept (Fitting nonce t span drift) P h = h
 
 -- what holds of a proposal, if the ruling is one, holds for less
-pub proposes_less : (v : Ruling) (P Q : ℕ → ℕ → ℕ → Type 0) → ((t lo hi : ℕ) → P t lo hi → Q t lo hi) → IfProposes v P → IfProposes v Q
+pub proposes_less : (v : Ruling) (P Q : ℕ → SpanRecord → Type 0) → ((t : ℕ) (span : SpanRecord) → P t span → Q t span) → IfProposes v P → IfProposes v Q
 proposes_less Outside P Q f h = tt
 proposes_less (Again text) P Q f h = tt
 proposes_less Waiting P Q f h = tt
 proposes_less (Denied nonce reason) P Q f h = tt
 proposes_less (Wrong nonce reason t) P Q f h = tt
-proposes_less (Fitting nonce t lo hi drift) P Q f h = f t lo hi h
+proposes_less (Fitting nonce t span drift) P Q f h = f t span h

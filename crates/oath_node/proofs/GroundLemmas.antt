@@ -1,6 +1,6 @@
 -- What becomes of a line has its grounds.
 use Rattle.std.proofs.Common.{◌≡◌, ℕ, ◌^◌, ◌≤◌, Bool, false, cond, List, length, Option, Some, None, refl, ap, ◌∙◌, arith, ℤ}
-use Rattle.std.specs.Prelude.{◌==◌, ◌↔◌, nat_lt, slice_get}
+use Rattle.std.specs.Prelude.{◌==◌, ◌↔◌, nat_lt, option_map, slice_get}
 use Rattle.std.proofs.lemmas.Bool.{cond_both, ltb-true, ltb-false}
 use Rattle.std.proofs.lemmas.Option.{slice_get_within}
 use Rattle.otp_core.specs.Limits.{Limits}
@@ -12,10 +12,11 @@ use Rattle.admit_core.specs.Fit.{Submission, Check, Resync, Fits, IsLeastFit, le
 use Rattle.admit_core.specs.Password.{PasswordFits}
 use Rattle.admit_core.specs.Window.{InWindow}
 use Rattle.floor_store.specs.Range.{IsSpan}
+use Rattle.floor_store.specs.Records.{span_of}
 use Rattle.oath_node.specs.Column.{column_fits}
 use Rattle.oath_node.specs.Grounds.{HasGrounds, IsSameStanding}
 use Rattle.vote_wire.specs.Request.{Request, IsLine, request_at}
-use Rattle.oath_node.specs.Rules.{Standing, fit_ruling, remaining_ruling, open_ruling, token_ruling, place_ruling, user_ruling, room_ruling, request_ruling, ruling_unless_known, ruling_of, ruling}
+use Rattle.oath_node.specs.Rules.{Standing, fit_ruling, fitting_span, remaining_ruling, open_ruling, token_ruling, place_ruling, user_ruling, room_ruling, request_ruling, ruling_unless_known, ruling_of, ruling}
 use Rattle.oath_node.specs.declared.ruling.Ruling.{Ruling}
 use Rattle.oath_node.specs.declared.ruling.Ruling.TheVariants.{Waiting, Denied, Wrong}
 use Rattle.vote_wire.specs.declared.answer.Reason.TheVariants.{Busy, Clock, Exhausted, Password, Throttled}
@@ -42,13 +43,13 @@ free_of Event reach limits next drift moment m h = h.free
 free_of Time30 reach limits next drift moment m h = h.free
 free_of Time60 reach limits next drift moment m h = h.free
 
-span_of : (c : Credential) (s : Submission) (lo hi : ℕ) → Fits c s lo hi → IsSpan lo hi
-span_of c (Check code) lo hi h = record { ordered = omega (arith, h.0); short = omega (arith, h.0) }
-span_of c (Resync first second) lo hi h = record { ordered = omega (arith, h.0); short = omega (arith, h.0) }
+span_of_fit : (c : Credential) (s : Submission) (lo hi : ℕ) → Fits c s lo hi → IsSpan lo hi
+span_of_fit c (Check code) lo hi h = record { ordered = omega (arith, h.0); short = omega (arith, h.0) }
+span_of_fit c (Resync first second) lo hi h = record { ordered = omega (arith, h.0); short = omega (arith, h.0) }
 
 fit_grounds : FitLaw → (book : List Credential) (limits : Limits) (s : Standing) (moment : ℕ) (line : List ℕ) (r : Request) (token : ℕ) (c : Credential)
     → IsAdmissible book s moment line r token c → PasswordFits c.password r.password
-    → (fit : Option (ℕ × ℕ)) → least_fit c limits (s.next token) (s.drift token) moment r.submission ≡ fit → HasGrounds book limits s moment line (fit_ruling c.kind limits moment r token fit)
+    → (fit : Option (ℕ × ℕ)) → least_fit c limits (s.next token) (s.drift token) moment r.submission ≡ fit → HasGrounds book limits s moment line (fit_ruling c.kind limits moment r token (option_map (λ f. span_of f.0 f.1) fit))
 fit_grounds law book limits s moment line r token c h password None e =
     record { within = slice_get_within book token c h.is_token; in_range = h.in_range; is_open = h.is_open }
 fit_grounds law book limits s moment line r token c h password (Some (lo, hi)) e =
@@ -68,14 +69,14 @@ fit_grounds law book limits s moment line r token c h password (Some (lo, hi)) e
       fit = fit;
       kept = refl;
       free = free_of c.kind (reach_of limits r.submission) limits (s.next token) (s.drift token) moment lo fit.first;
-      span = span_of c r.submission lo hi fit.fits;
+      span = span_of_fit c r.submission lo hi fit.fits;
     }
 
 remaining_grounds : FitLaw → (book : List Credential) (limits : Limits) (s : Standing) (moment : ℕ) (line : List ℕ) (r : Request) (token : ℕ) (c : Credential)
     → IsAdmissible book s moment line r token c → PasswordFits c.password r.password
     → HasGrounds book limits s moment line (remaining_ruling limits (s.next token) (s.drift token) moment r token c)
 remaining_grounds law book limits s moment line r token c h password =
-    cond_both (s.next token == 2 ^ 62) (Denied r.nonce Exhausted) (fit_ruling c.kind limits moment r token (least_fit c limits (s.next token) (s.drift token) moment r.submission))
+    cond_both (s.next token == 2 ^ 62) (Denied r.nonce Exhausted) (fit_ruling c.kind limits moment r token (fitting_span c limits (s.next token) (s.drift token) moment r.submission))
     (λ v. HasGrounds book limits s moment line v)
     (λ _. tt)
     (λ _. fit_grounds law book limits s moment line r token c h password _ refl)

@@ -41,8 +41,8 @@ deny_seq place from c v (Some q) =
 
 message_seq : (place : PlaceRecord) (from : ℕ) (m : Message) (c : Content) (v : VoterState) → v.seq ≡ (on_message place from m c v).voter.seq
 unfolding on_message on_grant on_deny on_floor
-message_seq place from (Ask p t lo hi) c v = ask_seq from p t lo hi c v
-message_seq place from (Grant p t lo hi) c v = grant_seq place from c v _
+message_seq place from (Ask p t span) c v = ask_seq from p t span.lo span.hi c v
+message_seq place from (Grant p t span) c v = grant_seq place from c v _
 message_seq place from (Deny p t next) c v = deny_seq place from (raise t next c) v _
 message_seq place from (Floor t next) c v = refl
 
@@ -81,7 +81,7 @@ ruling_owned place client moment line (Again text) x h = h
 ruling_owned place client moment line Waiting x h = h
 ruling_owned place client moment line (Denied nonce reason) x h = record { apart = h.apart; pending = h.pending }
 ruling_owned place client moment line (Wrong nonce reason token) x h = record { apart = h.apart; pending = h.pending }
-ruling_owned place client moment line (Fitting nonce token lo hi drift) x h = proposal_owned place client line nonce token lo hi drift x h
+ruling_owned place client moment line (Fitting nonce token span drift) x h = proposal_owned place client line nonce token span.lo span.hi drift x h
 
 datagram_owned : (config : Config) (place : PlaceRecord) (from : ℕ) (read : Option Envelope) (x : NodeState) → IsOwned x → IsOwned (made_by_datagram config place from read x).state
 unfolding made_by_datagram
@@ -132,7 +132,7 @@ ruling_stops place client moment line (Again text) x on off = absurd (let t = sy
 ruling_stops place client moment line Waiting x on off = absurd (let t = sym on ∙ off in cc)
 ruling_stops place client moment line (Denied nonce reason) x on off = absurd (let t = sym on ∙ off in cc)
 ruling_stops place client moment line (Wrong nonce reason token) x on off = absurd (let t = sym on ∙ off in cc)
-ruling_stops place client moment line (Fitting nonce token lo hi drift) x on off = tt
+ruling_stops place client moment line (Fitting nonce token span drift) x on off = tt
 
 datagram_runs : (config : Config) (place : PlaceRecord) (from : ℕ) (read : Option Envelope) (x : NodeState)
     → (made_by_datagram config place from read x).state.running ≡ x.running

@@ -22,15 +22,15 @@ abbrev pub envelope : ℕ → ℕ → Message → Envelope
 envelope sender to m = record { sender = sender; receiver = to; message = m }
 
 token_below : (place : PlaceRecord) (tokens from : ℕ) (m : Message) → FitsVoter place tokens from m → token_of m < tokens
-token_below place tokens from (Ask p t lo hi) h = h.0
-token_below place tokens from (Grant p t lo hi) h = h.0
+token_below place tokens from (Ask p t span) h = h.0
+token_below place tokens from (Grant p t span) h = h.0
 token_below place tokens from (Deny p t next) h = h.0
 token_below place tokens from (Floor t next) h = h
 
 spelled_fits : (place : PlaceRecord) (tokens from sender to : ℕ) (m : Message) → HasSpelling sender to m → sender ≡ from → to ≡ place.me
     → token_of m < tokens → FitsVoter place tokens from m
-spelled_fits place tokens from sender to (Ask p t lo hi) h s r lt = (lt, h.1.span, h.1.of_node ∙ s)
-spelled_fits place tokens from sender to (Grant p t lo hi) h s r lt = (lt, h.1.span, h.1.of_node ∙ r)
+spelled_fits place tokens from sender to (Ask p t span) h s r lt = (lt, h.1.spanned, h.1.of_node ∙ s)
+spelled_fits place tokens from sender to (Grant p t span) h s r lt = (lt, h.1.spanned, h.1.of_node ∙ r)
 spelled_fits place tokens from sender to (Deny p t next) h s r lt = (lt, h.1.of_node ∙ r)
 spelled_fits place tokens from sender to (Floor t next) h s r lt = lt
 

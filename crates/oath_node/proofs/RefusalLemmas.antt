@@ -52,7 +52,7 @@ ruling_keeps place client moment line (Again text) x h = nothing_changes x.conte
 ruling_keeps place client moment line Waiting x h = nothing_changes x.content
 ruling_keeps place client moment line (Denied nonce reason) x h = nothing_changes x.content
 ruling_keeps place client moment line (Wrong nonce reason token) x h = gate_alone x.content token (gate_with_failure x.content token moment)
-ruling_keeps place client moment line (Fitting nonce token lo hi drift) x h = absurd h
+ruling_keeps place client moment line (Fitting nonce token span drift) x h = absurd h
 
 ruling_gates : (place : PlaceRecord) (client moment : ℕ) (line : List ℕ) (r : Ruling) (token : ℕ) (x : NodeState) → IsRefusal r → SparesToken token r
     → (row (made_by_ruling place client moment line r x).state.content token).gate ≡ (row x.content token).gate
@@ -64,7 +64,7 @@ ruling_gates place client moment line (Denied nonce reason) token x h n = refl
 ruling_gates place client moment line (Wrong nonce reason failed) token x h n =
     ap (λ (w : RowRecord). w.gate)
     (elsewhere x.content.rows failed token (row_with_gate (gate_with_failure x.content failed moment) (row x.content failed)) no_row n)
-ruling_gates place client moment line (Fitting nonce t lo hi drift) token x h n = absurd h
+ruling_gates place client moment line (Fitting nonce t span drift) token x h n = absurd h
 
 pub refused_keeps : (config : Config) (place : PlaceRecord) (x : NodeState) (client moment : ℕ) (text : List ℕ)
     → IsRefusal (ruling_at config x client moment text)

@@ -13,6 +13,7 @@ use Rattle.admit_core.specs.Entitled.{IsEntitled}
 use Rattle.admit_core.specs.Fit.{Submission, Check, Resync, Fits, reach_of}
 use Rattle.admit_core.specs.Throttle.{Result, Failed, Accepted, AreGated, IsOpenAfter, counted_failures, last_failure, wait_after}
 use Rattle.admit_core.specs.Window.{InWindow}
+use Rattle.floor_store.specs.Records.{span_of}
 use Rattle.oath_node.specs.Grounds.{HasGrounds as HasRulingGrounds}
 use Rattle.oath_node.specs.ReferenceServer.{Server, Line, drift_of, drifts_after, floor_of, floors_after, results_of, ruling_of_line, service_by, standing_of}
 use Rattle.vote_wire.specs.Request.{Request, IsLine}
@@ -37,7 +38,7 @@ HasGrounds book limits s l (Again text) = Unit {0}
 HasGrounds book limits s l Waiting = Unit {0}
 HasGrounds book limits s l (Denied nonce reason) = Unit {0}
 HasGrounds book limits s l (Wrong nonce reason token) = IsOpenAfter (results_of s token) l.moment
-HasGrounds book limits s l (Fitting nonce token lo hi drift) = Grounds book limits s l token lo hi drift
+HasGrounds book limits s l (Fitting nonce token span drift) = Grounds book limits s l token span.lo span.hi drift
 
 -- a token for which nobody has to wait is open
 no_wait : (results : List Result) (moment : ℕ) → wait_after results moment ≤ 0 → IsOpenAfter results moment
@@ -53,7 +54,7 @@ of_ruling book limits s l (Again text) g = tt
 of_ruling book limits s l Waiting g = tt
 of_ruling book limits s l (Denied nonce reason) g = tt
 of_ruling book limits s l (Wrong nonce reason token) g = no_wait (results_of s token) l.moment g.is_open
-of_ruling book limits s l (Fitting nonce token lo hi drift) g = record {
+of_ruling book limits s l (Fitting nonce token span drift) g = record {
   request = g.request;
   grammar = g.grammar;
   credential = g.credential;
@@ -81,7 +82,7 @@ length-floors_after floors (Again text) = refl
 length-floors_after floors Waiting = refl
 length-floors_after floors (Denied nonce reason) = refl
 length-floors_after floors (Wrong nonce reason token) = refl
-length-floors_after floors (Fitting nonce token lo hi drift) = length-set floors token (hi + 1)
+length-floors_after floors (Fitting nonce token span drift) = length-set floors token (span.hi + 1)
 
 pub length-drifts_after : (drifts : List ℤ) (v : Ruling) → length (drifts_after drifts v) ≡ length drifts
 length-drifts_after drifts Outside = refl
@@ -89,7 +90,7 @@ length-drifts_after drifts (Again text) = refl
 length-drifts_after drifts Waiting = refl
 length-drifts_after drifts (Denied nonce reason) = refl
 length-drifts_after drifts (Wrong nonce reason token) = refl
-length-drifts_after drifts (Fitting nonce token lo hi drift) = length-set drifts token drift
+length-drifts_after drifts (Fitting nonce token span drift) = length-set drifts token drift
 
 -- the window is free
 free_of_window : (kind : Kind) (reach : ℕ) (limits : Limits) (next : ℕ) (drift : ℤ) (moment m : ℕ) → InWindow kind reach limits next drift moment m → next ≤ m
@@ -113,7 +114,7 @@ ordered book limits s l token lo hi drift g = ordered_of_fit g.credential g.requ
 -- what is proposed is used up
 pub floor_of-proposed : (book : List Credential) (limits : Limits) (s : Server) (l : Line) (nonce : List ℕ) (token lo hi : ℕ) (drift : ℤ)
     → length s.floors ≡ length book → Grounds book limits s l token lo hi drift
-    → floor_of (service_by s l (Fitting nonce token lo hi drift)).server token ≡ hi + 1
+    → floor_of (service_by s l (Fitting nonce token (span_of lo hi) drift)).server token ≡ hi + 1
 floor_of-proposed book limits s l nonce token lo hi drift sized g =
     let within : token < length book = slice_get_within book token g.credential g.token_is in
     get_or-set_same s.floors token (hi + 1) 0 (omega arith)
@@ -127,15 +128,15 @@ floor_rises book limits s l (Again text) sized g token = omega arith
 floor_rises book limits s l Waiting sized g token = omega arith
 floor_rises book limits s l (Denied nonce reason) sized g token = omega arith
 floor_rises book limits s l (Wrong nonce reason t) sized g token = omega arith
-floor_rises book limits s l (Fitting nonce t lo hi drift) sized g token =
-    let after = (service_by s l (Fitting nonce t lo hi drift)).server in
-    let used = floor_of-proposed book limits s l nonce t lo hi drift sized g in
-    let low = free book limits s l t lo hi drift g in
-    let up = ordered book limits s l t lo hi drift g in
+floor_rises book limits s l (Fitting nonce t span drift) sized g token =
+    let after = (service_by s l (Fitting nonce t span drift)).server in
+    let used = floor_of-proposed book limits s l nonce t span.lo span.hi drift sized g in
+    let low = free book limits s l t span.lo span.hi drift g in
+    let up = ordered book limits s l t span.lo span.hi drift g in
     let same : token ≡ t → floor_of s token ≤ floor_of after token = λ e.
     subst (λ (n : ℕ). floor_of s n ≤ floor_of after n) (sym e) (omega (arith, used, low, up)) in
     let other : (token ≡ t → ⊥) → floor_of s token ≤ floor_of after token = λ ne.
-    omega (arith, get_or-set_other s.floors t token (hi + 1) 0 ne) in
+    omega (arith, get_or-set_other s.floors t token (span.hi + 1) 0 ne) in
     ⊎_elim same other (cases_eq token t)
 
 -- ---- the results after a ruling
@@ -160,5 +161,5 @@ gates_kept book limits s l Waiting g h token = h token
 gates_kept book limits s l (Denied nonce reason) g h token = h token
 gates_kept book limits s l (Wrong nonce reason t) g h token =
     either AreGated s.front.results t token (Failed l.moment ∷ results_of s t) [] (g, h t) (h token)
-gates_kept book limits s l (Fitting nonce t lo hi drift) g h token =
+gates_kept book limits s l (Fitting nonce t span drift) g h token =
     either AreGated s.front.results t token (Accepted ∷ results_of s t) [] (h t) (h token)

@@ -83,8 +83,8 @@ deny_begun place from c v (Some q) =
 
 pub message_begun : (place : PlaceRecord) (from : ℕ) (m : Message) (c : Content) (v : VoterState) → None ≡ (on_message place from m c v).begun
 unfolding on_message on_grant on_deny on_floor
-message_begun place from (Ask p t lo hi) c v = ask_begun from p t lo hi c v
-message_begun place from (Grant p t lo hi) c v = grant_begun place from c v _
+message_begun place from (Ask p t span) c v = ask_begun from p t span.lo span.hi c v
+message_begun place from (Grant p t span) c v = grant_begun place from c v _
 message_begun place from (Deny p t next) c v = deny_begun place from (raise t next c) v _
 message_begun place from (Floor t next) c v = refl
 

@@ -7,7 +7,7 @@ use Rattle.floor_store.specs.Content.{Content}
 use Rattle.floor_store.specs.Records.{PassRecord}
 use Rattle.vote_core.specs.NodeSet.{PlaceRecord}
 use Rattle.oath_node.specs.Machine.{Made, NodeState}
-use Rattle.oath_node.specs.ReferenceServer.{Line, Server, Service, Span}
+use Rattle.oath_node.specs.ReferenceServer.{Line, Server, Service, TokenSpan}
 
 -- the place of a node that has no other members
 abbrev pub alone_place : PlaceRecord
@@ -43,13 +43,13 @@ pub record IsAlone (count : ℕ) (state : NodeState) (server : Server) : Type 0 
   pub begun : state.voter.seq ≤ count
 
 -- the factors that a pass uses up
-abbrev pub span_of : PassRecord → Span
-span_of pass = record { token = pass.token; lo = pass.lo; hi = pass.hi }
+abbrev pub token_span_of : PassRecord → TokenSpan
+token_span_of pass = record { token = pass.token; lo = pass.lo; hi = pass.hi }
 
 -- What is made of a line is this service of the reference server: nothing is sent, the one reply is the server's, the
 -- pass is what it accepted, and the state that is left is the server's next one.
 pub record ServesAlone (count : ℕ) (made : Made) (line : Line) (service : Service) : Type 0 where
   pub sends : made.sends ≡ []
   pub replies : made.replies ≡ record { client = line.client; bytes = service.told.bytes } ∷ []
-  pub pass : option_map span_of made.pass ≡ service.told.accepted
+  pub pass : option_map token_span_of made.pass ≡ service.told.accepted
   pub state : IsAlone (count + 1) made.state service.server

@@ -28,7 +28,7 @@ IsProposal (Again text) = ⊥
 IsProposal Waiting = ⊥
 IsProposal (Denied nonce reason) = ⊥
 IsProposal (Wrong nonce reason token) = ⊥
-IsProposal (Fitting nonce token lo hi drift) = Unit {0}
+IsProposal (Fitting nonce token span drift) = Unit {0}
 
 -- the event is a line for which the rules propose factors
 abbrev pub IsProposing : Config → NodeState → NodeEvent → Type 0

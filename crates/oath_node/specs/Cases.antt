@@ -2,7 +2,7 @@
 -- Appendix D.
 use Rattle.std.specs.Prelude.{ℕ, ℤ, pos, Bool, true, List, [], ◌∷◌, map, replicate, Option, Some, None, codes}
 use Rattle.floor_store.specs.Content.{Content}
-use Rattle.floor_store.specs.Records.{PassRecord, RowRecord}
+use Rattle.floor_store.specs.Records.{PassRecord, RowRecord, span_of}
 use Rattle.vote_core.specs.Cases.{BallotView, ballot, free_row, open_row, place, proposal, voter, voter_seen}
 use Rattle.vote_core.specs.declared.message.Message.{Message}
 use Rattle.vote_core.specs.declared.message.Message.TheVariants.{Deny, Grant}
@@ -105,7 +105,7 @@ datagram from sender receiver message =
 
 -- the grant of node 1's first proposal
 abbrev pub grant : Message
-grant = Grant (proposal 1 1 0) 0 0 0
+grant = Grant (proposal 1 1 0) 0 (span_of 0 0)
 
 -- the denial of it, with silver's first free factor
 abbrev pub denial : ℕ → Message

@@ -46,8 +46,8 @@ HasGrounds book limits standing moment line (Again text) = standing.kept ≡ Som
 HasGrounds book limits standing moment line Waiting = standing.is_waiting ≡ true
 HasGrounds book limits standing moment line (Denied nonce reason) = Unit {0}
 HasGrounds book limits standing moment line (Wrong nonce reason token) = IsWrong book standing moment token
-HasGrounds book limits standing moment line (Fitting nonce token lo hi drift) =
-    IsFitting book limits standing moment line nonce token lo hi drift
+HasGrounds book limits standing moment line (Fitting nonce token span drift) =
+    IsFitting book limits standing moment line nonce token span.lo span.hi drift
 
 -- two standings that tell the rules the same of the tokens of a book
 pub record IsSameStanding (tokens : ℕ) (one other : Standing) : Type 0 where

@@ -234,8 +234,8 @@ made_by_ruling place client moment line (Wrong nonce reason token) node =
     let text = answer_bytes (ReplyAnswer nonce (Refused reason)) in
     reply_made client text (Some (token, moment))
     (node_with_answer client line text (node_with_failure token moment node))
-made_by_ruling place client moment line (Fitting nonce token lo hi drift) node =
-    made_by_proposal place client line nonce token lo hi drift node
+made_by_ruling place client moment line (Fitting nonce token span drift) node =
+    made_by_proposal place client line nonce token span.lo span.hi drift node
 
 -- what a client's line makes of the node, as it came
 abbrev pub made_by_line : Config → PlaceRecord → ℕ → ℕ → List ℕ → NodeState → Made
@@ -246,8 +246,8 @@ made_by_line config place client moment text node =
 
 -- the token that a message is about
 abbrev pub token_of : Message → ℕ
-token_of (Ask proposal token lo hi) = token
-token_of (Grant proposal token lo hi) = token
+token_of (Ask proposal token span) = token
+token_of (Grant proposal token span) = token
 token_of (Deny proposal token next) = token
 token_of (Floor token next) = token
 

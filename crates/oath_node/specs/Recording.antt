@@ -1,6 +1,7 @@
 -- When a ruling can be carried out. Private contracts alone cite it: no public one rests on it.
 use Rattle.std.specs.Prelude.{ℕ, ◌-◌, ◌<◌, Bool, false, None}
 use Rattle.floor_store.specs.Content.{Content}
+use Rattle.floor_store.specs.Records.{SpanRecord}
 use Rattle.otp_core.specs.Range.{IsMoment}
 use Rattle.vote_core.specs.Rows.{row}
 use Rattle.oath_node.specs.Rules.{Standing}
@@ -14,16 +15,16 @@ IsRecordable tokens moment (Again text) = Unit {0}
 IsRecordable tokens moment Waiting = Unit {0}
 IsRecordable tokens moment (Denied nonce reason) = Unit {0}
 IsRecordable tokens moment (Wrong nonce reason token) = (token < tokens) × IsMoment moment
-IsRecordable tokens moment (Fitting nonce token lo hi drift) = token < tokens
+IsRecordable tokens moment (Fitting nonce token span drift) = token < tokens
 
 -- what holds of the token and the factors that a ruling proposes
-abbrev pub IfProposes : Ruling → (ℕ → ℕ → ℕ → Type 0) → Type 0
+abbrev pub IfProposes : Ruling → (ℕ → SpanRecord → Type 0) → Type 0
 IfProposes Outside holds = Unit {0}
 IfProposes (Again text) holds = Unit {0}
 IfProposes Waiting holds = Unit {0}
 IfProposes (Denied nonce reason) holds = Unit {0}
 IfProposes (Wrong nonce reason token) holds = Unit {0}
-IfProposes (Fitting nonce token lo hi drift) holds = holds token lo hi
+IfProposes (Fitting nonce token span drift) holds = holds token span
 
 -- what holds of a line, if its answer is one to be kept
 abbrev pub IfKept : Ruling → Type 0 → Type 0
@@ -32,7 +33,7 @@ IfKept (Again text) holds = Unit {0}
 IfKept Waiting holds = Unit {0}
 IfKept (Denied nonce reason) holds = holds
 IfKept (Wrong nonce reason token) holds = holds
-IfKept (Fitting nonce token lo hi drift) holds = holds
+IfKept (Fitting nonce token span drift) holds = holds
 
 -- the standing of a line that no answer is kept for and that does not wait, by the rows of a store
 abbrev pub standing_in : Content → Bool → ℕ → Standing

@@ -40,7 +40,7 @@ pub record Line : Type 0 where
   pub text : List ℕ
 
 -- the factors of a token that an accepted line uses up
-pub record Span : Type 0 where
+pub record TokenSpan : Type 0 where
   pub token : ℕ
   pub lo : ℕ
   pub hi : ℕ
@@ -48,7 +48,7 @@ pub record Span : Type 0 where
 -- what a line is told, as bytes, and what was accepted with it
 pub record Told : Type 0 where
   pub bytes : List ℕ
-  pub accepted : Option Span
+  pub accepted : Option TokenSpan
 
 -- what a line leads to: the server after it, and what is told
 pub record Service : Type 0 where
@@ -94,9 +94,9 @@ told_by (Again text) = record { bytes = text; accepted = None }
 told_by Waiting = record { bytes = []; accepted = None }
 told_by (Denied nonce reason) = record { bytes = refusal_bytes nonce reason; accepted = None }
 told_by (Wrong nonce reason token) = record { bytes = refusal_bytes nonce reason; accepted = None }
-told_by (Fitting nonce token lo hi drift) = record {
-  bytes = answer_bytes (Reply nonce (Accepted hi));
-  accepted = Some (record { token = token; lo = lo; hi = hi });
+told_by (Fitting nonce token span drift) = record {
+  bytes = answer_bytes (Reply nonce (Accepted span.hi));
+  accepted = Some (record { token = token; lo = span.lo; hi = span.hi });
 }
 
 -- an acceptance uses the factors up, and nothing else changes a floor
@@ -106,7 +106,7 @@ floors_after floors (Again text) = floors
 floors_after floors Waiting = floors
 floors_after floors (Denied nonce reason) = floors
 floors_after floors (Wrong nonce reason token) = floors
-floors_after floors (Fitting nonce token lo hi drift) = slice_set floors token (hi + 1)
+floors_after floors (Fitting nonce token span drift) = slice_set floors token (span.hi + 1)
 
 -- with one result more for a token
 abbrev pub with_result : List (List Result) → ℕ → Result → List (List Result)
@@ -119,7 +119,7 @@ results_after results moment (Again text) = results
 results_after results moment Waiting = results
 results_after results moment (Denied nonce reason) = results
 results_after results moment (Wrong nonce reason token) = with_result results token (Failed moment)
-results_after results moment (Fitting nonce token lo hi drift) = with_result results token Passed
+results_after results moment (Fitting nonce token span drift) = with_result results token Passed
 
 -- an acceptance keeps its drift, and nothing else changes one
 abbrev pub drifts_after : List ℤ → Ruling → List ℤ
@@ -128,7 +128,7 @@ drifts_after drifts (Again text) = drifts
 drifts_after drifts Waiting = drifts
 drifts_after drifts (Denied nonce reason) = drifts
 drifts_after drifts (Wrong nonce reason token) = drifts
-drifts_after drifts (Fitting nonce token lo hi drift) = slice_set drifts token drift
+drifts_after drifts (Fitting nonce token span drift) = slice_set drifts token drift
 
 -- with one answer more, to a line, which is kept without an LF at its end
 abbrev pub with_answer_to : Line → List ℕ → List KeptAnswer → List KeptAnswer
@@ -142,8 +142,8 @@ answers_after answers line (Again text) = answers
 answers_after answers line Waiting = answers
 answers_after answers line (Denied nonce reason) = with_answer_to line (refusal_bytes nonce reason) answers
 answers_after answers line (Wrong nonce reason token) = with_answer_to line (refusal_bytes nonce reason) answers
-answers_after answers line (Fitting nonce token lo hi drift) =
-    with_answer_to line (answer_bytes (Reply nonce (Accepted hi))) answers
+answers_after answers line (Fitting nonce token span drift) =
+    with_answer_to line (answer_bytes (Reply nonce (Accepted span.hi))) answers
 
 -- what a ruling on a line leads to
 abbrev pub service_by : Server → Line → Ruling → Service

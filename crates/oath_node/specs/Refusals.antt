@@ -21,7 +21,7 @@ IsRefusal (Again text) = Unit {0}
 IsRefusal Waiting = Unit {0}
 IsRefusal (Denied nonce reason) = Unit {0}
 IsRefusal (Wrong nonce reason token) = Unit {0}
-IsRefusal (Fitting nonce token lo hi drift) = ⊥
+IsRefusal (Fitting nonce token span drift) = ⊥
 
 -- the token doesn't fail
 abbrev pub SparesToken : ℕ → Ruling → Type 0
@@ -30,4 +30,4 @@ SparesToken token (Again text) = Unit {0}
 SparesToken token Waiting = Unit {0}
 SparesToken token (Denied nonce reason) = Unit {0}
 SparesToken token (Wrong nonce reason failed) = token ≢ failed
-SparesToken token (Fitting nonce proposed lo hi drift) = Unit {0}
+SparesToken token (Fitting nonce proposed span drift) = Unit {0}

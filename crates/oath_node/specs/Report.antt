@@ -7,7 +7,7 @@ use Rattle.token_file.specs.Credential.{Credential}
 use Rattle.admit_core.specs.Drift.{kept_drift}
 use Rattle.admit_core.specs.Entitled.{IsEntitled}
 use Rattle.admit_core.specs.Throttle.{Result}
-use Rattle.oath_node.specs.ReferenceServer.{Server, Line, Span, Told, Service, floor_of, results_of, service_of, server_after, server_at}
+use Rattle.oath_node.specs.ReferenceServer.{Server, Line, TokenSpan, Told, Service, floor_of, results_of, service_of, server_after, server_at}
 use Rattle.vote_wire.specs.Request.{Request, IsLine}
 
 -- an accepted line: its number from 0, the token, and the factors that it uses up
@@ -29,7 +29,7 @@ pub record Report : Type 0 where
   pub answers : List LineAnswer
 
 -- what was accepted with the line of a number, as a pass, or nothing
-abbrev pub passes_at : ℕ → Option Span → List LinePass
+abbrev pub passes_at : ℕ → Option TokenSpan → List LinePass
 passes_at number None = []
 passes_at number (Some span) = record { began = number; token = span.token; lo = span.lo; hi = span.hi } ∷ []
 

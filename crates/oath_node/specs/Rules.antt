@@ -1,11 +1,12 @@
 -- The rules by which a line is answered. The first that applies decides: read upwards from `ruling`. What may become of
 -- a line is the enum `Ruling` of src/ruling.rt.
-use Rattle.std.specs.Prelude.{ℕ, ℤ, ◌^◌, ◌==◌, nat_lt, Bool, List, Option, Some, None, if◌then◌else◌, slice_get}
+use Rattle.std.specs.Prelude.{ℕ, ℤ, ◌^◌, ◌==◌, nat_lt, Bool, List, Option, Some, None, if◌then◌else◌, option_map, slice_get}
 use Rattle.otp_core.specs.Limits.{Limits}
 use Rattle.token_file.specs.Credential.{Credential, place_of}
 use Rattle.token_file.specs.declared.token.Kind.{Kind}
 use Rattle.admit_core.specs.Drift.{kept_drift}
-use Rattle.admit_core.specs.Fit.{least_fit}
+use Rattle.admit_core.specs.Fit.{Submission, least_fit}
+use Rattle.floor_store.specs.Records.{span_of, SpanRecord}
 use Rattle.oath_node.specs.Column.{column_fits}
 use Rattle.vote_wire.specs.Request.{Request, request_at}
 use Rattle.vote_wire.specs.declared.answer.Reason.TheVariants.{Unknown, Password, Throttled, Invalid, Busy, Clock, Exhausted}
@@ -27,16 +28,21 @@ pub record Standing : Type 0 where
   -- how many seconds are left until a token is open
   pub wait : ℕ → ℕ
 
+-- the span of the least fit in the window
+abbrev pub fitting_span : Credential → Limits → ℕ → ℤ → ℕ → Submission → Option SpanRecord
+fitting_span credential limits next drift moment submission =
+    option_map (λ fit. span_of fit.0 fit.1) (least_fit credential limits next drift moment submission)
+
 -- no fit in the window: INVALID, a failure; otherwise the least one is proposed, for the drift by the line's moment
-abbrev pub fit_ruling : Kind → Limits → ℕ → Request → ℕ → Option (ℕ × ℕ) → Ruling
+abbrev pub fit_ruling : Kind → Limits → ℕ → Request → ℕ → Option SpanRecord → Ruling
 fit_ruling kind limits moment request token None = Wrong request.nonce Invalid token
-fit_ruling kind limits moment request token (Some factors) =
-    Fitting request.nonce token factors.0 factors.1 (kept_drift kind limits moment factors.1)
+fit_ruling kind limits moment request token (Some span) =
+    Fitting request.nonce token span (kept_drift kind limits moment span.hi)
 
 -- no factor left: EXHAUSTED
 abbrev pub remaining_ruling : Limits → ℕ → ℤ → ℕ → Request → ℕ → Credential → Ruling
 remaining_ruling limits next drift moment request token credential =
-    let fit = least_fit credential limits next drift moment request.submission in
+    let fit = fitting_span credential limits next drift moment request.submission in
     if next == 2 ^ 62
     then Denied request.nonce Exhausted
     else fit_ruling credential.kind limits moment request token fit

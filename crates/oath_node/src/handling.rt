@@ -2,7 +2,6 @@
 
 ghost use Rattle.std.specs.Prelude.{◌≡◌, ◌<◌, ◌≤◌, ◌↔◌, IfErr, IsTrue, None, false, length, nat_le};
 ghost use Rattle.floor_store.specs.Held.{Breaks, MayPut};
-ghost use Rattle.floor_store.specs.Range.{IsSpan};
 ghost use Rattle.answer_ring.specs.Answers.{kept_with};
 ghost use Rattle.oath_node.specs.Heard.{IsHeardAs};
 ghost use Rattle.oath_node.specs.Hosted.{envelope_at};
@@ -24,8 +23,8 @@ use crate::ruling::{KeptText, Ruling};
 use crate::settling::{finish_tick, finish_vote, line_of};
 use answer_ring::{Answers, answer_again, keep};
 use arrayvec::ArrayVec;
-use floor_store::{FloorStore, StoreFault};
-use otp_core::{Drift, Factor, Settings};
+use floor_store::{FloorStore, Span, StoreFault};
+use otp_core::{Drift, Settings};
 use token_file::Book;
 use vote_core::{Message, VoteFault, Voter};
 use vote_wire::{
@@ -154,8 +153,7 @@ impl<S: FloorStore> Parts<S> {
         line: &[u8],
         nonce: Nonce,
         token: u32,
-        lo: Factor,
-        hi: Factor,
+        span: Span,
         drift: Drift,
     ) -> Result<Outputs<'k>, NodeFault>
         requires store { IsStoreOf self.old.voter (S.held self.old.store) }
@@ -163,13 +161,12 @@ impl<S: FloorStore> Parts<S> {
         requires place { length self.old.owners.items < 32 }
         requires line { length line.now ≤ 256 }
         requires token { token < length (S.held self.old.store).content.rows }
-        requires span { IsSpan lo hi }
-        requires free { (S.held self.old.store).is_clean → (row (S.held self.old.store).content token).next ≤ lo }
+        requires free { (S.held self.old.store).is_clean → (row (S.held self.old.store).content token).next ≤ span.lo }
         ensures { Steps S.held key.now self.old self.new
-            (made_by_proposal self.old.voter.place client line.now nonce token lo hi drift) result }
+            (made_by_proposal self.old.voter.place client line.now nonce token span.lo span.hi drift) result }
     {
         let seq = self.voter.next_seq();
-        match self.voter.propose(&mut self.store, token, lo, hi, drift) {
+        match self.voter.propose(&mut self.store, token, span, drift) {
             Ok(step) => {
                 self.owners.push(Owner {
                     seq,
@@ -196,12 +193,11 @@ impl<S: FloorStore> Parts<S> {
     ) -> Result<Outputs<'k>, NodeFault>
         requires store { IsStoreOf self.old.voter (S.held self.old.store) }
         requires line { IfKept ruling (length line.now ≤ 256) }
-        requires room { IfProposes ruling (λ token lo hi.
+        requires room { IfProposes ruling (λ token span.
             (length self.old.voter.ballots < 32) × (length self.old.owners.items < 32)) }
         requires recordable { IsRecordable (length (S.held self.old.store).content.rows) moment ruling }
-        requires spanned { IfProposes ruling (λ token lo hi. IsSpan lo hi) }
         requires free { (S.held self.old.store).is_clean → IfProposes ruling
-            (λ token lo hi. (row (S.held self.old.store).content token).next ≤ lo) }
+            (λ token span. (row (S.held self.old.store).content token).next ≤ span.lo) }
         ensures { Steps S.held key.now self.old self.new
             (made_by_ruling self.old.voter.place client moment line.now ruling) result }
     {
@@ -228,10 +224,9 @@ impl<S: FloorStore> Parts<S> {
             Ruling::Fitting {
                 nonce,
                 token,
-                lo,
-                hi,
+                span,
                 drift,
-            } => self.propose(key, client, line, nonce, token.value(), lo, hi, drift),
+            } => self.propose(key, client, line, nonce, token.value(), span, drift),
         }
     }
 
@@ -265,10 +260,9 @@ impl<S: FloorStore> Parts<S> {
             (record { book = book.now; limits = settings }) (state_in S.held self.now) client moment bytes.now }
         ensures line { IfKept result (length (spec_without_lf bytes.now) ≤ 256) }
         ensures recordable { IsRecordable (length book.now) moment result }
-        ensures spanned { IfProposes result (λ token lo hi. IsSpan lo hi) }
         ensures free { (S.held self.now.store).is_clean → IfProposes result
-            (λ token lo hi. (row (S.held self.now.store).content token).next ≤ lo) }
-        ensures room { IfProposes result (λ token lo hi.
+            (λ token span. (row (S.held self.now.store).content token).next ≤ span.lo) }
+        ensures room { IfProposes result (λ token span.
             (length self.now.voter.ballots < 32) × (length self.now.owners.items < 32)) }
     {
         let Some(request) = read_line(bytes) else {

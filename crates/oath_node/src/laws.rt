@@ -1,6 +1,7 @@
 ghost use Rattle.std.specs.Prelude.{pos, negsuc, ◌≡◌, ◌<◌, ◌≤◌, ◌^◌, ◌∷◌, ◌++◌, [], ℕ, List, Some, None, codes, false, length, replicate, true};
 ghost use Rattle.token_file.specs.declared.token.Password.TheVariants.{Equal, NoneAllowed, NotChecked};
 ghost use Rattle.admit_core.specs.Throttle.{Accepted as Passed, Failed, SpacesFailures};
+ghost use Rattle.floor_store.specs.Records.{span_of};
 ghost use Rattle.oath_node.specs.Cases.{asking_node, config, content_with, datagram, denial, drifts_left, facts_of, first_line, full_node, grant, idle_node, line, node_with_kept, nothing_at_start, nothing_of_asking, rows_at_start, step_alone, step_among, told_at_start, told_of_asking};
 ghost use Rattle.oath_node.specs.Alone.{IsAlone, ServesAlone, alone_place};
 ghost use Rattle.oath_node.specs.Column.{column_fits};
@@ -31,7 +32,7 @@ pub fn rules_are_worked()
     ensures bad_line { ruling_on 0 1 1099511627776 (codes "CHECK 1 lead 755224") ≡ Outside }
     ensures clock { ruling_on 0 1 1099511627776 (codes "CHECK 1 lead 755224 -") ≡ Denied (codes "1") Clock }
     ensures last_moment { ruling_on 0 0 1099511627775 (codes "CHECK 1 silver 755224 -")
-        ≡ Fitting (codes "1") 0 0 0 (pos 0) }
+        ≡ Fitting (codes "1") 0 (span_of 0 0) (pos 0) }
     ensures unknown { ruling_on 0 1 100 (codes "CHECK 1 lead 755224 -") ≡ Denied (codes "1") Unknown }
     ensures throttled { ruling_on 4611686018427387904 1 100 (codes "CHECK 1 silver 755224 pw")
         ≡ Denied (codes "1") (Throttled 1) }
@@ -45,13 +46,14 @@ pub fn rules_are_worked()
     ensures not_checked { ruling_on 0 0 100 (codes "CHECK 1 iron 755224 -") ≡ Denied (codes "1") Exhausted }
 
     // each token by its own first free factor, up to the look-ahead or the range
-    ensures first { ruling_on 0 0 100 (codes "CHECK 1 silver 755224 -") ≡ Fitting (codes "1") 0 0 0 (pos 0) }
-    ensures furthest { ruling_on 0 0 100 (codes "CHECK 1 silver 254676 -") ≡ Fitting (codes "1") 0 5 5 (pos 0) }
+    ensures first { ruling_on 0 0 100 (codes "CHECK 1 silver 755224 -") ≡ Fitting (codes "1") 0 (span_of 0 0) (pos 0) }
+    ensures furthest { ruling_on 0 0 100 (codes "CHECK 1 silver 254676 -")
+        ≡ Fitting (codes "1") 0 (span_of 5 5) (pos 0) }
     ensures too_far { ruling_on 0 0 100 (codes "CHECK 1 silver 287922 -") ≡ Wrong (codes "1") Invalid 0 }
-    ensures gold { ruling_on 0 1 100 (codes "CHECK 1 gold 969429 pw") ≡ Fitting (codes "1") 1 3 3 (pos 0) }
+    ensures gold { ruling_on 0 1 100 (codes "CHECK 1 gold 969429 pw") ≡ Fitting (codes "1") 1 (span_of 3 3) (pos 0) }
     ensures used_up { ruling_on 0 1 100 (codes "CHECK 1 gold 359152 pw") ≡ Wrong (codes "1") Invalid 1 }
     ensures two_codes { ruling_on 0 0 100 (codes "RESYNC 1 silver 399871 520489 -")
-        ≡ Fitting (codes "1") 0 8 9 (pos 0) }
+        ≡ Fitting (codes "1") 0 (span_of 8 9) (pos 0) }
     ensures two_too_far { ruling_on 0 0 100 (codes "RESYNC 1 silver 520489 403154 -")
         ≡ Wrong (codes "1") Invalid 0 }
 {}
@@ -116,10 +118,10 @@ pub fn drifts_are_worked()
         ≡ (codes "OK 1 3" ∷ codes "OK 2 4" ∷ codes "NO 3 INVALID" ∷ codes "OK 4 9" ∷ [], pos 0 ∷ []) }
     ensures none { outcome_of_clock 0
         ≡ (codes "OK 1 3" ∷ codes "NO 2 INVALID" ∷ codes "NO 3 INVALID" ∷ codes "OK 4 9" ∷ [], pos 0 ∷ []) }
-    ensures right { ruling_by_clock (codes "CHECK 1 silver 359152 -") ≡ Fitting (codes "1") 0 2 2 (negsuc 0) }
-    ensures behind { ruling_by_clock (codes "CHECK 1 gold 287082 -") ≡ Fitting (codes "1") 1 1 1 (negsuc 1) }
+    ensures right { ruling_by_clock (codes "CHECK 1 silver 359152 -") ≡ Fitting (codes "1") 0 (span_of 2 2) (negsuc 0) }
+    ensures behind { ruling_by_clock (codes "CHECK 1 gold 287082 -") ≡ Fitting (codes "1") 1 (span_of 1 1) (negsuc 1) }
     ensures two_codes { ruling_by_clock (codes "RESYNC 1 silver 359152 969429 -")
-        ≡ Fitting (codes "1") 0 2 3 (pos 0) }
+        ≡ Fitting (codes "1") 0 (span_of 2 3) (pos 0) }
     ensures restarted { (restarted_server (record {
       floors = 4 ∷ [];
       front = record { results = [] ∷ []; drifts = negsuc 2 ∷ []; answers = [] };
@@ -224,7 +226,7 @@ pub fn events_are_worked()
     ensures alone { step_alone (line first_line) (idle_node 0)
         ≡ record (told_at_start (codes "OK a 0")) { floors = 1 ∷ 3 ∷ 4611686018427387904 ∷ [] } }
     ensures among { step_among (line first_line) (idle_node 0) ≡ record nothing_of_asking {
-      sends = (2, Ask (proposal 1 1 0) 0 0 0) ∷ (3, Ask (proposal 1 1 0) 0 0 0) ∷ [];
+      sends = (2, Ask (proposal 1 1 0) 0 (span_of 0 0)) ∷ (3, Ask (proposal 1 1 0) 0 (span_of 0 0)) ∷ [];
     } }
     ensures no_number { step_among (line first_line) (idle_node 4611686018427387904)
         ≡ record nothing_at_start { running = false } }
@@ -240,9 +242,9 @@ pub fn events_are_worked()
         ≡ (None, Some (pass 0 0 0 1 0), None) }
     ensures denied { step_among (datagram 3 3 1 (denial 1)) (asking_node 0 (2 ∷ []))
         ≡ told_of_asking (codes "NO a SPENT") }
-    ensures asked { step_among (datagram 2 2 1 (Ask (proposal 2 1 0) 1 3 3)) (idle_node 0)
+    ensures asked { step_among (datagram 2 2 1 (Ask (proposal 2 1 0) 1 (span_of 3 3))) (idle_node 0)
         ≡ record nothing_at_start {
-          sends = (2, Grant (proposal 2 1 0) 1 3 3) ∷ [];
+          sends = (2, Grant (proposal 2 1 0) 1 (span_of 3 3)) ∷ [];
           floors = 0 ∷ 4 ∷ 4611686018427387904 ∷ [];
         } }
     ensures floor { step_among (datagram 2 2 1 (Floor 1 9)) (idle_node 0)

@@ -1,8 +1,6 @@
-ghost use Rattle.std.specs.Prelude.{◌≡◌, ◌<◌, ◌≤◌, ◌+◌, ◌-◌, ℕ, None, false, length};
-ghost use Rattle.admit_core.specs.Fit.{least_fit};
+ghost use Rattle.std.specs.Prelude.{◌≡◌, ◌<◌, ◌≤◌, ◌-◌, ℕ, None, false, length};
 ghost use Rattle.floor_store.specs.Held.{Reads};
-ghost use Rattle.floor_store.specs.Range.{IsSpan};
-ghost use Rattle.otp_core.specs.Range.{IsFactor, IsMoment};
+ghost use Rattle.otp_core.specs.Range.{IsMoment};
 ghost use Rattle.vote_core.specs.Rows.{row as row_in};
 ghost use Rattle.vote_wire.specs.Codes.{submission_of};
 ghost use Rattle.oath_node.specs.Recording.{IfProposes, IsRecordable, standing_in};
@@ -12,8 +10,8 @@ use crate::ruling::Ruling;
 use admit_core::{
     drift_after, find_check, find_resync, least_fit_is_least, password_fits, resync_window, window,
 };
-use floor_store::{FloorStore, Row, StoreFault};
-use otp_core::{Drift, FACTORS_END, Factor, MOMENTS_END, Next, Settings};
+use floor_store::{FloorStore, Row, Span, StoreFault};
+use otp_core::{Drift, FACTORS_END, MOMENTS_END, Next, Settings};
 use token_file::{Book, Token, TokenId};
 use vote_wire::{Codes, Line, Reason};
 
@@ -41,11 +39,11 @@ fn open_ruling(
     fit_ruling(token, id, fit, settings, moment, request)
 }
 
-/// The factors that fit are proposed, for the drift by the moment of the line.
+/// The span that fits is proposed, for the drift by the moment of the line.
 fn fit_ruling(
     token: &Token,
     id: TokenId,
-    fit: Option<(Factor, Factor)>,
+    fit: Option<Span>,
     settings: Settings,
     moment: u64,
     request: Line<'_>,
@@ -55,18 +53,17 @@ fn fit_ruling(
     ensures recordable { (tokens : ℕ) → id < tokens → IsRecordable tokens moment result }
 {
     match fit {
-        Some((lo, hi)) => Ruling::Fitting {
+        Some(span) => Ruling::Fitting {
             nonce: request.to_nonce(),
             token: id,
-            lo,
-            hi,
-            drift: drift_after(token, hi, moment, &settings),
+            span,
+            drift: drift_after(token, span.hi(), moment, &settings),
         },
         None => Ruling::Wrong(request.to_nonce(), Reason::Invalid, id),
     }
 }
 
-/// The first and the last of the least factors in the window that the codes fit.
+/// The span of the least factors in the window that the codes fit.
 fn find_fit(
     token: &Token,
     next: Next,
@@ -74,31 +71,23 @@ fn find_fit(
     settings: Settings,
     moment: u64,
     codes: &Codes,
-) -> Option<(Factor, Factor)>
+) -> Option<Span>
     requires { IsMoment moment }
-    ensures { result ≡ least_fit token.now settings next drift moment (submission_of codes.now) }
+    ensures { result ≡ spec.fitting_span token.now settings next drift moment (submission_of codes.now) }
 {
     least_fit_is_least();
     match codes {
         Codes::One(code) => {
             let window = window(token, next, drift, moment, &settings)?;
             let factor = find_check(token, window, code)?;
-            Some((factor, factor))
+            Some(Span::one(factor))
         }
         Codes::Two(first, second) => {
             let window = resync_window(token, next, drift, moment, &settings)?;
-            let lo = find_resync(token, window, first, second)?;
-            Some((lo, factor_after(lo)))
+            let factor = find_resync(token, window, first, second)?;
+            Some(Span::two(factor))
         }
     }
-}
-
-/// The next factor.
-fn factor_after(factor: Factor) -> Factor
-    requires { IsFactor (factor + 1) }
-    ensures { result ≡ factor + 1 }
-{
-    Factor::new(factor.value() + 1).unwrap()
 }
 
 /// The row of a token.
@@ -122,8 +111,7 @@ fn token_ruling(
     ensures value { result
         ≡ spec.token_ruling settings row.next row.drift (row.gate.until - moment) moment request.entry id token.now }
     ensures recordable { (tokens : ℕ) → id < tokens → IsRecordable tokens moment result }
-    ensures spanned { IfProposes result (λ token lo hi. IsSpan lo hi) }
-    ensures free { IfProposes result (λ token lo hi. (token ≡ id) × (row.next ≤ lo)) }
+    ensures free { IfProposes result (λ token span. (token ≡ id) × (row.next ≤ span.lo)) }
 {
     least_fit_is_least();
     let wait = row.gate().wait(moment);
@@ -156,10 +144,9 @@ pub(crate) fn examine<S: FloorStore>(
     ensures value { (S.held store.now).is_clean → result ≡ spec.request_ruling book.now settings
         (standing_in (S.held store.now).content is_full moment) moment request.entry }
     ensures recordable { IsRecordable (length book.now) moment result }
-    ensures spanned { IfProposes result (λ token lo hi. IsSpan lo hi) }
     ensures free { (S.held store.now).is_clean → IfProposes result
-        (λ token lo hi. (row_in (S.held store.now).content token).next ≤ lo) }
-    ensures room { IfProposes result (λ token lo hi. is_full ≡ false) }
+        (λ token span. (row_in (S.held store.now).content token).next ≤ span.lo) }
+    ensures room { IfProposes result (λ token span. is_full ≡ false) }
 {
     if moment >= MOMENTS_END {
         return Ruling::Denied(request.to_nonce(), Reason::Clock);

@@ -2,7 +2,8 @@ ghost use Rattle.std.specs.Prelude.{◌≡◌, ◌≤◌, length};
 
 use crate::settling::text_of;
 use arrayvec::ArrayVec;
-use otp_core::{Drift, Factor};
+use floor_store::Span;
+use otp_core::Drift;
 use std::marker::Model;
 use token_file::TokenId;
 use vote_wire::{MAX_SENT_LEN, Nonce, Reason};
@@ -53,12 +54,11 @@ pub enum Ruling {
     Denied(Nonce, Reason),
     /// It is refused, and a failure of the token.
     Wrong(Nonce, Reason, TokenId),
-    /// The factors `lo` to `hi` of the token are proposed, whose acceptance keeps the drift.
+    /// The span of the token is proposed, whose acceptance keeps the drift.
     Fitting {
         nonce: Nonce,
         token: TokenId,
-        lo: Factor,
-        hi: Factor,
+        span: Span,
         drift: Drift,
     },
 }

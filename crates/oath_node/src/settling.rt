@@ -37,7 +37,7 @@ fn outcome_of(decision: Decision) -> Outcome
     ensures { result ≡ spec_outcome_of decision }
 {
     match decision {
-        Decision::Accepted(pass) => Outcome::Accepted(pass.hi()),
+        Decision::Accepted(pass) => Outcome::Accepted(pass.span().hi()),
         Decision::Spent => Outcome::Refused(Reason::Spent),
         Decision::Timeout => Outcome::Refused(Reason::Timeout),
     }

@@ -25,8 +25,8 @@ fn write_pass<W: Write>(writer: &mut W, number: u64, pass: Pass) -> Result<(), F
     ensures written { OnOk result (Appends (W.contents writer.old) (W.contents writer.new) (pass_line number pass)) }
     ensures fault { IfErr result (λ fault. fault ≡ Fault.CannotWrite) }
 {
-    let (token, lo, hi) = (pass.token(), pass.lo().value(), pass.hi().value());
-    let (boot, seq) = (pass.boot(), pass.seq());
+    let (lo, hi) = (pass.span().lo().value(), pass.span().hi().value());
+    let (token, boot, seq) = (pass.token(), pass.boot(), pass.seq());
     write!(writer, "pass {number} {token} {lo} {hi} {boot} {seq}\n").map_err(|_| Fault::CannotWrite)
 }
 

@@ -3,7 +3,7 @@
 use crate::tests::{SILVER, made};
 use arrayvec::ArrayVec;
 use floor_sql::SqlStore;
-use floor_store::Proposal;
+use floor_store::{Proposal, Span};
 use oath_node::{Event, Item, Node, Scratch};
 use oathd_database::{Fault, open_node, open_store};
 use otp_core::{Factor, Next, Settings};
@@ -18,12 +18,11 @@ type Sent = ArrayVec<u8, MAX_SENT_LEN>;
 /// The Ask of a node's first proposal for factor 0, to node 3.
 fn asked(key: &ClusterKey, node: u8) -> Option<Sent> {
     let proposal = Proposal::new(node, 1, 0)?;
-    let (token, lo, hi) = (0, Factor::new(0)?, Factor::new(0)?);
+    let (token, span) = (0, Span::one(Factor::new(0)?));
     let ask = Message::Ask {
         proposal,
         token,
-        lo,
-        hi,
+        span,
     };
     Some(write_message(key, node, 3, &ask))
 }
@@ -31,16 +30,15 @@ fn asked(key: &ClusterKey, node: u8) -> Option<Sent> {
 /// The Grant of node 3 to it, or its Deny.
 fn answered(key: &ClusterKey, node: u8, is_granted: bool) -> Option<Sent> {
     let proposal = Proposal::new(node, 1, 0)?;
-    let (token, lo, hi) = (0, Factor::new(0)?, Factor::new(0)?);
+    let (token, span) = (0, Span::one(Factor::new(0)?));
     let answer = if is_granted {
         Message::Grant {
             proposal,
             token,
-            lo,
-            hi,
+            span,
         }
     } else {
-        let next = Next::after(hi);
+        let next = span.next();
         Message::Deny {
             proposal,
             token,

@@ -17,10 +17,9 @@ fn write_pass<W: Write>(writer: &mut W, pass: &WorldPass) -> Result<(), OutsideF
         ended,
         node,
         token,
-        lo,
-        hi,
+        span,
     } = *pass;
-    let (lo, hi) = (lo.value(), hi.value());
+    let (lo, hi) = (span.lo().value(), span.hi().value());
     write!(writer, "pass {began} {ended} {node} {token} {lo} {hi}\n").map_err(
         |_| OutsideFault::CannotWrite,
     )

@@ -3,7 +3,7 @@ use Rattle.std.proofs.Common.{◌≡◌, ℕ, ℤ, suc, ◌+◌, ◌^◌, ◌≤
 use Rattle.std.specs.List.{slice_get}
 use Rattle.std.proofs.lemmas.Bool.{cond_both, eqb-true, ltb-true, leb-true, and_parts, or_cases}
 use Rattle.floor_store.specs.Content.{Content, accepted_row, with_row}
-use Rattle.floor_store.specs.Records.{ProposalRecord, RowRecord}
+use Rattle.floor_store.specs.Records.{ProposalRecord, RowRecord, span_of}
 use Rattle.otp_core.specs.Acceptance.{majority_of, size}
 use Rattle.vote_core.specs.NodeSet.{PlaceRecord, with_node}
 use Rattle.vote_core.specs.Rows.{row, granted_row, row_with_next, row_with_gate}
@@ -21,8 +21,8 @@ Rises c c' = (t : ℕ) → (row c t).next ≤ (row c' t).next
 
 -- the factors that are asked for are in order
 abbrev pub Ordered : Message → Type 0
-Ordered (Ask p t lo hi) = lo ≤ hi
-Ordered (Grant p t lo hi) = Unit {0}
+Ordered (Ask p t span) = span.lo ≤ span.hi
+Ordered (Grant p t span) = Unit {0}
 Ordered (Deny p t next) = Unit {0}
 Ordered (Floor t next) = Unit {0}
 
@@ -30,8 +30,8 @@ pub ordered : (R : History) (e : ℕ) (B : Book) (l : Envelope) → LetterAgrees
 ordered R e B l h = of l.message h
   where
     of : (m : Message) → LetterAgrees R e B (record l { message = m }) → Ordered m
-    of (Ask p t lo hi) k = k.1
-    of (Grant p t lo hi) k = tt
+    of (Ask p t span) k = k.1
+    of (Grant p t span) k = tt
     of (Deny p t next) k = tt
     of (Floor t next) k = tt
 
@@ -46,9 +46,9 @@ ask_rises : (from : ℕ) (p : ProposalRecord) (t lo hi : ℕ) (c : Content) (v :
 unfolding on_ask
 ask_rises from p t lo hi c v span =
     let granted = with_row c t (granted_row p lo hi (row c t)) None in
-    let take = reply_step from (Grant p t lo hi) granted v in
+    let take = reply_step from (Grant p t (span_of lo hi)) granted v in
     let no = reply_step from (Deny p t (row c t).next) c v in
-    cond_both (is_grant p lo hi (row c t).grant) (reply_step from (Grant p t lo hi) c v) (cond (leb (row c t).next lo) take no) (λ s. Rises c s.content)
+    cond_both (is_grant p lo hi (row c t).grant) (reply_step from (Grant p t (span_of lo hi)) c v) (cond (leb (row c t).next lo) take no) (λ s. Rises c s.content)
     (λ _ u. omega arith)
     (λ _. cond_both (leb (row c t).next lo) take no (λ s. Rises c s.content)
     (λ q. let le = leb-true (row c t).next lo q in rise_put c t (granted_row p lo hi (row c t)) None (omega (arith, le, span)))
@@ -65,8 +65,8 @@ grant_rises place from c v (Some q) =
 
 message_rises : (place : PlaceRecord) (from : ℕ) (m : Message) (c : Content) (v : VoterState) → Ordered m → Rises c (on_message place from m c v).content
 unfolding on_message on_grant on_deny on_floor
-message_rises place from (Ask p t lo hi) c v h = ask_rises from p t lo hi c v h
-message_rises place from (Grant p t lo hi) c v h = grant_rises place from c v (granted_one from t lo hi (of_this_boot c p v))
+message_rises place from (Ask p t span) c v h = ask_rises from p t span.lo span.hi c v h
+message_rises place from (Grant p t span) c v h = grant_rises place from c v (granted_one from t span.lo span.hi (of_this_boot c p v))
 message_rises place from (Deny p t next) c v h =
     subst (λ c'. Rises c c') (sym (count_deny_content place from (raise t next c) v (denied_one from t (of_this_boot c p v)))) (raise_rises t next c)
 message_rises place from (Floor t next) c v h = raise_rises t next c

@@ -4,7 +4,7 @@ use Rattle.std.specs.List.{flat_map, slice_get}
 use Rattle.std.proofs.lemmas.Bool.{cond_both, eqb-true, eqb-false, ltb-true, leb-true, and_parts, or_cases, not-true}
 use Rattle.floor_store.specs.Content.{Content, with_row}
 use Rattle.floor_store.specs.Range.{IsSpan}
-use Rattle.floor_store.specs.Records.{ProposalRecord}
+use Rattle.floor_store.specs.Records.{ProposalRecord, span_of}
 use Rattle.otp_core.specs.Acceptance.{size, majority_of}
 use Rattle.vote_core.specs.Calls.{IsOther, FitsVoter}
 use Rattle.vote_core.specs.NodeSet.{PlaceRecord, with_node, members, others}
@@ -105,15 +105,15 @@ answerer_hears : (place : PlaceRecord) (from : ℕ) → IsOther place from → H
 answerer_hears place from other = ((other.first, other.last), other.other)
 
 ask_fits : (place : PlaceRecord) (tokens from : ℕ) (p : ProposalRecord) (t lo hi : ℕ) (c : Content) (v : VoterState)
-    → IsMember place → IsOther place from → FitsVoter place tokens from (Ask p t lo hi) → NodeFits tokens c v → StepFits place tokens (on_ask from p t lo hi c v)
+    → IsMember place → IsOther place from → FitsVoter place tokens from (Ask p t (span_of lo hi)) → NodeFits tokens c v → StepFits place tokens (on_ask from p t lo hi c v)
 unfolding on_ask
 ask_fits place tokens from p t lo hi c v member other fits k =
     let hears = answerer_hears place from other in
     let grant_put = with_row c t (granted_row p lo hi (row c t)) None in
-    let yes = reply_step from (Grant p t lo hi) c v in
-    let take = reply_step from (Grant p t lo hi) grant_put v in
+    let yes = reply_step from (Grant p t (span_of lo hi)) c v in
+    let take = reply_step from (Grant p t (span_of lo hi)) grant_put v in
     let no = reply_step from (Deny p t (row c t).next) c v in
-    let granted = reaches place tokens from (Grant p t lo hi) member hears fits in
+    let granted = reaches place tokens from (Grant p t (span_of lo hi)) member hears fits in
     let denied = reaches place tokens from (Deny p t (row c t).next) member hears (fits.0, fits.2) in
     cond_both (is_grant p lo hi (row c t).grant) yes (cond (leb (row c t).next lo) take no) (λ s. StepFits place tokens s)
     (λ _. record { node = k; sends = (granted, tt) })
@@ -163,8 +163,8 @@ raised_fits tokens token next c v k = record { rows = raise_size token next c �
 message_fits : (place : PlaceRecord) (tokens from : ℕ) (m : Message) (c : Content) (v : VoterState)
     → IsMember place → IsOther place from → FitsVoter place tokens from m → NodeFits tokens c v → StepFits place tokens (on_message place from m c v)
 unfolding on_message on_grant on_deny on_floor
-message_fits place tokens from (Ask p t lo hi) c v member other fits k = ask_fits place tokens from p t lo hi c v member other fits k
-message_fits place tokens from (Grant p t lo hi) c v member other fits k = count_grant_fits place tokens from p t lo hi c v k (granted_one from t lo hi (of_this_boot c p v)) refl
+message_fits place tokens from (Ask p t span) c v member other fits k = ask_fits place tokens from p t span.lo span.hi c v member other fits k
+message_fits place tokens from (Grant p t span) c v member other fits k = count_grant_fits place tokens from p t span.lo span.hi c v k (granted_one from t span.lo span.hi (of_this_boot c p v)) refl
 message_fits place tokens from (Deny p t next) c v member other fits k =
     count_deny_fits place tokens from p t c (raise t next c) v (raised_fits tokens t next c v k) (denied_one from t (of_this_boot c p v)) refl
 message_fits place tokens from (Floor t next) c v member other fits k = record { node = raised_fits tokens t next c v k; sends = tt }
@@ -234,8 +234,8 @@ swap_posts tokens i x w k h = record {
   sent = k.sent;
 }
 
-span_of : (lo hi : ℕ) → eqb hi lo || eqb hi (lo + 1) ≡ true → IsSpan lo hi
-span_of lo hi q =
+span_holds : (lo hi : ℕ) → eqb hi lo || eqb hi (lo + 1) ≡ true → IsSpan lo hi
+span_holds lo hi q =
     ⊎_elim (λ (x : eqb hi lo ≡ true). let e = eqb-true hi lo x in record { ordered = omega (arith, e); short = omega (arith, e) })
     (λ (x : eqb hi (lo + 1) ≡ true). let e = eqb-true hi (lo + 1) x in record { ordered = omega (arith, e); short = omega (arith, e) })
     (or_cases (eqb hi lo) (eqb hi (lo + 1)) q)
@@ -260,7 +260,7 @@ begin_posts tokens event i t lo hi drift w k q =
     let b = and_parts (ltb t (length c.rows)) (leb (row c t).next lo && (span && few)) a.1 in
     let d = and_parts (leb (row c t).next lo) (span && few) b.1 in
     let f = and_parts span few d.1 in
-    proposal_posts tokens event i t lo hi drift w k a.0 (omega (arith, ltb-true t (length c.rows) b.0, (k.nodes i).rows)) (span_of lo hi f.0)
+    proposal_posts tokens event i t lo hi drift w k a.0 (omega (arith, ltb-true t (length c.rows) b.0, (k.nodes i).rows)) (span_holds lo hi f.0)
 
 act_posts : (tokens event : ℕ) (a : Act) (w : Cluster) → Posts tokens w → Posts tokens (after_act event a w)
 unfolding after_act

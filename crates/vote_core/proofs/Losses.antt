@@ -2,7 +2,7 @@
 use Rattle.std.proofs.Common.{◌≡◌, ◌≢◌, ℕ, suc, ◌+◌, ◌<◌, ◌≤◌, ◌⊎◌, inl, inr, ⊎_elim, true, false, not, ◌&&◌, length, Some, refl, sym, ap, ◌∙◌, subst, arith, eqb, leb, ltb}
 use Rattle.std.proofs.lemmas.Bool.{cond_both, cond-true, eqb-true, eqb-false, eq-eqb, ltb-true, leb-true, and_parts, or_cases, not-true, cases_Bool, false≢true}
 use Rattle.std.proofs.lemmas.Option.{none-some}
-use Rattle.floor_store.specs.Records.{ProposalRecord, RowRecord}
+use Rattle.floor_store.specs.Records.{ProposalRecord, RowRecord, span_of}
 use Rattle.otp_core.specs.Acceptance.{Acceptance, majority_of, size}
 use Rattle.vote_core.specs.NodeSet.{with_node}
 use Rattle.vote_core.specs.Rows.{row}
@@ -263,7 +263,7 @@ renewed_node {R} {e} {tokens} {k} {boot} {floor} {w} h j =
     (record {
       rows = opening_size size floor ∙ old.rows;
       born = omega (arith, h.born k, old.born, h.above);
-      grants = λ t p lo hi g. absurd (none-some (p, lo, hi) (sym (opening_grant size floor t) ∙ g));
+      grants = λ t p lo hi g. absurd (none-some (p, span_of lo hi) (sym (opening_grant size floor t) ∙ g));
       earlier = λ p b at is.
           inl (omega (arith, subst (λ m. p.boot < R.born m e) is (h.now.book.gone p b at (h.now.at.lost p.node ∙ ap w.lost is ∙ h.lost)), old.born, h.above));
       pending = tt;

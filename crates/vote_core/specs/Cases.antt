@@ -2,7 +2,7 @@
 use Rattle.std.specs.Prelude.{ℕ, ℤ, pos, negsuc, zero, suc, ◌+◌, ◌==◌, nat_lt, Bool, true, false, ◌||◌, ◌&&◌, List, [], ◌∷◌, map, Option, Some, None, if◌then◌else◌, slice_index_or}
 use Rattle.std.specs.List.{filter, flat_map}
 use Rattle.floor_store.specs.Content.{Content}
-use Rattle.floor_store.specs.Records.{ProposalRecord, RowRecord, PassRecord}
+use Rattle.floor_store.specs.Records.{ProposalRecord, RowRecord, PassRecord, span_of}
 use Rattle.otp_core.specs.Acceptance.{Acceptance}
 use Rattle.vote_core.specs.NodeSet.{PlaceRecord}
 use Rattle.vote_core.specs.Schedule.{Act, Begin, Begun, Cluster, Cut, Envelope, Event, Happens, Member, Tick, after_event, may_begin, run}
@@ -134,7 +134,7 @@ free_row next = record { next = next; grant = None; gate = record { fails = 0; u
 
 -- a row with a grant and a clear gate, of a token without drift
 abbrev pub open_row : ℕ → ProposalRecord → ℕ → ℕ → RowRecord
-open_row next by lo hi = record (free_row next) { grant = Some (by, lo, hi) }
+open_row next by lo hi = record (free_row next) { grant = Some (by, span_of lo hi) }
 
 -- a row with a grant and a clear gate, of a token whose clock is three time steps ahead
 abbrev pub fast_row : ℕ → ProposalRecord → ℕ → ℕ → RowRecord
@@ -227,7 +227,7 @@ telling sends content voter =
 
 -- a Grant of node 1's fourth proposal
 abbrev pub grant : Message
-grant = Grant (proposal 1 7 3) 0 5 6
+grant = Grant (proposal 1 7 3) 0 (span_of 5 6)
 
 -- ---- clusters
 
@@ -341,8 +341,8 @@ new_voter = voter [] 0 0
 -- what nodes 1 and 2 have sent: an Ask, a Floor and a Grant
 abbrev pub three_sent : List Envelope
 three_sent =
-    envelope 1 2 (Ask (proposal 1 3 3) 1 0 0) ∷ envelope 2 1 (Floor 0 9) ∷ envelope 2 1 (Grant (proposal 1 3 3) 1 0 0)
-    ∷ []
+    envelope 1 2 (Ask (proposal 1 3 3) 1 (span_of 0 0)) ∷ envelope 2 1 (Floor 0 9)
+    ∷ envelope 2 1 (Grant (proposal 1 3 3) 1 (span_of 0 0)) ∷ []
 
 -- Nodes 1 and 2, after what they have sent: node 2 has accepted factor 4 of token 0, and node 1 asks for factor 0 of
 -- token 1 since event 4.

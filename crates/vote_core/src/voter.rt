@@ -3,9 +3,9 @@
 ghost use Rattle.std.specs.List.{list_any};
 ghost use Rattle.std.specs.Prelude.{◌≡◌, ◌<◌, ◌≤◌, ◌^◌, ◌==◌, ◌↔◌, Err, length, IfOk, IsFalse, IsTrue};
 ghost use Rattle.floor_store.specs.Held.{RaisesBoot};
-ghost use Rattle.floor_store.specs.Range.{IsCount, IsSpan};
+ghost use Rattle.floor_store.specs.Range.{IsCount};
 ghost use Rattle.vote_core.specs.declared.fault.VoteFault.{VoteFault};
-ghost use Rattle.vote_core.specs.Calls.{FitsVoter, IsOther, IsStoreOf, UnlessSpent, Votes};
+ghost use Rattle.vote_core.specs.Calls.{FitsVote, FitsVoter, IsOther, IsStoreOf, UnlessSpent, Votes};
 ghost use Rattle.vote_core.specs.Rows.{row as row_in};
 ghost use Rattle.vote_core.specs.State.{VoterRecord, voter_of};
 ghost use Rattle.vote_core.specs.Voting.{fresh_voter, on_message as spec_on_message, propose as spec_propose, tick as spec_tick};
@@ -17,8 +17,8 @@ use crate::message::Message;
 use crate::place::Place;
 use crate::step::{TickStep, VoteStep};
 use arrayvec::ArrayVec;
-use floor_store::{COUNTS_END, FloorStore, StoreFault, is_span};
-use otp_core::{Drift, Factor};
+use floor_store::{COUNTS_END, FloorStore, Proposal, Span, StoreFault};
+use otp_core::Drift;
 use std::marker::Model;
 
 mod hearing;
@@ -144,30 +144,28 @@ impl Voter {
         self.ballots.is_full()
     }
 
-    /// Begins a proposal to use the factors up; its acceptance keeps the drift. The node grants it,
-    /// and asks the others; a node alone accepts it.
+    /// Begins a proposal to use the span up; its acceptance keeps the drift. The node grants it, and
+    /// asks the others; a node alone accepts it.
     pub fn propose<S: FloorStore>(
         &mut self,
         store: &mut S,
         token: u32,
-        lo: Factor,
-        hi: Factor,
+        span: Span,
         drift: Drift,
     ) -> Result<VoteStep, VoteFault>
         requires room { length self.old.ballots < 32 }
         requires known { token < length (S.held store.old).content.rows }
-        requires span { IsSpan lo hi }
-        requires free { (S.held store.old).is_clean → (row_in (S.held store.old).content token).next ≤ lo }
+        requires free { (S.held store.old).is_clean → (row_in (S.held store.old).content token).next ≤ span.lo }
         requires store { IsStoreOf self.old (S.held store.old) }
         ensures votes { UnlessSpent result (Votes S.held store.old store.new self.old self.new
-            (spec_propose self.old.place token lo hi drift)) }
+            (spec_propose self.old.place token span.lo span.hi drift)) }
         ensures spent { result ≡ Err VoteFault.Spent ↔ (self.old.seq ≡ 2 ^ 62) }
         ensures unchanged { result ≡ Err VoteFault.Spent → (store.new ≡ store.old) × (self.new ≡ self.old) }
     {
         if self.seq == COUNTS_END {
             return Err(VoteFault::Spent);
         }
-        match self.propose_next(store, token, lo, hi, drift) {
+        match self.propose_next(store, token, span, drift) {
             Ok(step) => Ok(step),
             Err(fault) => Err(VoteFault::Store(fault)),
         }
@@ -202,6 +200,15 @@ impl Voter {
     }
 }
 
+/// Whether a vote is on a token that is there, for a proposal of this node.
+fn fits_vote(tokens: u32, node: u8, proposal: Proposal, token: u32, span: Span) -> bool
+    ensures { IsTrue result ↔ FitsVote tokens node proposal token span }
+{
+    // A span is one factor, or two that follow one another.
+    let _last = span.hi();
+    token < tokens && proposal.node() == node
+}
+
 /// Whether the message is for a token that is there, and of a proposal of the node that sends such ones.
 fn fits_tokens(place: Place, tokens: u32, from: u8, message: Message) -> bool
     ensures { IsTrue result ↔ FitsVoter place tokens from message }
@@ -210,15 +217,13 @@ fn fits_tokens(place: Place, tokens: u32, from: u8, message: Message) -> bool
         Message::Ask {
             proposal,
             token,
-            lo,
-            hi,
-        } => token < tokens && is_span(lo, hi) && proposal.node() == from,
+            span,
+        } => fits_vote(tokens, from, proposal, token, span),
         Message::Grant {
             proposal,
             token,
-            lo,
-            hi,
-        } => token < tokens && is_span(lo, hi) && proposal.node() == place.me(),
+            span,
+        } => fits_vote(tokens, place.me(), proposal, token, span),
         Message::Deny {
             proposal,
             token,

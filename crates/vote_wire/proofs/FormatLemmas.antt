@@ -4,7 +4,7 @@ use Rattle.std.proofs.Common.{◌≡◌, ℕ, ◌+◌, ◌^◌, ◌≤◌, Bool,
 use Rattle.std.specs.Prelude.{◌⊎◌, ◌&&◌, nat_lt, nat_le, not}
 use Rattle.std.proofs.lemmas.Bool.{eqb-true, eqb-false, leb-true, ltb-true, le-leb, lt-ltb, le-ltb, eq-eqb, ne_eqb, not-true, not_from_false, and_parts, and_from}
 use Rattle.otp_core.specs.Range.{IsFactor, IsNext}
-use Rattle.floor_store.specs.Records.{ProposalRecord}
+use Rattle.floor_store.specs.Records.{ProposalRecord, span_of, SpanRecord}
 use Rattle.floor_store.specs.Range.{IsProposal}
 use Rattle.vote_core.specs.declared.message.Message.{Message}
 use Rattle.vote_core.specs.declared.message.Message.TheVariants.{Ask, Grant, Deny, Floor}
@@ -129,38 +129,38 @@ next_again bytes place n h at = subst (λ (k : ℕ). only_if (leb k (2 ^ 62)) k 
 
 -- ---- what follows the head, by its kind
 
-record IsVote (bytes : List ℕ) (node : ℕ) (v : ProposalRecord × ℕ × ℕ) : Type 0 where
+record IsVote (bytes : List ℕ) (node : ℕ) (v : ProposalRecord × SpanRecord) : Type 0 where
   bytes_of : length bytes ≡ 43
-  vote : IsVoteOn node v.0 v.1 v.2
+  vote : IsVoteOn node v.0 v.1
   proposal_of : HasProposal bytes v.0
-  factors_of : HasFactors bytes v.1 v.2
+  factors_of : HasFactors bytes v.1
 
-vote_takes : (bytes : List ℕ) (node : ℕ) (v : ProposalRecord × ℕ × ℕ) → vote_at bytes node ≡ Some v → IsVote bytes node v
+vote_takes : (bytes : List ℕ) (node : ℕ) (v : ProposalRecord × SpanRecord) → vote_at bytes node ≡ Some v → IsVote bytes node v
 unfolding vote_at
 vote_takes bytes node v e =
-    let after_hi = λ (p : ProposalRecord) (lo hi : ℕ). only_if (eqb p.node node && (leb lo hi && leb hi (lo + 1))) (p, lo, hi) in
+    let after_hi = λ (p : ProposalRecord) (lo hi : ℕ). only_if (eqb p.node node && (leb lo hi && leb hi (lo + 1))) (p, span_of lo hi) in
     let after_lo = λ (p : ProposalRecord) (lo : ℕ). factor_at bytes 35 >>= λ hi. after_hi p lo hi in
     let a = not_refused (eqb (length bytes) 43) (proposal_at bytes >>= λ p. factor_at bytes 27 >>= λ lo. after_lo p lo) v e in
     let b = bind_some (proposal_at bytes) (λ p. factor_at bytes 27 >>= λ lo. after_lo p lo) v a.1 in
     let c = bind_some (factor_at bytes 27) (λ lo. after_lo b.0 lo) v b.2 in
     let d = bind_some (factor_at bytes 35) (λ hi. after_hi b.0 c.0 hi) v c.2 in
-    let g = only_if_some (eqb b.0.node node && (leb c.0 d.0 && leb d.0 (c.0 + 1))) (b.0, c.0, d.0) v d.2 in
+    let g = only_if_some (eqb b.0.node node && (leb c.0 d.0 && leb d.0 (c.0 + 1))) (b.0, span_of c.0 d.0) v d.2 in
     let t = and_parts (eqb b.0.node node) (leb c.0 d.0 && leb d.0 (c.0 + 1)) g.0 in
     let s = and_parts (leb c.0 d.0) (leb d.0 (c.0 + 1)) t.1 in
     let p = proposal_takes bytes b.0 b.1 in
     let lo = factor_takes bytes 27 c.0 c.1 in
     let hi = factor_takes bytes 35 d.0 d.1 in
-    subst (λ (w : ProposalRecord × ℕ × ℕ). IsVote bytes node w) g.1 (record {
+    subst (λ (w : ProposalRecord × SpanRecord). IsVote bytes node w) g.1 (record {
       bytes_of = eqb-true _ _ a.0;
-      vote = record { in_range = p.0; of_node = eqb-true _ _ t.0; lo_below = lo.1; hi_below = hi.1; span = record { ordered = leb-true _ _ s.0; short = leb-true _ _ s.1 } };
+      vote = record { in_range = p.0; of_node = eqb-true _ _ t.0; lo_below = lo.1; hi_below = hi.1; spanned = record { ordered = leb-true _ _ s.0; short = leb-true _ _ s.1 } };
       proposal_of = p.1;
       factors_of = record { lo_at = lo.0; hi_at = hi.0 };
     })
 
-vote_again : (bytes : List ℕ) (node : ℕ) (p : ProposalRecord) (lo hi : ℕ) → length bytes ≡ 43 → IsVoteOn node p lo hi → HasProposal bytes p → HasFactors bytes lo hi → vote_at bytes node ≡ Some (p, lo, hi)
+vote_again : (bytes : List ℕ) (node : ℕ) (p : ProposalRecord) (lo hi : ℕ) → length bytes ≡ 43 → IsVoteOn node p (span_of lo hi) → HasProposal bytes p → HasFactors bytes (span_of lo hi) → vote_at bytes node ≡ Some (p, span_of lo hi)
 unfolding vote_at
 vote_again bytes node p lo hi len v at f =
-    let test : (eqb p.node node && (leb lo hi && leb hi (lo + 1))) ≡ true = and_from _ _ (eq-eqb p.node node v.of_node) (and_from _ _ (le-leb lo hi v.span.ordered) (le-leb hi (lo + 1) v.span.short)) in
+    let test : (eqb p.node node && (leb lo hi && leb hi (lo + 1))) ≡ true = and_from _ _ (eq-eqb p.node node v.of_node) (and_from _ _ (le-leb lo hi v.spanned.ordered) (le-leb hi (lo + 1) v.spanned.short)) in
     rw (len, proposal_again bytes p v.in_range at, factor_again bytes 27 lo v.lo_below f.lo_at, factor_again bytes 35 hi v.hi_below f.hi_at) (rw test refl)
 
 record IsDenial (bytes : List ℕ) (node : ℕ) (v : ProposalRecord × ℕ) : Type 0 where
@@ -216,8 +216,8 @@ message_takes bytes m mark ends e =
     let to = byte_at bytes 5 in
     let token = word_at bytes 6 in
     let kind = byte_at bytes 3 in
-    let ask = λ (v : ProposalRecord × ℕ × ℕ). present (Ask v.0 token v.1 v.2) in
-    let grant = λ (v : ProposalRecord × ℕ × ℕ). present (Grant v.0 token v.1 v.2) in
+    let ask = λ (v : ProposalRecord × SpanRecord). present (Ask v.0 token v.1) in
+    let grant = λ (v : ProposalRecord × SpanRecord). present (Grant v.0 token v.1) in
     let deny = λ (v : ProposalRecord × ℕ). present (Deny v.0 token v.1) in
     let floor = λ (next : ℕ). present (Floor token next) in
     let r4 = cond (eqb kind 4) (floor_at bytes >>= floor) None in
@@ -275,10 +275,10 @@ head_again bytes len kind from to token m le h ends read =
 
 message_again : (bytes : List ℕ) (from to : ℕ) (m : Message) → IsBodyOf bytes from to m → body_at bytes ≡ Some (from, to, m)
 unfolding message_at
-message_again bytes from to (Ask p token lo hi) h =
-    head_again bytes 43 1 from to token (Ask p token lo hi) (omega arith) h.1.0 h.0.0 (rw (h.1.0.kind_at, vote_again bytes from p lo hi h.1.0.number_of_bytes h.0.1 h.1.1 h.1.2) refl)
-message_again bytes from to (Grant p token lo hi) h =
-    head_again bytes 43 2 from to token (Grant p token lo hi) (omega arith) h.1.0 h.0.0 (rw (h.1.0.kind_at, vote_again bytes to p lo hi h.1.0.number_of_bytes h.0.1 h.1.1 h.1.2) refl)
+message_again bytes from to (Ask p token span) h =
+    head_again bytes 43 1 from to token (Ask p token span) (omega arith) h.1.0 h.0.0 (rw (h.1.0.kind_at, vote_again bytes from p span.lo span.hi h.1.0.number_of_bytes h.0.1 h.1.1 h.1.2) refl)
+message_again bytes from to (Grant p token span) h =
+    head_again bytes 43 2 from to token (Grant p token span) (omega arith) h.1.0 h.0.0 (rw (h.1.0.kind_at, vote_again bytes to p span.lo span.hi h.1.0.number_of_bytes h.0.1 h.1.1 h.1.2) refl)
 message_again bytes from to (Deny p token next) h =
     head_again bytes 35 3 from to token (Deny p token next) (omega arith) h.1.0 h.0.0 (rw (h.1.0.kind_at, denial_again bytes to p next h.1.0.number_of_bytes h.0.1 h.1.1 h.1.2) refl)
 message_again bytes from to (Floor token next) h =

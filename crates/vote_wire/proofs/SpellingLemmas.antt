@@ -8,20 +8,20 @@ use Rattle.std.proofs.lemmas.Nat.{be_bytes_4, be_bytes_8, from_be_bytes-to_be_by
 use Rattle.vote_core.specs.declared.message.Message.{Message}
 use Rattle.vote_core.specs.declared.message.Message.TheVariants.{Ask, Grant, Deny, Floor}
 use Rattle.vote_wire.specs.Bytes.{AreBytes, byte_at, word_at, number_at}
-use Rattle.floor_store.specs.Records.{ProposalRecord}
+use Rattle.floor_store.specs.Records.{ProposalRecord, span_of}
 use Rattle.vote_wire.specs.Body.{HasSpelling, HasHead, HasProposal, HasFactors, SaysMessage, head_bytes, proposal_bytes, body_bytes}
 
 -- what is spelled says the message
 pub says_again : (from to : ℕ) (m : Message) → HasSpelling from to m → SaysMessage (body_bytes from to m) from to m
-says_again from to (Ask p token lo hi) h = (
+says_again from to (Ask p token span) h = (
   record { number_of_bytes = refl; mark_0_at = refl; mark_1_at = refl; version_at = refl; kind_at = refl; from_at = refl; to_at = refl; token_at = from_be_bytes-to_be_bytes_4 token (omega (arith, h.0.token_below)) },
   record { node_at = refl; boot_at = from_be_bytes-to_be_bytes_8 p.boot (omega (arith, h.1.in_range.boot)); seq_at = from_be_bytes-to_be_bytes_8 p.seq (omega (arith, h.1.in_range.seq)) },
-  record { lo_at = from_be_bytes-to_be_bytes_8 lo (omega (arith, h.1.lo_below)); hi_at = from_be_bytes-to_be_bytes_8 hi (omega (arith, h.1.hi_below)) },
+  record { lo_at = from_be_bytes-to_be_bytes_8 span.lo (omega (arith, h.1.lo_below)); hi_at = from_be_bytes-to_be_bytes_8 span.hi (omega (arith, h.1.hi_below)) },
 )
-says_again from to (Grant p token lo hi) h = (
+says_again from to (Grant p token span) h = (
   record { number_of_bytes = refl; mark_0_at = refl; mark_1_at = refl; version_at = refl; kind_at = refl; from_at = refl; to_at = refl; token_at = from_be_bytes-to_be_bytes_4 token (omega (arith, h.0.token_below)) },
   record { node_at = refl; boot_at = from_be_bytes-to_be_bytes_8 p.boot (omega (arith, h.1.in_range.boot)); seq_at = from_be_bytes-to_be_bytes_8 p.seq (omega (arith, h.1.in_range.seq)) },
-  record { lo_at = from_be_bytes-to_be_bytes_8 lo (omega (arith, h.1.lo_below)); hi_at = from_be_bytes-to_be_bytes_8 hi (omega (arith, h.1.hi_below)) },
+  record { lo_at = from_be_bytes-to_be_bytes_8 span.lo (omega (arith, h.1.lo_below)); hi_at = from_be_bytes-to_be_bytes_8 span.hi (omega (arith, h.1.hi_below)) },
 )
 says_again from to (Deny p token next) h = (
   record { number_of_bytes = refl; mark_0_at = refl; mark_1_at = refl; version_at = refl; kind_at = refl; from_at = refl; to_at = refl; token_at = from_be_bytes-to_be_bytes_4 token (omega (arith, h.0.token_below)) },
@@ -102,7 +102,7 @@ proposal_there bytes p fits le h =
 nothing_after : (bytes : List ℕ) (len : ℕ) → length bytes ≡ len → drop len bytes ≡ []
 nothing_after bytes len e = nil_from_length (drop len bytes) (omega (arith, length-drop len bytes))
 
-vote_there : (bytes : List ℕ) (kind from to token : ℕ) (p : ProposalRecord) (lo hi : ℕ) → AreBytes bytes → HasHead bytes 43 kind from to token → HasProposal bytes p → HasFactors bytes lo hi
+vote_there : (bytes : List ℕ) (kind from to token : ℕ) (p : ProposalRecord) (lo hi : ℕ) → AreBytes bytes → HasHead bytes 43 kind from to token → HasProposal bytes p → HasFactors bytes (span_of lo hi)
     → bytes ≡ head_bytes kind from to token ++ proposal_bytes p ++ to_be_bytes w64 lo ++ to_be_bytes w64 hi
 vote_there bytes kind from to token p lo hi fits head at f =
     let l = head.number_of_bytes in
@@ -113,8 +113,8 @@ vote_there bytes kind from to token p lo hi fits head at f =
     ∙ ap (λ (r : List ℕ). to_be_bytes w64 lo ++ r) last))
 
 pub spelled : (bytes : List ℕ) (from to : ℕ) (m : Message) → AreBytes bytes → SaysMessage bytes from to m → bytes ≡ body_bytes from to m
-spelled bytes from to (Ask p token lo hi) fits s = vote_there bytes 1 from to token p lo hi fits s.0 s.1 s.2
-spelled bytes from to (Grant p token lo hi) fits s = vote_there bytes 2 from to token p lo hi fits s.0 s.1 s.2
+spelled bytes from to (Ask p token span) fits s = vote_there bytes 1 from to token p span.lo span.hi fits s.0 s.1 s.2
+spelled bytes from to (Grant p token span) fits s = vote_there bytes 2 from to token p span.lo span.hi fits s.0 s.1 s.2
 spelled bytes from to (Deny p token next) fits s =
     let l = s.0.number_of_bytes in
     let last : drop 27 bytes ≡ to_be_bytes w64 next = number_there bytes 27 35 next fits refl (omega arith) s.2 ∙ ap (λ (r : List ℕ). to_be_bytes w64 next ++ r) (nothing_after bytes 35 l) in

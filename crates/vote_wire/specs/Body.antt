@@ -2,7 +2,7 @@
 use Rattle.std.specs.Prelude.{◌≡◌, ◌≢◌, ℕ, ◌+◌, ◌^◌, ◌<◌, ◌≤◌, ◌==◌, ◌&&◌, Bool, not, nat_lt, nat_le, if◌then◌else◌, List, ◌∷◌, ◌++◌, length, Option, Some, None}
 use Rattle.std.specs.Int.{w32, w64, to_be_bytes}
 use Rattle.otp_core.specs.Range.{IsFactor, IsNext}
-use Rattle.floor_store.specs.Records.{ProposalRecord}
+use Rattle.floor_store.specs.Records.{ProposalRecord, span_of, SpanRecord}
 use Rattle.floor_store.specs.Range.{IsProposal, IsSpan}
 use Rattle.vote_core.specs.declared.message.Message.{Message}
 use Rattle.vote_core.specs.declared.message.Message.TheVariants.{Ask, Grant, Deny, Floor}
@@ -20,12 +20,12 @@ pub record HasEnds (from to token : ℕ) : Type 0 where
   pub token_below : token < 10000
 
 -- a proposal of a node for one factor, or for two that follow one another
-pub record IsVoteOn (node : ℕ) (proposal : ProposalRecord) (lo hi : ℕ) : Type 0 where
+pub record IsVoteOn (node : ℕ) (proposal : ProposalRecord) (span : SpanRecord) : Type 0 where
   pub in_range : IsProposal proposal
   pub of_node : proposal.node ≡ node
-  pub lo_below : IsFactor lo
-  pub hi_below : IsFactor hi
-  pub span : IsSpan lo hi
+  pub lo_below : IsFactor span.lo
+  pub hi_below : IsFactor span.hi
+  pub spanned : IsSpan span.lo span.hi
 
 -- a proposal of a node, and a first free factor
 pub record IsDenialOf (node : ℕ) (proposal : ProposalRecord) (next : ℕ) : Type 0 where
@@ -35,8 +35,8 @@ pub record IsDenialOf (node : ℕ) (proposal : ProposalRecord) (next : ℕ) : Ty
 
 -- an Ask is for a proposal of its sender, a Grant or a Deny for one of its receiver
 abbrev pub HasSpelling : ℕ → ℕ → Message → Type 0
-HasSpelling from to (Ask proposal token lo hi) = HasEnds from to token × IsVoteOn from proposal lo hi
-HasSpelling from to (Grant proposal token lo hi) = HasEnds from to token × IsVoteOn to proposal lo hi
+HasSpelling from to (Ask proposal token span) = HasEnds from to token × IsVoteOn from proposal span
+HasSpelling from to (Grant proposal token span) = HasEnds from to token × IsVoteOn to proposal span
 HasSpelling from to (Deny proposal token next) = HasEnds from to token × IsDenialOf to proposal next
 HasSpelling from to (Floor token next) = HasEnds from to token × IsNext next
 
@@ -59,17 +59,17 @@ pub record HasProposal (body : List ℕ) (proposal : ProposalRecord) : Type 0 wh
   pub boot_at : number_at body 11 ≡ proposal.boot
   pub seq_at : number_at body 19 ≡ proposal.seq
 
--- the factors after the proposal
-pub record HasFactors (body : List ℕ) (lo hi : ℕ) : Type 0 where
-  pub lo_at : number_at body 27 ≡ lo
-  pub hi_at : number_at body 35 ≡ hi
+-- the factors of the span after the proposal
+pub record HasFactors (body : List ℕ) (span : SpanRecord) : Type 0 where
+  pub lo_at : number_at body 27 ≡ span.lo
+  pub hi_at : number_at body 35 ≡ span.hi
 
 -- a message from one node to another, with the kind and the length that it has
 abbrev pub SaysMessage : List ℕ → ℕ → ℕ → Message → Type 0
-SaysMessage body from to (Ask proposal token lo hi) =
-    HasHead body 43 1 from to token × HasProposal body proposal × HasFactors body lo hi
-SaysMessage body from to (Grant proposal token lo hi) =
-    HasHead body 43 2 from to token × HasProposal body proposal × HasFactors body lo hi
+SaysMessage body from to (Ask proposal token span) =
+    HasHead body 43 1 from to token × HasProposal body proposal × HasFactors body span
+SaysMessage body from to (Grant proposal token span) =
+    HasHead body 43 2 from to token × HasProposal body proposal × HasFactors body span
 SaysMessage body from to (Deny proposal token next) =
     HasHead body 35 3 from to token × HasProposal body proposal × (number_at body 27 ≡ next)
 SaysMessage body from to (Floor token next) = HasHead body 18 4 from to token × (number_at body 10 ≡ next)
@@ -89,14 +89,14 @@ abbrev pub proposal_bytes : ProposalRecord → List ℕ
 proposal_bytes proposal =
     proposal.node ∷ to_be_bytes w64 proposal.boot ++ to_be_bytes w64 proposal.seq
 
--- a proposal and its factors
-abbrev pub vote_bytes : ProposalRecord → ℕ → ℕ → List ℕ
-vote_bytes proposal lo hi = proposal_bytes proposal ++ to_be_bytes w64 lo ++ to_be_bytes w64 hi
+-- a proposal and the factors of its span
+abbrev pub vote_bytes : ProposalRecord → SpanRecord → List ℕ
+vote_bytes proposal span = proposal_bytes proposal ++ to_be_bytes w64 span.lo ++ to_be_bytes w64 span.hi
 
 -- the bytes that say a message
 abbrev pub body_bytes : ℕ → ℕ → Message → List ℕ
-body_bytes from to (Ask proposal token lo hi) = head_bytes 1 from to token ++ vote_bytes proposal lo hi
-body_bytes from to (Grant proposal token lo hi) = head_bytes 2 from to token ++ vote_bytes proposal lo hi
+body_bytes from to (Ask proposal token span) = head_bytes 1 from to token ++ vote_bytes proposal span
+body_bytes from to (Grant proposal token span) = head_bytes 2 from to token ++ vote_bytes proposal span
 body_bytes from to (Deny proposal token next) =
     head_bytes 3 from to token ++ proposal_bytes proposal ++ to_be_bytes w64 next
 body_bytes from to (Floor token next) = head_bytes 4 from to token ++ to_be_bytes w64 next
@@ -139,13 +139,13 @@ factor_at body place = only_if (nat_lt (number_at body place) (2 ^ 62)) (number_
 unfoldable pub next_at : List ℕ → ℕ → Option ℕ
 next_at body place = only_if (nat_le (number_at body place) (2 ^ 62)) (number_at body place)
 
--- a proposal of this node, and its factors
-unfoldable pub vote_at : List ℕ → ℕ → Option (ProposalRecord × ℕ × ℕ)
+-- a proposal of this node, and its span
+unfoldable pub vote_at : List ℕ → ℕ → Option (ProposalRecord × SpanRecord)
 vote_at body node = if not (length body == 43) then None else do
   proposal ← proposal_at body
   lo ← factor_at body 27
   hi ← factor_at body 35
-  only_if ((proposal.node == node) && (nat_le lo hi && nat_le hi (lo + 1))) (proposal, lo, hi)
+  only_if ((proposal.node == node) && (nat_le lo hi && nat_le hi (lo + 1))) (proposal, span_of lo hi)
 
 -- a proposal of this node, and a first free factor
 unfoldable pub denial_at : List ℕ → ℕ → Option (ProposalRecord × ℕ)
@@ -163,10 +163,10 @@ unfoldable pub message_at : List ℕ → ℕ → ℕ → ℕ → Option Message
 message_at body from to token =
     if byte_at body 3 == 1 then (do
       vote ← vote_at body from
-      Some (Ask vote.0 token vote.1 vote.2))
+      Some (Ask vote.0 token vote.1))
     else if byte_at body 3 == 2 then (do
       vote ← vote_at body to
-      Some (Grant vote.0 token vote.1 vote.2))
+      Some (Grant vote.0 token vote.1))
     else if byte_at body 3 == 3 then (do
       denial ← denial_at body to
       Some (Deny denial.0 token denial.1))

@@ -1,6 +1,7 @@
 -- Lines and datagrams that the laws work through.
 use Rattle.std.specs.Prelude.{ℕ, List, [], ◌∷◌, ◌++◌, replicate, Option, Some, codes, slice_set}
 use Rattle.admit_core.specs.Fit.{Check}
+use Rattle.floor_store.specs.Records.{span_of}
 use Rattle.vote_core.specs.declared.message.Message.{Message}
 use Rattle.vote_core.specs.declared.message.Message.TheVariants.{Ask, Grant, Deny, Floor}
 use Rattle.vote_wire.specs.Body.{body_at, body_bytes}
@@ -35,11 +36,11 @@ check_request nonce user code password =
 
 -- node 1 asks for factor 1 of token 0, by its first proposal of boot 2
 abbrev pub ask : Message
-ask = Ask (record { node = 1; boot = 2; seq = 0 }) 0 1 1
+ask = Ask (record { node = 1; boot = 2; seq = 0 }) 0 (span_of 1 1)
 
 -- node 1 is granted the factors 1 and 2 of token 0, by its second proposal of boot 2
 abbrev pub grant : Message
-grant = Grant (record { node = 1; boot = 2; seq = 1 }) 0 1 2
+grant = Grant (record { node = 1; boot = 2; seq = 1 }) 0 (span_of 1 2)
 
 -- node 2 is denied its first proposal of boot 1 for token 0, whose first free factor is 1
 abbrev pub deny : Message
@@ -92,4 +93,4 @@ read_again from to message = body_at (body_bytes from to message)
 
 -- an Ask of node 1 with these numbers
 abbrev pub ask_of : ℕ → ℕ → ℕ → ℕ → ℕ → Message
-ask_of boot seq token lo hi = Ask (record { node = 1; boot = boot; seq = seq }) token lo hi
+ask_of boot seq token lo hi = Ask (record { node = 1; boot = boot; seq = seq }) token (span_of lo hi)

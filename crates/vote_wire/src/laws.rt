@@ -1,5 +1,6 @@
 ghost use Rattle.std.specs.Prelude.{◌≡◌, ◌↔◌, ◌∷◌, ◌++◌, [], ℕ, List, Some, None, codes, replicate, take, slice_set};
 ghost use Rattle.admit_core.specs.Fit.{Resync};
+ghost use Rattle.floor_store.specs.Records.{span_of};
 ghost use Rattle.secret_text.specs.declared.fault.SecretFault.{SecretFault};
 ghost use Rattle.vote_core.specs.declared.message.Message.{Message};
 ghost use Rattle.vote_core.specs.declared.message.Message.TheVariants.{Deny, Floor, Grant};
@@ -80,7 +81,7 @@ pub fn bodies_are_worked()
     ensures ask_of_another { ask_with 10 2 ≡ None }
     ensures grant_of_another { read_again 2 3 grant ≡ None }
     ensures deny_of_another { read_again 3 1 deny ≡ None }
-    ensures node_0 { read_again 1 2 (Grant (record { node = 0; boot = 0; seq = 0 }) 0 0 0) ≡ None }
+    ensures node_0 { read_again 1 2 (Grant (record { node = 0; boot = 0; seq = 0 }) 0 (span_of 0 0)) ≡ None }
     ensures last_numbers { let last : ℕ = 4611686018427387903 in
         read_again 1 2 (ask_of last last 9999 last last) ≡ Some (1, 2, ask_of last last 9999 last last) }
     ensures boot { read_again 1 2 (ask_of 4611686018427387904 0 0 0 0) ≡ None }

@@ -8,7 +8,7 @@ ghost use Rattle.vote_wire.specs.Datagram.{IsDatagramOf, IsTagged, body_of, data
 use crate::bytes::{number_at, word_at};
 use crate::key::{ClusterKey, TAG_LEN, are_equal, tag};
 use crate::writing::{MARK, VERSION};
-use floor_store::{Proposal, is_span};
+use floor_store::{Proposal, Span};
 use otp_core::{Factor, Next};
 use token_file::MAX_TOKENS;
 use vote_core::Message;
@@ -58,19 +58,18 @@ fn next_at(body: &[u8], place: usize) -> Option<Next>
     Next::new(number_at(body, place))
 }
 
-/// A proposal of this node for one factor, or for two that follow one another.
+/// A proposal of this node, and its span.
 #[tactic(auto, unfolding(crate::specs::Body::vote_at))]
-fn vote_at(body: &[u8], node: u8) -> Option<(Proposal, Factor, Factor)>
+fn vote_at(body: &[u8], node: u8) -> Option<(Proposal, Span)>
     ensures { result ≡ spec.vote_at body.now node }
 {
     if body.len() != 43 {
         return None;
     }
     let proposal = proposal_at(body)?;
-    let lo = factor_at(body, 27)?;
-    let hi = factor_at(body, 35)?;
-    if proposal.node() == node && is_span(lo, hi) {
-        Some((proposal, lo, hi))
+    let span = Span::new(factor_at(body, 27)?, factor_at(body, 35)?)?;
+    if proposal.node() == node {
+        Some((proposal, span))
     } else {
         None
     }
@@ -112,20 +111,18 @@ fn message_at(body: &[u8], from: u8, to: u8, token: u32) -> Option<Message>
 {
     let kind = body[3];
     if kind == 1 {
-        let (proposal, lo, hi) = vote_at(body, from)?;
+        let (proposal, span) = vote_at(body, from)?;
         Some(Message::Ask {
             proposal,
             token,
-            lo,
-            hi,
+            span,
         })
     } else if kind == 2 {
-        let (proposal, lo, hi) = vote_at(body, to)?;
+        let (proposal, span) = vote_at(body, to)?;
         Some(Message::Grant {
             proposal,
             token,
-            lo,
-            hi,
+            span,
         })
     } else if kind == 3 {
         let (proposal, next) = denial_at(body, to)?;

@@ -8,8 +8,8 @@ ghost use Rattle.vote_wire.specs.Datagram.{datagram_bytes};
 
 use crate::key::{ClusterKey, tag};
 use arrayvec::ArrayVec;
-use floor_store::Proposal;
-use otp_core::{Factor, Next};
+use floor_store::{Proposal, Span};
+use otp_core::Next;
 use vote_core::Message;
 
 /// The most bytes of what a node sends: a datagram to a peer has at most 59, an answer at most 54.
@@ -58,19 +58,18 @@ fn push_proposal(out: &mut ArrayVec<u8, MAX_SENT_LEN>, proposal: Proposal)
     push_number(out, proposal.seq());
 }
 
-/// A head, with a proposal and its factors behind it.
+/// A head, with a proposal and its span behind it.
 fn with_vote(
     mut out: ArrayVec<u8, MAX_SENT_LEN>,
     proposal: Proposal,
-    lo: Factor,
-    hi: Factor,
+    span: Span,
 ) -> ArrayVec<u8, MAX_SENT_LEN>
     requires { array_vec_len out ≡ 10 }
-    ensures { result.items ≡ out.items ++ vote_bytes proposal lo hi }
+    ensures { result.items ≡ out.items ++ vote_bytes proposal span }
 {
     push_proposal(&mut out, proposal);
-    push_number(&mut out, lo.value());
-    push_number(&mut out, hi.value());
+    push_number(&mut out, span.lo().value());
+    push_number(&mut out, span.hi().value());
     out
 }
 
@@ -106,15 +105,13 @@ fn body(from: u8, to: u8, message: &Message) -> ArrayVec<u8, MAX_SENT_LEN>
         Message::Ask {
             proposal,
             token,
-            lo,
-            hi,
-        } => with_vote(head(1, from, to, token), proposal, lo, hi),
+            span,
+        } => with_vote(head(1, from, to, token), proposal, span),
         Message::Grant {
             proposal,
             token,
-            lo,
-            hi,
-        } => with_vote(head(2, from, to, token), proposal, lo, hi),
+            span,
+        } => with_vote(head(2, from, to, token), proposal, span),
         Message::Deny {
             proposal,
             token,

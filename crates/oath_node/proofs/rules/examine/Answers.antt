@@ -26,6 +26,6 @@ returns-clause-free g c clean =
     let content = (g.S.FloorStore.held c.args.store.now).content in
     let id = c.in-Some.id in
     let here = c.in-Ok.ensures.ok clean ∙ ap (λ (n : ℕ). row content n) c.value.ensures.value in
-    proposes_less c.token_ruling.result (λ t lo hi. (t ≡ id) × (c.in-Ok.row.next ≤ lo)) (λ t lo hi. (row content t).next ≤ lo)
-    (λ t lo hi h. subst (λ (n : ℕ). (row content n).next ≤ lo) (sym h.0) (subst (λ (w : RowRecord). w.next ≤ lo) here h.1))
+    proposes_less c.token_ruling.result (λ t span. (t ≡ id) × (c.in-Ok.row.next ≤ span.lo)) (λ t span. (row content t).next ≤ span.lo)
+    (λ t span h. subst (λ (n : ℕ). (row content n).next ≤ span.lo) (sym h.0) (subst (λ (w : RowRecord). w.next ≤ span.lo) here h.1))
     c.token_ruling.ensures.free

@@ -15,14 +15,8 @@ returns-clause-value c =
     ∙ ap (λ (d : ℤ). open_ruling c.args.settings row.next d moment c.args.request c.args.id c.args.token.now) c.drift.ensures
     ∙ sym (token_open c.args.settings row.next row.drift (row.gate.until - moment) moment c.args.request c.args.id c.args.token.now none)
 
-pub returns-clause-spanned : goal.returns-clause-spanned
-returns-clause-spanned c =
-    let row = c.args.row in
-    (subst (Suits c.args.id row.next) (sym (returns-clause-value c))
-    (token_suits c.least_fit_is_least.ensures.some c.args.settings row.next row.drift (row.gate.until - c.args.moment) c.args.moment c.args.request c.args.id c.args.token.now)).0
-
 pub returns-clause-free : goal.returns-clause-free
 returns-clause-free c =
     let row = c.args.row in
-    (subst (Suits c.args.id row.next) (sym (returns-clause-value c))
-    (token_suits c.least_fit_is_least.ensures.some c.args.settings row.next row.drift (row.gate.until - c.args.moment) c.args.moment c.args.request c.args.id c.args.token.now)).1
+    subst (Suits c.args.id row.next) (sym (returns-clause-value c))
+    (token_suits c.least_fit_is_least.ensures.some c.args.settings row.next row.drift (row.gate.until - c.args.moment) c.args.moment c.args.request c.args.id c.args.token.now)
