@@ -1,5 +1,5 @@
 -- What the rules propose is free.
-use Rattle.std.proofs.Common.{◌≡◌, ℕ, ◌^◌, ◌≤◌, ◌<◌, false, Option, Some, None, refl, arith, List, ℤ}
+use Rattle.std.proofs.Common.{◌≡◌, ℕ, ◌^◌, ◌≤◌, ◌<◌, false, Option, Some, None, refl, List, ℤ}
 use Rattle.std.specs.Prelude.{◌==◌, nat_lt, option_map, slice_get}
 use Rattle.std.proofs.lemmas.Bool.{cond_both, lt-ltb, le-ltb, ne_eqb}
 use Rattle.otp_core.specs.Limits.{Limits}

@@ -236,7 +236,7 @@ pub fn events_are_worked()
     ensures alone { step_alone (line first_line) (idle_node 0)
         ≡ record (told_at_start (codes "OK a 0")) { floors = 1 ∷ 3 ∷ 4611686018427387904 ∷ [] } }
     ensures among { step_among (line first_line) (idle_node 0) ≡ record nothing_of_asking {
-      sends = (2, Ask (proposal 1 1 0) 0 0 0) ∷ (3, Ask (proposal 1 1 0) 0 0 0) ∷ [];
+      sends = (2, Ask (proposal 1 1 0) 0 (span_of 0 0)) ∷ (3, Ask (proposal 1 1 0) 0 (span_of 0 0)) ∷ [];
     } }
     ensures no_number { step_among (line first_line) (idle_node 4611686018427387904)
         ≡ record nothing_at_start { running = false } }
@@ -252,9 +252,9 @@ pub fn events_are_worked()
         ≡ (None, Some (pass 0 0 0 1 0), None) }
     ensures denied { step_among (datagram 3 3 1 (denial 1)) (asking_node 0 (2 ∷ []))
         ≡ told_of_asking (codes "NO a SPENT") }
-    ensures asked { step_among (datagram 2 2 1 (Ask (proposal 2 1 0) 1 3 3)) (idle_node 0)
+    ensures asked { step_among (datagram 2 2 1 (Ask (proposal 2 1 0) 1 (span_of 3 3))) (idle_node 0)
         ≡ record nothing_at_start {
-          sends = (2, Grant (proposal 2 1 0) 1 3 3) ∷ [];
+          sends = (2, Grant (proposal 2 1 0) 1 (span_of 3 3)) ∷ [];
           floors = 0 ∷ 4 ∷ 4611686018427387904 ∷ [];
         } }
     ensures floor { step_among (datagram 2 2 1 (Floor 1 9)) (idle_node 0)
