@@ -299,7 +299,7 @@ pub fn services_can_be_broken()
     ensures answer_before { IsAnswerTo 0 2 round_line ok_given first_ok → ⊥ }
     ensures answer_node { IsAnswerTo 2 3 round_line ok_given (record first_ok { node = 2 }) → ⊥ }
     ensures answer_client { IsAnswerTo 2 3 round_line ok_given (record first_ok { client = 8 }) → ⊥ }
-    ensures answer_bytes { IsAnswerTo 2 3 round_line ok_given (record first_ok { bytes = codes "OK a 1" }) → ⊥ }
+    ensures answer_bytes { IsAnswerTo 2 3 round_line ok_given (record first_ok { bytes = [] }) → ⊥ }
     ensures answer_is_given { IsAnswerTo 2 3 round_line None first_ok → ⊥ }
 
     ensures served { AreServed config three [] [] first_two [] [] }

@@ -1,5 +1,6 @@
 -- Each promise is asked about the one that breaks it.
-use Rattle.std.proofs.Common.{◌≡◌, ◌<◌, ◌≤◌, ◌^◌, ◌+◌, ℕ, true, false, List, [], ◌∷◌, ◌++◌, refl, ap, sym, subst, ◌∙◌, arith}
+use Rattle.std.proofs.Common.{◌≡◌, ◌<◌, ◌≤◌, ◌^◌, ◌+◌, ℕ, true, false, List, [], ◌∷◌, ◌++◌, Some, refl, ap, sym, subst, ◌∙◌, arith}
+use Rattle.std.specs.Fmt.{digits}
 use Rattle.vote_core.specs.Schedule.{is_member}
 use Rattle.oath_node.specs.Machine.{made_by_ruling, made_while_running, made_by_event}
 use Rattle.cluster_sim.specs.Broken.{first_ok, first_two, second_spent, start_world}
@@ -60,6 +61,7 @@ pub returns-clause-servable_numbers : goal.returns-clause-servable_numbers
 returns-clause-servable_numbers c h = let x : 2 ^ 62 + 1 ≤ 2 ^ 62 = h.numbers 2 refl in omega (arith, x)
 
 pub returns-clause-served : goal.returns-clause-served
+unfolding world_after_events
 returns-clause-served c = record { more = []; told = refl; are = refl; settled = start_is_settled }
 
 pub returns-clause-served_told : goal.returns-clause-served_told
@@ -67,9 +69,11 @@ unfolding world_after_events world_after_event world_after_act world_after_turn 
 returns-clause-served_told c h = let e = h.told in absurd cc
 
 pub returns-clause-served_are : goal.returns-clause-served_are
+unfolding world_after_events
 returns-clause-served_are c h = let e : first_ok ∷ [] ≡ h.more = h.told in let none : h.more ≡ [] = h.are in absurd cc
 
 pub returns-clause-served_settled : goal.returns-clause-served_settled
+unfolding world_after_events
 returns-clause-served_settled c h = no_majority h.settled
 
 pub returns-clause-as_one : goal.returns-clause-as_one
@@ -86,3 +90,8 @@ returns-clause-as_one_settled c h = no_majority h.settled
 
 pub returns-clause-as_one_server : goal.returns-clause-as_one_server
 returns-clause-as_one_server c h = let e : 1 ≡ 0 = ap (λ (server : Server). server.floors 0) h.server in omega (arith, e)
+
+pub returns-clause-answer_bytes : goal.returns-clause-answer_bytes
+unfolding digits
+returns-clause-answer_bytes c h =
+    let e : Some (79 ∷ 75 ∷ 32 ∷ 97 ∷ 32 ∷ 48 ∷ []) ≡ Some [] = h.bytes in absurd cc
