@@ -1,4 +1,5 @@
 pub mod Answered
+pub mod Broken
 pub mod Drifts
 pub mod Examples
 pub mod FrontEnds

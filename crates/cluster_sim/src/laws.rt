@@ -6,12 +6,13 @@ ghost use Rattle.oath_node.specs.Machine.{Config};
 ghost use Rattle.vote_wire.specs.declared.answer.Outcome.TheVariants.{Accepted, Refused};
 ghost use Rattle.vote_wire.specs.declared.answer.Reason.TheVariants.{Busy, Clock, Exhausted, Invalid, Password, Spent, Throttled, Timeout, Unknown};
 ghost use Rattle.cluster_sim.specs.Answered.{AreAnswered, NamePasses, TellTruth};
+ghost use Rattle.cluster_sim.specs.Broken.{first_ok, first_two, no_line_at_1, ok_given, raised, round_line, second_spent, second_stopped, second_waiting, start_world};
 ghost use Rattle.cluster_sim.specs.Examples.{IsAnsweredBy, IsJustifiedAlone, IsJustifiedAmong, IsJustifiedByClock, IsToldTruly, NamesItsPass, alone, clock_alone, clock_among, clock_config, clock_line_stopped, clock_lines, clock_stopped, clock_three, config, drift_of_passes, eight_ticks, exhausted, five, four, fresh_token, gate_survives_restart, letter_lines, many_floors, many_users, moments_of_others, nothing_happens, old_grants, one_voter_twice, acceptance, password_column, refusal_again, report_with, resynchronization, line_at, second_factor_elsewhere, span_against_one, split_two_to_two, stop_after_the_commit, stop_before_accepting, stop_in_a_line, stop_in_a_tick, stop_in_noise, stop_of_nothing, three, told_outcome, told_bad_line, two_submissions, with_password};
 ghost use Rattle.cluster_sim.specs.Drifts.{drift_before};
 ghost use Rattle.cluster_sim.specs.Justified.{AreJustified};
 ghost use Rattle.cluster_sim.specs.Results.{results_before, results_of};
 ghost use Rattle.cluster_sim.specs.RoundExamples.{clock_rounds, line_after_sweep, lines_after_loss, not_level, one_line, one_lost, rounds_from_start, swept, three_lines, two_lines};
-ghost use Rattle.cluster_sim.specs.Rounds.{IsSettled, RoundsAreTheReference, RoundsAreThese, RoundsByCount, RoundsReported, SweepEndSettles, SweepLevels, SweepSettles, TurnLevels, events_with_rounds};
+ghost use Rattle.cluster_sim.specs.Rounds.{AreServable, AreServed, IsAnswerTo, IsSettled, ServesAsOne, RoundsAreTheReference, RoundsAreThese, RoundsByCount, RoundsReported, SweepEndSettles, SweepLevels, SweepSettles, TurnLevels, events_with_rounds};
 ghost use Rattle.cluster_sim.specs.SingleNode.{reference_answers, opening_server};
 ghost use Rattle.cluster_sim.specs.World.{WorldEvent, floor_before, opening_world, passes_of, report_of};
 
@@ -276,4 +277,39 @@ pub fn rounds_are_worked()
     ensures not_level { report_of config not_level (events_with_rounds config not_level [] (1 ∷ 2 ∷ []) one_line)
         ≡ report_with [] [] 3 }
     ensures settled { IsSettled config (1 ∷ 2 ∷ []) (opening_world config three) }
+{}
+
+/// What is said of settled members, of rounds among them and of a report that ends in rounds holds of the least that
+/// keeps it, and each field is broken by the least that keeps all others.
+pub fn services_can_be_broken()
+    ensures ascending { IsSettled config (2 ∷ 1 ∷ []) start_world → ⊥ }
+    ensures majority { IsSettled config (1 ∷ []) start_world → ⊥ }
+    ensures up { IsSettled config first_two second_stopped → ⊥ }
+    ensures member { IsSettled config (2 ∷ 3 ∷ 4 ∷ []) start_world → ⊥ }
+    ensures none { IsSettled config first_two second_waiting → ⊥ }
+    ensures level { IsSettled config first_two (opening_world config not_level) → ⊥ }
+
+    ensures servable { AreServable config first_two start_world one_line }
+    ensures servable_settled { AreServable config (1 ∷ []) start_world one_line → ⊥ }
+    ensures servable_at_live { AreServable config (2 ∷ 3 ∷ []) start_world one_line → ⊥ }
+    ensures servable_numbers { AreServable config first_two second_spent one_line → ⊥ }
+
+    ensures answer { IsAnswerTo 2 3 round_line ok_given first_ok }
+    ensures answer_since { IsAnswerTo 3 4 round_line ok_given first_ok → ⊥ }
+    ensures answer_before { IsAnswerTo 0 2 round_line ok_given first_ok → ⊥ }
+    ensures answer_node { IsAnswerTo 2 3 round_line ok_given (record first_ok { node = 2 }) → ⊥ }
+    ensures answer_client { IsAnswerTo 2 3 round_line ok_given (record first_ok { client = 8 }) → ⊥ }
+    ensures answer_bytes { IsAnswerTo 2 3 round_line ok_given (record first_ok { bytes = [] }) → ⊥ }
+    ensures answer_is_given { IsAnswerTo 2 3 round_line None first_ok → ⊥ }
+
+    ensures served { AreServed config three [] [] first_two [] [] }
+    ensures served_told { AreServed config three no_line_at_1 [] first_two [] [] → ⊥ }
+    ensures served_are { AreServed config three [] [] first_two [] (first_ok ∷ []) → ⊥ }
+    ensures served_settled { AreServed config three [] [] (1 ∷ []) [] [] → ⊥ }
+
+    ensures as_one { ServesAsOne config first_two 0 start_world start_world [] }
+    ensures as_one_told { ServesAsOne config first_two 0 (record start_world { told = first_ok ∷ [] }) start_world [] → ⊥ }
+    ensures as_one_are { ServesAsOne config first_two 0 start_world (record start_world { told = first_ok ∷ [] }) [] → ⊥ }
+    ensures as_one_settled { ServesAsOne config (1 ∷ []) 0 start_world start_world [] → ⊥ }
+    ensures as_one_server { ServesAsOne config first_two 0 start_world (opening_world config raised) [] → ⊥ }
 {}

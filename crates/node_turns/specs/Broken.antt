@@ -1,11 +1,9 @@
 -- Worked entries of a port's record, and small nodes, each of which breaks one field of a promise. No contract cites
 -- them.
-use Rattle.std.specs.Prelude.{ℕ, true, List, [], ◌∷◌, replicate, Option, Some, Result, Ok, Err, codes}
+use Rattle.std.specs.Prelude.{ℕ, List, [], ◌∷◌, replicate, Option, Some, Result, Ok, Err, codes}
 use Rattle.std.specs.List.{flat_map}
-use Rattle.otp_core.specs.Limits.{default_limits}
 use Rattle.floor_store.specs.Broken.{SmallStore, small_held}
 use Rattle.floor_store.specs.declared.fault.StoreFault.TheVariants.{Disk}
-use Rattle.vote_core.specs.Cases.{place}
 use Rattle.vote_core.specs.declared.message.Message.TheVariants.{Floor}
 use Rattle.vote_wire.specs.Datagram.{datagram_bytes}
 use Rattle.oath_node.specs.Cases.{idle_node}
@@ -47,20 +45,7 @@ floor_told to token next = Offered (Peer to) (datagram_bytes (replicate 32 0) 1 
 
 -- ---- Nodes
 
--- a node that is alone over a small store, with this key
-abbrev pub node_over : SmallStore → List ℕ → Hosted SmallStore
-node_over store key = record {
-  store = store;
-  book = [];
-  limits = default_limits;
-  key = key;
-  voter = record { place = place 1 1; tokens = 0; boot = 0; ballots = []; seq = 0; turn = 0 };
-  owners = [];
-  answers = [];
-  running = true;
-}
-
--- the run of such a node, with nothing handed in
+-- the run of a node over a small store, with nothing handed in
 abbrev pub run_from : Hosted SmallStore → Run
 run_from node = run_at (state_of small_held node)
 

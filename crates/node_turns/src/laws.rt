@@ -1,6 +1,7 @@
 ghost use Rattle.std.specs.Prelude.{◌≡◌, ℕ, ◌≤◌, length, ◌∷◌, [], ◌++◌, List, Some, None, false, replicate, true};
 ghost use Rattle.floor_store.specs.Broken.{booted, broken_at, fallen_at, small_held, store_at, unsettled_at};
-ghost use Rattle.node_turns.specs.Broken.{bad_line_replied, ended_by, entries_of, entries_of_batches, floor_told, lines_replied, no_line_came, node_over, nothing_yet, run_from, served, store_failed};
+ghost use Rattle.oath_node.specs.Broken.{node_over};
+ghost use Rattle.node_turns.specs.Broken.{bad_line_replied, ended_by, entries_of, entries_of_batches, floor_told, lines_replied, no_line_came, nothing_yet, run_from, served, store_failed};
 ghost use Rattle.node_turns.specs.Serving.{EndsByClock, EndsSettled, FailsAmong, IsAmong, LeavesAmong, Serves, Stands};
 ghost use Rattle.oath_node.specs.declared.fault.NodeFault.TheVariants.{Spent as NoNumber};
 ghost use Rattle.node_turns.specs.TurnExamples.{batches_of, going_with, line_without_moment, no_line, noise, order_of, run_of};

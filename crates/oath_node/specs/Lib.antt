@@ -1,4 +1,5 @@
 pub mod Alone
+pub mod Broken
 pub mod Calls
 pub mod Cases
 pub mod Column

@@ -1,29 +1,39 @@
-ghost use Rattle.std.specs.Prelude.{pos, negsuc, ◌≡◌, ◌<◌, ◌≤◌, ◌^◌, ◌∷◌, ◌++◌, [], ℕ, List, Some, None, codes, false, length, replicate, true};
+ghost use Rattle.std.specs.Prelude.{pos, negsuc, ◌≡◌, ◌<◌, ◌≤◌, ◌^◌, ◌∷◌, ◌++◌, [], ℕ, List, Some, None, codes, false, length, replicate, true, Ok, Err, Result};
 ghost use Rattle.token_file.specs.declared.token.Password.TheVariants.{Equal, NoneAllowed, NotChecked};
 ghost use Rattle.admit_core.specs.Throttle.{Accepted as Passed, Failed, SpacesFailures};
 ghost use Rattle.floor_store.specs.Records.{span_of};
 ghost use Rattle.oath_node.specs.Cases.{asking_node, config, content_with, datagram, denial, drifts_left, facts_of, first_line, full_node, grant, idle_node, line, node_with_kept, nothing_at_start, nothing_of_asking, rows_at_start, step_alone, step_among, told_at_start, told_of_asking};
 ghost use Rattle.oath_node.specs.Alone.{IsAlone, ServesAlone, alone_place};
 ghost use Rattle.oath_node.specs.Column.{column_fits};
-ghost use Rattle.oath_node.specs.Grounds.{HasGrounds, IsSameStanding};
-ghost use Rattle.oath_node.specs.Machine.{Client, Config, NodeEvent, NodeState, Peer, Tick, made_by_event, opened_node, restarted_node, ruling_at, stopped_node};
-ghost use Rattle.oath_node.specs.Outputs.{outputs_of};
-ghost use Rattle.oath_node.specs.ReferenceServer.{Line, Server, restarted_server, service_of};
+ghost use Rattle.oath_node.specs.Grounds.{HasGrounds, IsSameStanding, IsWrong};
+ghost use Rattle.oath_node.specs.Machine.{Client, Config, NodeEvent, NodeState, Peer, Tick, made_by_event, opened_node, restarted_node, ruling_at, stopped_node, node_with_answer, quiet_made, reply_made};
+ghost use Rattle.oath_node.specs.Outputs.{outputs_of, no_outputs, reply_outputs};
+ghost use Rattle.oath_node.specs.ReferenceServer.{Line, Server, restarted_server, service_of, server_at};
 ghost use Rattle.oath_node.specs.Refusals.{IsRefusal, KeepsFloors, SparesToken};
 ghost use Rattle.oath_node.specs.Report.{AreJustified, acceptances_of, report_of, results_in};
 ghost use Rattle.oath_node.specs.Rules.{Standing, ruling};
 ghost use Rattle.otp_core.specs.Acceptance.{HaveSingleUse, KeepRealTimeOrder};
-ghost use Rattle.otp_core.specs.Limits.{Limits};
+ghost use Rattle.otp_core.specs.Limits.{Limits, default_limits};
 ghost use Rattle.token_file.specs.Credential.{Credential};
 ghost use Rattle.vote_core.specs.Cases.{free_row, pass, place, proposal};
 ghost use Rattle.vote_core.specs.NodeSet.{PlaceRecord};
 ghost use Rattle.vote_core.specs.Rows.{row};
-ghost use Rattle.vote_core.specs.State.{IsPlace};
+ghost use Rattle.vote_core.specs.State.{IsPlace, ballot_of};
 ghost use Rattle.vote_core.specs.Voting.{fresh_voter};
 ghost use Rattle.vote_core.specs.declared.message.Message.TheVariants.{Ask, Floor, Grant};
-ghost use Rattle.oath_node.specs.Examples.{IsJustifiedByClock, IsJustifiedInRun, drift_of_passes, kept_in, lines_given_again, lines_of_a_run, outcome_of, outcome_of_clock, pass_with, server_of, silver_before, ruling_by_clock, ruling_on};
+ghost use Rattle.oath_node.specs.Examples.{IsJustifiedByClock, IsJustifiedInRun, drift_of_passes, kept_in, lines_given_again, lines_of_a_run, outcome_of, outcome_of_clock, pass_with, server_of, silver_before, ruling_by_clock, ruling_on, narrow_limits, one_clock, standing_with};
 ghost use Rattle.vote_wire.specs.declared.answer.Reason.TheVariants.{Clock, Exhausted, Invalid, Password, Throttled, Unknown};
 ghost use Rattle.oath_node.specs.declared.ruling.Ruling.TheVariants.{Denied, Fitting, Outside, Wrong};
+ghost use Rattle.floor_store.specs.Broken.{broken_at, fallen_at, small_held, store_at, unsettled_at};
+ghost use Rattle.floor_store.specs.Examples.{content_at, granted_row, later_row, two_rows};
+ghost use Rattle.floor_store.specs.declared.fault.StoreFault.TheVariants.{Disk};
+ghost use Rattle.vote_core.specs.Broken.{lone_voter, small_ballot};
+ghost use Rattle.oath_node.specs.Broken.{all_of_a_tick, answering, crowded_node, done, failed, failed_node, fallen_node, first_state, keyed, no_line, node_of_three, node_over, noise, number_spent, opened_at_1, owner_of, owning, quiet, serving_node, small_node, stopped, was_stopped};
+ghost use Rattle.oath_node.specs.Calls.{CommitsNode, Handles, IsMade, IsOpened, IsRefused, Restarts, Takes};
+ghost use Rattle.oath_node.specs.Hosted.{AreApart, IsNode, IsOwned, IsSameNode};
+ghost use Rattle.oath_node.specs.Serving.{IsAnswered, IsInMemory, IsServing};
+ghost use Rattle.oath_node.specs.declared.fault.NodeFault.TheVariants.{Store, Stopped, Spent};
+ghost use Rattle.oath_node.specs.declared.fault.OpenFault.TheVariants.{Memory, Store as OpenStore};
 
 use admit_core::{failures_are_spaced, gate_keeps_throttle, least_fit_is_least};
 
@@ -303,3 +313,183 @@ pub fn one_node_answers_as_the_server()
     gate_keeps_throttle();
     least_fit_is_least();
 }
+
+/// What is promised of a call of a node holds of the least that keeps it, and each field is broken by the least that
+/// keeps all others.
+pub fn calls_can_be_broken()
+    ensures made_told { IsMade [] (place 1 1) (quiet_made first_state) (reply_outputs 7 []) first_state → ⊥ }
+    ensures made_left { IsMade [] (place 1 1) (quiet_made first_state) no_outputs (stopped_node first_state) → ⊥ }
+    ensures same_book { IsSameNode small_node (record small_node { book = one_clock }) → ⊥ }
+    ensures same_limits { IsSameNode small_node (record small_node { limits = narrow_limits }) → ⊥ }
+    ensures same_key { IsSameNode small_node (keyed small_node) → ⊥ }
+    ensures same_place { IsSameNode small_node (record small_node { voter = record lone_voter { place = place 1 3 } })
+        → ⊥ }
+
+    ensures takes { Takes small_held small_node small_node noise quiet }
+    ensures takes_failed { Takes small_held small_node failed_node noise (Err (Store Disk)) }
+    ensures takes_made { Takes small_held small_node (answering small_node) noise quiet → ⊥ }
+    ensures takes_runs { Takes small_held fallen_node (stopped fallen_node) noise quiet → ⊥ }
+    ensures takes_puts { Takes small_held (node_over (record (fallen_at 0) { failures = 1 }) []) fallen_node noise quiet
+        → ⊥ }
+    ensures takes_fails { Takes small_held small_node (node_over (broken_at 0) []) noise (Err (Store Disk)) → ⊥ }
+    ensures takes_stopped { Takes small_held (stopped small_node) failed_node noise (Err (Store Disk)) → ⊥ }
+    ensures takes_few { Takes small_held crowded_node crowded_node Tick (all_of_a_tick crowded_node) → ⊥ }
+    ensures takes_same { Takes small_held fallen_node (keyed fallen_node) noise quiet → ⊥ }
+
+    ensures commits { CommitsNode small_held (node_over (unsettled_at 0 1) []) small_node done }
+    ensures commits_failed { CommitsNode small_held small_node failed_node failed }
+    ensures commits_all { CommitsNode small_held (node_over (unsettled_at 0 1) []) (node_over (unsettled_at 0 1) []) done
+        → ⊥ }
+    ensures commits_state { CommitsNode small_held small_node (answering small_node) done → ⊥ }
+    ensures commits_runs { CommitsNode small_held fallen_node (stopped fallen_node) done → ⊥ }
+    ensures commits_fails { CommitsNode small_held small_node (node_over (broken_at 0) []) failed → ⊥ }
+    ensures commits_spent { CommitsNode small_held small_node small_node number_spent → ⊥ }
+    ensures commits_stopped { CommitsNode small_held (stopped small_node) failed_node failed → ⊥ }
+    ensures commits_same { CommitsNode small_held fallen_node (keyed fallen_node) done → ⊥ }
+
+    ensures handles { Handles small_held small_node small_node noise quiet }
+    ensures handles_failed { Handles small_held small_node failed_node noise (Err (Store Disk)) }
+    ensures handles_stopped { Handles small_held (stopped small_node) (stopped small_node) noise (Err Stopped) }
+    ensures handles_no_number { Handles small_held (node_of_three 4611686018427387904)
+        (stopped (node_of_three 4611686018427387904)) (line first_line) (Err Spent) }
+    ensures handles_made { Handles small_held small_node (answering small_node) noise quiet → ⊥ }
+    ensures handles_runs { Handles small_held fallen_node (stopped fallen_node) noise quiet → ⊥ }
+    ensures handles_writes { Handles small_held (node_over (record (fallen_at 0) { failures = 1 }) []) fallen_node noise
+        quiet → ⊥ }
+    ensures handles_same { Handles small_held fallen_node (keyed fallen_node) noise quiet → ⊥ }
+    ensures failure_stops { Handles small_held small_node (node_over (broken_at 0) []) noise (Err (Store Disk)) → ⊥ }
+    ensures failure_breaks { Handles small_held small_node (stopped (node_over (record (store_at 0) { failures = 1 }) []))
+        noise (Err (Store Disk)) → ⊥ }
+    ensures failure_is_counted { Handles small_held (stopped (node_over (broken_at 0) [])) failed_node noise
+        (Err (Store Disk)) → ⊥ }
+    ensures stopped_before { Handles small_held small_node small_node noise (Err Stopped) → ⊥ }
+    ensures stopped_unchanged { Handles small_held (stopped small_node) (stopped (answering small_node)) noise
+        (Err Stopped) → ⊥ }
+    ensures no_number_to_propose { Handles small_held (node_of_three 4611686018427387904)
+        (stopped (node_of_three 4611686018427387904)) noise (Err Spent) → ⊥ }
+    ensures no_number_is_left { Handles small_held (node_of_three 0) (stopped (node_of_three 0)) (line first_line)
+        (Err Spent) → ⊥ }
+    ensures no_number_stops { Handles small_held (node_of_three 4611686018427387904)
+        (node_of_three 4611686018427387904) (line first_line) (Err Spent) → ⊥ }
+{}
+
+/// What is promised of the opening of a node, of its restart and of what it always is holds of the least that keeps it,
+/// and each field is broken by the least that keeps all others.
+pub fn openings_can_be_broken()
+    ensures opened { IsOpened small_held (store_at 0) opened_at_1 }
+    ensures opened_state { IsOpened small_held (store_at 0) (answering opened_at_1) → ⊥ }
+    ensures opened_runs { IsOpened small_held (fallen_at 0) (stopped fallen_node) → ⊥ }
+    ensures opened_raises { IsOpened small_held (record (fallen_at 0) { failures = 1 }) fallen_node → ⊥ }
+    ensures refused_memory { IsRefused small_held (store_at 0) (store_at 0) Memory }
+    ensures refused_and_changed { IsRefused small_held (store_at 0) (store_at 1) Memory → ⊥ }
+    ensures refused_store { IsRefused small_held (store_at 0) (broken_at 0) (OpenStore Disk) }
+    ensures refused_unbroken { IsRefused small_held (store_at 0) (store_at 0) (OpenStore Disk) → ⊥ }
+
+    ensures restarts { Restarts small_held (stopped small_node) opened_at_1 done }
+    ensures restarts_failed { Restarts small_held small_node failed_node failed }
+    ensures restarts_state { Restarts small_held small_node (answering opened_at_1) done → ⊥ }
+    ensures restarts_runs { Restarts small_held fallen_node (stopped fallen_node) done → ⊥ }
+    ensures restarts_raises { Restarts small_held (node_over (record (fallen_at 0) { failures = 1 }) []) fallen_node done
+        → ⊥ }
+    ensures restarts_stops { Restarts small_held small_node (node_over (broken_at 0) []) failed → ⊥ }
+    ensures restarts_stopped { Restarts small_held small_node small_node was_stopped → ⊥ }
+    ensures restarts_spent { Restarts small_held small_node small_node number_spent → ⊥ }
+    ensures restarts_same { Restarts small_held fallen_node (keyed fallen_node) done → ⊥ }
+
+    ensures node { IsNode small_held small_node × IsNode small_held failed_node }
+    ensures node_tokens { IsNode small_held (record failed_node { book = one_clock }) → ⊥ }
+    ensures node_works { IsNode small_held (node_over (record (fallen_at 0) { fault = Some Disk }) []) → ⊥ }
+    ensures node_store { IsNode small_held (record small_node { voter = record lone_voter { boot = 1 } }) → ⊥ }
+    ensures node_owned { IsNode small_held (record small_node { owners = owner_of 0 ∷ [] }) → ⊥ }
+    ensures owned_apart { IsOwned (owning (owner_of 0 ∷ []) 0) → ⊥ }
+    ensures owned_twice { AreApart 2 (owner_of 1 ∷ owner_of 1 ∷ []) → ⊥ }
+    ensures owned_pending { IsOwned (owning (owner_of 0 ∷ []) 1) → ⊥ }
+
+    ensures in_memory { IsInMemory [] default_limits (place 1 1) [] (5 ∷ []) serving_node }
+    ensures in_memory_state { IsInMemory [] default_limits (place 1 1) [] (6 ∷ []) serving_node → ⊥ }
+    ensures in_memory_book { IsInMemory one_clock default_limits (place 1 1) [] (5 ∷ []) serving_node → ⊥ }
+    ensures in_memory_limits { IsInMemory [] narrow_limits (place 1 1) [] (5 ∷ []) serving_node → ⊥ }
+    ensures in_memory_key { IsInMemory [] default_limits (place 1 1) (7 ∷ []) (5 ∷ []) serving_node → ⊥ }
+    ensures in_memory_place { IsInMemory [] default_limits (place 1 3) [] (5 ∷ []) serving_node → ⊥ }
+{}
+
+/// What is said of a node that is alone, beside the reference server, holds of the least that keeps it, and each field
+/// is broken by the least that keeps all others.
+pub fn service_can_be_broken()
+    ensures alone { IsAlone 0 first_state (server_at (5 ∷ [])) }
+    ensures alone_running { IsAlone 0 (stopped_node first_state) (server_at (5 ∷ [])) → ⊥ }
+    ensures alone_pending { IsAlone 0
+        (record first_state { voter = record fresh_voter { pending = ballot_of small_ballot ∷ [] } })
+        (server_at (5 ∷ [])) → ⊥ }
+    ensures alone_owners { IsAlone 0 (record first_state { owners = owner_of 0 ∷ [] }) (server_at (5 ∷ [])) → ⊥ }
+    ensures alone_answers { IsAlone 0 (node_with_answer 7 [] [] first_state) (server_at (5 ∷ [])) → ⊥ }
+    ensures alone_floors { IsAlone 0 first_state (record (server_at (5 ∷ [])) { floors = 6 ∷ [] }) → ⊥ }
+    ensures alone_gates { IsAlone 0 first_state (record (server_at (5 ∷ [])) {
+      front = record (server_at (5 ∷ [])).front { results = (Failed 100 ∷ []) ∷ [] }
+    }) → ⊥ }
+    ensures alone_drifts { IsAlone 0 first_state (record (server_at (5 ∷ [])) {
+      front = record (server_at (5 ∷ [])).front { drifts = pos 1 ∷ [] }
+    }) → ⊥ }
+    ensures alone_begun { IsAlone 0 (record first_state { voter = record fresh_voter { seq = 1 } }) (server_at (5 ∷ []))
+        → ⊥ }
+
+    ensures serves { ServesAlone 0 (reply_made 7 (codes "NO - BADLINE") None first_state) no_line
+        (service_of [] default_limits (server_at (5 ∷ [])) no_line) }
+    ensures serves_sends { ServesAlone 0
+        (record (reply_made 7 (codes "NO - BADLINE") None first_state) { sends = (2, Floor 0 5) ∷ [] }) no_line
+        (service_of [] default_limits (server_at (5 ∷ [])) no_line) → ⊥ }
+    ensures serves_replies { ServesAlone 0 (quiet_made first_state) no_line
+        (service_of [] default_limits (server_at (5 ∷ [])) no_line) → ⊥ }
+    ensures serves_pass { ServesAlone 0
+        (record (reply_made 7 (codes "NO - BADLINE") None first_state) { pass = Some (pass 0 5 5 1 0) }) no_line
+        (service_of [] default_limits (server_at (5 ∷ [])) no_line) → ⊥ }
+    ensures serves_state { ServesAlone 0 (reply_made 7 (codes "NO - BADLINE") None (stopped_node first_state)) no_line
+        (service_of [] default_limits (server_at (5 ∷ [])) no_line) → ⊥ }
+
+    ensures serving { IsServing serving_node [] default_limits 0 (server_at (5 ∷ [])) }
+    ensures serving_book { IsServing serving_node one_clock default_limits 0 (server_at (5 ∷ [])) → ⊥ }
+    ensures serving_limits { IsServing serving_node [] narrow_limits 0 (server_at (5 ∷ [])) → ⊥ }
+    ensures serving_place { IsServing (record serving_node { voter = record lone_voter { place = place 1 3 } }) []
+        default_limits 0 (server_at (5 ∷ [])) → ⊥ }
+    ensures serving_alone { IsServing serving_node [] default_limits 0 (server_at (6 ∷ [])) → ⊥ }
+
+    ensures answered { IsAnswered serving_node [] default_limits 0 (server_at (5 ∷ [])) no_line (λ bytes. bytes)
+        (Ok (codes "NO - BADLINE")) }
+    ensures answered_bytes { IsAnswered serving_node [] default_limits 0 (server_at (5 ∷ [])) no_line (λ bytes. bytes)
+        (Ok (codes "NO")) → ⊥ }
+    ensures answered_serving { IsAnswered (record serving_node { running = false }) [] default_limits 0
+        (server_at (5 ∷ [])) no_line (λ bytes. bytes) (Ok (codes "NO - BADLINE")) → ⊥ }
+    ensures answered_refused { IsAnswered serving_node [] default_limits 0 (server_at (5 ∷ [])) no_line
+        (λ (bytes : List ℕ). bytes) (Err Spent) → ⊥ }
+    ensures answered_to_the_end { IsAnswered serving_node [] default_limits 4611686018427387904 (server_at (5 ∷ []))
+        no_line (λ (bytes : List ℕ). bytes) (Err Spent) }
+{}
+
+/// What is said of what a refusal keeps, of a failure's grounds and of what the rules see: each field is broken by the
+/// least that keeps all others.
+pub fn refusals_can_be_broken()
+    ensures kept { KeepsFloors (two_rows granted_row later_row None) (two_rows granted_row later_row None) }
+    ensures kept_gates { KeepsFloors (content_at 0 (free_row 5 ∷ []))
+        (content_at 0 (record (free_row 5) { gate = record { fails = 1; until = 65 } } ∷ [])) }
+    ensures kept_tokens { KeepsFloors (content_at 0 []) (content_at 0 (free_row 0 ∷ [])) → ⊥ }
+    ensures kept_next { KeepsFloors (content_at 0 (free_row 5 ∷ [])) (content_at 0 (free_row 6 ∷ [])) → ⊥ }
+    ensures kept_grant { KeepsFloors (content_at 0 (granted_row ∷ []))
+        (content_at 0 (record granted_row { grant = None } ∷ [])) → ⊥ }
+    ensures kept_drift { KeepsFloors (content_at 0 (granted_row ∷ []))
+        (content_at 0 (record granted_row { drift = pos 0 } ∷ [])) → ⊥ }
+    ensures kept_boot { KeepsFloors (content_at 0 []) (content_at 1 []) → ⊥ }
+    ensures kept_last { KeepsFloors (content_at 0 []) (record (content_at 0 []) { last = Some (pass 0 5 5 1 0) }) → ⊥ }
+
+    ensures wrong { IsWrong one_clock (standing_with 0 0) 1099511627775 0 }
+    ensures wrong_within { IsWrong one_clock (standing_with 0 0) 0 1 → ⊥ }
+    ensures wrong_in_range { IsWrong one_clock (standing_with 0 0) 1099511627776 0 → ⊥ }
+    ensures wrong_is_open { IsWrong one_clock (standing_with 0 1) 0 0 → ⊥ }
+
+    ensures same_kept { IsSameStanding 1 (standing_with 0 0) (record (standing_with 0 0) { kept = Some [] }) → ⊥ }
+    ensures same_waiting { IsSameStanding 1 (standing_with 0 0) (record (standing_with 0 0) { is_waiting = true }) → ⊥ }
+    ensures same_full { IsSameStanding 1 (standing_with 0 0) (record (standing_with 0 0) { is_full = true }) → ⊥ }
+    ensures same_next { IsSameStanding 1 (standing_with 0 0) (standing_with 1 0) → ⊥ }
+    ensures same_drift { IsSameStanding 1 (standing_with 0 0)
+        (record (standing_with 0 0) { drift = λ (token : ℕ). pos 1 }) → ⊥ }
+    ensures same_wait { IsSameStanding 1 (standing_with 0 0) (standing_with 0 1) → ⊥ }
+{}

@@ -5,7 +5,8 @@ use Rattle.floor_store.specs.Content.{Content}
 use Rattle.oath_node.specs.Calls.{CommitsNode}
 use Rattle.oath_node.specs.Hosted.{Hosted, state_of}
 use Rattle.oath_node.specs.Machine.{NodeEvent, NodeState}
-use Rattle.node_turns.specs.Broken.{node_over, nothing_yet, run_from, store_failed}
+use Rattle.oath_node.specs.Broken.{node_over}
+use Rattle.node_turns.specs.Broken.{nothing_yet, run_from, store_failed}
 use Rattle.node_turns.specs.Port.{PortEvent}
 use Rattle.node_turns.specs.Serving.{EndsSo, FailsNext, Serves}
 use Rattle.node_turns.specs.Turns.{AreBatches, Receipt, receipts_in, run_with_events}

@@ -1,0 +1,43 @@
+-- Small calls of a voter, each of which breaks one field of what a call does. No contract cites them.
+use Rattle.std.specs.Prelude.{ℕ, pos, [], Option, Some, None, Result, Ok, Err}
+use Rattle.floor_store.specs.Content.{Content, with_next_boot}
+use Rattle.floor_store.specs.Records.{ProposalRecord}
+use Rattle.floor_store.specs.declared.fault.StoreFault.{StoreFault}
+use Rattle.floor_store.specs.declared.fault.StoreFault.TheVariants.{Disk}
+use Rattle.vote_core.specs.Cases.{place, proposal}
+use Rattle.vote_core.specs.NodeSet.{PlaceRecord}
+use Rattle.vote_core.specs.State.{BallotRecord, VoterRecord}
+use Rattle.vote_core.specs.Voting.{VoterState, Voted}
+use Rattle.vote_core.specs.declared.step.Step.{Step}
+
+-- a voter that is alone, of no token, at boot 0
+abbrev pub lone_voter : VoterRecord
+lone_voter = record { place = place 1 1; tokens = 0; boot = 0; ballots = []; seq = 0; turn = 0 }
+
+-- a ballot of one factor that nobody has answered
+abbrev pub small_ballot : BallotRecord
+small_ballot = record { seq = 0; token = 0; lo = 5; hi = 5; drift = pos 0; age = 0; granting = 0; denying = 0 }
+
+-- a step that leaves this content, and nothing else
+abbrev pub leaving : Content → VoterState → Voted
+leaving content voter = record { content = content; voter = voter; sends = []; begun = None; decisions = [] }
+
+-- a step that changes nothing
+abbrev pub no_step : Content → VoterState → Voted
+no_step content voter = leaving content voter
+
+-- a step that raises the boot, which no call of a voter does
+abbrev pub boot_step : Content → VoterState → Voted
+boot_step content voter = leaving (with_next_boot content) voter
+
+-- what a call answers that sends and decides nothing, and has begun this
+abbrev pub begins : Option ProposalRecord → Result (Step 1 1) StoreFault
+begins begun = Ok (record { sends = record { items = [] }; begun = begun; decisions = record { items = [] } })
+
+-- the first proposal of that voter
+abbrev pub begun_one : Option ProposalRecord
+begun_one = Some (proposal 1 0 0)
+
+-- a call that met a failure of the disk
+abbrev pub disk_failed : Result (Step 1 1) StoreFault
+disk_failed = Err Disk
