@@ -143,6 +143,8 @@ class Nodes:
         self.options = list(options)
         # that of the nodes' processes; None is that of this one
         self.environment = None
+        # Whether they keep a log. Each process has a file of its own for it, log.NODE.LIFE.
+        self.is_logged, self.lives = False, [0] * count
         self.processes = [None] * count
         for node in range(count):
             self.run("init", node, "--node", str(node + 1), "--moment", str(moment))
@@ -170,8 +172,14 @@ class Nodes:
     def start(self, node):
         """Starts a node, and waits until it answers."""
         limit = self.limits.next() if self.limits else None
-        self.processes[node] = subprocess.Popen(self.serving_words(node, "--turns", "4294967295"), preexec_fn=limit,
-                                                env=self.environment)
+        if self.is_logged:
+            self.lives[node] += 1
+            with open(self.path("log.%d.%d" % (node + 1, self.lives[node])), "wb") as log:
+                self.processes[node] = subprocess.Popen(self.serving_words(node, "--forever", "--log"), stdout=log,
+                                                        preexec_fn=limit, env=self.environment)
+        else:
+            self.processes[node] = subprocess.Popen(self.serving_words(node, "--turns", "4294967295"),
+                                                    preexec_fn=limit, env=self.environment)
         if not self.answers(node):
             status = self.processes[node].poll()
             raise RuntimeError("node %d %s" % (node + 1, "does not answer" if status is None else "ended, %d" % status))

@@ -1,0 +1,92 @@
+ghost use Rattle.std.specs.Prelude.{◌≡◌, ◌≤◌, length, IfSome};
+ghost use Rattle.std.specs.List.{list_any};
+ghost use Rattle.fault_causes.specs.Causes.{address_cause, has_byte, is_letter};
+
+use field_text::cut_at;
+use thiserror::Error;
+
+/// Why a text is no address of a member.
+#[derive(Clone, Copy, Debug, PartialEq, Eq, Error)]
+pub enum AddressCause {
+    #[error("a host name; give an IPv4 address with a port")]
+    HostName,
+    #[error("an IPv6 address; give an IPv4 address with a port")]
+    Ipv6,
+    #[error("no port; give an IPv4 address with a port")]
+    NoPort,
+    #[error("no IPv4 address with a port")]
+    Other,
+}
+
+/// Whether a byte is among others.
+fn has_byte(text: &[u8], byte: u8) -> bool
+    ensures { result ≡ has_byte text.now byte }
+{
+    text.iter().any(|other| *other == byte)
+}
+
+/// Whether a letter is among bytes.
+fn has_letter(text: &[u8]) -> bool
+    ensures { result ≡ list_any is_letter text.now }
+{
+    text.iter().any(|byte| byte.is_ascii_alphabetic())
+}
+
+/// Why a text that is no IPv4 address with a port is none.
+pub fn address_cause(text: &[u8]) -> AddressCause
+    ensures { result ≡ address_cause text.now }
+{
+    if has_byte(text, b'[') {
+        AddressCause::Ipv6
+    } else if has_letter(text) {
+        AddressCause::HostName
+    } else if !has_byte(text, b':') {
+        AddressCause::NoPort
+    } else {
+        AddressCause::Other
+    }
+}
+
+/// Whether a byte divides fields.
+fn is_blank(byte: u8) -> bool {
+    byte == b' ' || byte == b'\t' || byte == b'\r'
+}
+
+/// The place of the first byte that is no blank.
+fn first_visible(line: &[u8]) -> Option<usize>
+    ensures { IfSome result (λ place. place ≤ length line.now) }
+{
+    line.iter().position(|byte| !is_blank(*byte))
+}
+
+/// The place of the first blank.
+fn first_blank(line: &[u8]) -> Option<usize>
+    ensures { IfSome result (λ place. place ≤ length line.now) }
+{
+    line.iter().position(|byte| is_blank(*byte))
+}
+
+/// What stands behind the first field of a line, if anything does.
+fn behind_field(line: &[u8]) -> Option<&[u8]> {
+    let (_, line) = line.split_at(first_visible(line)?);
+    let (_, behind) = line.split_at(first_blank(line)?);
+    Some(behind)
+}
+
+/// The line of a text with this number, from 1, if there is one.
+fn line_at(text: &[u8], number: u64) -> Option<&[u8]> {
+    let mut rest = text;
+    for _ in 1..number {
+        let (_, behind) = cut_at(rest, b'\n')?;
+        rest = behind;
+    }
+    match cut_at(rest, b'\n') {
+        Some((line, _)) => Some(line),
+        None => Some(rest),
+    }
+}
+
+/// What stands where the line of a cluster file with this number gives a member its address, if anything does.
+pub fn address_in(text: &[u8], number: u64) -> Option<&[u8]> {
+    behind_field(behind_field(line_at(text, number)?)?)
+}
