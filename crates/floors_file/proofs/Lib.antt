@@ -3,3 +3,4 @@ pub mod ReadingLemmas
 pub mod WritingLemmas
 pub mod GatheredLemmas
 pub mod RoundLemmas
+mod FitLemmas

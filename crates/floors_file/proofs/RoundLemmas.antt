@@ -162,8 +162,16 @@ le_from_test a b h = grind arith
 lt_from_test : (a b : ℕ) → nat_lt a b ≡ true → a < b
 lt_from_test a b h = grind arith
 
-in_range : (line : HeadLine) → is_head line ≡ true → InRange line
-in_range line h =
+-- the ranges of a first line
+pub record Ranges (line : HeadLine) : Type 0 where
+  pub node : line.head.node ≤ 9
+  pub members : line.head.members ≤ 9
+  pub boot : line.head.boot < 2 ^ 62
+  pub moment : line.head.moment < 2 ^ 40
+  pub tokens : line.tokens ≤ 10000
+
+pub ranges_of : (line : HeadLine) → is_head line ≡ true → Ranges line
+ranges_of line h =
     let one = and_parts (nat_le 1 line.head.node && nat_le line.head.node line.head.members && nat_le line.head.members 9
     && nat_lt line.head.boot (2 ^ 62) && nat_lt line.head.moment (2 ^ 40)) (nat_le line.tokens 10000) h in
     let two = and_parts (nat_le 1 line.head.node && nat_le line.head.node line.head.members && nat_le line.head.members 9
@@ -174,15 +182,23 @@ in_range line h =
     let five = and_parts (nat_le 1 line.head.node) (nat_le line.head.node line.head.members) four.0 in
     let members = le_from_test line.head.members 9 four.1 in
     let node = le_from_test line.head.node line.head.members five.1 in
-    let boot = lt_from_test line.head.boot (2 ^ 62) three.1 in
-    let moment = lt_from_test line.head.moment (2 ^ 40) two.1 in
-    let tokens = le_from_test line.tokens 10000 one.1 in
     record {
       node = omega (arith, node, members);
-      members = omega (arith, members);
-      boot = omega (arith, boot);
-      moment = omega (arith, moment);
-      tokens = omega (arith, tokens);
+      members = members;
+      boot = lt_from_test line.head.boot (2 ^ 62) three.1;
+      moment = lt_from_test line.head.moment (2 ^ 40) two.1;
+      tokens = le_from_test line.tokens 10000 one.1;
+    }
+
+in_range : (line : HeadLine) → is_head line ≡ true → InRange line
+in_range line h =
+    let is = ranges_of line h in
+    record {
+      node = omega (arith, is.node);
+      members = omega (arith, is.members);
+      boot = omega (arith, is.boot);
+      moment = omega (arith, is.moment);
+      tokens = omega (arith, is.tokens);
     }
 
 head_visible : (line : HeadLine) → InRange line → AllByRecursion IsVisible (codes "floors" ∷ head_fields line.head line.tokens)

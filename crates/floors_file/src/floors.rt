@@ -1,5 +1,8 @@
 use otp_core::Next;
 
+/// The most bytes of a floors file (`floors_fit`): its longest first line has 53, and each of its 10,000 rows 85.
+pub const MAX_FLOORS_LEN: u32 = 850_053;
+
 /// Whose first free factors were read, and when.
 #[derive(Clone, Copy, Debug, PartialEq, Eq)]
 pub struct Head {

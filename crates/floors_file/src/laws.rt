@@ -1,4 +1,4 @@
-ghost use Rattle.std.specs.Prelude.{◌≡◌, ◌++◌, ◌∷◌, [], codes, length, map, replicate, false, true, None, Some, Ok, Err, List, ℕ};
+ghost use Rattle.std.specs.Prelude.{◌≡◌, ◌≤◌, ◌++◌, ◌∷◌, [], codes, length, map, replicate, false, true, None, Some, Ok, Err, List, ℕ};
 ghost use Rattle.token_file.specs.Examples.{event_token};
 ghost use Rattle.floors_file.specs.Examples.{asked, first_floors, floors_at, head_of_node, row, said_by, said_by_first, said_by_row, second_floors, text_of, third_floors, two_users, word_of};
 ghost use Rattle.floors_file.specs.Fields.{plain_number};
@@ -10,9 +10,16 @@ ghost use Rattle.floors_file.specs.declared.fault.LineFault.{LineFault};
 ghost use Rattle.floors_file.specs.declared.gathered.FileFault.{FileFault};
 ghost use Rattle.floors_file.specs.declared.gathered.FilesFault.{FilesFault};
 
+use crate::floors::MAX_FLOORS_LEN;
+
 /// Floors that were written are read back, with nothing added or left out.
 pub fn floors_read_back()
     ensures { (floors : FloorsRecord) → AreFloors floors → floors_of (floors_text floors) ≡ Ok floors }
+{}
+
+/// A text of floors has so many bytes at most.
+pub fn floors_fit()
+    ensures { (floors : FloorsRecord) → AreFloors floors → length (floors_text floors) ≤ MAX_FLOORS_LEN }
 {}
 
 /// Floors files, worked through.

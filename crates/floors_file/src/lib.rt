@@ -14,8 +14,8 @@ mod tests;
 mod writing;
 
 pub use fault::{FloorsFault, LineFault};
-pub use floors::{Floor, Floors, Head};
+pub use floors::{Floor, Floors, Head, MAX_FLOORS_LEN};
 pub use gathered::{Asked, FileFault, FilesFault, check_anew, check_lost, gather, greatest};
-pub use laws::{files_are_worked, floors_read_back, gathered_are_worked};
+pub use laws::{files_are_worked, floors_fit, floors_read_back, gathered_are_worked};
 pub use reading::read_floors;
 pub use writing::write_floors;

@@ -4,4 +4,7 @@ mod TextLemmas
 mod UsersLemmas
 mod FloorsLemmas
 mod LostLemmas
+mod DriftLemmas
+mod LevelLemmas
+mod ReachLemmas
 mod KeyLemmas

@@ -13,13 +13,13 @@ use Rattle.floor_sql.specs.Held.{SqlHeld}
 use Rattle.floors_file.specs.declared.fault.LineFault.{LineFault}
 use Rattle.floors_file.specs.declared.gathered.Asked.{Asked}
 use Rattle.oathd_database.specs.Commands.{IsRefused}
-use Rattle.oathd_database.specs.Users.{IsImported, IsUnread}
+use Rattle.oathd_database.specs.Users.{IsImported, IsUnread, drifted_floors}
 use Rattle.oathd_database.specs.declared.fault.Fault.{Fault}
 use Rattle.oathd_database.specs.declared.fault.Fault.TheVariants.{Memory, CannotWrite, NoClock, Users, Store, Socket}
 use Rattle.oathd_database.specs.declared.lost.LostNode.{LostNode}
-use Rattle.oathd_database.specs.declared.lost.LostFault.{LostFault}
-use Rattle.oathd_database.specs.declared.lost.LostFault.TheVariants.{Command, Files}
-use Rattle.oathd_database.specs.declared.lost.LostFault.TheVariants as LostFaults
+use Rattle.oathd_database.specs.declared.gather.GatherFault.{GatherFault}
+use Rattle.oathd_database.specs.declared.gather.GatherFault.TheVariants.{Command, Files}
+use Rattle.oathd_database.specs.declared.gather.GatherFault.TheVariants as GatherFaults
 use Rattle.std.proofs.Math.ListN.{drop_of_length-le}
 use Rattle.std.proofs.Math.Seq.{drop-cons}
 use Rattle.std.proofs.lemmas.List.{map-append, length-map}
@@ -28,7 +28,8 @@ use Rattle.floors_file.specs.Fields.{◌>>=◌}
 use Rattle.floors_file.specs.Floors.{FloorsRecord, floors_value}
 use Rattle.floors_file.specs.Gathered.{gathered_floors}
 use Rattle.floors_file.specs.Reading.{floors_of}
-use Rattle.oathd_database.specs.Lost.{HasRemade, IsGathered, IsNotRemade, IsUngathered, IsUnreadFile, asked_at, at_file, boot_at, files_after}
+use Rattle.oathd_database.specs.Gather.{IsUnreadFile, at_file, files_after}
+use Rattle.oathd_database.specs.Lost.{HasRemade, IsGathered, IsNotRemade, IsUngathered, asked_at, boot_at}
 
 -- so many texts are read
 pub record HasFiles {T : Type 0} (text_of : T → List ℕ) (texts : List T) (files : List FloorsRecord) (number : ℕ) : Type 0 where
@@ -61,10 +62,10 @@ files_bad text_of texts before number text line kind at within is reads counted 
     ∙ ap (λ n. Err (n, line, kind)) (ap (λ n. n + 1) (length-map before floors_value) ∙ sym counted)
 
 -- what ends the reading ends the gathering
-pub unread_ungathered : (asked : Asked) (node : ℕ) (lost : Option (Bor (List ℕ))) (book : List Credential) (texts : List (List ℕ)) (fault : LostFault)
+pub unread_ungathered : (asked : Asked) (node : ℕ) (lost : Option (Bor (List ℕ))) (book : List Credential) (texts : List (List ℕ)) (fault : GatherFault)
     → IsUnreadFile texts fault → IsUngathered asked node lost book texts fault
 unread_ungathered asked node lost book texts (Command fault) h = h
-unread_ungathered asked node lost book texts (LostFaults.Floors number fault) h = h
+unread_ungathered asked node lost book texts (GatherFaults.Floors number fault) h = h
 unread_ungathered asked node lost book texts (Files fault) h = absurd h
 
 module _ (limits : Limits) (moment longest : ℕ) (lost : LostNode) (texts : List (List ℕ)) where
@@ -82,14 +83,14 @@ module _ (limits : Limits) (moment longest : ℕ) (lost : LostNode) (texts : Lis
   unread_users a fault h = IfSome_then a h (λ text i. refused_by fault text i)
 
   module _ (book : List Credential) (floors : List ℕ) where
-    ungathered_at : (fault : LostFault) (text : List ℕ) → IsImported limits moment longest book floors text
+    ungathered_at : (fault : GatherFault) (text : List ℕ) → IsImported limits moment longest book floors text
         → IsUngathered (asked_at lost.since moment) lost.node lost.lost book texts fault → IsNotRemade limits moment longest lost texts fault text
     ungathered_at (Command fault) text i h = subst (λ f. IsRefused limits moment longest f text) (sym h) tt
-    ungathered_at (LostFaults.Floors number fault) text i h = record { import = record { book = book; floors = floors; imported = i }; cause = h }
+    ungathered_at (GatherFaults.Floors number fault) text i h = record { import = record { book = book; floors = floors; imported = i }; cause = h }
     ungathered_at (Files fault) text i h = record { import = record { book = book; floors = floors; imported = i }; cause = h }
 
     -- the texts don't tell enough
-    pub ungathered : (a : Option (List ℕ)) (fault : LostFault) → IfSome a (IsImported limits moment longest book floors)
+    pub ungathered : (a : Option (List ℕ)) (fault : GatherFault) → IfSome a (IsImported limits moment longest book floors)
         → IsUngathered (asked_at lost.since moment) lost.node lost.lost book texts fault → IfSome a (IsNotRemade limits moment longest lost texts fault)
     ungathered a fault h is = IfSome_then a h (λ text i. ungathered_at fault text i is)
 
@@ -99,14 +100,14 @@ module _ (limits : Limits) (moment longest : ℕ) (lost : LostNode) (texts : Lis
     refused_late a fault h = IfSome_then a h (λ text i. record { book = book; floors = floors; imported = i })
 
     -- the store is made
-    pub remade : {S : Type 0} (g : Ghosts S) (a : Option (List ℕ)) (conn : Held S) (store : SqlHeld S) (gathered given : List ℕ)
-        → IfSome a (IsImported limits moment longest book floors) → given ≡ gathered
-        → IsGathered (asked_at lost.since moment) lost.node lost.lost book floors texts gathered
+    pub remade : {S : Type 0} (g : Ghosts S) (a : Option (List ℕ)) (conn : Held S) (store : SqlHeld S) (own gathered given : List ℕ)
+        → IfSome a (IsImported limits moment longest book floors) → given ≡ gathered → own ≡ drifted_floors limits.drift book floors
+        → IsGathered (asked_at lost.since moment) lost.node lost.lost book own texts gathered
         → IsMade g conn lost.node (boot_at moment) given store → IfSome a (HasRemade g limits moment longest lost texts store)
-    remade g a conn store gathered given h same is made = IfSome_then a h (λ text i. record {
+    remade g a conn store own gathered given h same later is made = IfSome_then a h (λ text i. record {
       import = record { book = book; floors = floors; imported = i };
       floors = gathered;
-      gathered = is;
+      gathered = subst (λ o. IsGathered (asked_at lost.since moment) lost.node lost.lost book o texts gathered) later is;
       conn = conn;
       made = subst (λ fs. IsMade g conn lost.node (boot_at moment) fs store) same made;
     })

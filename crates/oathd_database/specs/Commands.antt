@@ -16,7 +16,7 @@ use Rattle.node_turns.specs.declared.turns.Served.{Served}
 use Rattle.oathd_database.specs.NodeKey.{tag_key}
 use Rattle.oathd_database.specs.Tables.{KeepsTables, WritesAudit}
 use Rattle.oathd_database.specs.Text.{export_text}
-use Rattle.oathd_database.specs.Users.{IsImported, IsUnread}
+use Rattle.oathd_database.specs.Users.{IsImported, IsUnread, drifted_floors}
 use Rattle.oathd_database.specs.declared.fault.Fault.{Fault}
 use Rattle.oathd_database.specs.declared.fault.Fault.TheVariants.{Memory, CannotWrite, NoClock, Users, Store, Socket}
 use Rattle.oathd_database.specs.declared.serving.Serving.{Serving}
@@ -33,11 +33,11 @@ pub record HasImport (limits : Limits) (moment longest : ℕ) (text : List ℕ) 
 
 module _ {S : Type 0} (g : Ghosts S) where
   -- The store is this node's, made by one commit in the tables of some connection: it holds the first free factors of a
-  -- users file's import and nothing else.
+  -- users file's import, those of time tokens later by the drift, and nothing else.
   pub record HasMade (limits : Limits) (moment longest node : ℕ) (store : SqlHeld S) (text : List ℕ) : Type 0 where
     pub import : HasImport limits moment longest text
     pub conn : sql.Held S
-    pub made : IsMade g conn node 0 import.floors store
+    pub made : IsMade g conn node 0 (drifted_floors limits.drift import.book import.floors) store
 
   -- The store is what the tables of some connection hold of a node with so many tokens: of this one where it is given.
   pub record HasOpened (given : Option ℕ) (tokens : ℕ) (store : SqlHeld S) : Type 0 where

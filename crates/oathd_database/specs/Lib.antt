@@ -7,3 +7,6 @@ pub mod Text
 pub mod Users
 pub mod Floors
 pub mod Lost
+pub mod Gather
+pub mod Level
+pub mod Reach

@@ -1,5 +1,5 @@
 -- The store of a lost node is made anew, by the floors files of the others.
-use Rattle.std.specs.Prelude.{◌≡◌, ℕ, ◌+◌, ◌*◌, ◌^◌, List, [], ◌∷◌, ◌++◌, length, Option, Some, None, Result, Ok, Err, false}
+use Rattle.std.specs.Prelude.{◌≡◌, ℕ, ◌*◌, ◌^◌, List, [], Option, Some, None, Ok, Err, false}
 use Rattle.std.specs.Borrow.{Bor}
 use Rattle.sqlite.specs.Store.{Ghosts}
 use Rattle.sqlite.specs.Held as sql
@@ -7,31 +7,18 @@ use Rattle.otp_core.specs.Limits.{Limits}
 use Rattle.token_file.specs.Credential.{Credential}
 use Rattle.floor_sql.specs.Calls.{IsMade}
 use Rattle.floor_sql.specs.Held.{SqlHeld}
-use Rattle.floors_file.specs.Fields.{◌>>=◌}
 use Rattle.floors_file.specs.Floors.{FloorsRecord}
 use Rattle.floors_file.specs.Gathered.{anew_fault, gathered_floors, lost_fault}
-use Rattle.floors_file.specs.Reading.{floors_of, is_memory}
-use Rattle.floors_file.specs.declared.fault.LineFault.{LineFault}
+use Rattle.floors_file.specs.Reading.{is_memory}
 use Rattle.floors_file.specs.declared.gathered.Asked.{Asked}
 use Rattle.floors_file.specs.declared.gathered.FilesFault.{FilesFault}
 use Rattle.oathd_database.specs.Commands.{HasImport, IsRefused}
-use Rattle.oathd_database.specs.Fault.{status_of}
+use Rattle.oathd_database.specs.Gather.{files_after}
+use Rattle.oathd_database.specs.Users.{drifted_floors}
 use Rattle.oathd_database.specs.declared.fault.Fault.TheVariants.{Memory}
 use Rattle.oathd_database.specs.declared.lost.LostNode.{LostNode}
-use Rattle.oathd_database.specs.declared.lost.LostFault.{LostFault}
-use Rattle.oathd_database.specs.declared.lost.LostFault.TheVariants.{Command, Floors, Files}
-
--- what a file says, or the number of the file and its fault
-abbrev pub at_file : {A : Type 0} → ℕ → Result A (ℕ × LineFault) → Result A (ℕ × ℕ × LineFault)
-at_file number (Ok file) = Ok file
-at_file number (Err fault) = Err (number, fault.0, fault.1)
-
--- what texts say one after another, after other files: the first that is no floors file decides
-abbrev pub files_after : List FloorsRecord → List (List ℕ) → Result (List FloorsRecord) (ℕ × ℕ × LineFault)
-files_after files [] = Ok files
-files_after files (text ∷ texts) = do
-  file ← at_file (length files + 1) (floors_of text)
-  files_after (files ++ file ∷ []) texts
+use Rattle.oathd_database.specs.declared.gather.GatherFault.{GatherFault}
+use Rattle.oathd_database.specs.declared.gather.GatherFault.TheVariants.{Command, Floors, Files}
 
 -- the boot of a store that is made anew at a moment
 abbrev pub boot_at : ℕ → ℕ
@@ -56,13 +43,6 @@ pub record IsGathered (asked : Asked) (node : ℕ) (lost : Option (Bor (List ℕ
   pub told : gather_fault asked node lost book files ≡ None
   pub greatest : floors ≡ gathered_floors files book own
 
--- not all texts are read: no memory was left, or a text is no floors file and none before it
-abbrev pub IsUnreadFile : List (List ℕ) → LostFault → Type 0
-IsUnreadFile texts (Command fault) = fault ≡ Memory
-IsUnreadFile texts (Floors number fault) =
-    is_memory fault.kind ≡ false → files_after [] texts ≡ Err (number, fault.line, fault.kind)
-IsUnreadFile texts (Files fault) = ⊥
-
 -- texts are floors files that together have this fault
 pub record HasFault (asked : Asked) (node : ℕ) (lost : Option (Bor (List ℕ))) (book : List Credential)
     (texts : List (List ℕ)) (fault : FilesFault) : Type 0 where
@@ -72,7 +52,7 @@ pub record HasFault (asked : Asked) (node : ℕ) (lost : Option (Bor (List ℕ))
 
 -- No first free factors are gathered: no memory was left, a text is no floors file and none before it, or they don't
 -- tell enough.
-abbrev pub IsUngathered : Asked → ℕ → Option (Bor (List ℕ)) → List Credential → List (List ℕ) → LostFault → Type 0
+abbrev pub IsUngathered : Asked → ℕ → Option (Bor (List ℕ)) → List Credential → List (List ℕ) → GatherFault → Type 0
 IsUngathered asked node lost book texts (Command fault) = fault ≡ Memory
 IsUngathered asked node lost book texts (Floors number fault) =
     is_memory fault.kind ≡ false → files_after [] texts ≡ Err (number, fault.line, fault.kind)
@@ -80,12 +60,12 @@ IsUngathered asked node lost book texts (Files fault) = HasFault asked node lost
 
 -- a fault of the texts, for the users of a users file
 pub record IsUngatheredFor (limits : Limits) (moment longest : ℕ) (lost : LostNode) (texts : List (List ℕ))
-    (fault : LostFault) (text : List ℕ) : Type 0 where
+    (fault : GatherFault) (text : List ℕ) : Type 0 where
   pub import : HasImport limits moment longest text
   pub cause : IsUngathered (asked_at lost.since moment) lost.node lost.lost import.book texts fault
 
 -- No store is made anew: as where any is made, or the texts don't tell enough.
-abbrev pub IsNotRemade : Limits → ℕ → ℕ → LostNode → List (List ℕ) → LostFault → List ℕ → Type 0
+abbrev pub IsNotRemade : Limits → ℕ → ℕ → LostNode → List (List ℕ) → GatherFault → List ℕ → Type 0
 IsNotRemade limits moment longest lost texts (Command fault) text = IsRefused limits moment longest fault text
 IsNotRemade limits moment longest lost texts (Floors number fault) text =
     IsUngatheredFor limits moment longest lost texts (Floors number fault) text
@@ -99,13 +79,7 @@ module _ {S : Type 0} (g : Ghosts S) where
       (store : SqlHeld S) (text : List ℕ) : Type 0 where
     pub import : HasImport limits moment longest text
     pub floors : List ℕ
-    pub gathered :
-        IsGathered (asked_at lost.since moment) lost.node lost.lost import.book import.floors texts floors
+    pub gathered : IsGathered (asked_at lost.since moment) lost.node lost.lost import.book
+        (drifted_floors limits.drift import.book import.floors) texts floors
     pub conn : sql.Held S
     pub made : IsMade g conn lost.node (boot_at moment) floors store
-
--- the exit status of a program that ends so
-abbrev pub lost_status : LostFault → ℕ
-lost_status (Command fault) = status_of fault
-lost_status (Floors number fault) = 1
-lost_status (Files fault) = 1

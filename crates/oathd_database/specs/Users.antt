@@ -1,7 +1,7 @@
 -- The users file of a command, and what keeps it from being read.
-use Rattle.std.specs.Prelude.{◌≡◌, ℕ, List, Ok, Err, IsTrue}
+use Rattle.std.specs.Prelude.{◌≡◌, ℕ, ◌+◌, ◌^◌, min, List, [], ◌∷◌, Option, None, Some, Ok, Err, IsTrue}
 use Rattle.otp_core.specs.Limits.{Limits}
-use Rattle.token_file.specs.Credential.{Credential}
+use Rattle.token_file.specs.Credential.{Credential, period_of}
 use Rattle.token_file.specs.UsersFile.{IsCutOff, book_of, import_of, instant_of, is_of_text}
 use Rattle.token_file.specs.declared.fault.LineFault.TheVariants.{Read}
 use Rattle.oathd_database.specs.declared.fault.Fault.{Fault}
@@ -23,3 +23,17 @@ IsUnread limits moment longest (Users fault) text =
     × (fault.kind ≡ Read → IsCutOff Read longest (instant_of limits moment) text fault.line)
 IsUnread limits moment longest (Store fault) text = ⊥
 IsUnread limits moment longest Socket text = ⊥
+
+-- The first free factor of an imported token, whose period is given where it has time steps, at a node that may have
+-- accepted so many steps more before, by the drift of the token's clock (RFC 6238, section 6): so many steps later, and
+-- no later than the last.
+abbrev pub drifted_floor : ℕ → Option ℕ → ℕ → ℕ
+drifted_floor drift None floor = floor
+drifted_floor drift (Some period) floor = min (floor + drift) (2 ^ 62)
+
+-- the same of each token of a book
+abbrev pub drifted_floors : ℕ → List Credential → List ℕ → List ℕ
+drifted_floors drift [] floors = []
+drifted_floors drift (token ∷ book) [] = []
+drifted_floors drift (token ∷ book) (floor ∷ floors) =
+    drifted_floor drift (period_of token.kind) floor ∷ drifted_floors drift book floors

@@ -13,13 +13,14 @@ ghost use Rattle.oathd_database.specs.declared.fault.Fault.TheVariants.{CannotWr
 use crate::database::{Database, open_store};
 use crate::fault::Fault;
 use crate::file::DatabaseFile;
+use crate::users::token_at;
 use floor_store::{FloorStore, StoreFault};
 use floors_file::{Floor, Floors, Head, write_floors};
 use otp_core::{Next, Settings};
 use sqlite::Alter;
 use std::alloc::Global;
 use std::io::{Read, Write};
-use token_file::{Book, Token, TokenId};
+use token_file::Book;
 
 /// The first free factor that a store has of a token.
 fn next_of<S: FloorStore>(store: &S, token: u32) -> Result<Next, StoreFault>
@@ -28,15 +29,6 @@ fn next_of<S: FloorStore>(store: &S, token: u32) -> Result<Next, StoreFault>
         (slice_get (S.held store.now).content.rows token) (λ row. row.next ≡ next)) }
 {
     Ok(store.row(token)?.next())
-}
-
-/// The token with a number.
-fn token_at(book: &Book, token: u32) -> &Token
-    requires within { token < length book.now }
-    requires few { length book.now ≤ 10000 }
-    ensures { slice_get book.now token ≡ Some result.now }
-{
-    book.token(TokenId::new(token).unwrap())
 }
 
 /// The first free factors that a store has of the tokens of a book, as a floors file tells them of a node of a cluster

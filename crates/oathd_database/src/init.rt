@@ -8,7 +8,7 @@ ghost use Rattle.oathd_database.specs.Commands.{HasImport, HasMade, IsRefused};
 use crate::database::Database;
 use crate::fault::Fault;
 use crate::file::DatabaseFile;
-use crate::users::read_users;
+use crate::users::{drifted_floors, read_users};
 use floor_sql::SqlStore;
 use otp_core::Settings;
 use sqlite::Alter;
@@ -17,7 +17,8 @@ use std::io::Read;
 
 /// Makes the store of a node, with the first free factors with which the tokens of a users file are imported at the
 /// moment given, in seconds since 1970-01-01 00:00:00 UTC, 0 to 1099511627775. The node is 1 to 9. The database has no
-/// table. Of the settings the skew is looked at.
+/// table. Of the settings the skew and the drift are looked at: what a node with these may have accepted of a time
+/// token up to the moment is not free.
 ///
 /// # Errors
 /// `Users` where the users file has a fault or can't be read; the database is not opened then. `Store`:
@@ -38,8 +39,11 @@ pub fn init_store<R: Read + Drop, S: Alter + Drop, D: Database<S>>(
     ensures fault { IfErr result (λ fault. IfSome (R.remaining users) (IsRefused settings moment 16777216 fault)) }
 {
     let users = read_users(alloc, users, settings, moment)?;
+    let Ok(floors) = drifted_floors(alloc, &users, settings.drift()) else {
+        return Err(Fault::Memory);
+    };
     let conn = database.connect()?;
-    match SqlStore::init(alloc, conn, node, 0, &users.floors) {
+    match SqlStore::init(alloc, conn, node, 0, &floors) {
         Ok(store) => Ok(store),
         Err((_, fault)) => Err(Fault::Store(fault)),
     }

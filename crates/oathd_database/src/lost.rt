@@ -1,42 +1,24 @@
 //! The command `init` with lost nodes: the store of one is made anew, by the floors files of the others.
 
-ghost use Rattle.std.specs.Prelude.{◌≡◌, ◌*◌, ◌^◌, ◌≤◌, [], length, map, false, IfErr, IfOk, IfSome, Ok, Err};
+ghost use Rattle.std.specs.Prelude.{◌≡◌, ◌≤◌, length, map, IfErr, IfOk, IfSome};
 ghost use Rattle.otp_core.specs.Range.{IsMoment};
 ghost use Rattle.floor_sql.specs.Usable.{IsNode};
 ghost use Rattle.floors_file.specs.Floors.{floors_value};
 ghost use Rattle.floors_file.specs.Gathered.{fault_of};
-ghost use Rattle.floors_file.specs.Reading.{is_memory};
-ghost use Rattle.oathd_database.specs.Lost.{HasRemade, IsGathered, IsNotRemade, IsUngathered, IsUnreadFile, files_after, gather_fault};
+ghost use Rattle.oathd_database.specs.Lost.{HasRemade, IsGathered, IsNotRemade, IsUngathered, gather_fault};
 
 use crate::database::Database;
 use crate::fault::Fault;
 use crate::file::DatabaseFile;
-use crate::users::{Users, read_users};
-use command_line::ProgramFault;
+use crate::gather::{GatherFault, read_files};
+use crate::users::{drifted_floors, read_users};
 use floor_sql::SqlStore;
-use floors_file::{
-    Asked, FilesFault, Floors, FloorsFault, check_anew, check_lost, gather, read_floors,
-};
+use floors_file::{Asked, FilesFault, Floors, check_anew, check_lost, gather};
 use otp_core::{Next, Settings};
 use sqlite::Alter;
 use std::alloc::Global;
 use std::io::Read;
-use thiserror::Error;
 use token_file::Book;
-
-/// What ends the command before its time. The text lacks the program's name.
-#[derive(Clone, Copy, Debug, PartialEq, Eq, Error)]
-pub enum LostFault {
-    /// As any command over a store.
-    #[error("{0}")]
-    Command(Fault),
-    /// The floors file with this number, from 1, has a fault.
-    #[error("floors {0} {1}")]
-    Floors(usize, FloorsFault),
-    /// The floors files, together, don't tell enough.
-    #[error("{0}")]
-    Files(FilesFault),
-}
 
 /// The node whose store is made anew, and those that are lost with it.
 #[derive(Clone, Copy, Debug)]
@@ -47,26 +29,6 @@ pub struct LostNode<'a> {
     pub lost: Option<&'a [u8]>,
     /// The moment from which on the floors files were read.
     pub since: u64,
-}
-
-/// What texts of floors files say.
-fn read_files(alloc: Global, texts: &[Vec<u8>]) -> Result<Vec<Floors<'_>>, LostFault>
-    ensures read { IfOk result (λ files.
-        files_after [] (map (λ text. text.items) texts.now) ≡ Ok (map floors_value files.items)) }
-    ensures fault { IfErr result (IsUnreadFile (map (λ text. text.items) texts.now)) }
-{
-    let mut files = Vec::new(alloc);
-    for text in texts {
-        let file = match read_floors(alloc, text) {
-            Ok(file) => file,
-            Err(fault) => return Err(LostFault::Floors(files.len() + 1, fault)),
-        };
-        match files.push(file) {
-            Ok(()) => {}
-            Err(_) => return Err(LostFault::Command(Fault::Memory)),
-        }
-    }
-    Ok(files)
 }
 
 /// Whether files tell enough to make the store of a node anew.
@@ -92,25 +54,28 @@ fn lost_floors(
     asked: Asked,
     node: u8,
     lost: Option<&[u8]>,
-    users: &Users,
+    book: &Book,
+    own: &[Next],
     texts: &[Vec<u8>],
-) -> Result<Vec<Next>, LostFault>
-    ensures floors { IfOk result (λ floors. IsGathered asked node lost.entry users.now.book users.now.floors.items
+) -> Result<Vec<Next>, GatherFault>
+    requires few { length book.now ≤ 10000 }
+    requires each { length own.now ≡ length book.now }
+    ensures floors { IfOk result (λ floors. IsGathered asked node lost.entry book.now own.now
         (map (λ text. text.items) texts.now) floors.items) }
-    ensures fault { IfErr result (IsUngathered asked node lost.entry users.now.book
+    ensures fault { IfErr result (IsUngathered asked node lost.entry book.now
         (map (λ text. text.items) texts.now)) }
 {
     let files = match read_files(alloc, texts) {
         Ok(files) => files,
         Err(fault) => return Err(fault),
     };
-    match check(asked, node, lost, &users.book, &files) {
+    match check(asked, node, lost, book, &files) {
         Ok(()) => {}
-        Err(fault) => return Err(LostFault::Files(fault)),
+        Err(fault) => return Err(GatherFault::Files(fault)),
     }
-    match gather(alloc, &files, &users.book, &users.floors) {
+    match gather(alloc, &files, book, own) {
         Ok(floors) => Ok(floors),
-        Err(_) => Err(LostFault::Command(Fault::Memory)),
+        Err(_) => Err(GatherFault::Command(Fault::Memory)),
     }
 }
 
@@ -120,8 +85,8 @@ const BOOTS: u64 = 1 << 20;
 /// Makes the store of a lost node anew, while others go on: at the boot that is the moment times 2^20, with the
 /// greatest first free factors of the floors files, whose texts are given. The lost nodes and those of the files are
 /// the members, fewer lost than a majority. Where none is named lost, it is the store of a node of a whole cluster that
-/// is made anew: each majority of the former members has a file, and a user in none begins as at an import. The database
-/// has no table. Of the settings the skew is looked at.
+/// is made anew: each majority of the former members has a file, and a user in none begins as at an import. The
+/// database has no table. Of the settings the skew and the drift are looked at.
 ///
 /// # Errors
 /// `Command` as for [`init_store`](crate::init_store); `Floors` with the first text that is no floors file; `Files`
@@ -134,7 +99,7 @@ pub fn init_lost_store<R: Read + Drop, S: Alter + Drop, D: Database<S>>(
     lost: LostNode<'_>,
     texts: &[Vec<u8>],
     database: D,
-) -> Result<SqlStore<S>, LostFault>
+) -> Result<SqlStore<S>, GatherFault>
     requires moment { IsMoment moment }
     requires node { IsNode lost.node }
     ensures made { IfOk result (λ store. IfSome (R.remaining users)
@@ -144,24 +109,27 @@ pub fn init_lost_store<R: Read + Drop, S: Alter + Drop, D: Database<S>>(
 {
     let users = match read_users(alloc, users, settings, moment) {
         Ok(users) => users,
-        Err(fault) => return Err(LostFault::Command(fault)),
+        Err(fault) => return Err(GatherFault::Command(fault)),
     };
     let boot = moment * BOOTS;
     let asked = Asked {
         since: lost.since,
         boot,
     };
-    let floors = match lost_floors(alloc, asked, lost.node, lost.lost, &users, texts) {
+    let Ok(own) = drifted_floors(alloc, &users, settings.drift()) else {
+        return Err(GatherFault::Command(Fault::Memory));
+    };
+    let floors = match lost_floors(alloc, asked, lost.node, lost.lost, &users.book, &own, texts) {
         Ok(floors) => floors,
         Err(fault) => return Err(fault),
     };
     let conn = match database.connect() {
         Ok(conn) => conn,
-        Err(fault) => return Err(LostFault::Command(Fault::Store(fault))),
+        Err(fault) => return Err(GatherFault::Command(Fault::Store(fault))),
     };
     match SqlStore::init(alloc, conn, lost.node, boot, &floors) {
         Ok(store) => Ok(store),
-        Err((_, fault)) => Err(LostFault::Command(Fault::Store(fault))),
+        Err((_, fault)) => Err(GatherFault::Command(Fault::Store(fault))),
     }
 }
 
@@ -179,7 +147,7 @@ pub fn init_lost_file<R: Read + Drop>(
     moment: u64,
     lost: LostNode<'_>,
     texts: &[Vec<u8>],
-) -> Result<(), LostFault>
+) -> Result<(), GatherFault>
     requires moment { IsMoment moment }
     requires node { IsNode lost.node }
     ensures fault { IfErr result (λ fault. IfSome (R.remaining users)
@@ -189,18 +157,5 @@ pub fn init_lost_file<R: Read + Drop>(
     match init_lost_store(alloc, users, settings, moment, lost, texts, database) {
         Ok(_store) => Ok(()),
         Err(fault) => Err(fault),
-    }
-}
-
-impl ProgramFault for LostFault {
-    ghost use Rattle.oathd_database.specs.Lost.{lost_status};
-
-    ghost status_of = { lost_status };
-
-    fn status(self) -> u8 {
-        match self {
-            LostFault::Command(fault) => fault.status(),
-            LostFault::Floors(..) | LostFault::Files(_) => 1,
-        }
     }
 }

@@ -1,12 +1,13 @@
-ghost use Rattle.std.specs.Prelude.{◌≡◌, ◌≤◌, length, IfErr, IfOk, IfSome};
+ghost use Rattle.std.specs.Prelude.{◌≡◌, ◌≤◌, ◌<◌, Some, length, slice_get, IfErr, IfOk, IfSome};
 ghost use Rattle.otp_core.specs.Range.{IsMoment};
-ghost use Rattle.oathd_database.specs.Users.{IsImported, IsUnread};
+ghost use Rattle.token_file.specs.Credential.{period_of};
+ghost use Rattle.oathd_database.specs.Users.{IsImported, IsUnread, drifted_floor, drifted_floors};
 
 use crate::fault::Fault;
-use otp_core::{Next, Settings};
-use std::alloc::Global;
+use otp_core::{FACTORS_END, Next, Settings};
+use std::alloc::{AllocError, Global};
 use std::io::Read;
-use token_file::{Book, FromRead, read_book};
+use token_file::{Book, FromRead, Kind, Token, TokenId, read_book};
 
 /// The tokens of a users file, at most 10,000, and the first free factors with which they are imported.
 #[derive(Drop)]
@@ -38,4 +39,56 @@ pub fn read_users<R: Read + Drop>(
     // At most 10,000.
     let _tokens = book.len();
     Ok(Users { book, floors })
+}
+
+/// The token with a number.
+pub(crate) fn token_at(book: &Book, token: u32) -> &Token
+    requires within { token < length book.now }
+    requires few { length book.now ≤ 10000 }
+    ensures { slice_get book.now token ≡ Some result.now }
+{
+    book.token(TokenId::new(token).unwrap())
+}
+
+/// The first free factor of an imported token whose clock may have drifted by so many time steps.
+fn drifted_floor(drift: u64, kind: Kind, floor: Next) -> Next
+    requires { drift ≤ 10 }
+    ensures { result ≡ drifted_floor drift (period_of kind) floor }
+{
+    match kind.period() {
+        Some(_) => Next::new((floor.value() + drift).min(FACTORS_END)).unwrap(),
+        None => floor,
+    }
+}
+
+/// The first free factor at a place.
+fn floor_at(floors: &[Next], place: usize) -> Next
+    requires { place < length floors.now }
+    ensures { slice_get floors.now place ≡ Some result }
+{
+    floors[place]
+}
+
+/// The first free factors with which tokens are imported whose clocks may have drifted by so many time steps, up to 10:
+/// a time token's is as many steps later.
+///
+/// # Errors
+/// Want of memory alone.
+pub(crate) fn drifted_floors(
+    alloc: Global,
+    users: &Users,
+    drift: u64,
+) -> Result<Vec<Next>, AllocError>
+    requires { drift ≤ 10 }
+    ensures floors { IfOk result (λ floors. floors.items
+        ≡ drifted_floors drift users.now.book users.now.floors.items) }
+    ensures each { IfOk result (λ floors. length floors.items ≡ length users.now.book) }
+{
+    let mut floors = Vec::with_capacity(alloc, users.floors.len())?;
+    for number in 0..users.book.len() {
+        let kind = token_at(&users.book, number as u32).kind();
+        let floor = drifted_floor(drift, kind, floor_at(&users.floors, number));
+        floors.push(floor)?;
+    }
+    Ok(floors)
 }

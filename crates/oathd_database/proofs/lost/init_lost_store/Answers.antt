@@ -1,4 +1,5 @@
-use Rattle.std.proofs.Common.{map}
+use Rattle.std.proofs.Common.{◌∙◌, ap, map}
+use Rattle.oathd_database.specs.Users.{drifted_floors}
 use Rattle.oathd_database.proofs.LostLemmas.{gathered_fit, refused_late, remade, ungathered, unread_users}
 use Rattle.oathd_database.proofs.lost.init_lost_store.Goals as goal
 
@@ -15,14 +16,18 @@ returns-in-Err-lost_floors-clause-fault g c =
 
 pub init-requires-clause-tokens : goal.init-requires-clause-tokens
 init-requires-clause-tokens g c =
-    gathered_fit _ _ _ c.in-Ok.users.book c.in-Ok.users.floors.items (map (λ text. text.items) c.args.texts.now) c.in-Ok-lost_floors.floors.items
-    c.deref.result.now c.deref.ensures.value c.in-Ok.users.few c.in-Ok-lost_floors.ensures.floors
+    gathered_fit _ _ _ c.in-Ok.users.book c.deref.result.now (map (λ text. text.items) c.args.texts.now) c.in-Ok-lost_floors.floors.items
+    c.deref-2.result.now c.deref-2.ensures.value c.in-Ok.users.few c.in-Ok-lost_floors.ensures.floors
 
 pub returns-in-Ok-init-clause-made : goal.returns-in-Ok-init-clause-made
 returns-in-Ok-init-clause-made g c =
-    remade c.args.settings c.args.moment 16777216 c.args.lost (map (λ text. text.items) c.args.texts.now) c.in-Ok.users.book
-    c.in-Ok.users.floors.items g.S.Store (g.R.Read.remaining c.args.users) _ c.in-Ok-init.store c.in-Ok-lost_floors.floors.items _
-    c.in-Ok.ensures.imported c.deref.ensures.value c.in-Ok-lost_floors.ensures.floors c.in-Ok-init.ensures.opening
+    let book = c.in-Ok.users.book in
+    let floors = c.in-Ok.users.floors.items in
+    remade c.args.settings c.args.moment 16777216 c.args.lost (map (λ text. text.items) c.args.texts.now) book
+    floors g.S.Store (g.R.Read.remaining c.args.users) _ c.in-Ok-init.store c.deref.result.now c.in-Ok-lost_floors.floors.items _
+    c.in-Ok.ensures.imported c.deref-2.ensures.value
+    (c.deref.ensures.value ∙ c.in-Ok-drifted_floors.ensures.floors ∙ ap (λ d. drifted_floors d book floors) c.drift.ensures.value)
+    c.in-Ok-lost_floors.ensures.floors c.in-Ok-init.ensures.opening
 
 pub returns-clause-fault : goal.returns-clause-fault
 returns-clause-fault g c =
