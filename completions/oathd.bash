@@ -1,9 +1,10 @@
 # bash completion for oathd(8)
 _oathd() {
     local cur prev words cword split command options= files=
+    local commands='lines sim cluster init serve export audit migrate check secret version help'
     _init_completion -s || return
     if ((cword == 1)); then
-        COMPREPLY=($(compgen -W 'lines sim cluster init serve export audit migrate check secret --help --version' -- "$cur"))
+        COMPREPLY=($(compgen -W "$commands --help --version" -- "$cur"))
         return
     fi
     case $prev in
@@ -20,7 +21,8 @@ _oathd() {
         export) files=yes ;;
         audit | migrate) options='--node' files=yes ;;
         check) options='--cluster' files=yes ;;
-        secret) ;;
+        secret | version) ;;
+        help) ((cword == 2)) && COMPREPLY=($(compgen -W "$commands" -- "$cur")); return ;;
         *) return ;;
     esac
     if [[ $cur == -* ]]; then

@@ -1,4 +1,5 @@
 # fish completion for oathd(8)
+set -l commands lines sim cluster init serve export audit migrate check secret version help
 complete -c oathd -f
 complete -c oathd -n __fish_use_subcommand -a lines -d 'Answer lines of clients, behind a users file'
 complete -c oathd -n __fish_use_subcommand -a sim -d 'Run a script of what happens to the nodes of a cluster'
@@ -10,6 +11,9 @@ complete -c oathd -n __fish_use_subcommand -a audit -d 'Print what a node accept
 complete -c oathd -n __fish_use_subcommand -a migrate -d 'Make the store of a node one of the present version'
 complete -c oathd -n __fish_use_subcommand -a check -d 'Print what the members of a cluster have to share'
 complete -c oathd -n __fish_use_subcommand -a secret -d 'Print a secret in base32'
+complete -c oathd -n __fish_use_subcommand -a version -d 'Print version'
+complete -c oathd -n __fish_use_subcommand -a help -d 'Print help of a command'
+complete -c oathd -n '__fish_seen_subcommand_from help' -a "$commands"
 complete -c oathd -s h -l help -d 'Print help'
 complete -c oathd -n __fish_use_subcommand -s V -l version -d 'Print version'
 

@@ -2,7 +2,7 @@
 
 use crate::help::{
     AUDIT_HELP, CHECK_HELP, CLUSTER_HELP, EXPORT_HELP, INIT_HELP, LINES_HELP, MIGRATE_HELP,
-    PROGRAM_HELP, SECRET_HELP, SERVE_HELP, SERVE_USAGE, SIM_HELP,
+    PROGRAM_HELP, SECRET_HELP, SERVE_HELP, SERVE_USAGE, SIM_HELP, VERSION_HELP,
 };
 use crate::option_words::{
     CHECKED_CLUSTER, CLOCK_MOMENT, CLUSTER, DATABASE, DRIFT, FOREVER, HEX, IMPORT_CLUSTER, KEY,
@@ -32,8 +32,11 @@ pub(crate) struct CommandWords {
     numbers: &'static [NumberOption],
 }
 
-/// The commands, in the order of the help.
-pub(crate) const COMMANDS: [CommandWords; 10] = [
+/// The command that prints what `--version` does.
+pub(crate) const VERSION_COMMAND: &str = "version";
+
+/// The commands, in the order of the help. Behind them stands clap's own command `help`.
+pub(crate) const COMMANDS: [CommandWords; 11] = [
     CommandWords {
         word: "lines",
         whole: "oathd lines",
@@ -179,6 +182,16 @@ pub(crate) const COMMANDS: [CommandWords; 10] = [
         words: &[Word::Text(HEX)],
         numbers: &[],
     },
+    CommandWords {
+        word: VERSION_COMMAND,
+        whole: "oathd version",
+        about: "Prints the version",
+        usage: None,
+        after_help: VERSION_HELP,
+        next_line_help: false,
+        words: &[],
+        numbers: &[],
+    },
 ];
 
 impl CommandWords {
@@ -230,7 +243,6 @@ fn bare_program<'a>(alloc: Global) -> Command<'a> {
         .version(VERSION)
         .about("Validates one-time passwords of OATH tokens:\nHOTP (RFC 4226) and TOTP (RFC 6238)")
         .after_help(PROGRAM_HELP)
-        .disable_help_subcommand(true)
         .subcommand_required(true)
 }
 

@@ -207,3 +207,6 @@ own.
 
 Example, which prints MZXW6YTBOI======:
     oathd secret 666f6f626172";
+
+/// What the help of the command `version` says besides its words.
+pub(crate) const VERSION_HELP: &str = "It prints what oathd --version does.";

@@ -8,7 +8,7 @@ ghost use Rattle.oathd_words.specs.Given.{GivesLimits, GivesMember};
 ghost use Rattle.oathd_words.specs.Words.{AsksFor, AsksForNothing, AsksForNodes, AsksToCheck, GivesNumbers, IsInRange, cluster_path_of};
 ghost use Rattle.oathd_words.specs.declared.store_words.Action.{Action as AnyAction};
 
-use crate::command_words::{COMMANDS, CommandWords, program, value_error};
+use crate::command_words::{COMMANDS, CommandWords, VERSION_COMMAND, program, value_error};
 use crate::store_words::{Action, read_action};
 use clap::error::ErrorKind;
 use clap::{ArgMatches, Command, Error};
@@ -255,7 +255,11 @@ fn asked<'a>(
     }
 }
 
-/// What the words that were found ask for, or the error that says why they ask for nothing.
+/// The words to which clap answers with the version.
+const VERSION_WORDS: [&str; 2] = ["oathd", "--version"];
+
+/// What the words that were found ask for, or the error that says why they ask for nothing. The version is such an error
+/// too, as the help is.
 fn found<'a>(
     alloc: Global,
     commands: &[CommandWords],
@@ -267,6 +271,9 @@ fn found<'a>(
     let Some((name, values)) = matches.subcommand() else {
         return Err(program.error(ErrorKind::MissingSubcommand, "a command is missing")?);
     };
+    if name == VERSION_COMMAND {
+        program.try_get_matches_from_mut(&VERSION_WORDS)?;
+    }
     asked(alloc, commands, name, values)
 }
 
