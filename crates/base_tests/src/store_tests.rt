@@ -30,12 +30,7 @@ fn keeps_a_grant(alloc: Global) -> Option<bool> {
     let proposal = Proposal::new(2, 1, 3)?;
     let span = Span::new(Factor::new(7)?, Factor::new(8)?)?;
     let row = Row::opening(Next::new(0)?).with_next(Next::new(9)?);
-    let row = Row::new(
-        row.next(),
-        Some((proposal, span)),
-        row.gate(),
-        row.drift(),
-    );
+    let row = Row::new(row.next(), Some((proposal, span)), row.gate(), row.drift());
     let mut store = stored(alloc)?;
     keeps(&mut store, row, Pass::new(0, span, 1, 3))
 }

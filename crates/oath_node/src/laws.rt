@@ -425,10 +425,10 @@ pub fn service_can_be_broken()
     ensures alone_answers { IsAlone 0 (node_with_answer 7 [] [] first_state) (server_at (5 ∷ [])) → ⊥ }
     ensures alone_floors { IsAlone 0 first_state (record (server_at (5 ∷ [])) { floors = 6 ∷ [] }) → ⊥ }
     ensures alone_gates { IsAlone 0 first_state (record (server_at (5 ∷ [])) {
-      front = record (server_at (5 ∷ [])).front { results = (Failed 100 ∷ []) ∷ [] }
+      front = record (server_at (5 ∷ [])).front { results = (Failed 100 ∷ []) ∷ [] };
     }) → ⊥ }
     ensures alone_drifts { IsAlone 0 first_state (record (server_at (5 ∷ [])) {
-      front = record (server_at (5 ∷ [])).front { drifts = pos 1 ∷ [] }
+      front = record (server_at (5 ∷ [])).front { drifts = pos 1 ∷ [] };
     }) → ⊥ }
     ensures alone_begun { IsAlone 0 (record first_state { voter = record fresh_voter { seq = 1 } }) (server_at (5 ∷ []))
         → ⊥ }
