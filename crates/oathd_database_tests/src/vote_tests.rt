@@ -6,7 +6,7 @@ use floor_sql::SqlStore;
 use floor_store::{Proposal, Span};
 use oath_node::{Event, Item, Node, Scratch};
 use oathd_database::{Fault, open_node, open_store};
-use otp_core::{Factor, Next, Settings};
+use otp_core::{Factor, Settings};
 use sqlite::MemStore;
 use std::alloc::Global;
 use vote_core::{Message, Place};
