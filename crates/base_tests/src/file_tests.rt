@@ -1,6 +1,7 @@
-//! Users files, and the bytes of a datagram.
+//! Users files, floors files, and the bytes of a datagram.
 
 use floor_store::{Proposal, Span};
+use floors_file::{read_floors, write_floors};
 use otp_core::{Factor, Next, Settings};
 use std::alloc::{AllocError, Global};
 use std::io::{self, Error, ErrorKind, Read};
@@ -266,6 +267,22 @@ fn written_rows(rt: HostRuntime) {
             b"HOTP/T60/7/SHA256\tgold\tpw\t00abff\n"
         )
     );
+}
+
+/// A floors file is read, and written as it stood.
+#[test]
+fn reads_and_writes_floors(rt: HostRuntime) {
+    let text = b"floors 1 2 3 7 100 2\na 5\nb 4611686018427387904\n";
+    let floors = match read_floors(rt.alloc(), text) {
+        Ok(floors) => floors,
+        Err(_) => {
+            assert!(rt; false);
+            return;
+        }
+    };
+    let mut written = Vec::new(rt.alloc());
+    assert!(rt; write_floors(&mut written, &floors).is_ok());
+    assert!(rt; written.as_slice() == text.as_slice());
 }
 
 /// An Ask from 1 to 2 for token 0, factors 1 to 1, by proposal 0 of boot 2, and its tag under 32 zeros.

@@ -308,8 +308,10 @@ pub fn services_can_be_broken()
     ensures served_settled { AreServed config three [] [] (1 ∷ []) [] [] → ⊥ }
 
     ensures as_one { ServesAsOne config first_two 0 start_world start_world [] }
-    ensures as_one_told { ServesAsOne config first_two 0 (record start_world { told = first_ok ∷ [] }) start_world [] → ⊥ }
-    ensures as_one_are { ServesAsOne config first_two 0 start_world (record start_world { told = first_ok ∷ [] }) [] → ⊥ }
+    ensures as_one_told { ServesAsOne config first_two 0 (record start_world { told = first_ok ∷ [] }) start_world []
+        → ⊥ }
+    ensures as_one_are { ServesAsOne config first_two 0 start_world (record start_world { told = first_ok ∷ [] }) []
+        → ⊥ }
     ensures as_one_settled { ServesAsOne config (1 ∷ []) 0 start_world start_world [] → ⊥ }
     ensures as_one_server { ServesAsOne config first_two 0 start_world (opening_world config raised) [] → ⊥ }
 {}

@@ -38,9 +38,11 @@ key_cause BadLength = Length
 key_cause TooLong = Length
 key_cause Empty = Length
 
+-- whether a byte stands in a text
 abbrev pub has_byte : List ℕ → ℕ → Bool
 has_byte text byte = list_any (λ other. other == byte) text
 
+-- whether a byte is a letter of ASCII
 abbrev pub is_letter : ℕ → Bool
 is_letter byte = is_ascii_alphabetic byte
 

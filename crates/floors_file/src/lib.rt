@@ -9,8 +9,6 @@ mod floors;
 mod gathered;
 mod laws;
 mod reading;
-#[cfg(test)]
-mod tests;
 mod writing;
 
 pub use fault::{FloorsFault, LineFault};

@@ -43,8 +43,8 @@ pub fn lines_are_worked()
 {}
 
 /// What a log says of a record, entry by entry: a datagram of a client is a line that is remembered, and one of a
-/// member says once that it is heard; an answer has its line, and a datagram for a member none. The 25th quiet turn in a row
-/// makes a member silent, and no other does.
+/// member says once that it is heard; an answer has its line, and a datagram for a member none. The 25th quiet turn in
+/// a row makes a member silent, and no other does.
 pub fn records_are_worked()
     ensures asked { asked_after (Received (Client 7) (codes "CHECK k1 ann 755224 -")) [] ≡ ann ∷ [] }
     ensures received { told_of (Received (Client 7) (codes "CHECK k1 ann 755224 -")) [] (member 2 false 0 ∷ []) ≡ [] }

@@ -11,8 +11,6 @@ mod laws;
 mod log;
 mod members;
 mod port;
-#[cfg(test)]
-mod tests;
 mod text;
 
 pub use asked::{Asked, AskedLines, MAX_ASKED};

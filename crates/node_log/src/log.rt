@@ -107,6 +107,7 @@ impl<W: Write + Drop> Log<W> {
     /// Writes the line of a node that has served, and hands it on.
     pub fn end(&mut self, received: u64, replied: u64)
         ensures asked { self.new.asked ≡ self.old.asked }
+        ensures members { self.new.members.items ≡ self.old.members.items }
         ensures told { Tells self.old.is_over self.new.is_over (W.contents self.old.writer) (W.contents self.new.writer)
             (end_line received replied) }
     {

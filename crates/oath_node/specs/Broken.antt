@@ -31,10 +31,11 @@ node_over store key = record {
   running = true;
 }
 
--- such a node at boot 0, and one over a disk that returned something else
+-- such a node at boot 0
 abbrev pub small_node : Hosted SmallStore
 small_node = node_over (store_at 0) []
 
+-- such a node over a disk that returned something else
 abbrev pub fallen_node : Hosted SmallStore
 fallen_node = node_over (fallen_at 0) []
 
@@ -64,7 +65,9 @@ node_of_three seq = record (node_over (holding (content_with rows_at_start)) [])
 
 -- node 1 of nine, in which 34 proposals wait, which no call leaves there
 abbrev pub crowded_node : Hosted SmallStore
-crowded_node = record small_node { voter = record lone_voter { place = place 1 9; ballots = replicate 34 small_ballot } }
+crowded_node = record small_node {
+  voter = record lone_voter { place = place 1 9; ballots = replicate 34 small_ballot };
+}
 
 -- the node over the store at the next boot, as it is opened
 abbrev pub opened_at_1 : Hosted SmallStore
@@ -80,16 +83,19 @@ noise = Peer 2 None
 abbrev pub quiet : Result OutputsRecord NodeFault
 quiet = Ok no_outputs
 
--- a commit or a restart that went well, one that met a failure of the disk, and two that end otherwise
+-- a commit or a restart that went well
 abbrev pub done : Result ℕ NodeFault
 done = Ok 0
 
+-- one that met a failure of the disk
 abbrev pub failed : Result ℕ NodeFault
 failed = Err (Store Disk)
 
+-- one of a node that had been stopped before
 abbrev pub was_stopped : Result ℕ NodeFault
 was_stopped = Err Stopped
 
+-- one that found no number for a proposal
 abbrev pub number_spent : Result ℕ NodeFault
 number_spent = Err Spent
 

@@ -80,7 +80,8 @@ FailsToCommit held old new Stopped = (old.running ≡ false) × (new ≡ old)
 FailsToCommit held old new Spent = ⊥
 
 -- A call that commits what a node put: all of it is kept, and a stop leaves nothing else.
-pub record CommitsNode {S A : Type 0} (held : S → Held) (old new : Hosted S) (result : Result A NodeFault) : Type 0 where
+pub record CommitsNode {S A : Type 0} (held : S → Held) (old new : Hosted S) (result : Result A NodeFault)
+    : Type 0 where
   pub commits : Commits held old.store new.store result
   -- Ok, where the store is clean: the node is the same machine. It ran before, and runs on.
   pub state : (held new.store).is_clean → OnOk result (state_of held new ≡ state_of held old)

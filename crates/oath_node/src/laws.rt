@@ -338,8 +338,8 @@ pub fn calls_can_be_broken()
 
     ensures commits { CommitsNode small_held (node_over (unsettled_at 0 1) []) small_node done }
     ensures commits_failed { CommitsNode small_held small_node failed_node failed }
-    ensures commits_all { CommitsNode small_held (node_over (unsettled_at 0 1) []) (node_over (unsettled_at 0 1) []) done
-        → ⊥ }
+    ensures commits_all { CommitsNode small_held (node_over (unsettled_at 0 1) [])
+        (node_over (unsettled_at 0 1) []) done → ⊥ }
     ensures commits_state { CommitsNode small_held small_node (answering small_node) done → ⊥ }
     ensures commits_runs { CommitsNode small_held fallen_node (stopped fallen_node) done → ⊥ }
     ensures commits_fails { CommitsNode small_held small_node (node_over (broken_at 0) []) failed → ⊥ }
@@ -358,8 +358,8 @@ pub fn calls_can_be_broken()
         quiet → ⊥ }
     ensures handles_same { Handles small_held fallen_node (keyed fallen_node) noise quiet → ⊥ }
     ensures failure_stops { Handles small_held small_node (node_over (broken_at 0) []) noise (Err (Store Disk)) → ⊥ }
-    ensures failure_breaks { Handles small_held small_node (stopped (node_over (record (store_at 0) { failures = 1 }) []))
-        noise (Err (Store Disk)) → ⊥ }
+    ensures failure_breaks { Handles small_held small_node
+        (stopped (node_over (record (store_at 0) { failures = 1 }) [])) noise (Err (Store Disk)) → ⊥ }
     ensures failure_is_counted { Handles small_held (stopped (node_over (broken_at 0) [])) failed_node noise
         (Err (Store Disk)) → ⊥ }
     ensures stopped_before { Handles small_held small_node small_node noise (Err Stopped) → ⊥ }
@@ -389,8 +389,8 @@ pub fn openings_can_be_broken()
     ensures restarts_failed { Restarts small_held small_node failed_node failed }
     ensures restarts_state { Restarts small_held small_node (answering opened_at_1) done → ⊥ }
     ensures restarts_runs { Restarts small_held fallen_node (stopped fallen_node) done → ⊥ }
-    ensures restarts_raises { Restarts small_held (node_over (record (fallen_at 0) { failures = 1 }) []) fallen_node done
-        → ⊥ }
+    ensures restarts_raises { Restarts small_held (node_over (record (fallen_at 0) { failures = 1 }) [])
+        fallen_node done → ⊥ }
     ensures restarts_stops { Restarts small_held small_node (node_over (broken_at 0) []) failed → ⊥ }
     ensures restarts_stopped { Restarts small_held small_node small_node was_stopped → ⊥ }
     ensures restarts_spent { Restarts small_held small_node small_node number_spent → ⊥ }

@@ -67,7 +67,8 @@ fn answer_lines<'a, F: Files, R: Read, O: Write>(
 /// Prints a secret in base32, over an output that holds back what it is given until it is flushed. That happens at the
 /// end, whatever that is.
 fn print<O: Write>(hex: &str, held: &mut O) -> Result<(), oathd_lines::Fault>
-    ensures ends { (result ≡ Err CannotWrite) ⊎ EndsWithText hex.now result (O.contents held.old) (O.contents held.new) }
+    ensures ends { (result ≡ Err CannotWrite)
+        ⊎ EndsWithText hex.now result (O.contents held.old) (O.contents held.new) }
 {
     let end = print_secret(held, hex.as_bytes());
     flushed(held, end)

@@ -258,8 +258,8 @@ fn asked<'a>(
 /// The words to which clap answers with the version.
 const VERSION_WORDS: [&str; 2] = ["oathd", "--version"];
 
-/// What the words that were found ask for, or the error that says why they ask for nothing. The version is such an error
-/// too, as the help is.
+/// What the words that were found ask for, or the error that says why they ask for nothing. The version is such an
+/// error too, as the help is.
 fn found<'a>(
     alloc: Global,
     commands: &[CommandWords],

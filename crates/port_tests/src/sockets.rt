@@ -80,6 +80,19 @@ fn cuts_a_long_datagram(rt: HostRuntime) -> Result<(), Fail> {
     Ok(())
 }
 
+/// A datagram of 512 bytes goes out whole.
+#[test]
+fn sends_a_whole_datagram(rt: HostRuntime) -> Result<(), Fail> {
+    let (own, stranger) = (socket(&rt)?, socket(&rt)?);
+    let client = client_number(address(&stranger)?);
+    let mut port = UdpPort::new(own, Vec::new(rt.alloc()), NoClock);
+    assert!(rt; port.send(Sender::Client(client), &[7; 512]));
+    let mut came = [0; 600];
+    let (len, _) = stranger.recv_from(&mut came)?;
+    assert!(rt; len == 512 && came.starts_with(&[7; 512]));
+    Ok(())
+}
+
 /// A receive that finds nothing in time is quiet, and so is one after a datagram that found nobody.
 #[test]
 fn is_quiet_where_nothing_comes(rt: HostRuntime) -> Result<(), Fail> {
