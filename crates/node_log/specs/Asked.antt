@@ -1,5 +1,5 @@
 -- What a log knows of the lines that aren't answered yet.
-use Rattle.std.specs.Prelude.{ℕ, ◌==◌, ◌&&◌, nat_lt, nat_le, Bool, if◌then◌else◌, List, [], ◌∷◌, ◌++◌, length, drop, position, Option, Some, None, option_map, slice_get}
+use Rattle.std.specs.Prelude.{ℕ, ◌==◌, ◌&&◌, nat_lt, Bool, if◌then◌else◌, List, [], ◌∷◌, ◌++◌, length, drop, position, Option, Some, None, option_map, slice_get}
 use Rattle.std.specs.List.{remove, slice_split}
 use Rattle.std.specs.Str.{bytes_eq}
 use Rattle.vote_wire.specs.Request.{Request, request_at}

@@ -1,10 +1,10 @@
-ghost use Rattle.std.specs.Prelude.{◌≡◌, ℕ, ◌∷◌, [], List, None, Some, codes, false, true};
-ghost use Rattle.node_turns.specs.Port.{Offered, Quiet, Received};
+ghost use Rattle.std.specs.Prelude.{◌≡◌, ℕ, ◌∷◌, ◌++◌, [], List, None, Some, codes, false, replicate, true};
+ghost use Rattle.node_turns.specs.Port.{Faulted, Offered, Quiet, Received};
 ghost use Rattle.node_turns.specs.declared.port.Sender.TheVariants.{Client, Peer};
 ghost use Rattle.vote_wire.specs.Request.{Request, request_at};
-ghost use Rattle.node_log.specs.Asked.{AskedLine, nonce_of, place_of, user_at, with_line, without};
+ghost use Rattle.node_log.specs.Asked.{AskedLine, nonce_of, place_of, user_at, with_line, with_one, without};
 ghost use Rattle.node_log.specs.Examples.{ann, bob, member, two_lines};
-ghost use Rattle.node_log.specs.Log.{asked_after, members_after, told_of};
+ghost use Rattle.node_log.specs.Log.{Remembers, Tells, asked_after, asked_after_all, members_after, told_of};
 ghost use Rattle.node_log.specs.Text.{answered_line, client_text, end_line, shown_user, start_line};
 
 /// Lines of a log, byte by byte: an acceptance, a refusal of a line that nobody asked, and names that would end their
@@ -40,6 +40,9 @@ pub fn lines_are_worked()
     ensures stranger { place_of 8 (codes "OK k2 1") two_lines ≡ None }
     ensures user { user_at (Some 1) two_lines ≡ Some (codes "bob") }
     ensures others { without (Some 0) two_lines ≡ bob ∷ [] }
+    // the 96th has room, and the 97th takes the place of the first
+    ensures room { with_one (ann ∷ replicate 94 bob) bob ≡ ann ∷ replicate 95 bob }
+    ensures full { with_one (ann ∷ replicate 95 bob) bob ≡ replicate 96 bob }
 {}
 
 /// What a log says of a record, entry by entry: a datagram of a client is a line that is remembered, and one of a
@@ -61,6 +64,11 @@ pub fn records_are_worked()
         ≡ codes "silent member=3\n" }
     ensures now_silent { members_after Quiet (member 2 true 23 ∷ member 3 true 24 ∷ member 4 false 25 ∷ [])
         ≡ member 2 true 24 ∷ member 3 false 25 ∷ member 4 false 25 ∷ [] }
+    ensures fault { told_of Faulted two_lines (member 2 true 24 ∷ []) ≡ [] }
+    ensures whole { asked_after_all (Received (Client 7) (codes "CHECK k1 ann 755224 -") ∷ Quiet
+        ∷ Received (Client 7) (codes "RESYNC k2 bob 287082 359152 pin") ∷ Faulted
+        ∷ Received (Peer 2) (codes "CHECK k1 ann 755224 -") ∷ Offered (Peer 2) (codes "OK k2 0")
+        ∷ Offered (Client 7) (codes "OK k1 0") ∷ []) [] ≡ bob ∷ [] }
 {}
 
 /// What is remembered of a client's line, and so what is ever written of it, is the same whatever its codes and its
@@ -69,4 +77,21 @@ pub fn codes_are_not_told()
     ensures { (line other : List ℕ) (request changed : Request) → request_at line ≡ Some request
         → request_at other ≡ Some changed → request.nonce ≡ changed.nonce → request.user ≡ changed.user
         → (client : ℕ) (asked : List AskedLine) → with_line client line asked ≡ with_line client other asked }
+{}
+
+/// What is promised of a log's text, and of the lines that it remembers, holds of the least that keeps it, and each
+/// field is broken by the least that keeps all others.
+pub fn promises_can_be_broken()
+    ensures tells { Tells false false (Some (98 ∷ [])) (Some (98 ∷ 97 ∷ [])) (97 ∷ []) }
+    ensures tells_until_it_fails { Tells false true (Some []) (Some (98 ∷ [])) (97 ∷ []) }
+    ensures tells_once_over { Tells true true (Some []) (Some []) (97 ∷ []) }
+    ensures tells_nothing { Tells false false (Some []) (Some []) (97 ∷ []) → ⊥ }
+    ensures tells_another_text { Tells false false (Some []) (Some (98 ∷ [])) (97 ∷ []) → ⊥ }
+    ensures tells_again { Tells true false (Some []) (Some (97 ∷ [])) (97 ∷ []) → ⊥ }
+    ensures tells_when_over { Tells true true (Some []) (Some (97 ∷ [])) (97 ∷ []) → ⊥ }
+
+    ensures remembers { Remembers (Some (Received (Client 7) (codes "CHECK k1 ann 755224 -") ∷ [])) (ann ∷ []) }
+    ensures remembers_without_a_record { Remembers None (ann ∷ []) }
+    ensures remembers_more { Remembers (Some []) (ann ∷ []) → ⊥ }
+    ensures remembers_less { Remembers (Some (Received (Client 7) (codes "CHECK k1 ann 755224 -") ∷ [])) [] → ⊥ }
 {}
