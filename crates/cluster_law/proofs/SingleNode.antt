@@ -1,16 +1,15 @@
--- A cluster of one node answers as the server with one front end does.
+-- A cluster of one node answers as the reference server does.
 use Rattle.std.proofs.Common.{◌≡◌, ℕ, suc, ◌+◌, ◌^◌, ◌<◌, ◌≤◌, ◌⊎◌, inl, inr, ⊎_elim, Bool, true, false, cond, List, [], ◌∷◌, ◌++◌, length, map, refl, sym, ap, ◌∙◌, subst, arith, eqb, leb, ltb}
-use mathlib.Core.Path.{fun_ext}
 use Rattle.std.proofs.lemmas.Bool.{cond_both, cond-true, cond-false, cases_Bool, eqb-true, eqb-false, eq-eqb, and_parts, leb-true}
 use Rattle.std.proofs.lemmas.List.{append-nil, append_assoc}
 use Rattle.floor_store.specs.Content.{Content, with_next_boot}
 use Rattle.vote_core.specs.Schedule.{Envelope, envelope_from, is_member, last_boot}
 use Rattle.oath_node.specs.Hosted.{envelope_at}
 use Rattle.oath_node.specs.Machine.{Config, Made, NodeState, opened_node}
-use Rattle.cluster_sim.proofs.BelowLaws.{GateLaw, RulingLaw}
+use Rattle.cluster_sim.proofs.BelowLaws.{AloneLaw}
 use Rattle.cluster_sim.proofs.Lone.{Lone, LoneStep, happens_lone, start_lone}
-use Rattle.cluster_sim.specs.FrontEnds.{Front, Server, served_line, server_with_restarted}
-use Rattle.cluster_sim.specs.SingleNode.{answers_to_event, opening_server, server_after_event, server_after_restart, told_answer}
+use Rattle.oath_node.specs.ReferenceServer.{Server, restarted_server}
+use Rattle.cluster_sim.specs.SingleNode.{answers_to_event, opening_server, server_after_event, server_after_restart, service_to, told_of_line}
 use Rattle.cluster_sim.specs.World.{Act, Deliver, Noise, Told, World, WorldEvent, Happens, Cut, Restart, opening_world, told_reply, world_after_event}
 use Rattle.cluster_law.specs.Lives.{AreGenuine, Deed, Opens, FailsToOpen, Takes, Offers, Stops, StopsIn, Input, Line, Datagram, Time, Handout, Post, Answer, IsHistory, Scene, Setting, Site, Down, Up, answered_in, answers_among, first_scene, handouts_of, made_by_input, node_of_deed, nodes_of, offers_by, scene_after, scene_after_deed, scene_at, scene_of, site_after}
 use Rattle.cluster_law.specs.Promises.{IsActOf, nothing}
@@ -21,25 +20,12 @@ use Rattle.cluster_law.proofs.Serving.{deed_at}
 
 -- ---- the server
 
-restarted_twice : (s : Server) → server_with_restarted 1 (server_with_restarted 1 s) ≡ server_with_restarted 1 s
-restarted_twice s =
-    let front : Front = record (s.fronts 1) { answers = [] } in
-    ap (λ (f : ℕ → Front). record s { fronts = f }) (fun_ext (λ p. twice (eqb p 1) front (s.fronts p)))
-  where
-    twice : (b : Bool) (x y : Front) → cond b x (cond b x y) ≡ cond b x y
-    twice true x y = refl
-    twice false x y = refl
-
-unkept : (s : Server) → (s.fronts 1).answers ≡ [] → server_with_restarted 1 s ≡ s
-unkept s none =
-    let front : Front = record (s.fronts 1) { answers = [] } in
-    let same : front ≡ s.fronts 1 = ap (λ a. record (s.fronts 1) { answers = a }) (sym none) in
-    ap (λ (f : ℕ → Front). record s { fronts = f })
-    (fun_ext (λ p. cond_both (eqb p 1) front (s.fronts p) (λ z. z ≡ s.fronts p) (λ at. same ∙ ap (λ m. s.fronts m) (sym (eqb-true p 1 at))) (λ _. refl)))
+unkept : (s : Server) → s.front.answers ≡ [] → restarted_server s ≡ s
+unkept s none = ap (λ a. record { floors = s.floors; front = record { results = s.front.results; drifts = s.front.drifts; answers = a } }) (sym none)
 
 -- the server of the world, and that of the history
 abbrev SameServer : Site → Server → Server → Type 0
-SameServer (Down c) sw sh = server_with_restarted 1 sw ≡ server_with_restarted 1 sh
+SameServer (Down c) sw sh = restarted_server sw ≡ restarted_server sh
 SameServer (Up s waiting) sw sh = sw ≡ sh
 
 -- the answers and the servers after a deed
@@ -49,27 +35,27 @@ record Step (setting : Setting) (e : ℕ) (d : Deed) (a : Site) (x : WorldEvent)
 
 -- the answers that a process keeps are the server's
 abbrev Keeps : Setting → ℕ → Deed → Site → WorldEvent → Server → Type 0
-Keeps setting e d a x sw = (s : NodeState) (waiting : List Handout) → site_after setting e d a ≡ Up s waiting → s.answers ≡ ((server_after_event setting.config x sw).fronts 1).answers
+Keeps setting e d a x sw = (s : NodeState) (waiting : List Handout) → site_after setting e d a ≡ Up s waiting → s.answers ≡ (server_after_event setting.config x sw).front.answers
 
-restart_here : (i : ℕ) (s : Server) → 1 ≡ i → server_after_restart i s ≡ server_with_restarted 1 s
-restart_here i s own = cond-true (eqb i 1) (server_with_restarted 1 s) s (eq-eqb i 1 (sym own))
+restart_here : (i : ℕ) (s : Server) → 1 ≡ i → server_after_restart i s ≡ restarted_server s
+restart_here i s own = cond-true (eqb i 1) (restarted_server s) s (eq-eqb i 1 (sym own))
 
 -- a process opens
-opening : (setting : Setting) (e i : ℕ) (c : Content) (x : WorldEvent) (sw sh : Server) → answers_to_event setting.config e x sw ≡ [] → server_with_restarted 1 (server_after_event setting.config x sw) ≡ server_with_restarted 1 sw
+opening : (setting : Setting) (e i : ℕ) (c : Content) (x : WorldEvent) (sw sh : Server) → answers_to_event setting.config e x sw ≡ [] → restarted_server (server_after_event setting.config x sw) ≡ restarted_server sw
     → Keeps setting e (Opens i) (Down c) x sw → SameServer (Down c) sw sh → Step setting e (Opens i) (Down c) x sw sh
 opening setting e i c x sw sh none rest keeps same =
     let new = server_after_event setting.config x sw in
-    let there = server_with_restarted 1 sh in
+    let there = restarted_server sh in
     record {
       answers = none;
       same = cond_both (ltb c.boot last_boot) (Up (opened_node c) []) (Down c) (λ z. SameServer z new there)
           (λ low.
-          let kept : (new.fronts 1).answers ≡ [] = sym (keeps (opened_node c) [] (cond-true (ltb c.boot last_boot) (Up (opened_node c) []) (Down c) low)) in
+          let kept : new.front.answers ≡ [] = sym (keeps (opened_node c) [] (cond-true (ltb c.boot last_boot) (Up (opened_node c) []) (Down c) low)) in
           sym (unkept new kept) ∙ rest ∙ same)
-          (λ _. rest ∙ same ∙ sym (restarted_twice sh));
+          (λ _. rest ∙ same);
     }
 
-half_opening : (setting : Setting) (e i : ℕ) (raised : Bool) (c : Content) (x : WorldEvent) (sw sh : Server) → answers_to_event setting.config e x sw ≡ [] → server_with_restarted 1 (server_after_event setting.config x sw) ≡ server_with_restarted 1 sw
+half_opening : (setting : Setting) (e i : ℕ) (raised : Bool) (c : Content) (x : WorldEvent) (sw sh : Server) → answers_to_event setting.config e x sw ≡ [] → restarted_server (server_after_event setting.config x sw) ≡ restarted_server sw
     → SameServer (Down c) sw sh → Step setting e (FailsToOpen i raised) (Down c) x sw sh
 half_opening setting e i false c x sw sh none rest same = record { answers = none; same = rest ∙ same }
 half_opening setting e i true c x sw sh none rest same =
@@ -81,13 +67,13 @@ half_opening setting e i true c x sw sh none rest same =
 
 -- what a restart or nothing does to the server
 quiet_or_restart : (config : Config) (e i : ℕ) (x : WorldEvent) (sw : Server) → 1 ≡ i → (x ≡ nothing) ⊎ (x ≡ Restart i)
-    → (answers_to_event config e x sw ≡ []) × (server_with_restarted 1 (server_after_event config x sw) ≡ server_with_restarted 1 sw)
+    → (answers_to_event config e x sw ≡ []) × (restarted_server (server_after_event config x sw) ≡ restarted_server sw)
 quiet_or_restart config e i x sw own is =
     ⊎_elim
-    (λ (q : x ≡ nothing). (ap (λ z. answers_to_event config e z sw) q, ap (λ z. server_with_restarted 1 (server_after_event config z sw)) q))
+    (λ (q : x ≡ nothing). (ap (λ z. answers_to_event config e z sw) q, ap (λ z. restarted_server (server_after_event config z sw)) q))
     (λ (q : x ≡ Restart i). (
       ap (λ z. answers_to_event config e z sw) q,
-      ap (λ z. server_with_restarted 1 (server_after_event config z sw)) q ∙ ap (λ z. server_with_restarted 1 z) (restart_here i sw own) ∙ restarted_twice sw,
+      ap (λ z. restarted_server (server_after_event config z sw)) q ∙ ap (λ z. restarted_server z) (restart_here i sw own),
     ))
     is
 
@@ -97,11 +83,11 @@ act_step : (setting : Setting) (e i : ℕ) (input : Input) (act : Act) (s : Node
 act_step setting e i (Line client moment text) act s waiting sw sh own is same =
     let config = setting.config in
     let here = eq-eqb i 1 (sym own) in
-    let served = served_line config sw 1 client moment text in
+    let served = service_to config sw client moment text in
     subst (λ (a : Act). Step setting e (Takes i (Line client moment text)) (Up s waiting) (Happens a) sw sh) (sym is)
     (record {
-      answers = cond-true (eqb i 1) (told_answer e client served.reply) [] here ∙ ap (λ z. told_answer e client (served_line config z 1 client moment text).reply) same;
-      same = cond-true (eqb i 1) served.server sw here ∙ ap (λ z. (served_line config z 1 client moment text).server) same;
+      answers = cond-true (eqb i 1) (told_of_line config e sw client moment text ∷ []) [] here ∙ ap (λ z. told_of_line config e z client moment text ∷ []) same;
+      same = cond-true (eqb i 1) served.server sw here ∙ ap (λ z. (service_to config z client moment text).server) same;
     })
 act_step setting e i Time act s waiting sw sh own is same =
     subst (λ (a : Act). Step setting e (Takes i Time) (Up s waiting) (Happens a) sw sh) (sym is) (record { answers = refl; same = same })
@@ -117,23 +103,22 @@ cut_step : (setting : Setting) (e i : ℕ) (input : Input) (act : Act) (s : Node
 cut_step setting e i (Line client moment text) act s waiting sw sh own is same =
     let config = setting.config in
     let here = eq-eqb i 1 (sym own) in
-    let served = (served_line config sw 1 client moment text).server in
+    let served = (service_to config sw client moment text).server in
     subst (λ (a : Act). Step setting e (StopsIn i true (Line client moment text)) (Up s waiting) (Cut true a) sw sh) (sym is)
     (record {
       answers = refl;
-      same = ap (λ z. server_with_restarted 1 z) (restart_here i (cond (eqb i 1) served sw) own)
-          ∙ restarted_twice (cond (eqb i 1) served sw)
-          ∙ ap (λ z. server_with_restarted 1 z) (cond-true (eqb i 1) served sw here)
-          ∙ ap (λ z. server_with_restarted 1 (served_line config z 1 client moment text).server) same;
+      same = ap (λ z. restarted_server z) (restart_here i (cond (eqb i 1) served sw) own)
+          ∙ ap (λ z. restarted_server z) (cond-true (eqb i 1) served sw here)
+          ∙ ap (λ z. restarted_server (service_to config z client moment text).server) same;
     })
 cut_step setting e i Time act s waiting sw sh own is same =
     subst (λ (a : Act). Step setting e (StopsIn i true Time) (Up s waiting) (Cut true a) sw sh) (sym is)
-    (record { answers = refl; same = ap (λ z. server_with_restarted 1 z) (restart_here i sw own) ∙ restarted_twice sw ∙ ap (λ z. server_with_restarted 1 z) same })
+    (record { answers = refl; same = ap (λ z. restarted_server z) (restart_here i sw own) ∙ ap (λ z. restarted_server z) same })
 cut_step setting e i (Datagram from bytes) act s waiting sw sh own is same =
     ⊎_elim
-    (λ (q : (k : ℕ) × (act ≡ Deliver i k)). subst (λ (a : Act). Step setting e (StopsIn i true (Datagram from bytes)) (Up s waiting) (Cut true a) sw sh) (sym q.1) (record { answers = refl; same = ap (λ z. server_with_restarted 1 z) same }))
+    (λ (q : (k : ℕ) × (act ≡ Deliver i k)). subst (λ (a : Act). Step setting e (StopsIn i true (Datagram from bytes)) (Up s waiting) (Cut true a) sw sh) (sym q.1) (record { answers = refl; same = ap (λ z. restarted_server z) same }))
     (λ (q : act ≡ Noise i from (envelope_at setting.key bytes)). subst (λ (a : Act). Step setting e (StopsIn i true (Datagram from bytes)) (Up s waiting) (Cut true a) sw sh) (sym q)
-    (record { answers = refl; same = ap (λ z. server_with_restarted 1 z) (restart_here i sw own) ∙ restarted_twice sw ∙ ap (λ z. server_with_restarted 1 z) same }))
+    (record { answers = refl; same = ap (λ z. restarted_server z) (restart_here i sw own) ∙ ap (λ z. restarted_server z) same }))
     is
 
 -- what takes an input where no process is
@@ -166,9 +151,9 @@ step setting e (Takes i input) (Up s waiting) x sw sh own full keeps same = subs
 step setting e (Offers i) (Down c) x sw sh own full keeps same = subst (λ z. Step setting e (Offers i) (Down c) z sw sh) (sym full) (record { answers = refl; same = same })
 step setting e (Offers i) (Up s waiting) x sw sh own full keeps same = subst (λ z. Step setting e (Offers i) (Up s waiting) z sw sh) (sym full) (offering setting e i s waiting sw sh same)
 step setting e (Stops i) (Down c) x sw sh own full keeps same = subst (λ z. Step setting e (Stops i) (Down c) z sw sh) (sym full) (record { answers = refl; same = same })
-step setting e (Stops i) (Up s waiting) x sw sh own full keeps same = subst (λ z. Step setting e (Stops i) (Up s waiting) z sw sh) (sym full) (record { answers = refl; same = ap (λ z. server_with_restarted 1 z) same })
+step setting e (Stops i) (Up s waiting) x sw sh own full keeps same = subst (λ z. Step setting e (Stops i) (Up s waiting) z sw sh) (sym full) (record { answers = refl; same = ap (λ z. restarted_server z) same })
 step setting e (StopsIn i kept input) (Down c) x sw sh own full keeps same = subst (λ z. Step setting e (StopsIn i kept input) (Down c) z sw sh) (sym full) (lost_cut setting e i kept input c sw sh same)
-step setting e (StopsIn i false input) (Up s waiting) x sw sh own full keeps same = subst (λ z. Step setting e (StopsIn i false input) (Up s waiting) z sw sh) (sym full) (record { answers = refl; same = ap (λ z. server_with_restarted 1 z) same })
+step setting e (StopsIn i false input) (Up s waiting) x sw sh own full keeps same = subst (λ z. Step setting e (StopsIn i false input) (Up s waiting) z sw sh) (sym full) (record { answers = refl; same = ap (λ z. restarted_server z) same })
 step setting e (StopsIn i true input) (Up s waiting) x sw sh own full keeps same = subst (λ z. Step setting e (StopsIn i true input) (Up s waiting) z sw sh) (sym full.event_is) (cut_step setting e i input full.act s waiting sw sh own full.is_act same)
 
 -- ---- all deeds
@@ -194,13 +179,13 @@ stranger_to_one n j one out =
 
 abbrev RestIs : Setting → ℕ → ℕ → ℕ → List Deed → Type 0
 RestIs setting b q e ds =
-    (scene : Scene) (w : World) (sw sh : Server) → Matches setting scene w → AreGenuine setting e ds scene → Lone (length setting.config.book) b q w sw → SameServer (scene.sites 1) sw sh
+    (scene : Scene) (w : World) (sw sh : Server) → Matches setting scene w → AreGenuine setting e ds scene → Lone b q w sw → SameServer (scene.sites 1) sw sh
     → answers_in setting e ds scene ≡ answers_to_deeds setting e ds (scene.sites 1) sh
 
 -- a deed, and the rest
 deed_is : (setting : Setting) (b q e : ℕ) (d : Deed) (ds : List Deed) (scene : Scene) (w : World) (sw sh : Server) → nodes_of setting ≡ 1 → Matches setting scene w → AreGenuine setting (suc e) ds (scene_after_deed setting e d scene) → SameServer (scene.sites 1) sw sh
     → (f : IsFollowed setting e d scene (scene_after_deed setting e d scene) w (answers_by setting e d scene) (is_member (nodes_of setting) (node_of_deed d)))
-    → LoneStep (length setting.config.book) b q w (world_after_event setting.config e f.event w) (server_after_event setting.config f.event sw) (answers_to_event setting.config e f.event sw)
+    → LoneStep b q w (world_after_event setting.config e f.event w) (server_after_event setting.config f.event sw) (answers_to_event setting.config e f.event sw)
     → RestIs setting b q (suc e) ds → (at : Bool) → eqb 1 (node_of_deed d) ≡ at
     → answers_in setting e (d ∷ ds) scene
     ≡ cond at (answers_to_deed setting.config e d (scene.sites 1) sh ++ answers_to_deeds setting (suc e) ds (site_after setting e d (scene.sites 1)) (server_after_deed setting.config d (scene.sites 1) sh))
@@ -219,7 +204,7 @@ deed_is setting b q e d ds scene w sw sh one m g same f k rest true at =
     let keeps : Keeps setting e d a f.event sw = λ s waiting up.
     let here : IsSiteIn (world_after_event config e f.event w) (Up s waiting) ((world_after_event config e f.event w).nodes 1) =
     subst (λ z. IsSiteIn (world_after_event config e f.event w) z ((world_after_event config e f.event w).nodes 1)) (site ∙ up) (f.matches.sites 1) in
-    ap (λ (z : NodeState). z.answers) (sym here.0 ∙ k.lone.node.is) in
+    ap (λ (z : NodeState). z.answers) (sym here.0) ∙ k.lone.node.answers in
     let st = step setting e d a f.event sw sh own full keeps same in
     let made : answers_by setting e d scene ≡ answers_to_deed config e d a sh = cancel w.told (answers_by setting e d scene) (answers_to_event config e f.event sw) (sym f.told ∙ k.tells) ∙ st.answers in
     let same2 : SameServer (next.sites 1) new (server_after_deed config d a sh) = subst (λ z. SameServer z new (server_after_deed config d a sh)) (sym site) st.same in
@@ -242,14 +227,14 @@ deed_is setting b q e d ds scene w sw sh one m g same f k rest false at =
     ∙ rest next (world_after_event config e f.event w) new sh f.matches g k.lone same2
     ∙ ap (λ z. answers_to_deeds setting (suc e) ds z sh) site
 
-deeds_are : GateLaw → RulingLaw → (setting : Setting) (b q e : ℕ) (ds : List Deed) → nodes_of setting ≡ 1 → b + length ds ≤ last_boot → q + length ds ≤ 2 ^ 62 → RestIs setting b q e ds
+deeds_are : AloneLaw → (setting : Setting) (b q e : ℕ) (ds : List Deed) → nodes_of setting ≡ 1 → b + length ds ≤ last_boot → q + length ds ≤ 2 ^ 62 → RestIs setting b q e ds
 unfolding AreGenuine answers_to_deeds
-deeds_are law rules setting b q e [] one low few = λ scene w sw sh m g h same. refl
-deeds_are law rules setting b q e (d ∷ ds) one low few = λ scene w sw sh m g h same.
+deeds_are law setting b q e [] one low few = λ scene w sw sh m g h same. refl
+deeds_are law setting b q e (d ∷ ds) one low few = λ scene w sw sh m g h same.
     let f = follows setting e d scene w m g.0 in
-    let k = happens_lone law rules setting.config b q e f.event w sw (omega (arith, low)) (omega (arith, few)) h in
+    let k = happens_lone law setting.config b q e f.event w sw (omega (arith, low)) (omega (arith, few)) h in
     deed_is setting (b + 1) (q + 1) e d ds scene w sw sh one m g.1 same f k
-    (deeds_are law rules setting (b + 1) (q + 1) (suc e) ds one (omega (arith, low)) (omega (arith, few))) (eqb 1 (node_of_deed d)) refl
+    (deeds_are law setting (b + 1) (q + 1) (suc e) ds one (omega (arith, low)) (omega (arith, few))) (eqb 1 (node_of_deed d)) refl
 
 -- ---- what is offered is a part of what is made
 
@@ -373,12 +358,12 @@ deeds_part setting e (d ∷ ds) scene all one h =
     subst (λ xs. Offered (scene_after setting (suc e) ds next).offered ((scene_after setting (suc e) ds next).sites 1) xs) (append_assoc all (answers_by setting e d scene) (answers_in setting (suc e) ds next))
     (deeds_part setting (suc e) ds next (all ++ answers_by setting e d scene) one p)
 
-pub single_node : GateLaw → RulingLaw → (config : Config) (key floors : List ℕ) (history : List Deed) → 1 + length history < 2 ^ 62 → IsHistory (setting_of_one config key floors) history
+pub single_node : AloneLaw → (config : Config) (key floors : List ℕ) (history : List Deed) → 1 + length history < 2 ^ 62 → IsHistory (setting_of_one config key floors) history
     → IsPartOf (answered_in (setting_of_one config key floors) history) (reference_of config key floors history)
-single_node law rules config key floors history short g =
+single_node law config key floors history short g =
     let setting = setting_of_one config key floors in
     let start = first_scene setting in
     let made : answers_in setting 0 history start ≡ reference_of config key floors history =
-    deeds_are law rules setting 1 0 0 history refl (omega (arith, short)) (omega (arith, short)) start (opening_world config (floors ∷ [])) (opening_server floors) (opening_server floors) (starts setting) g (start_lone law config floors) refl in
+    deeds_are law setting 1 0 0 history refl (omega (arith, short)) (omega (arith, short)) start (opening_world config (floors ∷ [])) (opening_server config floors) (opening_server config floors) (starts setting) g (start_lone config floors) refl in
     let part = deeds_part setting 0 history start [] refl tt in
     subst (λ xs. IsPartOf (answered_in setting history) xs) made (part_front (answered_in setting history) (waiting_at ((scene_of setting history).sites 1)) (answers_in setting 0 history start) part)

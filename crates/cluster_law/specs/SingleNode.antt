@@ -1,25 +1,25 @@
--- A cluster of one node, and the server with one front end, over the same history.
+-- A cluster of one node, and the reference server, over the same history.
 use Rattle.std.specs.Prelude.{◌≡◌, ◌⊎◌, ◌==◌, ℕ, suc, true, if◌then◌else◌, List, [], ◌∷◌, ◌++◌}
 use Rattle.oath_node.specs.Machine.{Config}
-use Rattle.cluster_sim.specs.FrontEnds.{Server, served_line, server_with_restarted}
-use Rattle.cluster_sim.specs.SingleNode.{opening_server, told_answer}
+use Rattle.oath_node.specs.ReferenceServer.{Server, restarted_server}
+use Rattle.cluster_sim.specs.SingleNode.{opening_server, service_to, told_of_line}
 use Rattle.cluster_sim.specs.World.{Told}
 use Rattle.cluster_law.specs.Lives.{Deed, Opens, Takes, StopsIn, Line, Setting, Site, Down, Up, first_scene, node_of_deed, site_after}
 
 -- The server after a deed at the node, which had this site before. What reaches it is each line that a process took and
 -- whose change was kept, also where it ended inside that step; a process that opens forgets the answers that were kept.
 abbrev pub server_after_deed : Config → Deed → Site → Server → Server
-server_after_deed config (Opens node) (Down content) server = server_with_restarted 1 server
+server_after_deed config (Opens node) (Down content) server = restarted_server server
 server_after_deed config (Takes node (Line client moment text)) (Up state waiting) server =
-    (served_line config server 1 client moment text).server
+    (service_to config server client moment text).server
 server_after_deed config (StopsIn node true (Line client moment text)) (Up state waiting) server =
-    (served_line config server 1 client moment text).server
+    (service_to config server client moment text).server
 server_after_deed config _ site server = server
 
 -- what the client of a line that a process took is told in this deed
 abbrev pub answers_to_deed : Config → ℕ → Deed → Site → Server → List Told
 answers_to_deed config event (Takes node (Line client moment text)) (Up state waiting) server =
-    told_answer event client (served_line config server 1 client moment text).reply
+    told_of_line config event server client moment text ∷ []
 answers_to_deed config event _ site server = []
 
 -- what is told in these deeds, the first of which has this number, by a server that stands so where the node has this
@@ -41,7 +41,7 @@ setting_of_one config key floors = record { config = config; key = key; floors =
 abbrev pub reference_of : Config → List ℕ → List ℕ → List Deed → List Told
 reference_of config key floors history =
     let setting = setting_of_one config key floors in
-    answers_to_deeds setting 0 history ((first_scene setting).sites 1) (opening_server floors)
+    answers_to_deeds setting 0 history ((first_scene setting).sites 1) (opening_server config floors)
 
 -- the first of these lists is the second with some left out, in the same order
 abbrev pub IsPartOf : List Told → List Told → Type 0

@@ -36,10 +36,9 @@ ghost use Rattle.cluster_law.specs.SingleNode.{IsPartOf, reference_of, setting_o
 ghost use Rattle.cluster_law.specs.Sweeps.{IsSweep, IsTick, SweepsLevel, greatest_in, is_step_of};
 ghost use Rattle.std.specs.List.{filter};
 
-use admit_core::gate_keeps_throttle;
 use cluster_sim::{answers_belong_to_passes, sweep_levels, world_is_safe};
 use floor_store::FloorStore;
-use oath_node::rulings_have_grounds;
+use oath_node::{one_node_answers_as_the_server, rulings_have_grounds};
 use vote_wire::one_spelling;
 
 /// Whatever processes the nodes of a cluster have, one after another, over what the one before left in the store, and
@@ -75,15 +74,14 @@ pub fn lives_are_worlds()
     answers_belong_to_passes();
 }
 
-/// What the processes of a cluster of one node answered is a part, in order, of what the server with one front end
-/// answers to the lines that they took and whose changes their store kept.
+/// What the processes of a cluster of one node answered is a part, in order, of what the reference server answers to
+/// the lines that they took and whose changes their store kept.
 pub fn one_node_answers_as_the_reference()
     ensures { (config : Config) (key floors : List ℕ) (history : List Deed) → 1 + length history < 2 ^ 62
         → IsHistory (setting_of_one config key floors) history
         → IsPartOf (answered_in (setting_of_one config key floors) history) (reference_of config key floors history) }
 {
-    rulings_have_grounds();
-    gate_keeps_throttle();
+    one_node_answers_as_the_server();
 }
 
 /// Whatever was before: where live members tick and hear each other, and nothing else comes to them, nothing is left
@@ -306,8 +304,8 @@ pub fn answers_are_worked()
         (Some (Takes 1 right_line)) → ⊥ }
 {}
 
-/// What the server with one front end tells in a history of one node, worked through: each line that was taken and kept
-/// is answered, a process that opens has forgotten the answers, and no other node is heard.
+/// What the reference server tells in a history of one node, worked through: each line that was taken and kept is
+/// answered, a process that opens has forgotten the answers, and no other node is heard.
 pub fn reference_is_worked()
     ensures once { told_by_reference answers_once ≡ first_ok ∷ [] }
     ensures twice { told_by_reference takes_twice ≡ first_ok ∷ record first_ok { event = 2 } ∷ [] }

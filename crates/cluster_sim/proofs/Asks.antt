@@ -3,11 +3,12 @@ use Rattle.std.proofs.Common.{◌≡◌, ℕ, suc, ◌+◌, ◌<◌, ◌≤◌, 
 use Rattle.std.specs.List.{filter, slice_get}
 use Rattle.std.proofs.lemmas.Bool.{cond_both, cond-true, cond-false, ne_eqb, le-leb, and_from, and_parts, and_right, both_ways, cases_Bool}
 use Rattle.std.proofs.lemmas.List.{append-nil, append_assoc}
+use Rattle.cluster_sim.proofs.Servers.{drift_at}
 use Rattle.cluster_sim.proofs.Sound.{AllSound, IsUnder, Lies, happens_sound, lies_row}
 use Rattle.cluster_sim.proofs.VoteDrifts.{same_drift}
 use Rattle.cluster_sim.proofs.Waves.{Stands, hands, is_heard_at, set_all, set_at, set_off, stands_more}
 use Rattle.cluster_sim.specs.Results.{results_in, results_with_failure, results_with_pass}
-use Rattle.cluster_sim.specs.Rounds.{AreUp, deliveries, drift_at, is_between, is_live, next_at}
+use Rattle.cluster_sim.specs.Rounds.{AreUp, deliveries, is_between, is_live, next_at}
 use Rattle.cluster_sim.specs.World.{Deliver, Happens, World, told_reply, world_after_event, world_after_events, world_with_made}
 use Rattle.floor_store.specs.Content.{Content, with_row}
 use Rattle.floor_store.specs.Records.{PassRecord, ProposalRecord, RowRecord, span_of, SpanRecord}

@@ -20,7 +20,7 @@ use Rattle.cluster_sim.specs.Drifts.{drift_after, drift_before, drift_by, drift_
 use Rattle.cluster_sim.specs.World.{World, Note, Act, Says, Deliver, Ticks, Noise, WorldEvent, Happens, Cut, Restart, acting_node, delivered_event, node_event_of, place_at, note_of, world_with_made, world_after_turn, world_after_act, node_of, world_after_restart, with_told_of, world_after_event, world_after_events, world_before, opening_world, floor_at, begun_with, begun_in, acceptance_in, passes_in}
 use Rattle.cluster_sim.proofs.Acts.{noise_cases}
 use Rattle.cluster_sim.proofs.BelowLaws.{GroundLaw}
-use Rattle.cluster_sim.proofs.Lone.{gated_drift}
+use Rattle.cluster_sim.proofs.Servers.{gated_drift}
 use Rattle.cluster_sim.proofs.Reports.{IsActed, begun_elsewhere}
 use Rattle.cluster_sim.proofs.Sound.{AllSound, happens_sound, start_sound}
 use Rattle.cluster_sim.proofs.Tells.{BeganAt, begun_now, fresh_begun, named}

@@ -7,14 +7,14 @@ use Rattle.admit_core.specs.Throttle.{Accepted}
 use Rattle.answer_ring.specs.Answers.{KeptAnswer, kept_with}
 use Rattle.cluster_sim.proofs.Asks.{Differs, Distinct, Silent, ask_letters, ask_wave, grant_to, made_silent, row_off, silent_then}
 use Rattle.cluster_sim.proofs.Grants.{Covered, asking, cleared, grant_wave, passing, settled, waiting}
-use Rattle.cluster_sim.proofs.Servers.{OthersSame}
+use Rattle.cluster_sim.proofs.Servers.{OthersSame, drift_at}
 use Rattle.cluster_sim.proofs.Sound.{AllSound, happens_sound, no_owners}
 use Rattle.cluster_sim.proofs.Turns.{member_parts, others_each}
 use Rattle.cluster_sim.proofs.VoteDrifts.{same_drift}
 use Rattle.cluster_sim.proofs.Waves.{Stands, run_append, says, set_at, set_off, stands_last}
 use Rattle.cluster_sim.specs.Answered.{ok_bytes}
 use Rattle.cluster_sim.specs.Results.{results_in, results_with_pass}
-use Rattle.cluster_sim.specs.Rounds.{AreUp, IsSettled, RoundLine, deliveries, drift_at, is_between, is_live, line_event, next_at, round_events}
+use Rattle.cluster_sim.specs.Rounds.{AreUp, IsSettled, RoundLine, deliveries, is_between, is_live, line_event, next_at, round_events}
 use Rattle.cluster_sim.specs.World.{Deliver, Happens, World, WorldEvent, place_at, with_state, world_after_event, world_after_events, world_with_made}
 use Rattle.floor_store.specs.Content.{Content, accepted_row, with_row}
 use Rattle.floor_store.specs.Records.{PassRecord, ProposalRecord, RowRecord, span_of}

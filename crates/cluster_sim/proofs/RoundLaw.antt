@@ -1,34 +1,33 @@
 -- Rounds among settled members are answered as the one server answers them.
-use Rattle.std.proofs.Common.{◌≡◌, ℕ, ℤ, suc, ◌+◌, ◌-◌, ◌*◌, ◌^◌, ◌<◌, ◌≤◌, ⊎_elim, true, false, cond, List, [], ◌∷◌, ◌++◌, length, map, Some, None, refl, sym, ap, ◌∙◌, subst, arith, eqb, leb}
+use Rattle.std.proofs.Common.{◌≡◌, ℕ, ℤ, suc, ◌+◌, ◌-◌, ◌*◌, ◌^◌, ◌<◌, ◌≤◌, ⊎_elim, true, false, List, [], ◌∷◌, ◌++◌, length, map, set, Some, None, refl, sym, ap, ◌∙◌, subst, arith, eqb, leb}
 use Rattle.std.proofs.lemmas.Bool.{cond_both, cond-true, cond-false, eqb-true, eqb-false, eq-eqb, ne_eqb, cases_eq, both_ways}
 use Rattle.std.proofs.lemmas.List.{append-nil, append_assoc}
-use mathlib.Core.Path.{fun_ext}
 use Rattle.admit_core.specs.Gate.{GateRecord}
-use Rattle.admit_core.specs.Throttle.{Accepted, Failed, Result}
-use Rattle.answer_ring.specs.Answers.{KeptAnswer, kept_with}
+use Rattle.admit_core.specs.Throttle.{Accepted, Failed, Result, wait_after}
+use Rattle.answer_ring.specs.Answers.{kept_with}
 use Rattle.cluster_sim.proofs.BelowLaws.{GateLaw, GroundLaw, RulingLaw}
-use Rattle.cluster_sim.proofs.Lone.{gated_drift}
 use Rattle.cluster_sim.proofs.Gates.{Gated, all_gated, run_gated}
 use Rattle.cluster_sim.proofs.Proposals.{Proposing, Rounded, proposal_moved, round_is}
 use Rattle.cluster_sim.proofs.Seqs.{run_n, run_seq}
-use Rattle.cluster_sim.proofs.Servers.{OthersSame, first_live}
+use Rattle.cluster_sim.proofs.Servers.{OthersSame, SameRows, drift_at, drift_is, drifts_put, drifts_same, first_live, floor_is, floors_put, floors_same, front_is, gated_drift, gated_next, result_is, results_put, results_same, server_moved}
 use Rattle.cluster_sim.proofs.Sound.{AllSound, no_owners, run_sound}
 use Rattle.cluster_sim.proofs.Turns.{sound_of, sweep_levels}
 use Rattle.cluster_sim.proofs.Waves.{run_append, says, set_all, set_at, set_off}
 use Rattle.cluster_sim.specs.Answered.{ok_bytes}
-use Rattle.cluster_sim.specs.FrontEnds.{Front, Served, served_by_ruling, served_line, server_with_front, standing_of}
+use Rattle.cluster_sim.specs.FrontEnds.{server_at_front, service_at_front, with_server_at}
 use Rattle.cluster_sim.specs.Results.{results_in, results_with_failure, results_with_pass}
-use Rattle.cluster_sim.specs.Rounds.{AreAnswersTo, AreAtLive, HaveNumbers, IsAnswerTo, IsSettled, RoundLine, RoundsAreTheReference, RoundsByCount, ServesAsOne, SweepSettles, drift_at, first_of, front_at, is_live, line_event, next_at, round_events, rounds_events, server_after_lines, server_of, sweep_events}
+use Rattle.cluster_sim.specs.Rounds.{AreAnswersTo, AreAtLive, HaveNumbers, IsAnswerTo, IsSettled, RoundLine, RoundsAreTheReference, RoundsByCount, ServesAsOne, SweepSettles, as_line, first_of, is_live, line_event, next_at, results_at, round_events, rounds_events, server_after_lines, server_of, sweep_events}
 use Rattle.cluster_sim.specs.World.{Told, World, opening_world, place_at, told_reply, world_after_event, world_after_events, world_of, world_with_made}
-use Rattle.floor_store.specs.Content.{Content}
-use Rattle.floor_store.specs.Records.{RowRecord, span_of}
+use Rattle.floor_store.specs.Records.{span_of}
+use Rattle.oath_node.specs.Alone.{drifts_in, floors_in}
 use Rattle.oath_node.specs.Grounds.{HasGrounds, IsSameStanding}
 use Rattle.oath_node.specs.Machine.{Config, Made, NodeState, gate_with_failure, is_owned, made_by_ruling, node_with_answer, node_with_failure, reply_made, ruling_at, standing_at}
+use Rattle.oath_node.specs.ReferenceServer.{Service, service_by, standing_of, with_result}
 use Rattle.oath_node.specs.declared.ruling.Ruling.{Ruling}
 use Rattle.oath_node.specs.declared.ruling.Ruling.TheVariants.{Again, Denied, Fitting, Outside, Waiting, Wrong}
-use Rattle.vote_core.proofs.Basics.{row_cases}
+use Rattle.vote_core.proofs.Basics.{put_size}
 use Rattle.vote_core.specs.Rows.{row, row_with_gate}
-use Rattle.vote_core.specs.Schedule.{content_with_gate, envelope_from}
+use Rattle.vote_core.specs.Schedule.{envelope_from}
 use Rattle.vote_core.specs.Voting.{VoterState}
 use Rattle.vote_wire.specs.Answer.{answer_bytes}
 use Rattle.vote_wire.specs.Request.{without_lf}
@@ -42,7 +41,7 @@ tokens_of config = length config.book
 -- ---- the server judges as the node does
 
 same_standing : GateLaw → (config : Config) (live : List ℕ) (w : World) (l : RoundLine) → AllSound (tokens_of config) w → Gated (tokens_of config) w → IsSettled config live w → is_live live l.node ≡ true
-    → IsSameStanding (tokens_of config) (standing_at (w.nodes l.node) l.client l.moment (without_lf l.line)) (standing_of (server_of live w) (front_at w l.node) l.client l.moment (without_lf l.line))
+    → IsSameStanding (tokens_of config) (standing_at (w.nodes l.node) l.client l.moment (without_lf l.line)) (standing_of (server_at_front (server_of live w) l.node) (as_line l))
 same_standing law config live w l sound gated calm here =
     let i = l.node in
     let x = w.nodes i in
@@ -51,64 +50,35 @@ same_standing law config live w l sound gated calm here =
       kept = refl;
       waiting = ap (λ os. is_owned os l.client (without_lf l.line)) (no_owners (tokens_of config) x (sound i) none);
       full = ap (λ qs. leb 32 (length qs)) none;
-      next = λ t lt. calm.level i (first_of live) t here (first_live live i here) lt;
-      drift = λ t lt. refl;
-      wait = λ t lt. ap (λ (g : GateRecord). g.until - l.moment) (gated.gates i t lt) ∙ law.waits (results_in w.history i t) l.moment;
+      next = λ t lt. calm.level i (first_of live) t here (first_live live i here) lt ∙ sym (floor_is (w.nodes (first_of live)).content t);
+      drift = λ t lt. sym (drift_is x.content t);
+      wait = λ t lt. ap (λ (g : GateRecord). g.until - l.moment) (gated.gates i t lt) ∙ law.waits (results_in w.history i t) l.moment
+          ∙ ap (λ rs. wait_after rs l.moment) (sym (result_is w i t (subst (λ n. t < n) (sym (sound i).kept.size) lt)));
     }
 
 -- what the server does with a ruling
-abbrev in_server : List ℕ → World → RoundLine → Ruling → Served
-in_server live w l r = served_by_ruling (server_of live w) l.node l.client l.moment (without_lf l.line) r
+abbrev in_server : List ℕ → World → RoundLine → Ruling → Service
+in_server live w l r = service_by (server_at_front (server_of live w) l.node) (as_line l) r
 
-abbrev served_at : Config → List ℕ → World → RoundLine → Served
-served_at config live w l = served_line config (server_of live w) l.node l.client l.moment l.line
+abbrev served_at : Config → List ℕ → World → RoundLine → Service
+served_at config live w l = service_at_front config (server_of live w) l.node (as_line l)
 
 served_is : GateLaw → RulingLaw → (config : Config) (live : List ℕ) (w : World) (l : RoundLine) → AllSound (tokens_of config) w → Gated (tokens_of config) w → IsSettled config live w → is_live live l.node ≡ true
     → in_server live w l (ruling_at config (w.nodes l.node) l.client l.moment l.line) ≡ served_at config live w l
 served_is law rules config live w l sound gated calm here =
     ap (λ r. in_server live w l r)
-    (rules config.book config.limits (standing_at (w.nodes l.node) l.client l.moment (without_lf l.line)) (standing_of (server_of live w) (front_at w l.node) l.client l.moment (without_lf l.line)) l.moment l.line
+    (rules config.book config.limits (standing_at (w.nodes l.node) l.client l.moment (without_lf l.line)) (standing_of (server_at_front (server_of live w) l.node) (as_line l)) l.moment l.line
     (same_standing law config live w l sound gated calm here))
 
 -- ---- a round done
 
-pub record RoundDone (config : Config) (live : List ℕ) (e end : ℕ) (l : RoundLine) (w v : World) (t : Served) : Type 0 where
+pub record RoundDone (config : Config) (live : List ℕ) (e end : ℕ) (l : RoundLine) (w v : World) (t : Service) : Type 0 where
   pub calm : IsSettled config live v
   pub answer : Told
   pub told : v.told ≡ w.told ++ answer ∷ []
-  pub is : IsAnswerTo e end l t.reply answer
-  pub server : server_of live v ≡ t.server
+  pub is : IsAnswerTo e end l t.told.bytes answer
+  pub server : server_of live v ≡ with_server_at l.node t.server (server_of live w)
   pub seqs : (j : ℕ) → is_live live j ≡ true → (v.nodes j).voter.seq ≤ (w.nodes j).voter.seq + 1
-
--- ---- the server after a round
-
--- one front end, by what is seen of its node
-front_is : (v : World) (i : ℕ) (results : ℕ → List Result) (drifts : ℕ → ℤ) (answers : List KeptAnswer) → ((u : ℕ) → results_in v.history i u ≡ results u) → ((u : ℕ) → drift_at v i u ≡ drifts u)
-    → (v.nodes i).answers ≡ answers → front_at v i ≡ record { results = results; drifts = drifts; answers = answers }
-front_is v i results drifts answers p d q =
-    ap (λ (f : ℕ → List Result). record { results = f; drifts = drift_at v i; answers = (v.nodes i).answers }) (fun_ext p)
-    ∙ ap (λ (f : ℕ → ℤ). record { results = results; drifts = f; answers = (v.nodes i).answers }) (fun_ext d)
-    ∙ ap (λ (a : List KeptAnswer). record { results = results; drifts = drifts; answers = a }) q
-
--- the server, by its floors and the one front end that changed
-server_moved : (live : List ℕ) (i : ℕ) (w v : World) (floors : ℕ → ℕ) (front : Front) → OthersSame i w v → ((u : ℕ) → next_at v (first_of live) u ≡ floors u) → front_at v i ≡ front
-    → server_of live v ≡ server_with_front i front (record { floors = floors; fronts = front_at w })
-server_moved live i w v floors front h p q =
-    ap (λ (f : ℕ → ℕ). record { floors = f; fronts = front_at v }) (fun_ext p)
-    ∙ ap (λ (f : ℕ → Front). record { floors = floors; fronts = f }) (fun_ext each)
-  where
-    each : (j : ℕ) → front_at v j ≡ cond (eqb j i) front (front_at w j)
-    each j =
-        cond_both (eqb j i) front (front_at w j) (λ f. front_at v j ≡ f)
-        (λ z. ap (λ m. front_at v m) (eqb-true j i z) ∙ q)
-        (λ z. front_is v j (results_in w.history j) (drift_at w j) (w.nodes j).answers (λ u. h.results j u (eqb-false j i z)) (λ u. h.drifts j u (eqb-false j i z)) (h.answers j (eqb-false j i z)))
-
--- nothing changed
-server_same : (live : List ℕ) (w v : World) → ((u : ℕ) → next_at v (first_of live) u ≡ next_at w (first_of live) u) → ((j : ℕ) → (v.nodes j).answers ≡ (w.nodes j).answers)
-    → ((j u : ℕ) → results_in v.history j u ≡ results_in w.history j u) → ((j u : ℕ) → drift_at v j u ≡ drift_at w j u) → server_of live v ≡ server_of live w
-server_same live w v p q r d =
-    ap (λ (f : ℕ → ℕ). record { floors = f; fronts = front_at v }) (fun_ext p)
-    ∙ ap (λ (f : ℕ → Front). record { floors = next_at w (first_of live); fronts = f }) (fun_ext (λ j. front_is v j (results_in w.history j) (drift_at w j) (w.nodes j).answers (r j) (d j) (q j)))
 
 -- ---- a round in which nothing is proposed
 
@@ -119,6 +89,7 @@ record Plain (w : World) (l : RoundLine) (o : Made) (bytes : List ℕ) : Type 0 
   voter : o.state.voter ≡ (w.nodes l.node).voter
   next : (u : ℕ) → (row o.state.content u).next ≡ next_at w l.node u
   drift : (u : ℕ) → (row o.state.content u).drift ≡ drift_at w l.node u
+  rows : length o.state.content.rows ≡ length (w.nodes l.node).content.rows
   running : o.state.running ≡ true
   replies : o.replies ≡ record { client = l.client; bytes = bytes } ∷ []
 
@@ -132,6 +103,10 @@ plain_next e w l o bytes h j u = set_all (λ m y. (row y.content u).next ≡ nex
 plain_drift : (e : ℕ) (w : World) (l : RoundLine) (o : Made) (bytes : List ℕ) → Plain w l o bytes → (j u : ℕ) → drift_at (after_plain e w l o) j u ≡ drift_at w j u
 unfolding world_with_made
 plain_drift e w l o bytes h j u = set_all (λ m y. (row y.content u).drift ≡ drift_at w m u) l.node o.state w.nodes (h.drift u) (λ m. refl) j
+
+plain_rows : (e : ℕ) (w : World) (l : RoundLine) (o : Made) (bytes : List ℕ) → Plain w l o bytes → SameRows w (after_plain e w l o)
+unfolding world_with_made
+plain_rows e w l o bytes h j = set_all (λ m y. length y.content.rows ≡ length (w.nodes m).content.rows) l.node o.state w.nodes h.rows (λ m. refl) j
 
 plain_others : (e : ℕ) (w : World) (l : RoundLine) (o : Made) → OthersSame l.node w (after_plain e w l o)
 unfolding world_with_made
@@ -151,30 +126,26 @@ plain_node : (e : ℕ) (w : World) (l : RoundLine) (o : Made) → (after_plain e
 unfolding world_with_made
 plain_node e w l o = set_at l.node o.state w.nodes
 
--- the server is as it was
-plain_same : (live : List ℕ) (e : ℕ) (w : World) (l : RoundLine) (o : Made) (bytes : List ℕ) → Plain w l o bytes → o.failed ≡ None → o.state.answers ≡ (w.nodes l.node).answers
-    → server_of live (after_plain e w l o) ≡ server_of live w
-plain_same live e w l o bytes h none answers =
-    let v = after_plain e w l o in
-    let others = plain_others e w l o in
-    server_same live w v (plain_next e w l o bytes h (first_of live))
-    (λ j. ⊎_elim (λ (q : j ≡ l.node). ap (λ m. (v.nodes m).answers) q ∙ ap (λ (y : NodeState). y.answers) (plain_node e w l o) ∙ answers ∙ ap (λ m. (w.nodes m).answers) (sym q)) (λ (ne : j ≡ l.node → ⊥). others.answers j ne) (cases_eq j l.node))
-    (λ j u. ⊎_elim
-    (λ (q : j ≡ l.node).
-    ap (λ m. results_in v.history m u) q ∙ plain_own e w l o bytes h u ∙ ap (λ f. results_with_failure u f (results_in w.history l.node u)) none ∙ ap (λ m. results_in w.history m u) (sym q))
-    (λ (ne : j ≡ l.node → ⊥). others.results j u ne) (cases_eq j l.node))
-    (plain_drift e w l o bytes h)
-
 -- one front end changed
-plain_moved : (live : List ℕ) (e : ℕ) (w : World) (l : RoundLine) (o : Made) (bytes : List ℕ) (results : ℕ → List Result) → Plain w l o bytes → ((u : ℕ) → results_with_failure u o.failed (results_in w.history l.node u) ≡ results u)
-    → server_of live (after_plain e w l o) ≡ server_with_front l.node (record { results = results; drifts = drift_at w l.node; answers = o.state.answers }) (server_of live w)
+plain_moved : (live : List ℕ) (e : ℕ) (w : World) (l : RoundLine) (o : Made) (bytes : List ℕ) (results : List (List Result)) → Plain w l o bytes → results_at (after_plain e w l o) l.node ≡ results
+    → server_of live (after_plain e w l o) ≡ with_server_at l.node (record { floors = floors_in (w.nodes (first_of live)).content; front = record { results = results; drifts = drifts_in (w.nodes l.node).content; answers = o.state.answers } }) (server_of live w)
 plain_moved live e w l o bytes results h own =
+    let i = l.node in
     let v = after_plain e w l o in
-    server_moved live l.node w v (next_at w (first_of live)) (record { results = results; drifts = drift_at w l.node; answers = o.state.answers }) (plain_others e w l o) (plain_next e w l o bytes h (first_of live))
-    (front_is v l.node results (drift_at w l.node) o.state.answers (λ u. plain_own e w l o bytes h u ∙ own u) (plain_drift e w l o bytes h l.node) (ap (λ (y : NodeState). y.answers) (plain_node e w l o)))
+    let first = first_of live in
+    let rows = plain_rows e w l o bytes h in
+    server_moved live i w v (floors_in (w.nodes first).content) (record { results = results; drifts = drifts_in (w.nodes i).content; answers = o.state.answers }) (plain_others e w l o) rows
+    (floors_same (w.nodes first).content (v.nodes first).content (rows first) (plain_next e w l o bytes h first))
+    (front_is v i results (drifts_in (w.nodes i).content) o.state.answers own (drifts_same (w.nodes i).content (v.nodes i).content (rows i) (plain_drift e w l o bytes h i)) (ap (λ (y : NodeState). y.answers) (plain_node e w l o)))
 
-plain_done : (config : Config) (live : List ℕ) (e : ℕ) (w : World) (l : RoundLine) (o : Made) (bytes : List ℕ) (t : Served) → IsSettled config live w → is_live live l.node ≡ true → Plain w l o bytes → t.reply ≡ Some bytes
-    → server_of live (after_plain e w l o) ≡ t.server → RoundDone config live e (suc e) l w (after_plain e w l o) t
+-- with no failure the results are as they were
+plain_results : (e : ℕ) (w : World) (l : RoundLine) (o : Made) (bytes : List ℕ) → Plain w l o bytes → o.failed ≡ None → results_at (after_plain e w l o) l.node ≡ results_at w l.node
+plain_results e w l o bytes h none =
+    results_same w (after_plain e w l o) l.node (plain_rows e w l o bytes h)
+    (λ u. plain_own e w l o bytes h u ∙ ap (λ f. results_with_failure u f (results_in w.history l.node u)) none)
+
+plain_done : (config : Config) (live : List ℕ) (e : ℕ) (w : World) (l : RoundLine) (o : Made) (bytes : List ℕ) (t : Service) → IsSettled config live w → is_live live l.node ≡ true → Plain w l o bytes → t.told.bytes ≡ bytes
+    → server_of live (after_plain e w l o) ≡ with_server_at l.node t.server (server_of live w) → RoundDone config live e (suc e) l w (after_plain e w l o) t
 unfolding world_with_made
 plain_done config live e w l o bytes t calm here h reply server =
     let i = l.node in
@@ -203,13 +174,13 @@ unfolding world_with_made
 made_sent e i o w q = ap (λ s. w.sent ++ map (envelope_from i) s) q
 
 -- of a round: what it leaves, and that it hands on what was sent in it
-abbrev Done : Config → List ℕ → ℕ → World → RoundLine → Served → Type 0
+abbrev Done : Config → List ℕ → ℕ → World → RoundLine → Service → Type 0
 Done config live e w l t =
     RoundDone config live e (length (round_events config live e w l) + e) l w (world_after_events config e (round_events config live e w l) w) t
     × Rounded live (line_event l) (round_events config live e w l) w (world_after_events config e (round_events config live e w l) w)
 
 -- such a round is the line alone
-plain_round : (config : Config) (live : List ℕ) (e : ℕ) (w : World) (l : RoundLine) (o : Made) (t : Served) → world_after_event config e (line_event l) w ≡ after_plain e w l o → o.sends ≡ []
+plain_round : (config : Config) (live : List ℕ) (e : ℕ) (w : World) (l : RoundLine) (o : Made) (t : Service) → world_after_event config e (line_event l) w ≡ after_plain e w l o → o.sends ≡ []
     → RoundDone config live e (suc e) l w (after_plain e w l o) t → Done config live e w l t
 unfolding world_after_events
 plain_round config live e w l o t is quiet h =
@@ -221,13 +192,6 @@ plain_round config live e w l o t is quiet h =
     (subst (λ y. RoundDone config live e (1 + e) l w y t × Rounded live (line_event l) (line_event l ∷ []) w y) (sym is) (subst (λ m. RoundDone config live e m l w v t) z h, rounded))
 
 -- ---- by the ruling
-
--- the gate alone changes
-gate_next : (c : Content) (t : ℕ) (g : GateRecord) (u : ℕ) → (row (content_with_gate t g c) u).next ≡ (row c u).next
-gate_next c t g u =
-    ⊎_elim (λ (e : row (content_with_gate t g c) u ≡ row c u). ap (λ (z : RowRecord). z.next) e)
-    (λ (z : (u ≡ t) × (row (content_with_gate t g c) u ≡ row_with_gate g (row c t))). ap (λ (y : RowRecord). y.next) z.1 ∙ ap (λ k. (row c k).next) (sym z.0))
-    (row_cases c t (row_with_gate g (row c t)) None u)
 
 line_made : (config : Config) (live : List ℕ) (e : ℕ) (w : World) (l : RoundLine) (r : Ruling) → IsSettled config live w → is_live live l.node ≡ true → ruling_at config (w.nodes l.node) l.client l.moment l.line ≡ r
     → world_after_event config e (line_event l) w ≡ world_with_made e l.node (made_by_ruling (place_at w l.node) l.client l.moment (without_lf l.line) r (w.nodes l.node)) w
@@ -243,16 +207,16 @@ unfolding made_by_ruling
 denied_round config live e w l nonce reason calm here q =
     let text = answer_bytes (ReplyAnswer nonce (Refused reason)) in
     let o = reply_made l.client text None (node_with_answer l.client (without_lf l.line) text (w.nodes l.node)) in
-    let h : Plain w l o text = record { sends = refl; pass = refl; voter = refl; next = λ u. refl; drift = λ u. refl; running = (calm.up l.node here).1; replies = refl } in
+    let h : Plain w l o text = record { sends = refl; pass = refl; voter = refl; next = λ u. refl; drift = λ u. refl; rows = refl; running = (calm.up l.node here).1; replies = refl } in
     let t = in_server live w l (Denied nonce reason) in
     plain_round config live e w l o t (line_made config live e w l (Denied nonce reason) calm here q) refl
-    (plain_done config live e w l o text t calm here h refl (plain_moved live e w l o text (results_in w.history l.node) h (λ u. refl)))
+    (plain_done config live e w l o text t calm here h refl (plain_moved live e w l o text (results_at w l.node) h (plain_results e w l o text h refl)))
 
 -- it is a failure too
-wrong_round : (config : Config) (live : List ℕ) (e : ℕ) (w : World) (l : RoundLine) (nonce : List ℕ) (reason : Reason) (token : ℕ) → IsSettled config live w → is_live live l.node ≡ true
-    → ruling_at config (w.nodes l.node) l.client l.moment l.line ≡ Wrong nonce reason token → Done config live e w l (in_server live w l (Wrong nonce reason token))
+wrong_round : (config : Config) (live : List ℕ) (e : ℕ) (w : World) (l : RoundLine) (nonce : List ℕ) (reason : Reason) (token : ℕ) → AllSound (tokens_of config) w → IsSettled config live w → is_live live l.node ≡ true
+    → token < tokens_of config → ruling_at config (w.nodes l.node) l.client l.moment l.line ≡ Wrong nonce reason token → Done config live e w l (in_server live w l (Wrong nonce reason token))
 unfolding made_by_ruling
-wrong_round config live e w l nonce reason token calm here q =
+wrong_round config live e w l nonce reason token sound calm here known q =
     let x = w.nodes l.node in
     let text = answer_bytes (ReplyAnswer nonce (Refused reason)) in
     let o = reply_made l.client text (Some (token, l.moment)) (node_with_answer l.client (without_lf l.line) text (node_with_failure token l.moment x)) in
@@ -260,15 +224,17 @@ wrong_round config live e w l nonce reason token calm here q =
       sends = refl;
       pass = refl;
       voter = refl;
-      next = gate_next x.content token (gate_with_failure x.content token l.moment);
+      next = gated_next x.content token (gate_with_failure x.content token l.moment);
       drift = gated_drift x.content token (gate_with_failure x.content token l.moment);
+      rows = put_size x.content token (row_with_gate (gate_with_failure x.content token l.moment) (row x.content token)) None;
       running = (calm.up l.node here).1;
       replies = refl;
     } in
     let t = in_server live w l (Wrong nonce reason token) in
     plain_round config live e w l o t (line_made config live e w l (Wrong nonce reason token) calm here q) refl
     (plain_done config live e w l o text t calm here h refl
-    (plain_moved live e w l o text (λ u. cond (eqb token u) (Failed l.moment ∷ results_in w.history l.node u) (results_in w.history l.node u)) h (λ u. refl)))
+    (plain_moved live e w l o text (with_result (results_at w l.node) token (Failed l.moment)) h
+    (results_put w (after_plain e w l o) l.node token (Failed l.moment) (plain_rows e w l o text h) (subst (λ n. token < n) (sym (sound l.node).kept.size) known) (plain_own e w l o text h))))
 
 -- the line proposes, and what it proposes is accepted
 fitting_round : (config : Config) (live : List ℕ) (e : ℕ) (w : World) (l : RoundLine) (nonce : List ℕ) (token lo hi : ℕ) (drift : ℤ) → Proposing config live w l nonce token lo hi drift
@@ -281,7 +247,10 @@ fitting_round config live e w l nonce t lo hi drift h =
     let v = world_after_events config e (round_events config live e w l) w in
     let first = first_of live in
     let first_here = first_live live i h.here in
-    let rs = results_in w.history i in
+    let rows : SameRows w v = λ j. (run_sound config (tokens_of config) e (round_events config live e w l) w h.sound j).kept.size ∙ sym (h.sound j).kept.size in
+    let known : t < length (w.nodes i).content.rows = subst (λ n. t < n) (sym (h.sound i).kept.size) h.known in
+    let results = with_result (results_at w i) t Accepted in
+    let drifts = set (drifts_in (w.nodes i).content) t drift in
     let kept = kept_with (w.nodes i).answers (record { client = l.client; line = without_lf l.line; text = ok_bytes nonce hi }) in (
       record {
         calm = record {
@@ -296,10 +265,11 @@ fitting_round config live e w l nonce t lo hi drift h =
         answer = record { event = moved.event; node = i; client = l.client; bytes = ok_bytes nonce hi };
         told = moved.told;
         is = record { since = moved.since; before = moved.before; node = refl; client = refl; bytes = refl };
-        server = server_moved live i w v (λ u. cond (eqb t u) (hi + 1) (next_at w first u)) (record { results = λ u. cond (eqb t u) (Accepted ∷ rs u) (rs u); drifts = λ u. cond (eqb t u) drift (drift_at w i u); answers = kept }) moved.others
+        server = server_moved live i w v (set (floors_in (w.nodes first).content) t (hi + 1)) (record { results = results; drifts = drifts; answers = kept }) moved.others rows
+            (floors_put (w.nodes first).content (v.nodes first).content t (hi + 1) (rows first)
             (λ u. cond_both (eqb t u) (hi + 1) (next_at w first u) (λ m. next_at v first u ≡ m)
-            (λ q. ap (λ m. next_at v first m) (sym (eqb-true t u q)) ∙ moved.raised first first_here) (λ q. moved.rest first u first_here (λ r. eqb-false t u q (sym r))))
-            (front_is v i (λ u. cond (eqb t u) (Accepted ∷ rs u) (rs u)) (λ u. cond (eqb t u) drift (drift_at w i u)) kept moved.own moved.own_drift moved.answers);
+            (λ q. ap (λ m. next_at v first m) (sym (eqb-true t u q)) ∙ moved.raised first first_here) (λ q. moved.rest first u first_here (λ r. eqb-false t u q (sym r)))))
+            (front_is v i results drifts kept (results_put w v i t Accepted rows known moved.own) (drifts_put (w.nodes i).content (v.nodes i).content t drift (rows i) moved.own_drift) moved.answers);
         seqs = moved.seqs;
       },
       both.1,
@@ -312,19 +282,19 @@ unfolding made_by_ruling
 by_ruling grounds config live e w l sound calm here room Outside q g =
     let bytes = answer_bytes BadLine in
     let o = reply_made l.client bytes None (w.nodes l.node) in
-    let h : Plain w l o bytes = record { sends = refl; pass = refl; voter = refl; next = λ u. refl; drift = λ u. refl; running = (calm.up l.node here).1; replies = refl } in
+    let h : Plain w l o bytes = record { sends = refl; pass = refl; voter = refl; next = λ u. refl; drift = λ u. refl; rows = refl; running = (calm.up l.node here).1; replies = refl } in
     let t = in_server live w l Outside in
-    plain_round config live e w l o t (line_made config live e w l Outside calm here q) refl (plain_done config live e w l o bytes t calm here h refl (plain_same live e w l o bytes h refl refl))
+    plain_round config live e w l o t (line_made config live e w l Outside calm here q) refl (plain_done config live e w l o bytes t calm here h refl (plain_moved live e w l o bytes (results_at w l.node) h (plain_results e w l o bytes h refl)))
 by_ruling grounds config live e w l sound calm here room (Again text) q g =
     let o = reply_made l.client text None (w.nodes l.node) in
-    let h : Plain w l o text = record { sends = refl; pass = refl; voter = refl; next = λ u. refl; drift = λ u. refl; running = (calm.up l.node here).1; replies = refl } in
+    let h : Plain w l o text = record { sends = refl; pass = refl; voter = refl; next = λ u. refl; drift = λ u. refl; rows = refl; running = (calm.up l.node here).1; replies = refl } in
     let t = in_server live w l (Again text) in
-    plain_round config live e w l o t (line_made config live e w l (Again text) calm here q) refl (plain_done config live e w l o text t calm here h refl (plain_same live e w l o text h refl refl))
+    plain_round config live e w l o t (line_made config live e w l (Again text) calm here q) refl (plain_done config live e w l o text t calm here h refl (plain_moved live e w l o text (results_at w l.node) h (plain_results e w l o text h refl)))
 by_ruling grounds config live e w l sound calm here room Waiting q g =
     let idle : is_owned (w.nodes l.node).owners l.client (without_lf l.line) ≡ false = ap (λ os. is_owned os l.client (without_lf l.line)) (no_owners (tokens_of config) (w.nodes l.node) (sound l.node) (calm.none l.node here)) in
     absurd (both_ways (is_owned (w.nodes l.node).owners l.client (without_lf l.line)) idle g)
 by_ruling grounds config live e w l sound calm here room (Denied nonce reason) q g = denied_round config live e w l nonce reason calm here q
-by_ruling grounds config live e w l sound calm here room (Wrong nonce reason token) q g = wrong_round config live e w l nonce reason token calm here q
+by_ruling grounds config live e w l sound calm here room (Wrong nonce reason token) q g = wrong_round config live e w l nonce reason token sound calm here g.within q
 by_ruling grounds config live e w l sound calm here room (Fitting nonce token span drift) q g =
     fitting_round config live e w l nonce token span.lo span.hi drift (record { sound = sound; calm = calm; here = here; judged = q; known = g.within; free = g.free; span = g.span.ordered; room = room })
 

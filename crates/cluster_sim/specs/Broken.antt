@@ -1,5 +1,5 @@
 -- Small worlds, each of which breaks one field of what is said of rounds. No contract cites them.
-use Rattle.std.specs.Prelude.{ℕ, ◌^◌, List, [], ◌∷◌, Option, Some, codes}
+use Rattle.std.specs.Prelude.{ℕ, ◌^◌, List, [], ◌∷◌, codes}
 use Rattle.vote_core.specs.Broken.{small_ballot}
 use Rattle.vote_core.specs.State.{ballot_of}
 use Rattle.vote_wire.specs.declared.answer.Outcome.TheVariants.{Accepted}
@@ -47,8 +47,8 @@ round_line = round_at 1 7 1000 (codes "CHECK a silver 755224 -")
 abbrev pub first_ok : Told
 first_ok = told_outcome 2 1 7 (codes "a") (Accepted 0)
 
-abbrev pub ok_given : Option (List ℕ)
-ok_given = Some first_ok.bytes
+abbrev pub ok_given : List ℕ
+ok_given = first_ok.bytes
 
 -- a line that is none, at node 1
 abbrev pub no_line_at_1 : List WorldEvent

@@ -1,7 +1,10 @@
 -- Sweeps and rounds to reckon with, at three nodes with the one token of RFC 4226, Appendix D.
 use Rattle.std.specs.Prelude.{ℕ, List, [], ◌∷◌, ◌++◌, length, codes}
+use Rattle.oath_node.specs.Machine.{Config}
+use Rattle.oath_node.specs.ReferenceServer.{Server, server_at}
 use Rattle.cluster_sim.specs.Examples.{clock_config, clock_three, config, three, line_at, delivery, tick_of, first_at_1}
-use Rattle.cluster_sim.specs.Rounds.{RoundLine, events_with_rounds, sweep_events}
+use Rattle.cluster_sim.specs.FrontEnds.{FrontedServer, fronted_after, server_at_front, service_at_front}
+use Rattle.cluster_sim.specs.Rounds.{RoundLine, as_line, events_with_rounds, server_of, sweep_events}
 use Rattle.cluster_sim.specs.World.{WorldEvent, world_of}
 
 -- a client's line at a node, at a moment
@@ -59,3 +62,31 @@ clock_rounds = events_with_rounds (clock_config 10) clock_three [] (1 ∷ 2 ∷ 
 -- three nodes, of which the second counts the first factor as used up
 abbrev pub not_level : List (List ℕ)
 not_level = (0 ∷ []) ∷ (1 ∷ []) ∷ (0 ∷ []) ∷ []
+
+-- ---- Front ends
+
+-- a server with front ends that have had no line
+abbrev pub fronted_at : List ℕ → FrontedServer
+fronted_at floors = record { floors = floors; fronts = λ place. (server_at floors).front }
+
+-- what these lines are told by it, one after the other, each at its node's place
+abbrev pub told_at_fronts : Config → FrontedServer → List RoundLine → List (List ℕ)
+told_at_fronts given fronted [] = []
+told_at_fronts given fronted (line ∷ lines) =
+    (service_at_front given fronted line.node (as_line line)).told.bytes
+    ∷ told_at_fronts given (fronted_after given fronted line.node (as_line line)) lines
+
+-- the first code at place 1, which comes again at place 2, and at place 1
+abbrev pub lines_again : List RoundLine
+lines_again = one_line ++ round_at 2 7 1000 (codes "CHECK a silver 755224 -") ∷ one_line
+
+-- a wrong code at place 1, then the first one there, and at place 2
+abbrev pub lines_after_failure : List RoundLine
+lines_after_failure =
+    round_at 1 7 1000 (codes "CHECK a silver 000000 -") ∷ round_at 1 7 1000 (codes "CHECK b silver 755224 -")
+    ∷ round_at 2 7 1000 (codes "CHECK c silver 755224 -") ∷ []
+
+-- what nodes 1 and 2 stand for after two rounds, at the front end of node 2
+abbrev pub server_after_rounds : Server
+server_after_rounds =
+    server_at_front (server_of (1 ∷ 2 ∷ []) (world_of config three (rounds_from_start (1 ∷ 2 ∷ []) two_lines))) 2

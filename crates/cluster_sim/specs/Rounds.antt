@@ -1,13 +1,16 @@
 -- After faults: a sweep, which levels the floors of live members, and rounds, in each of which one client's line is
 -- answered among them. Whatever else was sent is lost.
-use Rattle.std.specs.Prelude.{◌≡◌, ℕ, ℤ, zero, suc, ◌+◌, ◌*◌, ◌==◌, ◌&&◌, ◌<◌, ◌≤◌, ◌^◌, max, Bool, true, false, if◌then◌else◌, List, [], ◌∷◌, ◌++◌, length, drop, Option, Some}
-use Rattle.std.specs.List.{list_any}
+use Rattle.std.specs.Prelude.{◌≡◌, ℕ, zero, suc, ◌+◌, ◌*◌, ◌==◌, ◌&&◌, ◌<◌, ◌≤◌, ◌^◌, max, Bool, true, false, if◌then◌else◌, List, [], ◌∷◌, ◌++◌, length, map, drop}
+use Rattle.std.specs.List.{list_any, range_with_len}
+use Rattle.admit_core.specs.Throttle.{Result}
 use Rattle.vote_core.specs.Rows.{row}
 use Rattle.vote_core.specs.Schedule.{Envelope, is_member}
 use Rattle.vote_core.specs.declared.message.Message.{Message}
 use Rattle.vote_core.specs.declared.message.Message.TheVariants.{Ask, Grant, Deny, Floor}
+use Rattle.oath_node.specs.Alone.{drifts_in, floors_in}
 use Rattle.oath_node.specs.Machine.{Config}
-use Rattle.cluster_sim.specs.FrontEnds.{Front, Server, served_line}
+use Rattle.oath_node.specs.ReferenceServer.{Front, Line}
+use Rattle.cluster_sim.specs.FrontEnds.{FrontedServer, fronted_after, service_at_front}
 use Rattle.cluster_sim.specs.Results.{results_in}
 use Rattle.cluster_sim.specs.World.{World, WorldEvent, Happens, Says, Deliver, Ticks, Told, world_after_event, world_after_events, world_of, report_of}
 
@@ -25,10 +28,6 @@ AreUp live world =
 -- the first free factor that a node has of a token
 abbrev pub next_at : World → ℕ → ℕ → ℕ
 next_at world node token = (row (world.nodes node).content token).next
-
--- the drift that a node keeps of a token
-abbrev pub drift_at : World → ℕ → ℕ → ℤ
-drift_at world node token = (row (world.nodes node).content token).drift
 
 -- the greatest first free factor that one of these nodes has of a token
 abbrev pub greatest : List ℕ → World → ℕ → ℕ
@@ -202,17 +201,22 @@ abbrev pub first_of : List ℕ → ℕ
 first_of [] = 0
 first_of (node ∷ nodes) = node
 
+-- the results of each token at a node
+abbrev pub results_at : World → ℕ → List (List Result)
+results_at world node =
+    map (λ token. results_in world.history node token) (range_with_len 0 (length (world.nodes node).content.rows))
+
 -- a node's results of each token, the drifts that it keeps, and its answers
 abbrev pub front_at : World → ℕ → Front
 front_at world node = record {
-  results = results_in world.history node;
-  drifts = drift_at world node;
+  results = results_at world node;
+  drifts = drifts_in (world.nodes node).content;
   answers = (world.nodes node).answers;
 }
 
 -- the floors of the first live member, which are those of all, and each node as a front end under its number
-abbrev pub server_of : List ℕ → World → Server
-server_of live world = record { floors = next_at world (first_of live); fronts = front_at world }
+abbrev pub server_of : List ℕ → World → FrontedServer
+server_of live world = record { floors = floors_in (world.nodes (first_of live)).content; fronts = front_at world }
 
 -- each line is at a live member
 abbrev pub AreAtLive : List ℕ → List RoundLine → Type 0
@@ -224,30 +228,34 @@ abbrev pub HaveNumbers : List ℕ → World → List RoundLine → Type 0
 HaveNumbers live world lines =
     (node : ℕ) → is_live live node ≡ true → (world.nodes node).voter.seq + length lines ≤ 2 ^ 62
 
+-- the line, as it comes to that server
+abbrev pub as_line : RoundLine → Line
+as_line line = record { client = line.client; moment = line.moment; text = line.line }
+
 -- the server after these lines, each at its node's front end
-abbrev pub server_after_lines : Config → Server → List RoundLine → Server
+abbrev pub server_after_lines : Config → FrontedServer → List RoundLine → FrontedServer
 server_after_lines config server [] = server
 server_after_lines config server (line ∷ lines) =
-    server_after_lines config (served_line config server line.node line.client line.moment line.line).server lines
+    server_after_lines config (fronted_after config server line.node (as_line line)) lines
 
 -- this is told to the client of the line, at its node, from the first of these events on and before the end
-pub record IsAnswerTo (first end : ℕ) (line : RoundLine) (reply : Option (List ℕ)) (told : Told) : Type 0 where
+pub record IsAnswerTo (first end : ℕ) (line : RoundLine) (reply : List ℕ) (told : Told) : Type 0 where
   pub since : first ≤ told.event
   pub before : told.event < end
   pub node : told.node ≡ line.node
   pub client : told.client ≡ line.client
-  pub bytes : reply ≡ Some told.bytes
+  pub bytes : reply ≡ told.bytes
 
 -- each line has one answer, told within its own round, as the server gives it
-abbrev pub AreAnswersTo : Config → List ℕ → ℕ → World → Server → List RoundLine → List Told → Type 0
+abbrev pub AreAnswersTo : Config → List ℕ → ℕ → World → FrontedServer → List RoundLine → List Told → Type 0
 AreAnswersTo config live first world server [] answers = answers ≡ []
 AreAnswersTo config live first world server (line ∷ lines) [] = ⊥
 AreAnswersTo config live first world server (line ∷ lines) (answer ∷ answers) =
     let round = round_events config live first world line in
-    let served = served_line config server line.node line.client line.moment line.line in
-    IsAnswerTo first (length round + first) line served.reply answer
-    × AreAnswersTo config live (length round + first) (world_after_events config first round world) served.server lines
-    answers
+    let service = service_at_front config server line.node (as_line line) in
+    IsAnswerTo first (length round + first) line service.told.bytes answer
+    × AreAnswersTo config live (length round + first) (world_after_events config first round world)
+    (fronted_after config server line.node (as_line line)) lines answers
 
 -- What is told between two worlds are the answers to the lines, as the server that the old world stands for gives
 -- them. The live members of the new world are settled, and it stands for the server that the lines leave.

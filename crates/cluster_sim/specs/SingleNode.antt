@@ -1,13 +1,19 @@
--- One node, and the server with one front end, over the same events.
-use Rattle.std.specs.Prelude.{ℕ, pos, suc, ◌==◌, true, false, if◌then◌else◌, List, [], ◌∷◌, ◌++◌, Option, Some, None, slice_index_or}
+-- One node, and the reference server, over the same events.
+use Rattle.std.specs.Prelude.{ℕ, suc, ◌==◌, true, false, if◌then◌else◌, List, [], ◌∷◌, ◌++◌, length, map, slice_index_or}
+use Rattle.std.specs.List.{range_with_len}
 use Rattle.oath_node.specs.Machine.{Config}
-use Rattle.cluster_sim.specs.FrontEnds.{Server, served_line, server_with_restarted}
+use Rattle.oath_node.specs.ReferenceServer.{Server, Service, restarted_server, server_at, service_of}
 use Rattle.cluster_sim.specs.World.{Act, Says, Deliver, Ticks, Noise, WorldEvent, Happens, Cut, Restart, Told}
+
+-- what a client's line leads to
+abbrev pub service_to : Config → Server → ℕ → ℕ → List ℕ → Service
+service_to config server client moment text =
+    service_of config.book config.limits server (record { client = client; moment = moment; text = text })
 
 -- the server after an act: nothing but lines reaches it
 abbrev pub server_after_act : Config → Act → Server → Server
 server_after_act config (Says node client moment text) server =
-    if node == 1 then (served_line config server 1 client moment text).server else server
+    if node == 1 then (service_to config server client moment text).server else server
 server_after_act config (Deliver node k) server = server
 server_after_act config (Ticks node) server = server
 server_after_act config (Noise node from read) server = server
@@ -21,7 +27,7 @@ front_of (Noise node from read) = node
 
 -- the server after a restart of this front end, if it is the one that there is
 abbrev pub server_after_restart : ℕ → Server → Server
-server_after_restart node server = if node == 1 then server_with_restarted 1 server else server
+server_after_restart node server = if node == 1 then restarted_server server else server
 
 -- The server after an event. A stop inside an act that keeps its change is the act, its answer lost, and a restart;
 -- another one is a restart.
@@ -32,15 +38,16 @@ server_after_event config (Cut true act) server =
 server_after_event config (Cut false act) server = server_after_restart (front_of act) server
 server_after_event config (Restart node) server = server_after_restart node server
 
--- what the client is told in this event, if anything
-abbrev pub told_answer : ℕ → ℕ → Option (List ℕ) → List Told
-told_answer event client None = []
-told_answer event client (Some bytes) = record { event = event; node = 1; client = client; bytes = bytes } ∷ []
+-- what a client is told of a line in this event
+abbrev pub told_of_line : Config → ℕ → Server → ℕ → ℕ → List ℕ → Told
+told_of_line config event server client moment text =
+    let bytes = (service_to config server client moment text).told.bytes in
+    record { event = event; node = 1; client = client; bytes = bytes }
 
 -- what is told in an act, in this event
 abbrev pub answers_to_act : Config → ℕ → Act → Server → List Told
 answers_to_act config event (Says node client moment text) server =
-    if node == 1 then told_answer event client (served_line config server 1 client moment text).reply else []
+    if node == 1 then told_of_line config event server client moment text ∷ [] else []
 answers_to_act config event (Deliver node k) server = []
 answers_to_act config event (Ticks node) server = []
 answers_to_act config event (Noise node from read) server = []
@@ -58,9 +65,8 @@ reference_answers config first (event ∷ events) server =
     answers_to_event config first event server
     ++ reference_answers config (suc first) events (server_after_event config event server)
 
--- the server with these first free factors, and no results, drifts or answers yet
-abbrev pub opening_server : List ℕ → Server
-opening_server floors = record {
-  floors = λ token. slice_index_or floors token 0;
-  fronts = λ place. record { results = λ token. []; drifts = λ token. pos 0; answers = [] };
-}
+-- The server with these first free factors, one for each token of the book, and 0 for what the list doesn't have. No
+-- token has a result or a drift yet, and no answer is kept.
+abbrev pub opening_server : Config → List ℕ → Server
+opening_server config floors =
+    server_at (map (λ token. slice_index_or floors token 0) (range_with_len 0 (length config.book)))

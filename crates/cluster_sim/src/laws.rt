@@ -11,13 +11,14 @@ ghost use Rattle.cluster_sim.specs.Examples.{IsAnsweredBy, IsJustifiedAlone, IsJ
 ghost use Rattle.cluster_sim.specs.Drifts.{drift_before};
 ghost use Rattle.cluster_sim.specs.Justified.{AreJustified};
 ghost use Rattle.cluster_sim.specs.Results.{results_before, results_of};
-ghost use Rattle.cluster_sim.specs.RoundExamples.{clock_rounds, line_after_sweep, lines_after_loss, not_level, one_line, one_lost, rounds_from_start, swept, three_lines, two_lines};
+ghost use Rattle.oath_node.specs.ReferenceServer.{server_at};
+ghost use Rattle.cluster_sim.specs.RoundExamples.{clock_rounds, fronted_at, line_after_sweep, lines_after_failure, lines_after_loss, lines_again, lines_of_a_clock, not_level, one_line, one_lost, rounds_from_start, server_after_rounds, swept, three_lines, told_at_fronts, two_lines};
 ghost use Rattle.cluster_sim.specs.Rounds.{AreServable, AreServed, IsAnswerTo, IsSettled, ServesAsOne, RoundsAreTheReference, RoundsAreThese, RoundsByCount, RoundsReported, SweepEndSettles, SweepLevels, SweepSettles, TurnLevels, events_with_rounds};
 ghost use Rattle.cluster_sim.specs.SingleNode.{reference_answers, opening_server};
 ghost use Rattle.cluster_sim.specs.World.{WorldEvent, floor_before, opening_world, passes_of, report_of};
 
 use admit_core::{failures_are_spaced, gate_keeps_throttle};
-use oath_node::rulings_have_grounds;
+use oath_node::{one_node_answers_as_the_server, rulings_have_grounds};
 use vote_core::votes_are_safe;
 
 /// Over every list of events, for every book and limits, from every opening floors of any number of nodes: what
@@ -56,15 +57,14 @@ pub fn answers_belong_to_passes()
     gate_keeps_throttle();
 }
 
-/// Over every list of events that uses up neither boots nor numbers, one node alone answers as the server with one
-/// front end does.
+/// Over every list of events that uses up neither boots nor numbers, one node alone answers as the reference server
+/// does.
 pub fn one_node_is_the_reference()
     ensures { (config : Config) (floors : List ℕ) (events : List WorldEvent) → 1 + length events < 2 ^ 62 →
         (report_of config (floors ∷ []) events).answers
-        ≡ reference_answers config 0 events (opening_server floors) }
+        ≡ reference_answers config 0 events (opening_server config floors) }
 {
-    rulings_have_grounds();
-    gate_keeps_throttle();
+    one_node_answers_as_the_server();
 }
 
 /// Whatever was before: the turn of a live member brings the others up to its floors, a sweep levels the floors of all
@@ -279,6 +279,28 @@ pub fn rounds_are_worked()
     ensures settled { IsSettled config (1 ∷ 2 ∷ []) (opening_world config three) }
 {}
 
+/// The reference server, worked through: where it opens with fewer first free factors than tokens, and with more; and
+/// with several front ends, which share the first free factors, and no answer, result or drift. Live members stand for
+/// the server that their rounds left.
+pub fn servers_are_worked()
+    ensures opens_with_fewer { opening_server config [] ≡ server_at (0 ∷ []) }
+    ensures opens_with_more { opening_server config (5 ∷ 6 ∷ []) ≡ server_at (5 ∷ []) }
+    ensures answers { told_at_fronts config (fronted_at (0 ∷ [])) lines_again
+        ≡ codes "OK a 0" ∷ codes "NO a INVALID" ∷ codes "OK a 0" ∷ [] }
+    ensures results { told_at_fronts config (fronted_at (0 ∷ [])) lines_after_failure
+        ≡ codes "NO a INVALID" ∷ codes "NO b THROTTLED 5" ∷ codes "OK c 0" ∷ [] }
+    ensures drifts { told_at_fronts (clock_config 10) (fronted_at (2 ∷ [])) lines_of_a_clock
+        ≡ codes "OK 1 3" ∷ codes "NO 2 INVALID" ∷ codes "OK 2 4" ∷ [] }
+    ensures stands_for { server_after_rounds ≡ record {
+      floors = 2 ∷ [];
+      front = record {
+        results = (Passed ∷ []) ∷ [];
+        drifts = pos 0 ∷ [];
+        answers = record { client = 8; line = codes "CHECK b silver 287082 -"; text = codes "OK b 1" } ∷ [];
+      };
+    } }
+{}
+
 /// What is said of settled members, of rounds among them and of a report that ends in rounds holds of the least that
 /// keeps it, and each field is broken by the least that keeps all others.
 pub fn services_can_be_broken()
@@ -300,7 +322,7 @@ pub fn services_can_be_broken()
     ensures answer_node { IsAnswerTo 2 3 round_line ok_given (record first_ok { node = 2 }) → ⊥ }
     ensures answer_client { IsAnswerTo 2 3 round_line ok_given (record first_ok { client = 8 }) → ⊥ }
     ensures answer_bytes { IsAnswerTo 2 3 round_line ok_given (record first_ok { bytes = [] }) → ⊥ }
-    ensures answer_is_given { IsAnswerTo 2 3 round_line None first_ok → ⊥ }
+    ensures answer_is_given { IsAnswerTo 2 3 round_line [] first_ok → ⊥ }
 
     ensures served { AreServed config three [] [] first_two [] [] }
     ensures served_told { AreServed config three no_line_at_1 [] first_two [] [] → ⊥ }

@@ -184,9 +184,9 @@ pub fn run_world(
     ensures answered { let run = run_of book.now settings key.now floors.now events.now in
         IfOk result (λ report. AreAnswered run.events report.answers report.passes) }
 
-    // One node alone answers as the server with one front end does.
+    // One node alone answers as the reference server does.
     ensures single_node { let run = run_of book.now settings key.now floors.now events.now in
-        let server = opening_server (slice_index_or run.floors 0 []) in
+        let server = opening_server run.config (slice_index_or run.floors 0 []) in
         length floors.now ≡ 1
         → IfOk result (λ report. report.answers ≡ reference_answers run.config 0 run.events server) }
 

@@ -1,13 +1,13 @@
 -- Each promise is asked about the one that breaks it.
-use Rattle.std.proofs.Common.{◌≡◌, ◌<◌, ◌≤◌, ◌^◌, ◌+◌, ℕ, true, false, List, [], ◌∷◌, ◌++◌, Some, refl, ap, sym, subst, ◌∙◌, arith}
+use Rattle.std.proofs.Common.{◌≡◌, ◌≤◌, ◌^◌, ◌+◌, ℕ, true, false, List, [], ◌∷◌, get_or, length, refl, ap, sym, ◌∙◌, arith}
 use Rattle.std.specs.Fmt.{digits}
 use Rattle.vote_core.specs.Schedule.{is_member}
 use Rattle.oath_node.specs.Machine.{made_by_ruling, made_while_running, made_by_event}
-use Rattle.cluster_sim.specs.Broken.{first_ok, first_two, second_spent, start_world}
-use Rattle.cluster_sim.specs.Examples.{config, three}
-use Rattle.cluster_sim.specs.FrontEnds.{Server}
+use Rattle.cluster_sim.specs.Broken.{first_ok, first_two, start_world}
+use Rattle.cluster_sim.specs.Examples.{config}
+use Rattle.cluster_sim.specs.FrontEnds.{FrontedServer}
 use Rattle.cluster_sim.specs.Rounds.{IsSettled, next_at}
-use Rattle.cluster_sim.specs.World.{Told, world_with_made, world_after_turn, world_after_act, world_after_event, world_after_events}
+use Rattle.cluster_sim.specs.World.{world_with_made, world_after_turn, world_after_act, world_after_event, world_after_events}
 use Rattle.cluster_sim.proofs.Turns.{at_live}
 use Rattle.cluster_sim.proofs.laws.services_can_be_broken.Goals as goal
 
@@ -89,9 +89,9 @@ pub returns-clause-as_one_settled : goal.returns-clause-as_one_settled
 returns-clause-as_one_settled c h = no_majority h.settled
 
 pub returns-clause-as_one_server : goal.returns-clause-as_one_server
-returns-clause-as_one_server c h = let e : 1 ≡ 0 = ap (λ (server : Server). server.floors 0) h.server in omega (arith, e)
+returns-clause-as_one_server c h = let e : 1 ≡ 0 = ap (λ (server : FrontedServer). get_or server.floors 0 0) h.server in omega (arith, e)
 
 pub returns-clause-answer_bytes : goal.returns-clause-answer_bytes
 unfolding digits
 returns-clause-answer_bytes c h =
-    let e : Some (79 ∷ 75 ∷ 32 ∷ 97 ∷ 32 ∷ 48 ∷ []) ≡ Some [] = h.bytes in absurd cc
+    let e : 6 ≡ 0 = ap (λ (bytes : List ℕ). length bytes) h.bytes in omega (arith, e)
