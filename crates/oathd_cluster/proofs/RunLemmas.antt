@@ -1,6 +1,6 @@
 -- A users file is refused, or a cluster isn't opened.
-use Rattle.std.proofs.Common.{◌≡◌, ℕ, List, Option, Some, None, IfSome, subst, refl}
-use Rattle.std.specs.Prelude.{Result, Ok, Err, IsErrAnd, IsTrue}
+use Rattle.std.proofs.Common.{◌≡◌, ℕ, List, Option, Some, None, IfSome, subst}
+use Rattle.std.specs.Prelude.{Err, IsTrue}
 use Rattle.std.proofs.KnownBytes.{Appends-nil}
 use Rattle.otp_core.specs.Limits.{Limits}
 use Rattle.token_file.specs.Source.{OfText}

@@ -1,4 +1,4 @@
-use Rattle.std.proofs.Common.{◌≤◌, ℕ, length}
+use Rattle.std.proofs.Common.{◌≤◌, length}
 use Rattle.oathd_cluster.proofs.sockets.bind_all.Given as goal
 
 -- there is an address for each socket so far

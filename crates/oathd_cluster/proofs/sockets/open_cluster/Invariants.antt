@@ -1,4 +1,4 @@
-use Rattle.std.proofs.Common.{◌≤◌, ℕ, length}
+use Rattle.std.proofs.Common.{◌≤◌, length}
 use Rattle.oathd_cluster.proofs.sockets.open_cluster.Given as goal
 
 abbrev pub invariant-loop-me : goal.invariant-loop-me
