@@ -1,14 +1,18 @@
 -- Small tables and connections, each of which breaks one field of a promise. No contract cites them.
-use Rattle.std.specs.Prelude.{◌≡◌, ◌==◌, ℕ, zero, suc, pos, true, false, if◌then◌else◌, List, [], ◌∷◌, replicate, None}
+use Rattle.std.specs.Prelude.{◌≡◌, ℕ, ℤ, zero, suc, pos, true, false, List, [], ◌∷◌, replicate, Option, None}
+use Rattle.sqlite.specs.declared.types.Value.TheVariants.{Int, Null}
 use Rattle.sqlite.specs.Effect.{Database}
 use Rattle.sqlite.specs.Order.{Row}
 use Rattle.sqlite.specs.State.{State}
 use Rattle.sqlite.specs.Tree.{Trees}
 use Rattle.floor_store.specs.Content.{Content}
+use Rattle.floor_store.specs.Examples.{free_row}
+use Rattle.floor_store.specs.Records.{PassRecord, RowRecord}
 use Rattle.floor_store.specs.declared.fault.StoreFault.{StoreFault}
+use Rattle.floor_sql.specs.declared.put.Put.{Put}
 use Rattle.floor_sql.specs.declared.read.Refusal.{Refusal}
-use Rattle.floor_sql.specs.Schema.{floor_schema}
-use Rattle.floor_sql.specs.Stored.{self_row}
+use Rattle.floor_sql.specs.Schema.{floor_schema, undrifted_schema}
+use Rattle.floor_sql.specs.Stored.{drift_row, floor_row, self_row}
 
 -- ---- connections
 
@@ -38,6 +42,10 @@ small_state now committed = record {
 abbrev pub shut_state : ℕ → ℕ → State
 shut_state now committed = record (small_state now committed) { is_open = false }
 
+-- such a connection, which shows the one database, and has last committed the other
+abbrev pub showing : Database → Database → State
+showing now committed = record (small_state 0 0) { now = now; committed = committed }
+
 -- the change makes two rows of each table
 abbrev pub IsSecond : Database → Database → Type 0
 IsSecond old new = new ≡ small_db 2
@@ -54,8 +62,10 @@ refused fault = record { 0 = fault }
 
 -- trees of which the first three have these rows
 abbrev pub later_trees : List Row → List Row → List Row → Trees
-later_trees floor pass drift tree =
-    if tree == 0 then floor else if tree == 1 then pass else if tree == 2 then drift else []
+later_trees floor pass drift zero = floor
+later_trees floor pass drift (suc zero) = pass
+later_trees floor pass drift (suc (suc zero)) = drift
+later_trees floor pass drift (suc (suc (suc tree))) = []
 
 -- trees of which the first four have these rows
 abbrev pub trees_of : List Row → List Row → List Row → List Row → Trees
@@ -70,6 +80,44 @@ tables_at boot passes = trees_of (self_row 1 0 boot ∷ []) [] passes []
 abbrev pub db_at : ℕ → List Row → Database
 db_at boot passes = record { schema = floor_schema; trees = tables_at boot passes }
 
+-- the tables of a store of version 2 have these rows, and those of version 1
+abbrev pub db_of : List Row → List Row → List Row → List Row → Database
+db_of self floor pass drift = record { schema = floor_schema; trees = trees_of self floor pass drift }
+
+abbrev pub old_db_of : List Row → List Row → List Row → Database
+old_db_of self floor pass = record { schema = undrifted_schema; trees = trees_of self floor pass [] }
+
+-- the row of `self`, of any version
+abbrev pub version_row : ℕ → ℕ → ℕ → ℕ → Row
+version_row version node tokens boot =
+    Int (pos 1) ∷ Null ∷ Int (pos version) ∷ Int (pos node) ∷ Int (pos tokens) ∷ Int (pos boot) ∷ []
+
+-- the tables of node 1 without a token, of version 1
+abbrev pub old_db_at : ℕ → List Row → Database
+old_db_at boot passes = old_db_of (version_row 1 1 0 boot ∷ []) [] passes
+
+-- the tables of node 1 with one token, which has this row and this drift, at boot 4
+abbrev pub token_db_of : RowRecord → ℤ → Database
+token_db_of row steps = db_of (self_row 1 1 4 ∷ []) (floor_row 0 row ∷ []) [] (drift_row 0 steps ∷ [])
+
+-- the same, where its first free factor is 9
+abbrev pub token_db : Database
+token_db = token_db_of (free_row 9) (pos 0)
+
+-- the same, of version 1
+abbrev pub old_token_db : Database
+old_token_db = old_db_of (version_row 1 1 1 4 ∷ []) (floor_row 0 (free_row 9) ∷ []) []
+
+-- ---- contents and puts
+
 -- no token, at that boot
 abbrev pub small_content : ℕ → Content
 small_content boot = record { rows = []; boot = boot; last = None }
+
+-- one token with this row, at boot 4
+abbrev pub token_content : RowRecord → Content
+token_content row = record { rows = row ∷ []; boot = 4; last = None }
+
+-- this row of the token is put, and this pass
+abbrev pub put_of : ℕ → RowRecord → Option PassRecord → Put
+put_of token row pass = record { token = token; row = row; pass = pass }

@@ -1,27 +1,35 @@
 //! What follows of a store over its lives.
 
-ghost use Rattle.std.specs.Prelude.{◌≡◌, ◌≢◌, ℕ, pos, false, true, List, [], ◌∷◌, None, Some, Ok, Err, IsTrue, ⊤};
+ghost use Rattle.std.specs.Prelude.{◌≡◌, ◌≢◌, ℕ, length, pos, false, true, List, [], ◌∷◌, None, Some, Ok, Err, IsTrue, ⊤};
 ghost use Rattle.sqlite_disk.specs.declared.Disk.{Ghosts};
-ghost use Rattle.sqlite.specs.declared.types.Value.TheVariants.{Int};
+ghost use Rattle.sqlite.specs.declared.types.Value.TheVariants.{Int, Null};
 ghost use Rattle.sqlite.specs.Effect.{Database};
+ghost use Rattle.sqlite.specs.Order.{Row};
+ghost use Rattle.sqlite.specs.declared.transaction.Transaction.{Transaction};
 ghost use Rattle.sqlite_wal.specs.Recovery.{Image};
 ghost use Rattle.sqlite_store.specs.declared.store.FileStore.{FileStore};
-ghost use Rattle.floor_store.specs.Examples.{free_row, old_pass, proposal};
-ghost use Rattle.floor_store.specs.Content.{opening_content};
+ghost use Rattle.floor_store.specs.Examples.{free_row, new_pass, old_pass, proposal, two_rows};
+ghost use Rattle.floor_store.specs.Content.{Content, opening_content};
 ghost use Rattle.floor_store.specs.Records.{span_of};
-ghost use Rattle.floor_sql.specs.Broken.{IsOne, IsSecond, db_at, refused, shut_state, small_content, small_state, tables_at, trees_of};
+ghost use Rattle.floor_sql.specs.Broken.{IsOne, IsSecond, db_at, db_of, old_db_at, old_db_of, old_token_db, put_of, refused, showing, shut_state, small_content, small_state, tables_at, token_content, token_db, token_db_of, trees_of, version_row};
 ghost use Rattle.floor_sql.specs.Created.{AreMade, IsForeign, Opens, first_schema, no_schema};
-ghost use Rattle.floor_sql.specs.Held.{HasSame, HasTables, SqlHeld};
+ghost use Rattle.floor_sql.specs.Held.{HasAudit, HasCommitted, HasSame, HasTables, Leaves, Mirrors, MirrorsLast, SqlHeld, failures_of};
+ghost use Rattle.floor_sql.specs.Migrate.{HoldsUndrifted, IsMigrated, IsUsableUndrifted, Migrates};
 ghost use Rattle.floor_sql.specs.Schema.{floor_schema, undrifted_schema};
 ghost use Rattle.floor_sql.specs.Shown.{IsLeft, IsRead, ShowsNode};
-ghost use Rattle.floor_sql.specs.Stored.{Commits, HasKey, HasOneRow, HasRow, Holds, HoldsRow, IsAppended, KeepsCommit, Raises, drift_columns, drift_row, drift_values, floor_row, pass_row, self_row};
-ghost use Rattle.floor_sql.specs.Usable.{IsAudit, IsGrant, IsNode, IsOwn, IsRow, IsSpanOfFactors};
-ghost use Rattle.floor_sql.specs.Steps.{ReadsOnly, ReadsTables, Transacts};
-ghost use Rattle.floor_sql.specs.Calls.{HandsBack, IsMade, IsOpened, IsSound, KeepsTables, ReadsAudit, Stages};
+ghost use Rattle.floor_sql.specs.Staged.{CanPut, HasRows, MakesAll, MakesPuts, passes_in, with_boot, with_puts};
+ghost use Rattle.floor_sql.specs.Stored.{Commits, HasKey, HasOneRow, HasRow, Holds, HoldsRow, IsAppended, IsDrifted, IsUpdated, KeepsCommit, Raises, drift_columns, drift_row, drift_values, floor_row, pass_row, self_row};
+ghost use Rattle.floor_sql.specs.Usable.{HasOnly, HasUsableDrift, HasUsableFloor, HasUsableNode, HasUsablePasses, HasUsableRow, HasUsableSelf, HasUsableVersion, IsAudit, IsGrant, IsNode, IsOwn, IsRow, IsSpanOfFactors, IsUsable};
+ghost use Rattle.floor_sql.specs.Steps.{Changes, ReadsOnly, ReadsTables, StepsInside, Transacts};
+ghost use Rattle.floor_sql.specs.Calls.{HandsBack, IsMade, IsOfNode, IsOpened, IsSound, KeepsTables, ReadsAudit, Stages};
 ghost use Rattle.floor_sql.specs.declared.put.Put.{Put};
 ghost use Rattle.floor_store.specs.declared.fault.StoreFault.TheVariants.{Disk, Memory, Spent, Unusable};
 ghost use Rattle.sqlite.specs.Held.{Held as Conn, state};
 ghost use Rattle.sqlite.specs.State.{HasCleanDisk};
+ghost use Rattle.floor_sql.specs.Refusals.{fault_of};
+ghost use Rattle.sqlite.specs.declared.error.Error.TheVariants.{SqlInputError, SqliteFailure};
+ghost use Rattle.sqlite.specs.declared.error.ErrorCode.TheVariants.{DatabaseCorrupt, OutOfMemory, SystemIoFailure};
+ghost use Rattle.sqlite_resolve.specs.declared.error.CompileError.{CompileError};
 ghost use Rattle.floor_sql.specs.Reopened.{IsNextLife, FindsWhatIsLeft};
 
 use sqlite::Alter;
@@ -206,4 +214,242 @@ pub fn calls_can_be_broken<S: Alter>()
     ensures audit_survives { (store : SqlHeld S) → store.conn.step_limit ≡ None → store.fault ≡ None
         → ReadsAudit S.Store {A = ℕ} store (record store { conn = record store.conn { step_limit = Some 7 } }) (Ok 0)
         → ⊥ }
+    ensures reads_left { (old new : Conn S) → HasCleanDisk (state S.Store new) → IsTrue (state S.Store new).is_open
+        → (state S.Store new).committed ≢ (state S.Store old).committed
+        → ReadsOnly S.Store {A = ℕ} old new (Err (refused Disk)) → ⊥ }
+    ensures sound_settled { (store : SqlHeld S) (content : Content) → Leaves S.Store store.conn content
+        → content ≢ store.mirror → IsSound S.Store store → ⊥ }
+    ensures stages_commits { (store : SqlHeld S) (put : Put) → length store.staged ≡ 79 → Stages store store put → ⊥ }
+    ensures made_tables { (old : Conn S) (store : SqlHeld S) → HasCleanDisk (state S.Store store.conn)
+        → store.conn.schema ≡ no_schema → IsMade S.Store old 1 0 [] store → ⊥ }
+    ensures made_survives { (old : Conn S) (store : SqlHeld S) → old.step_limit ≡ None
+        → IsMade S.Store old 1 0 [] (record store { conn = record store.conn { step_limit = Some 7 } }) → ⊥ }
+    ensures opened_content { (old : Conn S) (store : SqlHeld S) → HasCleanDisk (state S.Store store.conn)
+        → IsOpened S.Store old 1 1 (record store { mirror = small_content 0 }) → ⊥ }
+    ensures opened_kept { (old : Conn S) (store : SqlHeld S)
+        → IsOpened S.Store old 1 0 (record store { conn = record store.conn { in_transaction = true } }) → ⊥ }
+    ensures audit_tables { (store : SqlHeld S) → HasCleanDisk (state S.Store store.conn)
+        → IsTrue (state S.Store store.conn).is_open → store.conn.schema ≡ floor_schema → store.fault ≡ None
+        → ReadsAudit S.Store {A = ℕ} store (record store { conn = record store.conn { schema = no_schema } }) (Ok 0)
+        → ⊥ }
+    ensures migrated_idle { (conn : Conn S) → IsMigrated S.Store 1 0 conn (record conn { in_transaction = true }) → ⊥ }
+    ensures migrated_tables { (conn : Conn S) → HasCleanDisk (state S.Store conn) → conn.schema ≡ no_schema
+        → IsMigrated S.Store 1 0 conn conn → ⊥ }
+    ensures migrated_survives { (conn : Conn S) → conn.step_limit ≡ None
+        → IsMigrated S.Store 1 0 conn (record conn { step_limit = Some 7 }) → ⊥ }
+{}
+
+/// What is promised of a step of a transaction, whatever it is over: each field is broken by the least change of the
+/// connection, or by the least answer, that keeps all others.
+pub fn steps_can_be_broken<S: Alter>()
+    ensures steps { (tx : Transaction S) → IsTrue (state S.Store tx.conn.now).in_transaction
+        → StepsInside S.Store {A = ℕ} tx tx (Ok 0) }
+    ensures steps_same_reference { (old new : Transaction S) → new.conn.ghost_name ≢ old.conn.ghost_name
+        → StepsInside S.Store {A = ℕ} old new (Ok 0) → ⊥ }
+    ensures steps_goes { (tx : Transaction S) → HasCleanDisk (state S.Store tx.conn.now)
+        → tx.conn.now.in_transaction ≡ false → StepsInside S.Store {A = ℕ} tx tx (Ok 0) → ⊥ }
+    ensures steps_kept { (old new : Transaction S) → HasCleanDisk (state S.Store new.conn.now)
+        → IsTrue (state S.Store new.conn.now).is_open
+        → (state S.Store new.conn.now).committed ≢ (state S.Store old.conn.now).committed
+        → StepsInside S.Store {A = ℕ} old new (Ok 0) → ⊥ }
+    ensures steps_failure { (tx : Transaction S) → StepsInside S.Store {A = ℕ} tx tx (Err (refused Spent)) → ⊥ }
+    ensures steps_crash { (old new : Transaction S) → new.conn.now.step_limit ≢ old.conn.now.step_limit
+        → StepsInside S.Store {A = ℕ} old new (Ok 0) → ⊥ }
+    ensures changes { (tx : Transaction S) → IsTrue (state S.Store tx.conn.now).in_transaction
+        → Changes S.Store {A = ℕ} tx tx (λ old new. ⊤) (λ db. ⊥) (Ok 0) }
+    ensures changes_steps { (tx : Transaction S)
+        → Changes S.Store {A = ℕ} tx tx (λ old new. ⊤) (λ db. ⊤) (Err (refused Spent)) → ⊥ }
+    ensures changes_made { (tx : Transaction S) → HasCleanDisk (state S.Store tx.conn.now)
+        → Changes S.Store {A = ℕ} tx tx (λ old new. ⊥) (λ db. ⊤) (Ok 0) → ⊥ }
+    ensures changes_unusable { (tx : Transaction S) → HasCleanDisk (state S.Store tx.conn.now)
+        → Changes S.Store {A = ℕ} tx tx (λ old new. ⊤) (λ db. ⊥) (Err (refused Unusable)) → ⊥ }
+{}
+
+/// What is promised of the tables that an opening and a migration take holds of the least that keeps it, and each field
+/// is broken by the least that keeps all others.
+pub fn tables_can_be_broken()
+    // one row and no other
+    ensures only { HasOnly (drift_row 5 (pos 3) ∷ drift_row 6 (pos 3) ∷ []) 5 drift_columns (drift_values 5 (pos 3)) }
+    ensures only_none { HasOnly [] 5 drift_columns (drift_values 5 (pos 3)) → ⊥ }
+    ensures only_two { HasOnly (drift_row 5 (pos 3) ∷ drift_row 5 (pos 3) ∷ []) 5 drift_columns
+        (drift_values 5 (pos 3)) → ⊥ }
+    ensures only_shows { HasOnly (drift_row 5 (pos 3) ∷ []) 5 drift_columns (drift_values 5 (pos 4)) → ⊥ }
+
+    // the node that tables name
+    ensures names { HasUsableNode (db_at 4 []) }
+    ensures names_schema { HasUsableNode (old_db_of (self_row 1 0 4 ∷ []) [] []) → ⊥ }
+    ensures names_nowhere { HasUsableNode (db_of [] [] [] []) → ⊥ }
+    ensures names_twice { HasUsableNode (db_of (self_row 1 0 4 ∷ self_row 1 0 4 ∷ []) [] [] []) → ⊥ }
+    ensures names_at_version_1 { HasUsableNode (db_of (version_row 1 1 0 4 ∷ []) [] [] []) → ⊥ }
+    ensures names_no_number { HasUsableNode
+        (db_of ((Int (pos 1) ∷ Null ∷ Int (pos 2) ∷ Null ∷ Int (pos 0) ∷ Int (pos 4) ∷ []) ∷ []) [] [] []) → ⊥ }
+    ensures names_node_10 { HasUsableNode (db_of (self_row 10 0 4 ∷ []) [] [] []) → ⊥ }
+    ensures of_node { IsOfNode (db_at 4 []) 1 }
+    ensures of_node_schema { IsOfNode (old_db_of (self_row 1 0 4 ∷ []) [] []) 1 → ⊥ }
+    ensures of_node_nowhere { IsOfNode (db_of [] [] [] []) 1 → ⊥ }
+    ensures of_node_at_version_1 { IsOfNode (db_of (version_row 1 1 0 4 ∷ []) [] [] []) 1 → ⊥ }
+    ensures of_another_node { IsOfNode (db_at 4 []) 2 → ⊥ }
+
+    // the row of `self`
+    ensures version { HasUsableVersion (tables_at 4611686018427387903 []) 2 1 0 }
+    ensures version_boot { HasUsableVersion (tables_at 4611686018427387904 []) 2 1 0 → ⊥ }
+    ensures version_1 { HasUsableVersion (tables_at 4 []) 1 1 0 → ⊥ }
+    ensures version_of_node_2 { HasUsableVersion (tables_at 4 []) 2 2 0 → ⊥ }
+    ensures version_of_a_token { HasUsableVersion (tables_at 4 []) 2 1 1 → ⊥ }
+    ensures own_row { HasUsableSelf (trees_of (self_row 9 10000 4 ∷ []) [] [] []) 2 }
+    ensures own_row_of_node { HasUsableSelf (trees_of (self_row 10 0 4 ∷ []) [] [] []) 2 → ⊥ }
+    ensures own_row_of_tokens { HasUsableSelf (trees_of (self_row 1 10001 4 ∷ []) [] [] []) 2 → ⊥ }
+    ensures own_row_version { HasUsableSelf (tables_at 4 []) 1 → ⊥ }
+
+    // the rows of a token
+    ensures floor { HasUsableFloor token_db.trees 0 }
+    ensures floor_range { HasUsableFloor (trees_of [] (floor_row 0 (free_row 4611686018427387905) ∷ []) [] []) 0 → ⊥ }
+    ensures floor_none { HasUsableFloor (tables_at 4 []) 0 → ⊥ }
+    ensures drift { HasUsableDrift token_db.trees 0 }
+    ensures drift_range { HasUsableDrift (trees_of [] [] [] (drift_row 0 (pos 11) ∷ [])) 0 → ⊥ }
+    ensures drift_none { HasUsableDrift (tables_at 4 []) 0 → ⊥ }
+    ensures token { HasUsableRow token_db.trees 0 }
+    ensures token_floor { HasUsableRow (trees_of [] [] [] (drift_row 0 (pos 0) ∷ [])) 0 → ⊥ }
+    ensures token_drift { HasUsableRow (trees_of [] (floor_row 0 (free_row 9) ∷ []) [] []) 0 → ⊥ }
+
+    // the passes
+    ensures passes { HasUsablePasses (tables_at 4 (pass_row 1 old_pass ∷ [])) }
+    ensures passes_range { HasUsablePasses (tables_at 4 (pass_row 1 (record old_pass { token = 10000 }) ∷ [])) → ⊥ }
+    ensures passes_room { (rows : List Row) → length rows ≡ 4611686018427387905 → HasUsablePasses (tables_at 4 rows)
+        → ⊥ }
+    ensures passes_numbers { HasUsablePasses (tables_at 4 (pass_row 2 old_pass ∷ [])) → ⊥ }
+
+    // a whole store, of version 2 and of version 1
+    ensures usable { IsUsable token_db 1 1 }
+    ensures usable_schema { IsUsable (record (db_at 4 []) { schema = undrifted_schema }) 1 0 → ⊥ }
+    ensures usable_of_node { IsUsable (db_of (self_row 10 0 4 ∷ []) [] [] []) 10 0 → ⊥ }
+    ensures usable_self { IsUsable (db_at 4 []) 2 0 → ⊥ }
+    ensures usable_rows { IsUsable (db_of (self_row 1 1 4 ∷ []) [] [] []) 1 1 → ⊥ }
+    ensures usable_passes { IsUsable (db_at 4 (pass_row 2 old_pass ∷ [])) 1 0 → ⊥ }
+    ensures old_usable { IsUsableUndrifted old_token_db 1 1 }
+    ensures old_usable_schema { IsUsableUndrifted (record (old_db_at 4 []) { schema = floor_schema }) 1 0 → ⊥ }
+    ensures old_usable_of_node { IsUsableUndrifted (old_db_of (version_row 1 10 0 4 ∷ []) [] []) 10 0 → ⊥ }
+    ensures old_usable_self { IsUsableUndrifted (old_db_at 4 []) 2 0 → ⊥ }
+    ensures old_usable_floors { IsUsableUndrifted (old_db_of (version_row 1 1 1 4 ∷ []) [] []) 1 1 → ⊥ }
+    ensures old_usable_passes { IsUsableUndrifted (old_db_at 4 (pass_row 2 old_pass ∷ [])) 1 0 → ⊥ }
+{}
+
+/// What is promised of a migration holds of the least that keeps it, and each field is broken by the least that keeps
+/// all others.
+pub fn migrations_can_be_broken()
+    ensures undrifted { HoldsUndrifted old_token_db 1 1 (token_content (free_row 9)) [] }
+    ensures undrifted_schema { HoldsUndrifted (record (old_db_at 4 []) { schema = floor_schema }) 1 0
+        (small_content 4) [] → ⊥ }
+    ensures undrifted_floors { HoldsUndrifted (old_db_of (version_row 1 1 1 4 ∷ []) [] []) 1 1
+        (token_content (free_row 9)) [] → ⊥ }
+    ensures undrifted_drift { HoldsUndrifted old_token_db 1 1 (token_content (record (free_row 9) { drift = pos 1 })) []
+        → ⊥ }
+    ensures undrifted_tokens { HoldsUndrifted (old_db_of (version_row 1 1 1 4 ∷ []) [] []) 1 1 (small_content 4) []
+        → ⊥ }
+    ensures undrifted_self { HoldsUndrifted (old_db_at 5 []) 1 0 (small_content 4) [] → ⊥ }
+    ensures undrifted_pass { HoldsUndrifted (old_db_at 4 (pass_row 1 old_pass ∷ [])) 1 0 (small_content 4) [] → ⊥ }
+    ensures undrifted_last { HoldsUndrifted (old_db_at 4 []) 1 0 (record (small_content 4) { last = Some old_pass }) []
+        → ⊥ }
+
+    ensures migrates { Migrates 1 1 old_token_db token_db }
+    ensures migrates_was { Migrates 1 0 (record (old_db_at 4 []) { schema = floor_schema }) (db_at 4 []) → ⊥ }
+    ensures migrates_schema { Migrates 1 0 (old_db_at 4 []) (record (db_at 4 []) { schema = undrifted_schema }) → ⊥ }
+    ensures migrates_holds { Migrates 1 0 (old_db_at 4 []) (db_at 5 []) → ⊥ }
+    ensures migrates_drift { Migrates 1 1 old_token_db (record token_db {
+      trees = trees_of (self_row 1 1 4 ∷ []) (floor_row 0 (free_row 9) ∷ []) [] (drift_row 0 (pos 1) ∷ []);
+    }) → ⊥ }
+    ensures migrates_node { Migrates 1 0 (old_db_at 4 []) (db_of (self_row 2 0 4 ∷ []) [] [] []) → ⊥ }
+    ensures migrates_floor { Migrates 1 0 (old_db_at 4 [])
+        (db_of (self_row 1 0 4 ∷ []) (floor_row 7 (free_row 9) ∷ []) [] []) → ⊥ }
+    ensures migrates_pass { Migrates 1 0 (old_db_at 4 (pass_row 1 old_pass ∷ pass_row 2 new_pass ∷ []))
+        (db_at 4 (pass_row 2 new_pass ∷ pass_row 1 old_pass ∷ [])) → ⊥ }
+{}
+
+/// What waits for a commit, worked: contents after puts, in order, and the passes among them.
+pub fn puts_are_worked()
+    ensures none { with_puts (small_content 4) [] ≡ small_content 4 }
+    ensures two { with_puts (two_rows (free_row 9) (free_row 9) None)
+        (put_of 1 (free_row 10) (Some new_pass) ∷ put_of 0 (free_row 11) None ∷ [])
+        ≡ two_rows (free_row 11) (free_row 10) (Some new_pass) }
+    ensures later { with_puts (two_rows (free_row 9) (free_row 9) None)
+        (put_of 0 (free_row 10) (Some old_pass) ∷ put_of 0 (free_row 11) (Some new_pass) ∷ [])
+        ≡ two_rows (free_row 11) (free_row 9) (Some new_pass) }
+    ensures passes { passes_in (put_of 0 (free_row 10) (Some old_pass) ∷ put_of 1 (free_row 11) None
+        ∷ put_of 0 (free_row 12) (Some new_pass) ∷ []) ≡ old_pass ∷ new_pass ∷ [] }
+    ensures same_boot { with_boot None (small_content 4) ≡ small_content 4 }
+    ensures boot { with_boot (Some 5) (small_content 4) ≡ small_content 5 }
+    ensures failures { failures_of None ∷ failures_of (Some Disk) ∷ [] ≡ 0 ∷ 1 ∷ [] }
+{}
+
+/// What is promised of what a store's tables hold holds of the least that keeps it, and each field is broken by the
+/// least that keeps all others.
+pub fn stores_can_be_broken<S: Alter>()
+    // the tables hold a content, or one and what waits for its commit
+    ensures mirrors { Mirrors (showing (db_at 4 []) (db_at 4 [])) (small_content 4) 0 }
+    ensures mirrors_schema { Mirrors (showing (old_db_of (self_row 1 0 4 ∷ []) [] [])
+        (old_db_of (self_row 1 0 4 ∷ []) [] [])) (small_content 4) 0 → ⊥ }
+    ensures mirrors_holds { Mirrors (showing (db_at 5 []) (db_at 5 [])) (small_content 4) 0 → ⊥ }
+    ensures mirrors_count { Mirrors (showing (db_at 4 []) (db_at 4 [])) (small_content 4) 1 → ⊥ }
+    ensures mirrors_settled { Mirrors (showing (db_at 4 []) (db_at 5 [])) (small_content 4) 0 → ⊥ }
+    ensures last { MirrorsLast (showing token_db token_db) (token_content (free_row 10))
+        (put_of 0 (free_row 10) None ∷ []) 0 }
+    ensures last_replayed { MirrorsLast (showing (db_at 4 []) (db_at 4 [])) (small_content 5) [] 0 → ⊥ }
+    ensures last_tables { MirrorsLast (showing (db_at 4 []) (db_at 4 [])) (small_content 4) [] 1 → ⊥ }
+
+    // the audit list
+    ensures committed { (store : SqlHeld S) → HasCommitted S.Store store [] → store.mirror.boot ≡ 4
+        → HasCommitted S.Store (record store { mirror = small_content 5 }) [] → ⊥ }
+    ensures committed_holds { (store : SqlHeld S) → HasCommitted S.Store store []
+        → HasCommitted S.Store store (old_pass ∷ []) → ⊥ }
+    ensures audit { (store : SqlHeld S) → HasCommitted S.Store store [] → store.staged ≡ []
+        → HasAudit S.Store store [] }
+    ensures audit_waiting { (store : SqlHeld S) → HasCommitted S.Store store [] → store.staged ≡ []
+        → HasAudit S.Store store (old_pass ∷ []) → ⊥ }
+
+    // the rows that a write changes
+    ensures rows { HasRows token_db.trees (put_of 0 (free_row 10) None ∷ []) }
+    ensures rows_none { HasRows (tables_at 4 []) [] }
+    ensures rows_floor { HasRows (trees_of [] [] [] (drift_row 0 (pos 0) ∷ [])) (put_of 0 (free_row 10) None ∷ []) → ⊥ }
+    ensures rows_two { HasRows (trees_of [] (floor_row 0 (free_row 9) ∷ floor_row 0 (free_row 9) ∷ []) []
+        (drift_row 0 (pos 0) ∷ [])) (put_of 0 (free_row 10) None ∷ []) → ⊥ }
+    ensures rows_drift { HasRows (trees_of [] (floor_row 0 (free_row 9) ∷ []) [] []) (put_of 0 (free_row 10) None ∷ [])
+        → ⊥ }
+    ensures can_put { CanPut token_db 0 (put_of 0 (free_row 10) None ∷ []) }
+    ensures can_put_schema { CanPut (old_db_of (self_row 1 0 4 ∷ []) [] []) 0 [] → ⊥ }
+    ensures can_put_holds { CanPut (db_of [] [] [] []) 0 [] → ⊥ }
+    ensures can_put_count { CanPut (db_at 4 []) 1 [] → ⊥ }
+    ensures can_put_token { CanPut (db_at 4 []) 0 (put_of 0 (free_row 10) None ∷ []) → ⊥ }
+{}
+
+/// Which fault of a store a refusal of the connection is.
+pub fn refusals_are_worked()
+    ensures memory { fault_of (SqliteFailure OutOfMemory) ≡ Memory }
+    ensures disk { fault_of (SqliteFailure SystemIoFailure) ≡ Disk }
+    ensures corrupt { fault_of (SqliteFailure DatabaseCorrupt) ≡ Disk }
+    ensures text { (fault : CompileError) → fault_of (SqlInputError fault) ≡ Unusable }
+{}
+
+/// What is promised of what a write makes of the tables holds of the least that keeps it, and each field is broken by
+/// the least that keeps all others.
+pub fn writes_can_be_broken()
+    // the row of a token, and its drift
+    ensures updated { IsUpdated 0 (floor_row 0 (free_row 10)) token_db (token_db_of (free_row 10) (pos 0)) }
+    ensures updated_schema { IsUpdated 0 (floor_row 0 (free_row 10)) token_db
+        (record (token_db_of (free_row 10) (pos 0)) { schema = undrifted_schema }) → ⊥ }
+    ensures updated_floor { IsUpdated 0 (floor_row 0 (free_row 10)) token_db token_db → ⊥ }
+    ensures updated_others { IsUpdated 0 (floor_row 0 (free_row 10)) token_db (token_db_of (free_row 10) (pos 1)) → ⊥ }
+    ensures drifted { IsDrifted 0 (pos 1) token_db (token_db_of (free_row 9) (pos 1)) }
+    ensures drifted_schema { IsDrifted 0 (pos 1) token_db
+        (record (token_db_of (free_row 9) (pos 1)) { schema = undrifted_schema }) → ⊥ }
+    ensures drifted_drift { IsDrifted 0 (pos 1) token_db token_db → ⊥ }
+    ensures drifted_others { IsDrifted 0 (pos 1) token_db (token_db_of (free_row 10) (pos 1)) → ⊥ }
+
+    // all that waits, and the boot
+    ensures made { MakesPuts 0 (put_of 0 (free_row 10) None ∷ []) token_db (token_db_of (free_row 10) (pos 0)) }
+    ensures made_schema { MakesPuts 0 [] (db_at 4 []) (record (db_at 4 []) { schema = undrifted_schema }) → ⊥ }
+    ensures made_content { MakesPuts 0 (put_of 0 (free_row 10) None ∷ []) token_db token_db → ⊥ }
+    ensures made_pass { MakesPuts 0 [] (db_at 4 []) (db_at 4 (pass_row 1 old_pass ∷ [])) → ⊥ }
+    ensures raised { MakesAll 0 [] (Some 5) (db_at 4 []) (db_at 5 []) }
+    ensures not_raised { MakesAll 0 [] (Some 5) (db_at 4 []) (db_at 4 []) → ⊥ }
+    ensures raised_unasked { MakesAll 0 [] None (db_at 4 []) (db_at 5 []) → ⊥ }
 {}

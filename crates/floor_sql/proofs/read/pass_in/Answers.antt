@@ -1,7 +1,6 @@
 -- Where no span is found, the columns show no pass that is in range.
-use Rattle.std.proofs.Common.{◌≡◌, ℕ, pos, ◌∷◌, [], Option, Some, None, refl, sym, subst}
+use Rattle.std.proofs.Common.{◌≡◌, ℕ, pos, Option, None, refl, sym, subst}
 use Rattle.std.specs.Prelude.{IfSome}
-use Rattle.sqlite.specs.declared.types.Value.{Value}
 use Rattle.sqlite.specs.declared.types.Value.TheVariants.{Int}
 use Rattle.sqlite.specs.Order.{Row, column}
 use Rattle.floor_store.specs.Records.{PassRecord, SpanRecord, span_of}

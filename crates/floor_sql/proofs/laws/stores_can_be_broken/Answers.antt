@@ -1,0 +1,134 @@
+-- Tables hold one content and one list of passes.
+use Rattle.std.proofs.Common.{◌≡◌, ◌<◌, ℕ, zero, suc, List, [], ◌∷◌, ◌++◌, length, slice_get, Some, None, refl, ap, sym, ◌∙◌, subst, arith}
+use Rattle.sqlite.specs.Effect.{Database}
+use Rattle.sqlite.specs.Held.{state}
+use Rattle.sqlite.specs.Order.{Row}
+use Rattle.sqlite.specs.Tree.{Trees}
+use Rattle.sqlite_value.specs.Order.{value_cmp}
+use Rattle.floor_store.specs.Content.{Content}
+use Rattle.floor_store.specs.Examples.{free_row, old_pass}
+use Rattle.floor_store.specs.Records.{PassRecord}
+use Rattle.floor_sql.specs.Broken.{put_of, token_content, token_db}
+use Rattle.floor_sql.specs.Staged.{HasRowOnce, passes_in, with_puts}
+use Rattle.floor_sql.specs.declared.put.Put.{Put}
+use Rattle.floor_sql.proofs.BrokenLemmas.{count_of_none, none_holds, own_row_is, token_holds}
+use Rattle.floor_sql.proofs.ContentLemmas.{one_content}
+use Rattle.floor_sql.proofs.PassLemmas.{same_passes}
+use Rattle.floor_sql.proofs.laws.stores_can_be_broken.Goals as goal
+
+pub returns-clause-mirrors : goal.returns-clause-mirrors
+returns-clause-mirrors g c = record { schema = refl; passes = []; holds = none_holds 4; counted = refl; settled = refl }
+
+pub returns-clause-mirrors_holds : goal.returns-clause-mirrors_holds
+returns-clause-mirrors_holds g c h =
+    let e = (own_row_is 2 1 0 5 2 h.holds.node 0 4 h.holds.self).3 in omega (arith, e)
+
+pub returns-clause-mirrors_count : goal.returns-clause-mirrors_count
+returns-clause-mirrors_count g c h =
+    let none = count_of_none h.passes h.holds.pass in
+    let counted = h.counted in
+    omega (arith, none, counted)
+
+pub returns-clause-mirrors_settled : goal.returns-clause-mirrors_settled
+returns-clause-mirrors_settled g c h = let rows = ap (λ (db : Database). db.trees 0) h.settled in absurd cc
+
+pub returns-clause-last : goal.returns-clause-last
+returns-clause-last g c = record {
+  base = token_content (free_row 9);
+  replayed = refl;
+  tables = record { schema = refl; passes = []; holds = token_holds; counted = refl; settled = refl };
+}
+
+pub returns-clause-last_replayed : goal.returns-clause-last_replayed
+returns-clause-last_replayed g c h =
+    let held = (own_row_is 2 1 0 4 2 h.tables.holds.node (length h.base.rows) h.base.boot h.tables.holds.self).3 in
+    let base : 5 ≡ h.base.boot = ap (λ (content : Content). content.boot) h.replayed in
+    omega (arith, held, base)
+
+pub returns-clause-last_tables : goal.returns-clause-last_tables
+returns-clause-last_tables g c h =
+    let none = count_of_none h.tables.passes h.tables.holds.pass in
+    let counted = h.tables.counted in
+    omega (arith, none, counted)
+
+pub returns-clause-committed : goal.returns-clause-committed
+returns-clause-committed g c = λ store was boot h.
+    let trees = (state g.S.Store store.conn).committed.trees in
+    let base = one_content trees was.base h.base [] [] was.holds h.holds in
+    let mirror = was.replayed ∙ ap (λ (content : Content). with_puts content store.staged) base ∙ sym h.replayed in
+    let same : store.mirror.boot ≡ 5 = ap (λ (content : Content). content.boot) mirror in
+    omega (arith, boot, same)
+
+pub returns-clause-committed_holds : goal.returns-clause-committed_holds
+returns-clause-committed_holds g c = λ store was h.
+    let trees = (state g.S.Store store.conn).committed.trees in
+    let passes : [] ≡ old_pass ∷ [] = same_passes trees [] (old_pass ∷ []) was.holds.pass h.holds.pass in
+    absurd cc
+
+pub returns-clause-audit : goal.returns-clause-audit
+returns-clause-audit g c = λ store was none. record { passes = []; committed = was; waiting = ap passes_in (sym none) }
+
+pub returns-clause-audit_waiting : goal.returns-clause-audit_waiting
+returns-clause-audit_waiting g c = λ store was none h.
+    let trees = (state g.S.Store store.conn).committed.trees in
+    let passes : h.passes ≡ [] = same_passes trees h.passes [] h.committed.holds.pass was.holds.pass in
+    let all : old_pass ∷ [] ≡ passes_in store.staged =
+    h.waiting ∙ ap (λ (passes : List PassRecord). passes ++ passes_in store.staged) passes in
+    let e : old_pass ∷ [] ≡ [] = all ∙ ap passes_in none in
+    absurd cc
+
+-- the rows of the one put are there once
+one_put : (trees : Trees) (put : Put) → HasRowOnce trees put.token → (place : ℕ) (other : Put)
+    → slice_get (put ∷ []) place ≡ Some other → HasRowOnce trees other.token
+one_put trees put is zero other e =
+    let same : put ≡ other = cc in subst (λ (put : Put). HasRowOnce trees put.token) same is
+one_put trees put is (suc place) other e = absurd cc
+
+once : HasRowOnce token_db.trees 0
+unfolding value_cmp lib.Ieee.is_nan lib.Ieee.lt
+once = record { floor = record { found = _; only = refl }; drift = record { found = _; only = refl } }
+
+pub returns-clause-rows : goal.returns-clause-rows
+returns-clause-rows g c = one_put token_db.trees (put_of 0 (free_row 10) None) once
+
+pub returns-clause-rows_floor : goal.returns-clause-rows_floor
+returns-clause-rows_floor g c h = let only = (h 0 (put_of 0 (free_row 10) None) refl).floor.only in absurd cc
+
+pub returns-clause-rows_two : goal.returns-clause-rows_two
+unfolding value_cmp lib.Ieee.is_nan lib.Ieee.lt
+returns-clause-rows_two g c h =
+    let lengths : 2 ≡ 1 = ap (length {A = Row}) (h 0 (put_of 0 (free_row 10) None) refl).floor.only in
+    omega (arith, lengths)
+
+pub returns-clause-rows_drift : goal.returns-clause-rows_drift
+returns-clause-rows_drift g c h = let only = (h 0 (put_of 0 (free_row 10) None) refl).drift.only in absurd cc
+
+-- the one put is of the first token
+in_tokens : (put : Put) → put.token < 1 → (place : ℕ) (other : Put) → slice_get (put ∷ []) place ≡ Some other → other.token < 1
+in_tokens put is zero other e = let same : put ≡ other = cc in subst (λ (put : Put). put.token < 1) same is
+in_tokens put is (suc place) other e = absurd cc
+
+pub returns-clause-can_put : goal.returns-clause-can_put
+returns-clause-can_put g c = record {
+  content = token_content (free_row 9);
+  passes = [];
+  schema = refl;
+  holds = token_holds;
+  counted = refl;
+  tokens = in_tokens (put_of 0 (free_row 10) None) (omega arith);
+}
+
+pub returns-clause-can_put_holds : goal.returns-clause-can_put_holds
+returns-clause-can_put_holds g c h = let place = h.holds.self.place in absurd cc
+
+pub returns-clause-can_put_count : goal.returns-clause-can_put_count
+returns-clause-can_put_count g c h =
+    let none = count_of_none h.passes h.holds.pass in
+    let counted = h.counted in
+    omega (arith, none, counted)
+
+pub returns-clause-can_put_token : goal.returns-clause-can_put_token
+returns-clause-can_put_token g c h =
+    let tokens = (own_row_is 2 1 0 4 2 h.holds.node (length h.content.rows) h.content.boot h.holds.self).2 in
+    let low : 0 < length h.content.rows = h.tokens 0 (put_of 0 (free_row 10) None) refl in
+    omega (arith, tokens, low)
