@@ -1,5 +1,5 @@
 -- Rows that are levelled one after the other.
-use Rattle.std.proofs.Common.{◌≡◌, ℕ, zero, suc, ◌+◌, ◌<◌, ◌≤◌, ◌⊎◌, inl, inr, true, false, List, [], ◌∷◌, length, take, set, get_or, Option, Some, None, refl, sym, ap, subst, ◌∙◌, arith, add-one, ltb, leb}
+use Rattle.std.proofs.Common.{◌≡◌, ℕ, zero, suc, ◌+◌, ◌<◌, ◌⊎◌, inl, inr, true, false, List, [], ◌∷◌, length, take, set, get_or, Option, Some, None, refl, sym, ap, subst, ◌∙◌, arith, add-one, leb}
 use Rattle.std.specs.Prelude.{Result, Ok, Err, OnErr, OnOk, IfSome, nat_lt, map, option_map, slice_get}
 use Rattle.std.proofs.lemmas.Bool.{cond_both, ltb-true, ltb-false, leb-true, leb-false}
 use Rattle.std.proofs.lemmas.Option.{IfSome_then, none-some, same_Some, slice_get-map}
@@ -7,7 +7,7 @@ use Rattle.sqlite.specs.Store.{Ghosts}
 use Rattle.otp_core.specs.Limits.{Limits}
 use Rattle.token_file.specs.Credential.{Credential}
 use Rattle.floor_store.specs.Content.{Content}
-use Rattle.floor_store.specs.Held.{Commits, Held, IsSettled, MayPut, OldOrNew}
+use Rattle.floor_store.specs.Held.{Commits, Held, MayPut, OldOrNew}
 use Rattle.floor_store.specs.Records.{RowRecord}
 use Rattle.vote_core.specs.Rows.{no_row, row, row_with_next}
 use Rattle.vote_core.specs.Voting.{raise}

@@ -8,3 +8,5 @@ mod DriftLemmas
 mod LevelLemmas
 mod ReachLemmas
 mod KeyLemmas
+mod BootLemmas
+mod AnewLemmas

@@ -1,19 +1,15 @@
 -- Files that were read after the last loss reach what it took down.
-use Rattle.std.proofs.Common.{◌≡◌, ℕ, ℤ, zero, suc, ◌+◌, ◌-◌, ◌^◌, ◌<◌, ◌≤◌, ◌⊎◌, inl, inr, Bool, true, false, not, cond, ◌&&◌, ◌||◌, List, [], ◌∷◌, length, take, get_or, Option, Some, None, refl, sym, ap, subst, ◌∙◌, arith, add-one, eqb, leb, ltb}
+use Rattle.std.proofs.Common.{◌≡◌, ℕ, ℤ, zero, suc, ◌+◌, ◌-◌, ◌^◌, ◌<◌, ◌≤◌, ◌⊎◌, inl, inr, Bool, true, false, cond, ◌||◌, List, [], ◌∷◌, length, take, get_or, Option, Some, None, refl, sym, ap, subst, ◌∙◌, arith, add-one, eqb, leb, ltb}
 use Rattle.std.specs.Prelude.{IfSome, slice_get, slice_index, find, option_map, unwrap_or}
-use Rattle.std.specs.List.{list_any}
 use Rattle.std.specs.Option.{option_or}
 use Rattle.std.specs.Str.{bytes_eq}
-use Rattle.std.proofs.lemmas.Bool.{cond_both, cond-true, cond-false, cases_Bool, eqb-true, eqb-false, le-leb, leb-true, leb-false, and_from, false≢true}
+use Rattle.std.proofs.lemmas.Bool.{cond_both, cases_Bool, eqb-true, eqb-false, le-leb, leb-true, leb-false, and_from, false≢true}
 use Rattle.std.proofs.lemmas.Option.{none-some, same_Some, slice_get_cases, slice_get_within}
-use Rattle.std.proofs.lemmas.List.{take_all}
-use Rattle.floor_store.specs.Content.{Content}
 use Rattle.floor_store.specs.Records.{RowRecord}
 use Rattle.token_file.specs.Credential.{Credential, place_from, place_of}
-use Rattle.vote_core.specs.NodeSet.{with_node}
 use Rattle.vote_core.specs.Rows.{no_row, row}
 use Rattle.vote_core.specs.Safety.{KeepsStore, MayOpen}
-use Rattle.vote_core.specs.Schedule.{Act, Begin, Deliver, Tick, Throttle, Idle, Cluster, Envelope, Event, Happens, Cut, Restart, Lost, Replaced, Opening, after_act, after_delivery, after_event, after_loss, after_proposal, after_replacement, after_restart, all_most, cluster_after, cluster_before, floor_before, greatest, has_store, is_running, lost_member, may_begin, may_replace, node_of, run, start, with_proposal_begun, with_sent_of}
+use Rattle.vote_core.specs.Schedule.{Act, Begin, Deliver, Tick, Throttle, Idle, Cluster, Envelope, Event, Happens, Cut, Restart, Lost, Replaced, Opening, after_act, after_delivery, after_event, after_loss, after_proposal, after_replacement, after_restart, all_most, cluster_after, cluster_before, floor_before, greatest, has_store, is_running, may_begin, may_replace, node_of, run, start, with_proposal_begun, with_sent_of}
 use Rattle.vote_core.proofs.Runs.{all_members}
 use Rattle.floors_file.specs.Floors.{FloorRecord, FloorsRecord}
 use Rattle.floors_file.specs.Gathered.{count_fault, files_fault, floor_in, gathered_floors, greater, greater_of, greatest_of, is_among, is_of_files, lost_fault, members_of, missing_from}
@@ -128,7 +124,7 @@ module _ (n tokens : ℕ) (opening : Opening) (events : List Event) where
 
 -- ---- of what is not lost nothing is missed
 
-greatest_within : (n x : ℕ) (lost : ℕ → Bool) (number : ℕ → ℕ) → ((i : ℕ) → 1 ≤ i → i ≤ n → lost i ≡ false → number i ≤ x) → greatest n lost number ≤ x
+pub greatest_within : (n x : ℕ) (lost : ℕ → Bool) (number : ℕ → ℕ) → ((i : ℕ) → 1 ≤ i → i ≤ n → lost i ≡ false → number i ≤ x) → greatest n lost number ≤ x
 greatest_within zero x lost number each = omega arith
 greatest_within (suc n) x lost number each =
     let rest = greatest_within n x lost number (λ i first within there. each i first (omega (arith, within)) there) in
@@ -162,7 +158,7 @@ missing_none lost files (suc count) node i none low high =
     here false there on =
         absurd (none-some (Missing node) (sym (sym (ap (λ b. cond b (missing_from lost files (node + 1) count) (Some (Missing node))) there) ∙ none)))
 
-or_none : {A : Type 0} (a b : Option A) → option_or a b ≡ None → (a ≡ None) × (b ≡ None)
+pub or_none : {A : Type 0} (a b : Option A) → option_or a b ≡ None → (a ≡ None) × (b ≡ None)
 or_none None b h = (refl, h)
 or_none (Some x) b h = absurd (none-some x (sym h))
 
@@ -180,7 +176,7 @@ lost_none asked node lost book files none = here (is_among node lost) refl
         (or_none (missing_from lost files 1 (members_of files)) _ all.1).0
     here false is = absurd (none-some NotLost (sym (sym (ap (λ b. cond b faults (Some NotLost)) is) ∙ none)))
 
-file_of : (node : ℕ) (files : List FloorsRecord) → is_of_files node files ≡ true
+pub file_of : (node : ℕ) (files : List FloorsRecord) → is_of_files node files ≡ true
     → (place : ℕ) × (file : FloorsRecord) × (slice_get files place ≡ Some file) × (file.head.node ≡ node)
 file_of node [] none = absurd (false≢true none)
 file_of node (file ∷ files) is = here (eqb file.head.node node) refl (file_of node files)
@@ -214,7 +210,7 @@ told_behind from place name book top rows on zero at within is =
     let above = place_above (from + 1) place name book is in absurd (omega (arith, at, above))
 told_behind from place name book top rows on (suc t) at within is = on t (omega (arith, at)) (omega (arith, within))
 
-told_floor : (from place t : ℕ) (name : List ℕ) (book : List Credential) (rows : List RowRecord) → place_from from name book ≡ Some place → place ≡ from + t
+pub told_floor : (from place t : ℕ) (name : List ℕ) (book : List Credential) (rows : List RowRecord) → place_from from name book ≡ Some place → place ≡ from + t
     → t < length rows → floor_in name (told_rows book rows) ≡ Some (get_or rows t no_row).next
 told_floor from place t name [] rows is at within = absurd (none-some place is)
 told_floor from place t name (token ∷ book) [] is at within = absurd (omega (arith, within))
@@ -238,7 +234,7 @@ told_floor from place t name (token ∷ book) (top ∷ rows) is at within =
         ∙ told_behind from place name book top rows (on left) t at within left
 
 -- the greatest of files is no less than one of them
-greatest_least : (user : List ℕ) (files : List FloorsRecord) (place x : ℕ) (file : FloorsRecord) → slice_get files place ≡ Some file
+pub greatest_least : (user : List ℕ) (files : List FloorsRecord) (place x : ℕ) (file : FloorsRecord) → slice_get files place ≡ Some file
     → floor_in user file.rows ≡ Some x → (y : ℕ) × (greatest_of user files ≡ Some y) × (x ≤ y)
 greatest_least user [] place x file is has = absurd (none-some file is)
 greatest_least user (first ∷ files) zero x file is has =
@@ -257,7 +253,7 @@ greatest_least user (first ∷ files) (suc place) x file is has =
         (greater z y, e, cond_both (leb z y) y z (λ m. x ≤ m) (λ _. le) (λ q. let below = leb-false z y q in omega (arith, below, le)))
 
 -- what is gathered for a token
-gathered_at : (files : List FloorsRecord) (book : List Credential) (own : List ℕ) (t y : ℕ) (token : Credential) → slice_get book t ≡ Some token
+pub gathered_at : (files : List FloorsRecord) (book : List Credential) (own : List ℕ) (t y : ℕ) (token : Credential) → slice_get book t ≡ Some token
     → length own ≡ length book → greatest_of token.name files ≡ Some y → slice_index (gathered_floors files book own) t ≡ y
 gathered_at files [] own t y token is each most = absurd (none-some token is)
 gathered_at files (first ∷ book) [] t y token is each most = absurd (omega (arith, each))
@@ -273,7 +269,7 @@ FloorsRise = (n tokens : ℕ) (opening : Opening) (events : List Event) → MayO
     → (node token first later : ℕ) → first ≤ later → KeepsStore events node first later
     → floor_before n tokens opening events node token first ≤ floor_before n tokens opening events node token later
 
-some_at : {A : Type 0} (answer : Option A) (x : A) (P : A → Type 0) → answer ≡ Some x → IfSome answer P → P x
+pub some_at : {A : Type 0} (answer : Option A) (x : A) (P : A → Type 0) → answer ≡ Some x → IfSome answer P → P x
 some_at answer x P is h = subst (λ o. IfSome o P) is h
 
 module _ (rise : FloorsRise) (n tokens : ℕ) (opening : Opening) (events : List Event) (may : MayOpen n tokens opening)

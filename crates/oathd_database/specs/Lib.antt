@@ -10,3 +10,5 @@ pub mod Lost
 pub mod Gather
 pub mod Level
 pub mod Reach
+pub mod Anew
+pub mod Examples

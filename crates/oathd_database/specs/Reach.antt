@@ -2,7 +2,7 @@
 --
 -- The events are those of vote_core: what happens to the members of a cluster, among it that stores are lost and made
 -- anew.
-use Rattle.std.specs.Prelude.{◌≡◌, ℕ, ◌<◌, ◌≤◌, true, List, length, Some, IfSome, slice_get}
+use Rattle.std.specs.Prelude.{◌≡◌, ℕ, ◌<◌, true, List, length, Some, IfSome, slice_get}
 use Rattle.token_file.specs.Credential.{Credential, place_of}
 use Rattle.vote_core.specs.Safety.{KeepsStore}
 use Rattle.vote_core.specs.Schedule.{Event, Lost, Opening, cluster_before, has_store}

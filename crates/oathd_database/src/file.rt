@@ -6,20 +6,22 @@ ghost use Rattle.oathd_database.specs.File.{IsEmptyFile};
 use crate::database::Database;
 use floor_store::StoreFault;
 use sqlite::{Connection, File, FileStore};
-use std::fs::{self, Metadata};
+use std::fs::{self, Metadata, OpenOptions};
 use std::io;
+use std::os::unix::fs::OpenOptionsExt;
 
 /// A database in a file.
 #[derive(Drop)]
-pub(crate) struct DatabaseFile<'a> {
+pub struct DatabaseFile<'a> {
     rt: &'a HostRuntime,
     path: &'a str,
     is_made: bool,
 }
 
 impl<'a> DatabaseFile<'a> {
-    /// The database in the file with this path, which is made with no table where it isn't there.
-    pub(crate) fn found_or_made(rt: &'a HostRuntime, path: &'a str) -> Self {
+    /// The database in the file with this path. Where the file isn't there it is made with no table, and its owner
+    /// alone may read and write it.
+    pub fn found_or_made(rt: &'a HostRuntime, path: &'a str) -> Self {
         DatabaseFile {
             rt,
             path,
@@ -28,7 +30,7 @@ impl<'a> DatabaseFile<'a> {
     }
 
     /// The database in the file with this path, which has to be there and to hold something.
-    pub(crate) fn found(rt: &'a HostRuntime, path: &'a str) -> Self {
+    pub fn found(rt: &'a HostRuntime, path: &'a str) -> Self {
         DatabaseFile {
             rt,
             path,
@@ -61,9 +63,21 @@ fn check_found(found: io::Result<Metadata>) -> Result<(), StoreFault>
     }
 }
 
+/// Makes an empty file with this path where there is none, for its owner alone. Where that fails the file can't be
+/// opened either, and its fault is told then.
+fn make_private(rt: &HostRuntime, path: &str) {
+    let _made = OpenOptions::new()
+        .write(true)
+        .create_new(true)
+        .mode(0o600)
+        .open(rt, path);
+}
+
 impl Database<FileStore<File>> for DatabaseFile<'_> {
     fn connect(self) -> Result<Connection<FileStore<File>>, StoreFault> {
-        if !self.is_made {
+        if self.is_made {
+            make_private(self.rt, self.path);
+        } else {
             check_found(fs::metadata(self.rt, self.path))?;
         }
         match Connection::open(self.rt, self.path) {

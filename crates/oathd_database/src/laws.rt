@@ -1,16 +1,19 @@
 //! What floors files that were read at the right time have, and definitions worked through.
 
-ghost use Rattle.std.specs.Prelude.{◌≡◌, ℕ, ◌+◌, List, [], ◌∷◌, None, Some, codes, length, slice_index, true};
+ghost use Rattle.std.specs.Prelude.{◌≡◌, ◌≤◌, ℕ, ◌+◌, List, [], ◌∷◌, None, Some, codes, length, slice_index, true};
 ghost use Rattle.token_file.specs.Credential.{Credential};
 ghost use Rattle.token_file.specs.Examples.{event_token, time_token};
 ghost use Rattle.token_file.specs.declared.token.Kind.TheVariants.{Time30, Time60};
 ghost use Rattle.floor_store.specs.Examples.{free_row, granted_row, later_row, old_pass, two_rows};
+ghost use Rattle.vote_core.specs.Cases.{alone, own_floors};
 ghost use Rattle.vote_core.specs.Safety.{MayOpen};
-ghost use Rattle.vote_core.specs.Schedule.{Event, Opening, all_most, cluster_before};
+ghost use Rattle.vote_core.specs.Schedule.{Event, Opening, acceptances, all_most, cluster_before, first_opening};
 ghost use Rattle.floors_file.specs.Examples.{first_floors, second_floors};
 ghost use Rattle.floors_file.specs.Floors.{FloorsRecord};
 ghost use Rattle.floors_file.specs.Gathered.{gathered_floors, is_among, lost_fault, members_of};
 ghost use Rattle.floors_file.specs.declared.gathered.Asked.{Asked};
+ghost use Rattle.oathd_database.specs.Anew.{AreAbove, AreMadeAnew, IsSameUser};
+ghost use Rattle.oathd_database.specs.Examples.{opening_at, told_alone};
 ghost use Rattle.oathd_database.specs.Level.{levelled, levelled_rows, told_by};
 ghost use Rattle.oathd_database.specs.Reach.{AreFound, AreReadAfter, IsLastLoss};
 ghost use Rattle.oathd_database.specs.Users.{drifted_floors};
@@ -33,6 +36,34 @@ pub fn files_reach()
 {
     floors_tell_all();
 }
+
+/// Of a cluster that is made anew of files that `check_anew` takes, each read after the last acceptance of its former
+/// life (`AreMadeAnew`): the new nodes may open, whatever was sent before and is still on its way; what they accept of
+/// a user begins above all that was accepted of the same user before; and none opens below what all former members
+/// opened with.
+pub fn files_reach_anew()
+    ensures may_open { (n tokens : ℕ) (opening : Opening) (events : List Event) (former book : List Credential)
+        (files : List FloorsRecord) (members : ℕ) (next : Opening)
+        → AreMadeAnew n tokens opening events former book files members next → MayOpen members (length book) next }
+    ensures above { (n tokens : ℕ) (opening : Opening) (events : List Event) (former book : List Credential)
+        (files : List FloorsRecord) (members : ℕ) (next : Opening)
+        → AreMadeAnew n tokens opening events former book files members next → (later : List Event)
+        → AreAbove former book (acceptances n tokens opening events)
+        (acceptances members (length book) next later) }
+    ensures no_lower { (n tokens : ℕ) (opening : Opening) (events : List Event) (former book : List Credential)
+        (files : List FloorsRecord) (members : ℕ) (next : Opening)
+        → AreMadeAnew n tokens opening events former book files members next
+        → (old new least : ℕ) → IsSameUser former book old new
+        → ((node : ℕ) → 1 ≤ node → node ≤ n → least ≤ opening.floor node old)
+        → (node : ℕ) → 1 ≤ node → node ≤ members → least ≤ next.floor node new }
+{}
+
+/// A cluster made anew, worked through: a node alone that took factors up to 13 in its two boots, its floors file, and
+/// a new users file in which another user stands before its own.
+pub fn anew_is_worked()
+    ensures { AreMadeAnew 1 1 (first_opening own_floors) alone (event_token (codes "a") ∷ [])
+        (event_token (codes "b") ∷ event_token (codes "a") ∷ []) (told_alone 14 ∷ []) 1 (opening_at 3 14) }
+{}
 
 /// Levelling, worked through: a greater first free factor is taken, a lesser or an equal one is not, and a user of no
 /// file keeps its own. Grants, gates, drifts, the boot and the last pass stay.

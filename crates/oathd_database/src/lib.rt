@@ -1,6 +1,7 @@
 //! What the commands of `oathd` over a users file and a database do, from the first to the last step. Each has a file
 //! with its name, and in it a function over any [`Database`], `.._store`, and one over a file, `.._file`, which takes
-//! and gives plain values. Of these only [`init_file`] writes into a file that isn't there or is empty.
+//! and gives plain values. Of these only [`init_file`] and [`init_lost_file`] write into a file that isn't there or is
+//! empty. Such a function of another crate opens a [`DatabaseFile`].
 #![tactic(auto)]
 
 mod audit;
@@ -24,10 +25,13 @@ pub use audit::{audit_file, audit_store, write_audit};
 pub use database::{Database, open_store};
 pub use export::{export_file, export_store, write_rows};
 pub use fault::Fault;
+pub use file::DatabaseFile;
 pub use floors::{floors_file, floors_of, floors_store};
 pub use gather::GatherFault;
 pub use init::{init_file, init_store};
-pub use laws::{drifted_floors_are_worked, files_reach, levelling_is_worked};
+pub use laws::{
+    anew_is_worked, drifted_floors_are_worked, files_reach, files_reach_anew, levelling_is_worked,
+};
 pub use level::{level_file, level_rows, level_store};
 pub use lost::{LostNode, init_lost_file, init_lost_store};
 pub use migrate::{migrate_file, migrate_store};

@@ -1,0 +1,2 @@
+mod GateLemmas
+mod UnlockLemmas

@@ -1,0 +1,116 @@
+//! The command `gates`: the gates of a store that have failures are written.
+
+ghost use Rattle.std.specs.Prelude.{◌≡◌, ◌<◌, length, IfErr, IfOk, IfSome, OnOk};
+ghost use Rattle.std.specs.Io.KnownBytes.{Appends};
+ghost use Rattle.otp_core.specs.Limits.{default_limits};
+ghost use Rattle.oathd_database.specs.Commands.{EndsOutput, HasImport};
+ghost use Rattle.oathd_database.specs.Fault.{IsOutputFault};
+ghost use Rattle.oathd_gates.specs.Gates.{HasToldGates, WritesGate, gate_line, gate_text, gates_text};
+
+use admit_core::Gate;
+use floor_store::FloorStore;
+use oathd_database::{Database, DatabaseFile, Fault, open_store};
+use otp_core::Settings;
+use sqlite::Alter;
+use std::alloc::Global;
+use std::io::{self, Read, Write};
+use token_file::{Book, Token, TokenId};
+
+/// Writes the line of a user's gate.
+#[tactic(auto, unfolding(crate::specs::Gates::gate_line))]
+fn write_line<W: Write>(writer: &mut W, user: &[u8], gate: Gate) -> io::Result<()>
+    ensures { OnOk result (Appends (W.contents writer.old) (W.contents writer.new) (gate_line user.now gate)) }
+{
+    let (failures, until) = (gate.fails(), gate.until());
+    writer.write_all(b"gate ")?;
+    writer.write_all(user)?;
+    write!(writer, " {failures} {until}\n")
+}
+
+/// Writes the line of a token's gate, if it has failures.
+fn write_gate<W: Write>(writer: &mut W, token: &Token, gate: Gate) -> io::Result<()>
+    ensures { OnOk result (Appends (W.contents writer.old) (W.contents writer.new) (gate_text token.now gate)) }
+{
+    if gate.fails() == 0 {
+        return Ok(());
+    }
+    write_line(writer, token.name(), gate)
+}
+
+/// Writes the line of the gate that a store has of a token, if it has failures.
+fn write_token<S: FloorStore, W: Write>(
+    book: &Book,
+    store: &S,
+    writer: &mut W,
+    id: TokenId,
+) -> Result<(), Fault>
+    requires book { id < length book.now }
+    requires store { id < length (S.held store.now).content.rows }
+    ensures written { (S.held store.now).is_clean → OnOk result (WritesGate book.now (S.held store.now).content.rows id
+        (W.contents writer.old) (W.contents writer.new)) }
+    ensures fault { IfErr result (IsOutputFault (S.held store.now).fault) }
+{
+    let row = store.row(id.value())?;
+    write_gate(writer, book.token(id), row.gate()).map_err(|_| Fault::CannotWrite)
+}
+
+/// Writes the gate of each token of a book that has failures by a store, each on a line of its own, `gate USER FAILURES
+/// UNTIL`, in order of rows, and flushes it. From the moment UNTIL on, in seconds since 1970-01-01 00:00:00 UTC, the
+/// token is open.
+///
+/// # Errors
+/// `Store` where the store is broken, and `CannotWrite`. A front of the text may have been written then.
+pub fn write_gates<S: FloorStore, W: Write>(
+    book: &Book,
+    store: &S,
+    writer: &mut W,
+) -> Result<(), Fault>
+    requires { length (S.held store.now).content.rows ≡ length book.now }
+    ensures written { (S.held store.now).is_clean → OnOk result (Appends (W.contents writer.old)
+        (W.contents writer.new) (gates_text book.now (S.held store.now).content.rows)) }
+    ensures fault { IfErr result (IsOutputFault (S.held store.now).fault) }
+{
+    for token in 0..store.tokens() {
+        let id = TokenId::new(token).unwrap();
+        write_token(book, store, writer, id)?;
+    }
+    writer.flush().map_err(|_| Fault::CannotWrite)
+}
+
+/// Writes the gates with failures of the store of a node, which has the tokens of the users file, as [`write_gates`]
+/// does. The node is stopped. Its store is not changed.
+///
+/// # Errors
+/// Those of [`open_store`] and [`write_gates`].
+pub fn gates_store<R: Read + Drop, S: Alter + Drop, D: Database<S>, W: Write>(
+    alloc: Global,
+    users: R,
+    node: u8,
+    database: D,
+    writer: &mut W,
+) -> Result<(), Fault>
+    ensures told { IfOk result (λ _. IfSome (R.remaining users) (HasToldGates S.Store default_limits 16777216 node
+        (W.contents writer.old) (W.contents writer.new))) }
+    ensures fault { IfErr result (λ fault. IfSome (R.remaining users) (EndsOutput default_limits 0 16777216 fault)) }
+{
+    let (users, store) = open_store(alloc, users, Settings::default(), Some(node), database)?;
+    write_gates(&users.book, &store, writer)
+}
+
+/// Writes the gates with failures of the store in the file with this path, as [`gates_store`] does.
+///
+/// # Errors
+/// Those of [`gates_store`]; `Store(Disk)` where the file isn't there, `Store(Unusable)` where it is empty.
+pub fn gates_file<R: Read + Drop, W: Write>(
+    alloc: Global,
+    rt: &HostRuntime,
+    path: &str,
+    users: R,
+    node: u8,
+    writer: &mut W,
+) -> Result<(), Fault>
+    ensures import { IfOk result (λ _. IfSome (R.remaining users) (HasImport default_limits 0 16777216)) }
+    ensures fault { IfErr result (λ fault. IfSome (R.remaining users) (EndsOutput default_limits 0 16777216 fault)) }
+{
+    gates_store(alloc, users, node, DatabaseFile::found(rt, path), writer)
+}
