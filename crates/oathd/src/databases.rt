@@ -1,18 +1,22 @@
 //! The commands over a database.
 
-ghost use Rattle.std.specs.Prelude.{◌≡◌, ◌<◌, ◌≤◌, ◌^◌, length, IfOk};
+ghost use Rattle.std.specs.Prelude.{◌≡◌, ◌<◌, ◌≤◌, ◌^◌, length, IfOk, IfSome};
+ghost use Rattle.floor_sql.specs.Usable.{IsNode};
 ghost use Rattle.otp_core.specs.Range.{IsMoment};
 ghost use Rattle.oathd_words.specs.StoreWords.{IsActionInRange, IsClusterInRange};
 ghost use Rattle.oathd.specs.Cluster.{IsImportOf};
 
 use crate::fault::Fault;
+use crate::floors::{floors_texts, with_paths};
 use cluster_file::Cluster;
 use node_turns::Clock;
 use oathd_database::{
-    NodeKey, Serving, audit_file, export_file, init_file, migrate_file, serve_file,
+    LostNode, NodeKey, Serving, audit_file, export_file, floors_file, init_file, init_lost_file,
+    level_file, migrate_file, serve_file,
 };
+use oathd_gates::{gates_file, unlock_file};
 use oathd_memory::{cluster_in, cluster_key, member_place, read_key};
-use oathd_words::{Action, ClusterWords, ImportWords};
+use oathd_words::{Action, ClusterWords, CountWords, FormerWords, ImportWords};
 use otp_core::{MOMENTS_END, Settings};
 use std::alloc::{AllocError, Global};
 use std::fs;
@@ -154,6 +158,84 @@ fn serve<'a, O: Write>(
     }
 }
 
+/// A moment that is given, or the present one.
+fn moment_of<'a, T: TimeSource>(source: &T, moment: Option<u64>) -> Result<u64, Fault<'a>>
+    requires { IfSome moment IsMoment }
+    ensures { IfOk result IsMoment }
+{
+    match moment {
+        Some(moment) => Ok(moment),
+        None => present_moment(source),
+    }
+}
+
+/// Makes the store of a node anew, by the floors files of former stores.
+fn remake<'a>(
+    alloc: Global,
+    rt: &HostRuntime,
+    database: &str,
+    users: &'a str,
+    node: u8,
+    settings: Settings,
+    moment: u64,
+    former: FormerWords<'a>,
+) -> Result<(), Fault<'a>>
+    requires node { IsNode node }
+    requires moment { IsMoment moment }
+{
+    let file = open_users(rt, users)?;
+    let texts = floors_texts(alloc, rt, &former.floors)?;
+    let lost = match &former.lost {
+        Some(lost) => Some(lost.as_slice()),
+        None => None,
+    };
+    let lost = LostNode {
+        node,
+        lost,
+        since: former.since,
+    };
+    match init_lost_file(alloc, rt, database, file, settings, moment, lost, &texts) {
+        Ok(()) => Ok(()),
+        Err(fault) => Err(with_paths(&former.floors, fault)),
+    }
+}
+
+/// Raises the first free factors of a node to the greatest of floors files.
+fn level<'a>(
+    alloc: Global,
+    rt: &HostRuntime,
+    database: &str,
+    users: &'a str,
+    node: u8,
+    floors: Vec<&'a str>,
+) -> Result<(), Fault<'a>> {
+    let file = open_users(rt, users)?;
+    let texts = floors_texts(alloc, rt, &floors)?;
+    match level_file(alloc, rt, database, file, node, &texts) {
+        Ok(()) => Ok(()),
+        Err(fault) => Err(with_paths(&floors, fault)),
+    }
+}
+
+/// How many members there are: so many, or those of the cluster that the text of a cluster file says, of which the node
+/// has to be one.
+fn member_count<'a>(
+    alloc: Global,
+    count: CountWords<'a>,
+    node: u8,
+    text: &'a [u8],
+) -> Result<u8, Fault<'a>>
+    requires { 1 ≤ node }
+{
+    match count {
+        CountWords::Given(count) => Ok(count),
+        CountWords::Named(_) => {
+            let cluster = cluster_in(alloc, text)?;
+            Ok(member_place(&cluster, node)?.n())
+        }
+    }
+}
+
 /// Does what is asked with the store of a database, whose users file is at this path, with the text of the cluster file
 /// that is named. The output holds back what it is given until it is flushed.
 pub(crate) fn perform_action<'a, O: Write>(
@@ -174,12 +256,19 @@ pub(crate) fn perform_action<'a, O: Write>(
             moment,
         } => {
             let settings = import_settings(alloc, import, node, cluster_file)?;
-            let moment = match moment {
-                Some(moment) => moment,
-                None => present_moment(rt)?,
-            };
+            let moment = moment_of(rt, moment)?;
             let file = open_users(rt, users)?;
             init_file(alloc, rt, database, file, settings, moment, node)?;
+        }
+        Action::Remake {
+            node,
+            import,
+            moment,
+            former,
+        } => {
+            let settings = import_settings(alloc, import, node, cluster_file)?;
+            let moment = moment_of(rt, moment)?;
+            remake(alloc, rt, database, users, node, settings, moment, former)?;
         }
         Action::Serve {
             cluster,
@@ -204,6 +293,19 @@ pub(crate) fn perform_action<'a, O: Write>(
         }
         Action::Migrate { node } => {
             migrate_file(alloc, rt, database, open_users(rt, users)?, node)?
+        }
+        Action::Floors { node, count } => {
+            let members = member_count(alloc, count, node, cluster_file)?;
+            let moment = present_moment(rt)?;
+            let file = open_users(rt, users)?;
+            floors_file(alloc, rt, database, file, node, members, moment, held)?
+        }
+        Action::Level { node, floors } => level(alloc, rt, database, users, node, floors)?,
+        Action::Gates { node } => {
+            gates_file(alloc, rt, database, open_users(rt, users)?, node, held)?
+        }
+        Action::Unlock { node, user } => {
+            unlock_file(alloc, rt, database, open_users(rt, users)?, node, user)?
         }
     }
     Ok(())

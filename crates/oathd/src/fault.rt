@@ -1,4 +1,7 @@
+use crate::cause::Cause;
+use crate::floors::PathFault;
 use command_line::{OutsideFault, ProgramFault};
+use oathd_gates::UnlockFault;
 use thiserror::Error;
 
 /// What ends the program before its time. The text lacks the program's name.
@@ -10,6 +13,12 @@ pub(crate) enum Fault<'a> {
     /// A command over a database ends so.
     #[error("{0}")]
     Database(oathd_database::Fault),
+    /// The floors files that are named have a fault, or don't tell enough.
+    #[error("{0}")]
+    Floors(PathFault<'a>),
+    /// The failures of a user aren't forgotten.
+    #[error("{0}")]
+    Unlock(UnlockFault<'a>),
 }
 
 impl ProgramFault for Fault<'_> {
@@ -21,7 +30,27 @@ impl ProgramFault for Fault<'_> {
         match self {
             Fault::Memory(fault) => fault.status(),
             Fault::Database(fault) => fault.status(),
+            Fault::Floors(fault) => fault.status(),
+            Fault::Unlock(fault) => fault.status(),
         }
+    }
+}
+
+/// A fault, and what is told behind it.
+#[derive(Clone, Copy, Debug, PartialEq, Eq, Error)]
+#[error("{fault}: {cause}")]
+pub(crate) struct ToldFault<'a> {
+    pub(crate) fault: Fault<'a>,
+    pub(crate) cause: Cause<'a>,
+}
+
+impl ProgramFault for ToldFault<'_> {
+    ghost use Rattle.oathd.specs.Fault.{told_status};
+
+    ghost status_of = { told_status };
+
+    fn status(self) -> u8 {
+        self.fault.status()
     }
 }
 
@@ -40,5 +69,11 @@ impl<'a> From<oathd_memory::Fault<'a>> for Fault<'a> {
 impl From<oathd_database::Fault> for Fault<'_> {
     fn from(fault: oathd_database::Fault) -> Self {
         Fault::Database(fault)
+    }
+}
+
+impl<'a> From<UnlockFault<'a>> for Fault<'a> {
+    fn from(fault: UnlockFault<'a>) -> Self {
+        Fault::Unlock(fault)
     }
 }

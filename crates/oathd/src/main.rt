@@ -1,8 +1,10 @@
 //! The validation server's program.
 #![tactic(auto)]
 
+mod cause;
 mod databases;
 mod fault;
+mod floors;
 mod run;
 
 use command_line::process_words;

@@ -1,7 +1,10 @@
+ghost use Rattle.std.specs.Prelude.{◌≡◌, IfErr, IfOk};
+ghost use Rattle.oathd.specs.Fault.{status_of};
 ghost use Rattle.oathd_words.specs.Words.{IsInRange};
 
+use crate::cause::{Named, cause_of};
 use crate::databases::perform_action;
-use crate::fault::Fault;
+use crate::fault::{Fault, ToldFault};
 use command_line::{OutsideFault, exit_status, explain};
 use oathd_memory::{cluster_text, perform};
 use oathd_words::{Task, read_words};
@@ -33,6 +36,32 @@ fn perform_task<'a, R: Read, O: Write>(
     Ok(0)
 }
 
+/// The exit status of a task that ended so. The text of a fault goes to the errors, behind the program's name, and what
+/// is told of it behind that, where the task names a database.
+fn told_status<'a, E: Write>(
+    alloc: Global,
+    rt: &HostRuntime,
+    errors: &mut E,
+    named: Option<Named<'a>>,
+    text: &'a [u8],
+    end: Result<u8, Fault<'a>>,
+) -> u8
+    ensures ended { IfOk end.entry (λ status. result ≡ status) }
+    ensures fault { IfErr end.entry (λ fault. result ≡ status_of fault) }
+{
+    let Err(fault) = end else {
+        return exit_status(errors, "oathd", end);
+    };
+    let cause = match named {
+        Some(named) => cause_of(alloc, rt, named, text, fault),
+        None => None,
+    };
+    match cause {
+        Some(cause) => exit_status(errors, "oathd", Err(ToldFault { fault, cause })),
+        None => exit_status(errors, "oathd", end),
+    }
+}
+
 /// Reads the cluster file that a task names, if it names one, and does what the task asks for. Gives the exit status.
 fn follow_task<R: Read, O: Write, E: Write>(
     alloc: Global,
@@ -44,12 +73,16 @@ fn follow_task<R: Read, O: Write, E: Write>(
 ) -> u8
     requires { IsInRange task }
 {
+    let named = Named::of(&task);
     match cluster_text(alloc, rt, task.cluster_path()) {
         Ok(text) => {
             let end = perform_task(alloc, rt, task, &text, reader, output);
-            exit_status(errors, "oathd", end)
+            told_status(alloc, rt, errors, named, &text, end)
         }
-        Err(fault) => exit_status(errors, "oathd", Err(Fault::from(fault))),
+        Err(fault) => {
+            let end = Err(Fault::from(fault));
+            told_status(alloc, rt, errors, named, b"", end)
+        }
     }
 }
 

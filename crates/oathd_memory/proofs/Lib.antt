@@ -1,3 +1,4 @@
 pub mod CheckLemmas
 mod FlushLemmas
 mod LinesLemmas
+mod SetupLemmas

@@ -1,18 +1,23 @@
 -- How the commands end that keep nothing.
-use Rattle.std.specs.Prelude.{◌≡◌, ◌⊎◌, ℕ, ◌+◌, List, replicate, take, Option, Result, Ok, Err, IfNone, IfSome}
-use Rattle.otp_core.specs.Limits.{Limits}
+use Rattle.std.specs.Prelude.{◌≡◌, ◌≤◌, ◌⊎◌, ℕ, ◌+◌, List, length, replicate, take, Option, Result, Ok, Err, IfNone, IfSome}
+use Rattle.otp_core.specs.Range.{IsMoment}
+use Rattle.cluster_file.specs.ClusterFile.{ClusterRecord, cluster_of}
 use Rattle.oathd_lines.specs.Run.{EndsSo, run_of_input}
 use Rattle.oathd_lines.specs.Secret.{EndsWithText}
 use Rattle.oathd_lines.specs.declared.fault.Fault.TheVariants as lines
 use Rattle.oathd_cluster.specs.Run as cluster
 use Rattle.oathd_cluster.specs.Line.{LinesRead, node_lines}
 use Rattle.oathd_sim.specs.Sim as sim
+use Rattle.oathd_sim.specs.Sim.{Setup}
+use Rattle.oathd_words.specs.declared.nodes_words.NodesWords.{NodesWords}
+use Rattle.oathd_words.specs.declared.nodes_words.NodesWords.TheVariants.{Given, Named}
 use Rattle.oathd_words.specs.declared.words.Task.{Task}
 use Rattle.oathd_words.specs.declared.words.Task.TheVariants.{Lines, Sim as SimTask, Cluster as ClusterTask, Store, Check, Secret}
 use Rattle.users_input.specs.Input.{lines_of}
-use Rattle.oathd_memory.specs.Check.{CheckEndsSo}
+use Rattle.oathd_memory.specs.Check.{CheckEndsSo, IsKeyIn, IsOfClusterFile}
 use Rattle.oathd_memory.specs.declared.fault.Fault.{Fault}
 use Rattle.oathd_memory.specs.declared.fault.Fault.TheVariants.{Run, Sim, Cluster, CannotReadFile, NoDatabases, KeyPath}
+use Rattle.oathd_memory.specs.declared.setup.NodesSetup.{NodesSetup}
 
 -- A key is that of the file that is named, of which nothing is said; where none is named it is 32 zeros.
 abbrev pub IsKeyOf : {A : Type 0} → Option A → List ℕ → Type 0
@@ -26,45 +31,71 @@ IsOfKey (CannotReadFile path) = Unit {0}
 IsOfKey KeyPath = Unit {0}
 IsOfKey fault = ⊥
 
--- The command `lines` ends so over its input, where that is known, and its output: as the run over that input does,
--- under whichever key. Where no key could be had, nothing is written.
-abbrev pub LinesEndSo : Limits → ℕ → Option (List ℕ) → Result Unit Fault → Option (List ℕ) → Option (List ℕ) → Type 0
-LinesEndSo limits moment input (Ok done) old new =
-    IfSome input (λ text. EndsSo (run_of_input limits moment text) (Ok tt) old new)
-LinesEndSo limits moment input (Err (Run (lines.BadKey fault))) old new = IfSome input (λ text. new ≡ old)
-LinesEndSo limits moment input (Err (Run fault)) old new =
-    IfSome input (λ text. EndsSo (run_of_input limits moment text) (Err fault) old new)
-LinesEndSo limits moment input (Err fault) old new = new ≡ old
+-- ---- What nodes are run with
 
--- what the command `sim` simulates over an input
-abbrev pub simulation_of : ℕ → Limits → ℕ → List ℕ → List ℕ → sim.Sim
-simulation_of nodes limits moment key text = sim.sim_of
-    (record { nodes = nodes; limits = limits; moment = moment; key = key }) 16777216 16777216 text
+-- what the code has
+abbrev pub setup_value : NodesSetup → Setup
+setup_value setup =
+    record { nodes = setup.nodes; limits = setup.settings; moment = setup.moment; key = setup.key }
 
--- The command `sim` ends so over its input, where that is known, and its output: as the simulation of so many nodes
--- does, under the key of the file that is named, if any. Where no key could be had, nothing is written.
-abbrev pub SimEndsSo : {A : Type 0} → ℕ → Limits → ℕ → Option A → Option (List ℕ)
-    → Result Unit Fault → Option (List ℕ) → Option (List ℕ) → Type 0
-SimEndsSo nodes limits moment path input (Ok done) old new =
-    (key : List ℕ) × IsKeyOf path key × IfSome input (λ text.
-    sim.EndsSo (simulation_of nodes limits moment key text) (Ok tt) old new)
-SimEndsSo nodes limits moment path input (Err (Sim fault)) old new =
-    (key : List ℕ) × IsKeyOf path key × IfSome input (λ text.
-    sim.EndsSo (simulation_of nodes limits moment key text) (Err fault) old new)
-SimEndsSo nodes limits moment path input (Err fault) old new = new ≡ old
+-- there are 1 to 9 nodes, and the moment is in its range
+abbrev pub IsSetupInRange : Setup → Type 0
+IsSetupInRange setup = (1 ≤ setup.nodes) × (setup.nodes ≤ 9) × IsMoment setup.moment
+
+-- Nodes are run with this, with the users imported at a moment: with what the words give, and the key of the file that
+-- is named or 32 zeros; or with what the text of a cluster file says, and its key.
+abbrev pub IsSetup : NodesWords → ℕ → List ℕ → Setup → Type 0
+IsSetup (Given count settings path) moment text setup =
+    (key : List ℕ) × IsKeyOf path key
+    × (setup ≡ record { nodes = count; limits = settings; moment = moment; key = key })
+IsSetup (Named path) moment text setup =
+    (cluster : ClusterRecord) × (cluster_of text ≡ Ok cluster) × (key : List ℕ) × IsKeyIn cluster.key key
+    × (setup ≡ record { nodes = length cluster.members; limits = cluster.settings; moment = moment; key = key })
+
+-- a fault is one of what nodes are run with: one of the key, or the first of the cluster file that is named
+abbrev pub IsOfSetup : NodesWords → List ℕ → Fault → Type 0
+IsOfSetup (Given count settings path) text fault = IsOfKey fault
+IsOfSetup (Named path) text fault = IsOfKey fault ⊎ IsOfClusterFile text fault
+
+-- A command over nodes ends so: as it does with what the nodes are run with, or with a fault of that, and nothing is
+-- written.
+abbrev pub EndsWithSetup : NodesWords → ℕ → List ℕ → (Setup → Type 0) → Result Unit Fault
+    → Option (List ℕ) → Option (List ℕ) → Type 0
+EndsWithSetup nodes moment text EndsWith result old new =
+    ((setup : Setup) × IsSetup nodes moment text setup × EndsWith setup)
+    ⊎ ((fault : Fault) × (result ≡ Err fault) × IsOfSetup nodes text fault × (new ≡ old))
+
+-- ---- The commands
+
+-- The command `lines` ends so over its input, where that is known, and its output: as the run over that input does.
+abbrev pub LinesEndSo : Setup → Option (List ℕ) → Result Unit Fault → Option (List ℕ) → Option (List ℕ) → Type 0
+LinesEndSo setup input (Ok done) old new =
+    IfSome input (λ text. EndsSo (run_of_input setup.limits setup.moment text) (Ok tt) old new)
+LinesEndSo setup input (Err (Run fault)) old new =
+    IfSome input (λ text. EndsSo (run_of_input setup.limits setup.moment text) (Err fault) old new)
+LinesEndSo setup input (Err fault) old new = ⊥
+
+-- The command `sim` ends so over its input, where that is known, and its output: as the simulation does.
+abbrev pub SimEndsSo : Setup → Option (List ℕ) → Result Unit Fault → Option (List ℕ) → Option (List ℕ) → Type 0
+SimEndsSo setup input (Ok done) old new =
+    IfSome input (λ text. sim.EndsSo (sim.sim_of setup 16777216 16777216 text) (Ok tt) old new)
+SimEndsSo setup input (Err (Sim fault)) old new =
+    IfSome input (λ text. sim.EndsSo (sim.sim_of setup 16777216 16777216 text) (Err fault) old new)
+SimEndsSo setup input (Err fault) old new = ⊥
 
 -- the lines that the command `cluster` reads of an input
 abbrev pub lines_read : ℕ → List ℕ → LinesRead
 lines_read nodes text = node_lines nodes 1 (lines_of 16777216 (take (16777216 + 1) text))
 
 -- The command `cluster` ends so over its input, where that is known, and its output: with a line for each of the
--- input's. Where no key or no users file could be had, nothing is written.
+-- input's. Where no users file could be had, nothing is written.
 abbrev pub ClusterEndsSo : ℕ → Option (List ℕ) → Result Unit Fault → Option (List ℕ) → Option (List ℕ) → Type 0
 ClusterEndsSo nodes input (Ok done) old new =
     IfSome input (λ text. cluster.EndsSo (lines_read nodes text) (Ok tt) old new)
 ClusterEndsSo nodes input (Err (Cluster fault)) old new =
     IfSome input (λ text. cluster.EndsSo (lines_read nodes text) (Err fault) old new)
-ClusterEndsSo nodes input (Err fault) old new = new ≡ old
+ClusterEndsSo nodes input (Err (CannotReadFile path)) old new = new ≡ old
+ClusterEndsSo nodes input (Err fault) old new = ⊥
 
 -- The command `secret` ends so over its output: with the text of the secret, or with its fault; or the output failed.
 abbrev pub SecretEndsSo : List ℕ → Result Unit Fault → Option (List ℕ) → Option (List ℕ) → Type 0
@@ -75,11 +106,12 @@ SecretEndsSo hex (Err fault) old new = ⊥
 -- What is asked for ends so, with this text of the cluster file that is named. Nothing is done with a database.
 abbrev pub EndsAsAsked : Task → List ℕ → Option (List ℕ) → Result Unit Fault
     → Option (List ℕ) → Option (List ℕ) → Type 0
-EndsAsAsked (Lines settings moment key) text input result old new = LinesEndSo settings moment input result old new
-EndsAsAsked (SimTask nodes settings moment key) text input result old new =
-    SimEndsSo nodes settings moment key input result old new
-EndsAsAsked (ClusterTask users nodes settings moment key) text input result old new =
-    ClusterEndsSo nodes input result old new
+EndsAsAsked (Lines nodes moment) text input result old new =
+    EndsWithSetup nodes moment text (λ setup. LinesEndSo setup input result old new) result old new
+EndsAsAsked (SimTask nodes moment) text input result old new =
+    EndsWithSetup nodes moment text (λ setup. SimEndsSo setup input result old new) result old new
+EndsAsAsked (ClusterTask users nodes moment) text input result old new =
+    EndsWithSetup nodes moment text (λ setup. ClusterEndsSo setup.nodes input result old new) result old new
 EndsAsAsked (Store database users action) text input result old new = (result ≡ Err NoDatabases) × (new ≡ old)
 EndsAsAsked (Check users cluster) text input result old new = CheckEndsSo text result old new
 EndsAsAsked (Secret hex) text input result old new = SecretEndsSo hex.now result old new

@@ -8,7 +8,7 @@ ghost use Rattle.oathd_memory.specs.Nodes.{IsOfKey};
 ghost use Rattle.oathd_memory.specs.declared.fault.Fault.TheVariants.{NoMember};
 
 use crate::fault::Fault;
-use crate::key::{file_text, read_key};
+use crate::key::{MAX_KEY_FILE_LEN, file_text, read_key};
 use cluster_file::{Cluster, ClusterFault, KeySource, LineFault, read_cluster};
 use std::alloc::Global;
 use std::rt::Files;
@@ -30,7 +30,7 @@ pub fn cluster_text<'a, F: Files>(
     ensures fault { IfErr result IsOfKey }
 {
     match path {
-        Some(path) => file_text(alloc, files, path),
+        Some(path) => file_text(alloc, files, path, MAX_KEY_FILE_LEN),
         None => Ok(Vec::new(alloc)),
     }
 }
@@ -41,6 +41,8 @@ pub fn cluster_text<'a, F: Files>(
 /// `ClusterFile` with the first fault of the text, and `Run(Memory)`.
 pub fn cluster_in(alloc: Global, text: &[u8]) -> Result<Cluster<'_>, Fault<'_>>
     ensures cluster { IfOk result (λ cluster. cluster_of text.now ≡ Ok (cluster_value cluster)) }
+    ensures members { IfOk result (λ cluster.
+        (1 ≤ length cluster.members.items) × (length cluster.members.items ≤ 9)) }
     ensures fault { IfErr result (IsOfClusterFile text.now) }
 {
     match read_cluster(alloc, text) {

@@ -1,66 +1,48 @@
-ghost use Rattle.std.specs.Prelude.{◌≡◌, ◌≤◌, ◌⊎◌, Err};
-ghost use Rattle.otp_core.specs.Range.{IsMoment};
+ghost use Rattle.std.specs.Prelude.{◌≡◌, ◌⊎◌, Err};
 ghost use Rattle.oathd_lines.specs.declared.fault.Fault.TheVariants.{CannotWrite};
 ghost use Rattle.oathd_lines.specs.Secret.{EndsWithText};
-ghost use Rattle.oathd_memory.specs.Nodes.{ClusterEndsSo, EndsAsAsked, LinesEndSo, SimEndsSo};
+ghost use Rattle.oathd_memory.specs.Nodes.{ClusterEndsSo, EndsAsAsked, IsSetupInRange, LinesEndSo, SimEndsSo, setup_value};
 ghost use Rattle.oathd_words.specs.Words.{IsInRange};
 
 use crate::check::check;
 use crate::fault::Fault;
-use crate::key::read_key;
+use crate::setup::{NodesSetup, nodes_setup};
 use command_line::flushed;
 use oathd_cluster::run_cluster;
 use oathd_lines::{print_secret, serve_lines};
 use oathd_sim::run_sim;
 use oathd_words::Task;
-use otp_core::Settings;
 use std::alloc::Global;
 use std::fs;
 use std::io::{Read, Write};
 use std::net::Net;
 use std::rt::Files;
 use token_file::MAX_FILE_LEN;
-use vote_wire::ClusterKey;
 
-/// Answers the lines of the input by a node under this key. The output holds back what it is given until it is flushed.
-/// That happens before more of the input is waited for, and at the end, whatever that is.
-fn answer_under<'a, R: Read, O: Write>(
+/// Answers the lines of the input by a node that is run with this. The output holds back what it is given until it is
+/// flushed. That happens before more of the input is waited for, and at the end, whatever that is.
+fn answer_lines<'a, R: Read, O: Write>(
     alloc: Global,
-    settings: Settings,
-    moment: u64,
-    key: &ClusterKey,
+    setup: &NodesSetup,
     reader: &mut R,
     held: &mut O,
 ) -> Result<(), Fault<'a>>
-    requires { IsMoment moment }
-    ensures ends { LinesEndSo settings moment (R.remaining reader.old) result
+    requires { IsSetupInRange (setup_value setup.now) }
+    ensures ends { LinesEndSo (setup_value setup.now) (R.remaining reader.old) result
         (O.contents held.old) (O.contents held.new) }
 {
-    let end = serve_lines(alloc, settings, moment, key, MAX_FILE_LEN, reader, held);
+    let end = serve_lines(
+        alloc,
+        setup.settings,
+        setup.moment,
+        &setup.key,
+        MAX_FILE_LEN,
+        reader,
+        held,
+    );
     match flushed(held, end) {
         Ok(()) => Ok(()),
         Err(fault) => Err(Fault::Run(fault)),
-    }
-}
-
-/// Answers the lines of the input by a node under the key of the file named, if any. The output holds back what it is
-/// given until it is flushed.
-fn answer_lines<'a, F: Files, R: Read, O: Write>(
-    alloc: Global,
-    files: &F,
-    settings: Settings,
-    moment: u64,
-    key: Option<&'a str>,
-    reader: &mut R,
-    held: &mut O,
-) -> Result<(), Fault<'a>>
-    requires { IsMoment moment }
-    ensures ends { LinesEndSo settings moment (R.remaining reader.old) result
-        (O.contents held.old) (O.contents held.new) }
-{
-    match read_key(alloc, files, key) {
-        Ok(key) => answer_under(alloc, settings, moment, &key, reader, held),
-        Err(fault) => Err(fault),
     }
 }
 
@@ -74,31 +56,24 @@ fn print<O: Write>(hex: &str, held: &mut O) -> Result<(), oathd_lines::Fault>
     flushed(held, end)
 }
 
-/// Runs the script of the input over so many nodes, under the key of the file named, if any. The output holds back
-/// what it is given until it is flushed.
-fn simulate<'a, F: Files, R: Read, O: Write>(
+/// Runs the script of the input over nodes that are run with this. The output holds back what it is given until it is
+/// flushed.
+fn simulate<'a, R: Read, O: Write>(
     alloc: Global,
-    files: &F,
-    nodes: u8,
-    settings: Settings,
-    moment: u64,
-    key: Option<&'a str>,
+    setup: &NodesSetup,
     reader: &mut R,
     held: &mut O,
 ) -> Result<(), Fault<'a>>
-    requires first { 1 ≤ nodes }
-    requires last { nodes ≤ 9 }
-    requires moment { IsMoment moment }
-    ensures ends { SimEndsSo nodes settings moment key.entry (R.remaining reader.old) result
+    requires { IsSetupInRange (setup_value setup.now) }
+    ensures ends { SimEndsSo (setup_value setup.now) (R.remaining reader.old) result
         (O.contents held.old) (O.contents held.new) }
 {
-    let key = read_key(alloc, files, key)?;
     let end = run_sim(
         alloc,
-        nodes,
-        settings,
-        moment,
-        &key,
+        setup.nodes,
+        setup.settings,
+        setup.moment,
+        &setup.key,
         MAX_FILE_LEN,
         reader,
         held,
@@ -109,35 +84,30 @@ fn simulate<'a, F: Files, R: Read, O: Write>(
     }
 }
 
-/// Runs a cluster of so many nodes over the users file at this path, under the key of the file named, if any, and sends
-/// it the lines of the input. The output holds back what it is given until it is flushed.
+/// Runs a cluster of nodes that are run with this, over the users file at this path, and sends it the lines of the
+/// input. The output holds back what it is given until it is flushed.
 fn run_nodes<'a, F: Files + Net, R: Read, O: Write>(
     alloc: Global,
     files: &F,
     users: &'a str,
-    nodes: u8,
-    settings: Settings,
-    moment: u64,
-    key: Option<&'a str>,
+    setup: &NodesSetup,
     reader: &mut R,
     held: &mut O,
 ) -> Result<(), Fault<'a>>
-    requires first { 1 ≤ nodes }
-    requires last { nodes ≤ 9 }
-    requires moment { IsMoment moment }
-    ensures ends { ClusterEndsSo nodes (R.remaining reader.old) result (O.contents held.old) (O.contents held.new) }
+    requires { IsSetupInRange (setup_value setup.now) }
+    ensures ends { ClusterEndsSo setup.now.nodes (R.remaining reader.old) result
+        (O.contents held.old) (O.contents held.new) }
 {
-    let key = read_key(alloc, files, key)?;
     let Ok(file) = fs::open(files, users) else {
         return Err(Fault::CannotReadFile(users));
     };
     let end = run_cluster(
         alloc,
         files,
-        nodes,
-        settings,
-        moment,
-        &key,
+        setup.nodes,
+        setup.settings,
+        setup.moment,
+        &setup.key,
         file,
         MAX_FILE_LEN,
         reader,
@@ -167,26 +137,22 @@ pub fn perform<'a, F: Files + Net, R: Read, O: Write>(
         (O.contents held.old) (O.contents held.new) }
 {
     match task {
-        Task::Lines {
-            settings,
-            moment,
-            key,
-        } => answer_lines(alloc, files, *settings, *moment, *key, reader, held),
-        Task::Sim {
-            nodes,
-            settings,
-            moment,
-            key,
-        } => simulate(alloc, files, *nodes, *settings, *moment, *key, reader, held),
+        Task::Lines { nodes, moment } => {
+            let setup = nodes_setup(alloc, files, nodes, *moment, cluster)?;
+            answer_lines(alloc, &setup, reader, held)
+        }
+        Task::Sim { nodes, moment } => {
+            let setup = nodes_setup(alloc, files, nodes, *moment, cluster)?;
+            simulate(alloc, &setup, reader, held)
+        }
         Task::Cluster {
             users,
             nodes,
-            settings,
             moment,
-            key,
-        } => run_nodes(
-            alloc, files, users, *nodes, *settings, *moment, *key, reader, held,
-        ),
+        } => {
+            let setup = nodes_setup(alloc, files, nodes, *moment, cluster)?;
+            run_nodes(alloc, files, users, &setup, reader, held)
+        }
         Task::Check { users, .. } => check(alloc, files, cluster, users, held),
         Task::Secret { hex } => match print(hex, held) {
             Ok(()) => Ok(()),

@@ -14,7 +14,7 @@ use std::rt::Files;
 use vote_wire::{ClusterKey, without_lf};
 
 /// The most bytes of a key file, of which the longest key has 128, and of a cluster file.
-const MAX_KEY_FILE_LEN: u32 = 65_536;
+pub(crate) const MAX_KEY_FILE_LEN: u32 = 65_536;
 
 /// The key that the text of a file says: hexadecimal digits, and at most one LF behind them.
 fn key_of(text: &[u8]) -> Result<ClusterKey, SecretFault>
@@ -31,11 +31,15 @@ fn key_of_zeros() -> ClusterKey
     ClusterKey::new(&[0; 32]).unwrap()
 }
 
-/// The text of a file, up to the first byte past so many.
-pub(crate) fn file_text<'a, F: Files>(
+/// The text of the file with this path, up to the first byte past so many.
+///
+/// # Errors
+/// `CannotReadFile` where it can't be opened or read, and `Run(Memory)`.
+pub fn file_text<'a, F: Files>(
     alloc: Global,
     files: &F,
     path: &'a str,
+    most: u32,
 ) -> Result<Vec<u8>, Fault<'a>>
     ensures fault { IfErr result IsOfKey }
 {
@@ -43,10 +47,7 @@ pub(crate) fn file_text<'a, F: Files>(
         return Err(Fault::CannotReadFile(path));
     };
     let mut text = Vec::new(alloc);
-    match file
-        .take(u64::from(MAX_KEY_FILE_LEN) + 1)
-        .read_to_end(&mut text)
-    {
+    match file.take(u64::from(most) + 1).read_to_end(&mut text) {
         Ok(_) => Ok(text),
         Err(error) if error.kind() == ErrorKind::OutOfMemory => {
             Err(Fault::Run(oathd_lines::Fault::Memory))
@@ -71,7 +72,7 @@ pub fn read_key<'a, F: Files>(
     let Some(path) = path else {
         return Ok(key_of_zeros());
     };
-    let text = file_text(alloc, files, path)?;
+    let text = file_text(alloc, files, path, MAX_KEY_FILE_LEN)?;
     if text.len() > MAX_KEY_FILE_LEN as usize {
         return Err(Fault::Run(oathd_lines::Fault::BadKey(SecretFault::TooLong)));
     }

@@ -9,8 +9,9 @@ mod cluster;
 mod commands;
 mod fault;
 mod key;
+mod setup;
 
 pub use cluster::{cluster_in, cluster_key, cluster_text, member_place};
 pub use commands::perform;
 pub use fault::Fault;
-pub use key::read_key;
+pub use key::{file_text, read_key};

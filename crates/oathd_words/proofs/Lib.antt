@@ -1,3 +1,5 @@
 mod MembersLemmas
+mod NodesLemmas
 mod ServeLemmas
 mod WordsLemmas
+pub mod FormerLemmas

@@ -10,7 +10,7 @@ use Rattle.oathd_words.specs.Members.{AreMembers, SayAddresses, parts_of}
 use Rattle.oathd_words.specs.Given.{GivesLimits, GivesMember}
 use Rattle.oathd_words.specs.StoreWords.{AsksForAction, AsksForCluster, GivesPlace, turns_given}
 use Rattle.oathd_words.specs.declared.store_words.Action.{Action}
-use Rattle.oathd_words.specs.declared.store_words.Action.TheVariants.{Init, Serve, Export, Audit, Migrate}
+use Rattle.oathd_words.specs.declared.store_words.Action.TheVariants.{Init, Remake, Serve, Export, Audit, Migrate, Floors, Level, Gates, Unlock}
 use Rattle.oathd_words.specs.declared.store_words.ClusterWords.{ClusterWords}
 use Rattle.oathd_words.specs.declared.store_words.ClusterWords.TheVariants.{Given, Named}
 use Rattle.oathd_words.proofs.MembersLemmas.{says_unique}
@@ -50,15 +50,25 @@ module _ (found : Found) where
   -- where nothing is said of a cluster, nothing is asked for
   pub no_cluster : ((cluster : ClusterWords) → AsksForCluster found cluster → ⊥) → (action : Action) → AsksForAction (codes "serve") found action → ⊥
   no_cluster none (Init node settings moment) asks = apart (codes "serve") _ _ asks.0 refl (lit< tt)
+  no_cluster none (Remake node settings moment former) asks = apart (codes "serve") _ _ asks.0 refl (lit< tt)
   no_cluster none (Serve cluster turns is_logged) asks = none cluster asks.1
   no_cluster none Export asks = apart (codes "serve") _ _ asks refl (lit< tt)
   no_cluster none (Audit node) asks = apart (codes "serve") _ _ asks.0 refl (lit< tt)
   no_cluster none (Migrate node) asks = apart (codes "serve") _ _ asks.0 refl (lit< tt)
+  no_cluster none (Floors node count) asks = apart (codes "serve") _ _ asks.0 refl (lit< tt)
+  no_cluster none (Level node floors) asks = apart (codes "serve") _ _ asks.0 refl (lit< tt)
+  no_cluster none (Gates node) asks = apart (codes "serve") _ _ asks.0 refl (lit< tt)
+  no_cluster none (Unlock node user) asks = apart (codes "serve") _ _ refl asks.0 (lit< tt)
 
   -- where the turns are none
   pub no_turns : turns_given found ≡ None → (action : Action) → AsksForAction (codes "serve") found action → ⊥
   no_turns none (Init node settings moment) asks = apart (codes "serve") _ _ asks.0 refl (lit< tt)
+  no_turns none (Remake node settings moment former) asks = apart (codes "serve") _ _ asks.0 refl (lit< tt)
   no_turns none (Serve cluster turns is_logged) asks = let clash = sym none ∙ asks.2 in absurd cc
   no_turns none Export asks = apart (codes "serve") _ _ asks refl (lit< tt)
   no_turns none (Audit node) asks = apart (codes "serve") _ _ asks.0 refl (lit< tt)
   no_turns none (Migrate node) asks = apart (codes "serve") _ _ asks.0 refl (lit< tt)
+  no_turns none (Floors node count) asks = apart (codes "serve") _ _ asks.0 refl (lit< tt)
+  no_turns none (Level node floors) asks = apart (codes "serve") _ _ asks.0 refl (lit< tt)
+  no_turns none (Gates node) asks = apart (codes "serve") _ _ asks.0 refl (lit< tt)
+  no_turns none (Unlock node user) asks = apart (codes "serve") _ _ refl asks.0 (lit< tt)

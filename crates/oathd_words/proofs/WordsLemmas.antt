@@ -1,13 +1,18 @@
 -- What the words of a command don't ask for.
-use Rattle.std.proofs.Common.{◌≡◌, ℕ, ◌+◌, ◌*◌, ◌<◌, List, Option, Some, None, length, slice_index, sym, ap, ◌∙◌, lit<, arith}
+use Rattle.std.proofs.Common.{◌≡◌, ℕ, ◌+◌, ◌*◌, ◌<◌, Bool, true, false, List, [], ◌∷◌, Option, Some, None, length, slice_index, refl, sym, ap, ◌∙◌, lit<, arith}
 use Rattle.std.specs.Prelude.{IfNone, codes}
+use Rattle.std.specs.List.{list_any}
+use Rattle.std.specs.Str.{bytes_eq}
+use Rattle.std.proofs.lemmas.Bool.{false≢true}
 use Rattle.clap.specs.Matches.{first_value}
 use Rattle.clap.specs.declared.parser.matches.Found.{Found}
-use Rattle.otp_core.specs.Limits.{Limits}
-use Rattle.oathd_words.specs.StoreWords.{AsksForStore}
-use Rattle.oathd_words.specs.Words.{AsksForNothing, AsksForNodes, AsksToCheck, GivesNumbers}
+use Rattle.oathd_words.specs.Given.{GivesMember}
+use Rattle.oathd_words.specs.NodesWords.{AsksForNodes}
+use Rattle.oathd_words.specs.StoreWords.{AsksForAction, AsksForStore, GivesMoment}
+use Rattle.oathd_words.specs.Words.{AsksForNothing, AsksToCheck}
+use Rattle.oathd_words.specs.declared.nodes_words.NodesWords.{NodesWords}
 use Rattle.oathd_words.specs.declared.store_words.Action.{Action}
-use Rattle.oathd_words.specs.declared.store_words.Action.TheVariants.{Init, Serve, Export, Audit, Migrate}
+use Rattle.oathd_words.specs.declared.store_words.Action.TheVariants.{Init, Remake, Serve, Export, Audit, Migrate, Floors, Level, Gates, Unlock}
 use Rattle.oathd_words.specs.declared.words.Task.TheVariants.{Lines, Sim, Cluster, Store, Check, Secret}
 
 -- a number that tells the names of the commands apart
@@ -19,85 +24,130 @@ pub apart : (name a b : List ℕ) → name ≡ a → name ≡ b → mark a < mar
 apart name a b p q below =
     let same : mark a ≡ mark b = ap mark (sym p ∙ q) in omega (arith, same, below)
 
--- ---- The names in order of their marks: audit, check, cluster, export, init, lines, migrate, sim, serve, secret
+-- ---- The names of the commands over a database
+
+-- the name of the command that does this with a store
+abbrev action_name : Action → List ℕ
+action_name (Init node import moment) = codes "init"
+action_name (Remake node import moment former) = codes "init"
+action_name (Serve cluster turns is_logged) = codes "serve"
+action_name Export = codes "export"
+action_name (Audit node) = codes "audit"
+action_name (Migrate node) = codes "migrate"
+action_name (Floors node count) = codes "floors"
+action_name (Level node floors) = codes "level"
+action_name (Gates node) = codes "gates"
+action_name (Unlock node user) = codes "unlock"
+
+abbrev is_store_name : List ℕ → Bool
+is_store_name name = list_any (bytes_eq name) (codes "init" ∷ codes "serve" ∷ codes "export" ∷ codes "audit" ∷ codes "migrate" ∷ codes "floors"
+    ∷ codes "level" ∷ codes "gates" ∷ codes "unlock" ∷ [])
+
+store_named : (action : Action) → is_store_name (action_name action) ≡ true
+store_named (Init node import moment) = refl
+store_named (Remake node import moment former) = refl
+store_named (Serve cluster turns is_logged) = refl
+store_named Export = refl
+store_named (Audit node) = refl
+store_named (Migrate node) = refl
+store_named (Floors node count) = refl
+store_named (Level node floors) = refl
+store_named (Gates node) = refl
+store_named (Unlock node user) = refl
+
+-- an action is asked for by its command
+pub named_so : (name : List ℕ) (found : Found) (action : Action) → AsksForAction name found action → name ≡ action_name action
+named_so name found (Init node import moment) asks = asks.0
+named_so name found (Remake node import moment former) asks = asks.0
+named_so name found (Serve cluster turns is_logged) asks = asks.0
+named_so name found Export asks = asks
+named_so name found (Audit node) asks = asks.0
+named_so name found (Migrate node) asks = asks.0
+named_so name found (Floors node count) asks = asks.0
+named_so name found (Level node floors) asks = asks.0
+named_so name found (Gates node) asks = asks.0
+named_so name found (Unlock node user) asks = asks.0
+
+-- a command with another name asks for none
+no_store : (name other : List ℕ) (found : Found) → name ≡ other → is_store_name other ≡ false → (action : Action) → AsksForAction name found action → ⊥
+no_store name other found is others action asks =
+    false≢true (sym others ∙ ap is_store_name (sym is ∙ named_so name found action asks) ∙ store_named action)
+
+-- ---- The other names in order of their marks: check, cluster, lines, sim, secret
 
 module _ (name : List ℕ) (found : Found) where
-  pub not_for_lines : name ≡ codes "lines" → ((limits : Limits) (moment : ℕ) → GivesNumbers found limits moment → ⊥) → AsksForNothing name found
-  not_for_lines is none (Lines settings moment key) asks = none _ _ asks.1
+  pub not_for_lines : name ≡ codes "lines"
+      → ((nodes : NodesWords) (moment : ℕ) → AsksForNodes (λ n. n ≡ 1) found nodes → GivesMoment found (Some moment) → ⊥)
+      → AsksForNothing name found
+  not_for_lines is none (Lines nodes moment) asks = none nodes moment asks.1 asks.2
   not_for_lines is none (Secret hex) asks = apart name _ _ is asks.0 (lit< tt)
   not_for_lines is none (Check users cluster) asks = apart name _ _ asks.0 is (lit< tt)
-  not_for_lines is none (Sim nodes settings moment key) asks = apart name _ _ is asks.0 (lit< tt)
-  not_for_lines is none (Cluster users nodes settings moment key) asks = apart name _ _ asks.0 is (lit< tt)
-  not_for_lines is none (Store database users (Init node settings moment)) asks = apart name _ _ asks.2.0 is (lit< tt)
-  not_for_lines is none (Store database users (Serve cluster turns is_logged)) asks = apart name _ _ is asks.2.0 (lit< tt)
-  not_for_lines is none (Store database users Export) asks = apart name _ _ asks.2 is (lit< tt)
-  not_for_lines is none (Store database users (Audit node)) asks = apart name _ _ asks.2.0 is (lit< tt)
-  not_for_lines is none (Store database users (Migrate node)) asks = apart name _ _ is asks.2.0 (lit< tt)
+  not_for_lines is none (Sim nodes moment) asks = apart name _ _ is asks.0 (lit< tt)
+  not_for_lines is none (Cluster users nodes moment) asks = apart name _ _ asks.0 is (lit< tt)
+  not_for_lines is none (Store database users action) asks = no_store name (codes "lines") found is refl action asks.2
 
   pub not_for_sim : name ≡ codes "sim"
-      → ((nodes : ℕ) (limits : Limits) (moment : ℕ) (key : Option (List ℕ)) → AsksForNodes found nodes limits moment key → ⊥)
+      → ((nodes : NodesWords) (moment : ℕ) → AsksForNodes (GivesMember found (codes "N")) found nodes → GivesMoment found (Some moment) → ⊥)
       → AsksForNothing name found
-  not_for_sim is none (Lines settings moment key) asks = apart name _ _ asks.0 is (lit< tt)
+  not_for_sim is none (Lines nodes moment) asks = apart name _ _ asks.0 is (lit< tt)
   not_for_sim is none (Secret hex) asks = apart name _ _ is asks.0 (lit< tt)
   not_for_sim is none (Check users cluster) asks = apart name _ _ asks.0 is (lit< tt)
-  not_for_sim is none (Sim nodes settings moment key) asks = none _ _ _ _ asks.1
-  not_for_sim is none (Cluster users nodes settings moment key) asks = apart name _ _ asks.0 is (lit< tt)
-  not_for_sim is none (Store database users (Init node settings moment)) asks = apart name _ _ asks.2.0 is (lit< tt)
-  not_for_sim is none (Store database users (Serve cluster turns is_logged)) asks = apart name _ _ is asks.2.0 (lit< tt)
-  not_for_sim is none (Store database users Export) asks = apart name _ _ asks.2 is (lit< tt)
-  not_for_sim is none (Store database users (Audit node)) asks = apart name _ _ asks.2.0 is (lit< tt)
-  not_for_sim is none (Store database users (Migrate node)) asks = apart name _ _ asks.2.0 is (lit< tt)
+  not_for_sim is none (Sim nodes moment) asks = none nodes moment asks.1 asks.2
+  not_for_sim is none (Cluster users nodes moment) asks = apart name _ _ asks.0 is (lit< tt)
+  not_for_sim is none (Store database users action) asks = no_store name (codes "sim") found is refl action asks.2
 
   pub not_for_cluster : name ≡ codes "cluster"
-      → ((users : List ℕ) (nodes : ℕ) (limits : Limits) (moment : ℕ) (key : Option (List ℕ)) → first_value found (codes "USERS") ≡ Some users
-      → AsksForNodes found nodes limits moment key → ⊥)
+      → ((users : List ℕ) (nodes : NodesWords) (moment : ℕ) → first_value found (codes "USERS") ≡ Some users
+      → AsksForNodes (GivesMember found (codes "N")) found nodes → GivesMoment found (Some moment) → ⊥)
       → AsksForNothing name found
-  not_for_cluster is none (Lines settings moment key) asks = apart name _ _ is asks.0 (lit< tt)
+  not_for_cluster is none (Lines nodes moment) asks = apart name _ _ is asks.0 (lit< tt)
   not_for_cluster is none (Secret hex) asks = apart name _ _ is asks.0 (lit< tt)
   not_for_cluster is none (Check users cluster) asks = apart name _ _ asks.0 is (lit< tt)
-  not_for_cluster is none (Sim nodes settings moment key) asks = apart name _ _ is asks.0 (lit< tt)
-  not_for_cluster is none (Cluster users nodes settings moment key) asks = none _ _ _ _ _ asks.1 asks.2
-  not_for_cluster is none (Store database users (Init node settings moment)) asks = apart name _ _ is asks.2.0 (lit< tt)
-  not_for_cluster is none (Store database users (Serve cluster turns is_logged)) asks = apart name _ _ is asks.2.0 (lit< tt)
-  not_for_cluster is none (Store database users Export) asks = apart name _ _ is asks.2 (lit< tt)
-  not_for_cluster is none (Store database users (Audit node)) asks = apart name _ _ asks.2.0 is (lit< tt)
-  not_for_cluster is none (Store database users (Migrate node)) asks = apart name _ _ is asks.2.0 (lit< tt)
+  not_for_cluster is none (Sim nodes moment) asks = apart name _ _ is asks.0 (lit< tt)
+  not_for_cluster is none (Cluster users nodes moment) asks = none users.now nodes moment asks.1 asks.2 asks.3
+  not_for_cluster is none (Store database users action) asks = no_store name (codes "cluster") found is refl action asks.2
 
   pub not_for_secret : name ≡ codes "secret" → first_value found (codes "HEX") ≡ None → AsksForNothing name found
-  not_for_secret is none (Lines settings moment key) asks = apart name _ _ asks.0 is (lit< tt)
+  not_for_secret is none (Lines nodes moment) asks = apart name _ _ asks.0 is (lit< tt)
   not_for_secret is none (Secret hex) asks = let clash = sym none ∙ asks.1 in cc
   not_for_secret is none (Check users cluster) asks = apart name _ _ asks.0 is (lit< tt)
-  not_for_secret is none (Sim nodes settings moment key) asks = apart name _ _ asks.0 is (lit< tt)
-  not_for_secret is none (Cluster users nodes settings moment key) asks = apart name _ _ asks.0 is (lit< tt)
-  not_for_secret is none (Store database users (Init node settings moment)) asks = apart name _ _ asks.2.0 is (lit< tt)
-  not_for_secret is none (Store database users (Serve cluster turns is_logged)) asks = apart name _ _ asks.2.0 is (lit< tt)
-  not_for_secret is none (Store database users Export) asks = apart name _ _ asks.2 is (lit< tt)
-  not_for_secret is none (Store database users (Audit node)) asks = apart name _ _ asks.2.0 is (lit< tt)
-  not_for_secret is none (Store database users (Migrate node)) asks = apart name _ _ asks.2.0 is (lit< tt)
+  not_for_secret is none (Sim nodes moment) asks = apart name _ _ asks.0 is (lit< tt)
+  not_for_secret is none (Cluster users nodes moment) asks = apart name _ _ asks.0 is (lit< tt)
+  not_for_secret is none (Store database users action) asks = no_store name (codes "secret") found is refl action asks.2
 
   pub not_for_check : name ≡ codes "check" → ((users cluster : List ℕ) → AsksToCheck found users cluster → ⊥) → AsksForNothing name found
-  not_for_check is none (Lines settings moment key) asks = apart name _ _ is asks.0 (lit< tt)
+  not_for_check is none (Lines nodes moment) asks = apart name _ _ is asks.0 (lit< tt)
   not_for_check is none (Secret hex) asks = apart name _ _ is asks.0 (lit< tt)
   not_for_check is none (Check users cluster) asks = none _ _ asks.1
-  not_for_check is none (Sim nodes settings moment key) asks = apart name _ _ is asks.0 (lit< tt)
-  not_for_check is none (Cluster users nodes settings moment key) asks = apart name _ _ is asks.0 (lit< tt)
-  not_for_check is none (Store database users (Init node settings moment)) asks = apart name _ _ is asks.2.0 (lit< tt)
-  not_for_check is none (Store database users (Serve cluster turns is_logged)) asks = apart name _ _ is asks.2.0 (lit< tt)
-  not_for_check is none (Store database users Export) asks = apart name _ _ is asks.2 (lit< tt)
-  not_for_check is none (Store database users (Audit node)) asks = apart name _ _ asks.2.0 is (lit< tt)
-  not_for_check is none (Store database users (Migrate node)) asks = apart name _ _ is asks.2.0 (lit< tt)
+  not_for_check is none (Sim nodes moment) asks = apart name _ _ is asks.0 (lit< tt)
+  not_for_check is none (Cluster users nodes moment) asks = apart name _ _ is asks.0 (lit< tt)
+  not_for_check is none (Store database users action) asks = no_store name (codes "check") found is refl action asks.2
 
   -- a name of no other command
   pub not_for_store : (name ≡ codes "lines" → ⊥) → (name ≡ codes "sim" → ⊥) → (name ≡ codes "cluster" → ⊥) → (name ≡ codes "check" → ⊥)
       → (name ≡ codes "secret" → ⊥)
       → ((database users : List ℕ) (action : Action) → AsksForStore name found database users action → ⊥)
       → AsksForNothing name found
-  not_for_store lines sim cluster check secret none (Lines settings moment key) asks = lines asks.0
+  not_for_store lines sim cluster check secret none (Lines nodes moment) asks = lines asks.0
   not_for_store lines sim cluster check secret none (Secret hex) asks = secret asks.0
   not_for_store lines sim cluster check secret none (Check users file) asks = check asks.0
-  not_for_store lines sim cluster check secret none (Sim nodes settings moment key) asks = sim asks.0
-  not_for_store lines sim cluster check secret none (Cluster users nodes settings moment key) asks = cluster asks.0
+  not_for_store lines sim cluster check secret none (Sim nodes moment) asks = sim asks.0
+  not_for_store lines sim cluster check secret none (Cluster users nodes moment) asks = cluster asks.0
   not_for_store lines sim cluster check secret none (Store database users action) asks = none _ _ _ asks
+
+-- without a node's number nothing is asked for by `init`
+pub no_init_node : (found : Found) → ((number : ℕ) → GivesMember found (codes "node") number → ⊥) → (action : Action)
+    → AsksForAction (codes "init") found action → ⊥
+no_init_node found none (Init node import moment) asks = none node asks.2
+no_init_node found none (Remake node import moment former) asks = none node asks.2
+no_init_node found none (Serve cluster turns is_logged) asks = apart (codes "init") _ _ refl asks.0 (lit< tt)
+no_init_node found none Export asks = apart (codes "init") _ _ asks refl (lit< tt)
+no_init_node found none (Audit node) asks = apart (codes "init") _ _ asks.0 refl (lit< tt)
+no_init_node found none (Migrate node) asks = apart (codes "init") _ _ refl asks.0 (lit< tt)
+no_init_node found none (Floors node count) asks = apart (codes "init") _ _ asks.0 refl (lit< tt)
+no_init_node found none (Level node floors) asks = apart (codes "init") _ _ refl asks.0 (lit< tt)
+no_init_node found none (Gates node) asks = apart (codes "init") _ _ asks.0 refl (lit< tt)
+no_init_node found none (Unlock node user) asks = apart (codes "init") _ _ refl asks.0 (lit< tt)
 
 -- where there is no result, something is so that follows from what is so there
 pub none_then : {A : Type 0} (result : Option A) (P Q : Type 0) → IfNone result P → (P → Q) → IfNone result Q

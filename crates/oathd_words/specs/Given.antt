@@ -1,5 +1,6 @@
--- Numbers that several commands are given.
-use Rattle.std.specs.Prelude.{◌≡◌, ◌≤◌, ℕ, List, Some, codes}
+-- Numbers and flags that several commands are given.
+use Rattle.std.specs.Prelude.{◌≡◌, ◌≤◌, ℕ, Bool, false, List, Option, None, Some, codes}
+use Rattle.std.specs.Str.{bytes_eq}
 use Rattle.clap.specs.declared.parser.matches.Found.{Found}
 use Rattle.command_line.specs.Number.{number_at}
 use Rattle.otp_core.specs.Limits.{Limits, AreLimits}
@@ -17,3 +18,8 @@ pub record GivesMember (found : Found) (name : List ℕ) (number : ℕ) : Type 0
   pub given : number_at found name ≡ Some number
   pub first : 1 ≤ number
   pub last : number ≤ 9
+
+-- whether a flag is given, by the value that clap has for it
+abbrev pub is_flag : Option (List ℕ) → Bool
+is_flag None = false
+is_flag (Some text) = bytes_eq text (codes "true")

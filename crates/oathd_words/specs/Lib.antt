@@ -1,4 +1,6 @@
+pub mod FormerWords
 pub mod Given
 pub mod Members
+pub mod NodesWords
 pub mod StoreWords
 pub mod Words

@@ -1,6 +1,5 @@
 -- What the words of the commands over a database ask for, by the values that clap found.
-use Rattle.std.specs.Prelude.{◌≡◌, ◌<◌, ◌≤◌, ◌^◌, ◌-◌, ℕ, nat_lt, Bool, false, if◌then◌else◌, List, length, Option, Some, None, codes}
-use Rattle.std.specs.Str.{bytes_eq}
+use Rattle.std.specs.Prelude.{◌≡◌, ◌<◌, ◌≤◌, ◌^◌, ◌-◌, ℕ, nat_lt, false, true, if◌then◌else◌, List, length, map, Option, Some, None, codes}
 use Rattle.clap.specs.Matches.{first_value}
 use Rattle.clap.specs.declared.parser.matches.Found.{Found}
 use Rattle.command_line.specs.Number.{number_at}
@@ -9,24 +8,27 @@ use Rattle.otp_core.specs.Range.{IsMoment}
 use Rattle.std.specs.declared.net.socket_addr.SocketAddrV4.{SocketAddrV4}
 use Rattle.vote_core.specs.NodeSet.{PlaceRecord}
 use Rattle.vote_core.specs.State.{IsPlace}
-use Rattle.oathd_words.specs.Given.{GivesLimits, GivesMember}
+use Rattle.oathd_words.specs.FormerWords.{AsksForCount, former_given, former_value, is_of_former, values_given}
+use Rattle.oathd_words.specs.Given.{GivesLimits, GivesMember, is_flag}
 use Rattle.oathd_words.specs.Members.{AreMembers}
 use Rattle.oathd_words.specs.declared.store_words.Action.{Action}
 use Rattle.oathd_words.specs.declared.store_words.ClusterWords.{ClusterWords}
 use Rattle.oathd_words.specs.declared.store_words.ClusterWords.TheVariants.{Given, Named}
 use Rattle.oathd_words.specs.declared.store_words.ImportWords.{ImportWords}
 use Rattle.oathd_words.specs.declared.store_words.ImportWords.TheVariants as imports
-use Rattle.oathd_words.specs.declared.store_words.Action.TheVariants.{Init, Serve, Export, Audit, Migrate}
+use Rattle.oathd_words.specs.declared.store_words.Action.TheVariants.{Init, Remake, Serve, Export, Audit, Migrate, Floors, Level, Gates, Unlock}
 
 -- a moment in its range is given, or none is
 abbrev pub GivesMoment : Found → Option ℕ → Type 0
 GivesMoment found None = first_value found (codes "moment") ≡ None
 GivesMoment found (Some moment) = (number_at found (codes "moment") ≡ Some moment) × IsMoment moment
 
--- the skew of an import is given, and in its range; the other limits, which no import looks at, are the usual ones
+-- The skew and the drift of an import are given, and in their ranges. The other limits, which no import looks at, are
+-- the usual ones.
 pub record GivesImport (found : Found) (limits : Limits) : Type 0 where
   pub skew_given : number_at found (codes "skew") ≡ Some limits.skew
-  pub usual : limits ≡ limits_of 10 limits.skew 100
+  pub drift_given : number_at found (codes "drift") ≡ Some limits.drift
+  pub usual : limits ≡ record (limits_of 10 limits.skew 100) { drift = limits.drift }
   pub in_range : AreLimits limits
 
 -- the settings of an import are given, where no cluster file is named, or the cluster file at this path says them
@@ -34,11 +36,6 @@ abbrev pub AsksForImport : Found → ImportWords → Type 0
 AsksForImport found (imports.Given settings) =
     (first_value found (codes "cluster") ≡ None) × GivesImport found settings
 AsksForImport found (imports.Named path) = first_value found (codes "cluster") ≡ Some path.now
-
--- whether a flag is given, by the value that clap has for it
-abbrev pub is_flag : Option (List ℕ) → Bool
-is_flag None = false
-is_flag (Some text) = bytes_eq text (codes "true")
 
 -- a number of turns below 2^32
 abbrev pub few_turns : Option ℕ → Option ℕ
@@ -78,14 +75,26 @@ AsksForCluster found (Named node path) =
 -- the command with this name, and these values, ask for this with a store
 abbrev pub AsksForAction : List ℕ → Found → Action → Type 0
 AsksForAction name found (Init node import moment) =
-    (name ≡ codes "init") × GivesMember found (codes "node") node × AsksForImport found import
-    × GivesMoment found moment
+    (name ≡ codes "init") × (is_of_former found ≡ false) × GivesMember found (codes "node") node
+    × AsksForImport found import × GivesMoment found moment
+AsksForAction name found (Remake node import moment former) =
+    (name ≡ codes "init") × (is_of_former found ≡ true) × GivesMember found (codes "node") node
+    × AsksForImport found import × GivesMoment found moment × (former_given found ≡ Some (former_value former))
 AsksForAction name found (Serve cluster turns is_logged) =
     (name ≡ codes "serve") × AsksForCluster found cluster × (turns_given found ≡ Some turns)
     × (is_logged ≡ is_flag (first_value found (codes "log")))
 AsksForAction name found Export = name ≡ codes "export"
 AsksForAction name found (Audit node) = (name ≡ codes "audit") × GivesMember found (codes "node") node
 AsksForAction name found (Migrate node) = (name ≡ codes "migrate") × GivesMember found (codes "node") node
+AsksForAction name found (Floors node count) =
+    (name ≡ codes "floors") × GivesMember found (codes "node") node × AsksForCount found node count
+AsksForAction name found (Level node floors) =
+    (name ≡ codes "level") × GivesMember found (codes "node") node
+    × (values_given found (codes "floors") ≡ Some (map (λ path. path.now) floors.items))
+AsksForAction name found (Gates node) = (name ≡ codes "gates") × GivesMember found (codes "node") node
+AsksForAction name found (Unlock node user) =
+    (name ≡ codes "unlock") × GivesMember found (codes "node") node
+    × (first_value found (codes "USER") ≡ Some user.now)
 
 -- the same, over the store of this database and with this users file
 abbrev pub AsksForStore : List ℕ → Found → List ℕ → List ℕ → Action → Type 0
@@ -102,7 +111,13 @@ IsClusterInRange (Named node path) = (1 ≤ node) × (node ≤ 9)
 abbrev pub IsActionInRange : Action → Type 0
 IsActionInRange (Init node import None) = (1 ≤ node) × (node ≤ 9)
 IsActionInRange (Init node import (Some moment)) = (1 ≤ node) × (node ≤ 9) × IsMoment moment
+IsActionInRange (Remake node import None former) = (1 ≤ node) × (node ≤ 9)
+IsActionInRange (Remake node import (Some moment) former) = (1 ≤ node) × (node ≤ 9) × IsMoment moment
 IsActionInRange (Serve cluster turns is_logged) = IsClusterInRange cluster × (turns < 2 ^ 54)
 IsActionInRange Export = Unit {0}
 IsActionInRange (Audit node) = (1 ≤ node) × (node ≤ 9)
 IsActionInRange (Migrate node) = (1 ≤ node) × (node ≤ 9)
+IsActionInRange (Floors node count) = (1 ≤ node) × (node ≤ 9)
+IsActionInRange (Level node floors) = (1 ≤ node) × (node ≤ 9)
+IsActionInRange (Gates node) = (1 ≤ node) × (node ≤ 9)
+IsActionInRange (Unlock node user) = (1 ≤ node) × (node ≤ 9)

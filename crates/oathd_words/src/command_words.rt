@@ -1,14 +1,17 @@
 //! The commands of `oathd`, as clap is told of them.
 
 use crate::help::{
-    AUDIT_HELP, CHECK_HELP, CLUSTER_HELP, EXPORT_HELP, INIT_HELP, LINES_HELP, MIGRATE_HELP,
-    PROGRAM_HELP, SECRET_HELP, SERVE_HELP, SERVE_USAGE, SIM_HELP, VERSION_HELP,
+    AUDIT_HELP, CHECK_HELP, CLUSTER_HELP, EXPORT_HELP, FLOORS_HELP, GATES_HELP, INIT_HELP,
+    LEVEL_HELP, LINES_HELP, MIGRATE_HELP, PROGRAM_HELP, SECRET_HELP, SERVE_HELP, SERVE_USAGE,
+    SIM_HELP, UNLOCK_HELP, VERSION_HELP,
 };
 use crate::option_words::{
-    CHECKED_CLUSTER, CLOCK_MOMENT, CLUSTER, DATABASE, DRIFT, FOREVER, HEX, IMPORT_CLUSTER, KEY,
-    KEY_OR_ZEROS, LOG, LOOK_AHEAD, MEMBERS, MOMENT, NODE, NODE_COUNT, RANGE, SKEW, TURNS, USERS,
-    Word,
+    ANEW, CHECKED_CLUSTER, CLOCK_MOMENT, CLUSTER, COUNT_CLUSTER, DATABASE, DRIFT, FLOORS, FOREVER,
+    FORMER_FLOORS, HEX, IMPORT_CLUSTER, IMPORT_DRIFT, KEY, KEY_OR_ZEROS, LOG, LOOK_AHEAD, LOST,
+    MEMBER_COUNT, MEMBERS, MOMENT, NODE, NODE_CLUSTER, NODE_COUNT, NODES_CLUSTER, RANGE, SINCE,
+    SINCE_NUMBER, SKEW, TURNS, USER, USERS, Word,
 };
+use crate::store_words::is_given;
 use clap::error::ErrorKind;
 use clap::{ArgMatches, Command, Error};
 use command_line::{NumberOption, VERSION, first_out_of_range, number_error};
@@ -36,7 +39,7 @@ pub(crate) struct CommandWords {
 pub(crate) const VERSION_COMMAND: &str = "version";
 
 /// The commands, in the order of the help. Behind them stands clap's own command `help`.
-pub(crate) const COMMANDS: [CommandWords; 11] = [
+pub(crate) const COMMANDS: [CommandWords; 15] = [
     CommandWords {
         word: "lines",
         whole: "oathd lines",
@@ -45,6 +48,7 @@ pub(crate) const COMMANDS: [CommandWords; 11] = [
         after_help: LINES_HELP,
         next_line_help: true,
         words: &[
+            Word::Text(NODE_CLUSTER),
             Word::Number(LOOK_AHEAD),
             Word::Number(SKEW),
             Word::Number(RANGE),
@@ -63,6 +67,7 @@ pub(crate) const COMMANDS: [CommandWords; 11] = [
         next_line_help: true,
         words: &[
             Word::Text(NODE_COUNT),
+            Word::Text(NODES_CLUSTER),
             Word::Number(LOOK_AHEAD),
             Word::Number(SKEW),
             Word::Number(RANGE),
@@ -82,6 +87,7 @@ pub(crate) const COMMANDS: [CommandWords; 11] = [
         words: &[
             Word::Text(USERS),
             Word::Text(NODE_COUNT),
+            Word::Text(NODES_CLUSTER),
             Word::Number(LOOK_AHEAD),
             Word::Number(SKEW),
             Word::Number(RANGE),
@@ -104,9 +110,14 @@ pub(crate) const COMMANDS: [CommandWords; 11] = [
             Word::Text(NODE),
             Word::Text(IMPORT_CLUSTER),
             Word::Number(SKEW),
+            Word::Number(IMPORT_DRIFT),
             Word::Text(CLOCK_MOMENT),
+            Word::List(LOST),
+            Word::Flag(ANEW),
+            Word::List(FORMER_FLOORS),
+            Word::Text(SINCE),
         ],
-        numbers: &[SKEW, MOMENT],
+        numbers: &[SKEW, IMPORT_DRIFT, MOMENT],
     },
     CommandWords {
         word: "serve",
@@ -160,6 +171,62 @@ pub(crate) const COMMANDS: [CommandWords; 11] = [
         after_help: MIGRATE_HELP,
         next_line_help: true,
         words: &[Word::Text(DATABASE), Word::Text(USERS), Word::Text(NODE)],
+        numbers: &[],
+    },
+    CommandWords {
+        word: "floors",
+        whole: "oathd floors",
+        about: "Prints the first free factors of a node, for other nodes",
+        usage: None,
+        after_help: FLOORS_HELP,
+        next_line_help: true,
+        words: &[
+            Word::Text(DATABASE),
+            Word::Text(USERS),
+            Word::Text(NODE),
+            Word::Text(MEMBER_COUNT),
+            Word::Text(COUNT_CLUSTER),
+        ],
+        numbers: &[],
+    },
+    CommandWords {
+        word: "level",
+        whole: "oathd level",
+        about: "Raises the first free factors of a node to those of other nodes",
+        usage: None,
+        after_help: LEVEL_HELP,
+        next_line_help: true,
+        words: &[
+            Word::Text(DATABASE),
+            Word::Text(USERS),
+            Word::Text(NODE),
+            Word::List(FLOORS),
+        ],
+        numbers: &[],
+    },
+    CommandWords {
+        word: "gates",
+        whole: "oathd gates",
+        about: "Prints the failures that a node counts",
+        usage: None,
+        after_help: GATES_HELP,
+        next_line_help: true,
+        words: &[Word::Text(DATABASE), Word::Text(USERS), Word::Text(NODE)],
+        numbers: &[],
+    },
+    CommandWords {
+        word: "unlock",
+        whole: "oathd unlock",
+        about: "Forgets the failures of a user at a node",
+        usage: None,
+        after_help: UNLOCK_HELP,
+        next_line_help: true,
+        words: &[
+            Word::Text(DATABASE),
+            Word::Text(USERS),
+            Word::Text(NODE),
+            Word::Text(USER),
+        ],
         numbers: &[],
     },
     CommandWords {
@@ -264,8 +331,8 @@ fn find_command<'c>(commands: &'c [CommandWords], name: &str) -> Option<&'c Comm
     None
 }
 
-/// The error that says what the members have to be.
-fn members_error(
+/// The error that says what the addresses of the members have to be.
+fn addresses_error(
     alloc: Global,
     usage: &mut Command<'_>,
     members: &str,
@@ -277,8 +344,47 @@ fn members_error(
     usage.error(ErrorKind::ValueValidation, text.as_str())
 }
 
+/// The error that says how many members there have to be.
+fn count_error(alloc: Global, usage: &mut Command<'_>, members: &str) -> Result<Error, AllocError> {
+    let text = format!(in alloc;
+        "invalid value '{members}' for '--members <N>': the node is one of N"
+    )?;
+    usage.error(ErrorKind::ValueValidation, text.as_str())
+}
+
+/// The error that says what floors files stand beside.
+fn floors_error(usage: &mut Command<'_>) -> Result<Error, AllocError> {
+    usage.error(
+        ErrorKind::MissingRequiredArgument,
+        "'--floors <FILE>' stands beside '--lost <K,..>' or '--anew'",
+    )
+}
+
+/// Whether floors files are named, and nothing says for whom.
+fn are_floors_alone(matches: &ArgMatches<'_>) -> bool {
+    matches.contains_id("floors") && !matches.contains_id("lost") && !is_given(matches, "anew")
+}
+
+/// The error for values of a command that asks for its numbers.
+fn number_or_floors_error(
+    alloc: Global,
+    usage: &mut Command<'_>,
+    numbers: &[NumberOption],
+    matches: &ArgMatches<'_>,
+) -> Result<Error, AllocError> {
+    let since = &[SINCE_NUMBER];
+    if matches.contains_id("since") && first_out_of_range(matches, since).is_some() {
+        return number_error(alloc, usage, matches, since);
+    }
+    if are_floors_alone(matches) {
+        return floors_error(usage);
+    }
+    number_error(alloc, usage, matches, numbers)
+}
+
 /// The error that names the first of some numbers that is out of its range or not in digits alone, with that range, or
-/// else the members.
+/// else the members, or what floors files stand beside. A command without numbers is told how many members there are,
+/// and one with numbers their addresses.
 fn error_of(
     alloc: Global,
     usage: &mut Command<'_>,
@@ -286,10 +392,11 @@ fn error_of(
     matches: &ArgMatches<'_>,
 ) -> Result<Error, AllocError> {
     match matches.get_str("members") {
+        Some(count) if numbers.is_empty() => count_error(alloc, usage, count),
         Some(members) if first_out_of_range(matches, numbers).is_none() => {
-            members_error(alloc, usage, members)
+            addresses_error(alloc, usage, members)
         }
-        _ => number_error(alloc, usage, matches, numbers),
+        _ => number_or_floors_error(alloc, usage, numbers, matches),
     }
 }
 

@@ -99,6 +99,9 @@ are printed:
     NODE REPLY
     NODE -              no reply came after 64 rounds
 
+Of a cluster file the addresses are not used, and the nodes tag under the key
+of the file itself.
+
 Beside the status of the command lines, it is 3 where a node failed, and 4 where
 a socket did.
 
@@ -113,13 +116,22 @@ DB is made where it isn't there, and then holds the store of node I: the first
 free factor of each token of the users file, its throttle and the node's votes,
 and the passes of the node. Where a store is there it stays as it is. All
 members of a cluster begin with the same users file, each with a DB of its own,
-which only oathd init, serve, export, audit and migrate open, one at a time.
+which only the commands of oathd open, one at a time.
 
-The status is 3 where a store is there, or the database fails.
+With --lost the database of a node is made anew while other nodes go on, once
+its old one is destroyed: I is lost, as are all that --lost names, half of the
+members at most, and each other one has a floors file, which oathd floors
+printed after the last of them was lost. With --anew the databases of
+all nodes are made anew, from floors files of stopped nodes of which each
+majority has one; a user of none of these begins as at any import.
 
-Example, which prints nothing:
+The status is 1 where floors files have a fault or don't tell enough, and 3
+where a store is there, or the database fails.
+
+Example, which prints nothing, and another for a node that is lost:
     echo 'HOTP silver - 3132333435363738393031323334353637383930' > users
-    oathd init node1.db users --node 1";
+    oathd init node1.db users --node 1
+    oathd init node3.db users --node 3 --lost 3 --floors one --floors two";
 
 /// The usage of the command `serve`, on two lines.
 pub(crate) const SERVE_USAGE: &str = "\
@@ -181,6 +193,45 @@ step, or nothing.
 
 The status is 3 where the database fails, holds no such store, or is of the
 present version.";
+
+/// What the help of the command `floors` says besides its words.
+pub(crate) const FLOORS_HELP: &str = "\
+DB is the store of node I, which is stopped, and USERS the users file that it
+was made with. What is printed is a floors file, for oathd init and oathd level
+of other nodes:
+    floors 1 NODE MEMBERS BOOT MOMENT TOKENS
+    USER NEXT                       for each token
+NEXT is the first free factor that the node has. The store stays as it is.
+
+The status is 3 where the database fails, or holds no store of node I.";
+
+/// What the help of the command `level` says besides its words.
+pub(crate) const LEVEL_HELP: &str = "\
+DB is the store of node I, which is stopped, and USERS the users file that it
+was made with. The first free factor of each token becomes the greatest that
+one of the floors files has, where that is greater; all else stays. A node that
+was away for days has at once what the others would tell it one by one.
+
+The status is 1 where a floors file has a fault, and 3 where the database fails,
+or holds no store of node I.";
+
+/// What the help of the command `gates` says besides its words.
+pub(crate) const GATES_HELP: &str = "\
+DB is the store of node I, which is stopped, and USERS the users file that it
+was made with. For each token with failures in a row this line is printed:
+    gate USER FAILURES UNTIL
+The token is closed until the moment UNTIL, in seconds since 1970.
+
+The status is 3 where the database fails, or holds no store of node I.";
+
+/// What the help of the command `unlock` says besides its words.
+pub(crate) const UNLOCK_HELP: &str = "\
+DB is the store of node I, which is stopped, and USERS the users file that it
+was made with. The failures of the user at this node are forgotten, so that the
+token is open; all else stays.
+
+The status is 1 where there is no such user, and 3 where the database fails, or
+holds no store of node I.";
 
 /// What the help of the command `check` says besides its words.
 pub(crate) const CHECK_HELP: &str = "\

@@ -3,12 +3,16 @@
 #![tactic(auto)]
 
 mod command_words;
+mod former_words;
 mod help;
 mod members;
+mod nodes_words;
 mod option_words;
 mod store_words;
 mod words;
 
+pub use former_words::{CountWords, FormerWords};
 pub use members::read_members;
+pub use nodes_words::NodesWords;
 pub use store_words::{Action, ClusterWords, ImportWords};
 pub use words::{Task, read_words};

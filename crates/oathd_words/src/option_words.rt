@@ -56,6 +56,8 @@ pub(crate) struct FlagWord {
     name: &'static str,
     /// The options that can't stand beside it.
     conflicts: &'static [&'static str],
+    /// The options that have to stand beside it.
+    needs: &'static [&'static str],
     help: &'static str,
 }
 
@@ -66,7 +68,45 @@ impl FlagWord {
             .long(self.name)
             .action(ArgAction::SetTrue)
             .help(self.help)
-            .conflicts_with_all(self.conflicts)
+            .conflicts_with_all(self.conflicts)?
+            .requires_all(self.needs)
+    }
+}
+
+/// An option with several values.
+#[derive(Clone, Copy)]
+pub(crate) struct ListWord {
+    /// Its name, by which clap knows it too, without its dashes.
+    name: &'static str,
+    value_name: &'static str,
+    is_required: bool,
+    /// The options that can't stand beside it.
+    conflicts: &'static [&'static str],
+    /// The options that have to stand beside it.
+    needs: &'static [&'static str],
+    /// Whether it is given once, with numbers of nodes and commas between them, or once for each value.
+    are_nodes: bool,
+    help: &'static str,
+}
+
+impl ListWord {
+    /// The option as clap's.
+    fn arg<'a>(&self, alloc: Global) -> Result<Arg<'a>, AllocError> {
+        let arg = Arg::new(alloc, self.name)
+            .long(self.name)
+            .value_name(self.value_name)
+            .required(self.is_required)
+            .help(self.help)
+            .conflicts_with_all(self.conflicts)?
+            .requires_all(self.needs)?;
+        Ok(if self.are_nodes {
+            arg.action(ArgAction::Set)
+                .value_delimiter(',')
+                .hide_possible_values(true)
+                .value_parser(DIGITS.as_slice())
+        } else {
+            arg.action(ArgAction::Append)
+        })
     }
 }
 
@@ -75,6 +115,7 @@ impl FlagWord {
 pub(crate) enum Word {
     Number(NumberOption),
     Text(TextWord),
+    List(ListWord),
     Flag(FlagWord),
 }
 
@@ -84,6 +125,7 @@ impl Word {
         match self {
             Word::Number(option) => Ok(option.arg(alloc)),
             Word::Text(word) => word.arg(alloc),
+            Word::List(list) => list.arg(alloc),
             Word::Flag(flag) => flag.arg(alloc),
         }
     }
@@ -258,6 +300,7 @@ pub(crate) const CLUSTER: TextWord = TextWord {
 pub(crate) const FOREVER: FlagWord = FlagWord {
     name: "forever",
     conflicts: &["turns"],
+    needs: &[],
     help: "Go on until the process is stopped",
 };
 
@@ -265,6 +308,7 @@ pub(crate) const FOREVER: FlagWord = FlagWord {
 pub(crate) const LOG: FlagWord = FlagWord {
     name: "log",
     conflicts: &[],
+    needs: &[],
     help: "Print a line for each answer, for each member that is heard or silent,\n\
         and for the start and the end",
 };
@@ -275,9 +319,143 @@ pub(crate) const IMPORT_CLUSTER: TextWord = TextWord {
     value_name: Some("FILE"),
     is_required: false,
     unless: None,
-    conflicts: &["skew"],
+    conflicts: &["skew", "drift"],
     is_digit: false,
-    help: "A cluster file, which says the skew in place of that option",
+    help: "A cluster file, which says the skew and the drift in place of those\n\
+        options",
+};
+
+/// How many time steps an import leaves unfree beside the skew.
+pub(crate) const IMPORT_DRIFT: NumberOption = NumberOption {
+    name: "drift",
+    short: None,
+    value_name: "STEPS",
+    most: 10,
+    default: "0",
+    help: "The drift with which the tokens were served before: a time token\n\
+        begins so many steps later, 0 to 10",
+};
+
+/// The nodes whose databases are lost.
+pub(crate) const LOST: ListWord = ListWord {
+    name: "lost",
+    value_name: "K,..",
+    is_required: false,
+    conflicts: &["anew"],
+    needs: &["floors"],
+    are_nodes: true,
+    help: "The numbers of all nodes whose databases are lost, with commas\n\
+        between them; I is one of them",
+};
+
+/// Whether the databases of a whole cluster are made anew.
+pub(crate) const ANEW: FlagWord = FlagWord {
+    name: "anew",
+    conflicts: &["lost"],
+    needs: &["floors"],
+    help: "The databases of all nodes are made anew",
+};
+
+/// The floors files of the other nodes, from which a database is made.
+pub(crate) const FORMER_FLOORS: ListWord = ListWord {
+    name: "floors",
+    value_name: "FILE",
+    is_required: false,
+    conflicts: &[],
+    needs: &[],
+    are_nodes: false,
+    help: "What oathd floors printed of a node; once for each node that is not\n\
+        lost, or with --anew for so many that each majority has one",
+};
+
+/// The floors files to which first free factors are raised.
+pub(crate) const FLOORS: ListWord = ListWord {
+    name: "floors",
+    value_name: "FILE",
+    is_required: true,
+    conflicts: &[],
+    needs: &[],
+    are_nodes: false,
+    help: "What oathd floors printed of another node; once for each file",
+};
+
+/// The moment from which on floors files were read.
+pub(crate) const SINCE: TextWord = TextWord {
+    name: "since",
+    value_name: Some("SECONDS"),
+    is_required: false,
+    unless: None,
+    conflicts: &[],
+    is_digit: false,
+    help: "When the last of the lost nodes was lost, in seconds since 1970-01-01\n\
+        00:00:00 UTC: an older floors file is refused",
+};
+
+/// The same, for the error that says its range.
+pub(crate) const SINCE_NUMBER: NumberOption = NumberOption {
+    name: "since",
+    short: None,
+    value_name: "SECONDS",
+    most: MOMENTS_END - 1,
+    default: "0",
+    help: "",
+};
+
+/// How many members there are.
+pub(crate) const MEMBER_COUNT: TextWord = TextWord {
+    name: "members",
+    value_name: Some("N"),
+    is_required: false,
+    unless: Some("cluster"),
+    conflicts: &["cluster"],
+    is_digit: true,
+    help: "How many members the cluster has, 1 to 9",
+};
+
+/// The cluster file that says how many members there are.
+pub(crate) const COUNT_CLUSTER: TextWord = TextWord {
+    name: "cluster",
+    value_name: Some("FILE"),
+    is_required: false,
+    unless: None,
+    conflicts: &["members"],
+    is_digit: false,
+    help: "A cluster file, which says the members in place of that option",
+};
+
+/// The user whose failures are forgotten.
+pub(crate) const USER: TextWord = TextWord {
+    name: "USER",
+    value_name: None,
+    is_required: true,
+    unless: None,
+    conflicts: &[],
+    is_digit: false,
+    help: "The name of the user",
+};
+
+/// The cluster file of a node that answers lines.
+pub(crate) const NODE_CLUSTER: TextWord = TextWord {
+    name: "cluster",
+    value_name: Some("FILE"),
+    is_required: false,
+    unless: None,
+    conflicts: &["key", "look-ahead", "skew", "range", "drift"],
+    is_digit: false,
+    help: "A cluster file, which says the key and how far a code is looked for\n\
+        in place of those options",
+};
+
+/// The cluster file of nodes that keep nothing, which stands for their number as well.
+pub(crate) const NODES_CLUSTER: TextWord = TextWord {
+    name: "cluster",
+    value_name: Some("FILE"),
+    is_required: false,
+    unless: None,
+    conflicts: &["N", "key", "look-ahead", "skew", "range", "drift"],
+    is_digit: false,
+    help: "A cluster file, which says how many nodes there are, the key and how\n\
+        far a code is looked for in place of N and those options",
 };
 
 /// The cluster file of a check.

@@ -1,21 +1,26 @@
 //! The words of the commands over a database.
 
-ghost use Rattle.std.specs.Prelude.{◌≡◌, ◌≤◌, ℕ, None, Option, codes, IfNone, IfOk, IfSome};
+ghost use Rattle.std.specs.Prelude.{◌≡◌, ◌≤◌, ℕ, false, true, None, Some, Option, codes, IfNone, IfOk, IfSome};
 ghost use Rattle.std.specs.Option.{option_map};
 ghost use Rattle.clap.specs.Matches.{first_value, found_of};
 ghost use Rattle.otp_core.specs.Limits.{Limits};
 ghost use Rattle.vote_core.specs.NodeSet.{PlaceRecord};
-ghost use Rattle.oathd_words.specs.StoreWords.{AsksForAction, AsksForCluster, AsksForImport, GivesImport, GivesMoment, GivesPlace, few_turns, is_flag, turns_given};
+ghost use Rattle.oathd_words.specs.FormerWords.{former_given, former_value, is_of_former as spec_is_of_former};
+ghost use Rattle.oathd_words.specs.Given.{is_flag};
+ghost use Rattle.oathd_words.specs.StoreWords.{AsksForAction, AsksForCluster, AsksForImport, GivesImport, GivesMoment, GivesPlace, few_turns, turns_given};
 ghost use Rattle.oathd_words.specs.Words.{path_of_action};
 ghost use Rattle.oathd_words.specs.declared.store_words.Action.{Action as AnyAction};
 ghost use Rattle.oathd_words.specs.declared.store_words.ClusterWords.{ClusterWords as AnyCluster};
 ghost use Rattle.oathd_words.specs.declared.store_words.ImportWords.{ImportWords as AnyImport};
 
+use crate::former_words::{
+    CountWords, FormerWords, count_words, former_words, is_of_former, paths_of,
+};
 use crate::members::read_members;
-use crate::words::{member_number, settings_of};
+use crate::words::{import_moment, member_number, settings_of};
 use clap::ArgMatches;
 use command_line::number_of;
-use otp_core::{MOMENTS_END, Settings};
+use otp_core::Settings;
 use std::alloc::{AllocError, Global};
 use std::net::SocketAddrV4;
 use vote_core::Place;
@@ -45,7 +50,7 @@ pub enum ClusterWords<'a> {
 /// What the words say of an import.
 #[derive(Drop)]
 pub enum ImportWords<'a> {
-    /// Its settings, of which an import looks at the skew.
+    /// Its settings, of which an import looks at the skew and the drift.
     Given(Settings),
     /// The path of the cluster file that says them.
     Named(&'a str),
@@ -62,6 +67,16 @@ pub enum Action<'a> {
         /// The moment at which the users are imported, in seconds since 1970-01-01 00:00:00 UTC: 0 to
         /// 1099511627775. It is the present one where none is given.
         moment: Option<u64>,
+    },
+    /// To make it anew, by the floors files of former stores.
+    Remake {
+        /// The number of the node: 1 to 9.
+        node: u8,
+        import: ImportWords<'a>,
+        /// The moment at which it is made, in seconds since 1970-01-01 00:00:00 UTC: 0 to 1099511627775. It is the
+        /// present one where none is given.
+        moment: Option<u64>,
+        former: FormerWords<'a>,
     },
     /// To serve its node.
     Serve {
@@ -83,6 +98,31 @@ pub enum Action<'a> {
         /// The number of the node: 1 to 9.
         node: u8,
     },
+    /// To write its floors file.
+    Floors {
+        /// The number of the node: 1 to 9.
+        node: u8,
+        count: CountWords<'a>,
+    },
+    /// To raise its first free factors to the greatest of floors files.
+    Level {
+        /// The number of the node: 1 to 9.
+        node: u8,
+        /// The paths of the floors files.
+        floors: Vec<&'a str>,
+    },
+    /// To write its gates that have failures.
+    Gates {
+        /// The number of the node: 1 to 9.
+        node: u8,
+    },
+    /// To forget the failures of a user.
+    Unlock {
+        /// The number of the node: 1 to 9.
+        node: u8,
+        /// The name of the user.
+        user: &'a str,
+    },
 }
 
 impl<'a> Action<'a> {
@@ -93,6 +133,14 @@ impl<'a> Action<'a> {
         match self {
             Action::Init {
                 import: ImportWords::Named(path),
+                ..
+            }
+            | Action::Remake {
+                import: ImportWords::Named(path),
+                ..
+            } => Some(*path),
+            Action::Floors {
+                count: CountWords::Named(path),
                 ..
             } => Some(*path),
             Action::Serve {
@@ -112,19 +160,17 @@ fn moment_of(matches: &ArgMatches<'_>) -> Option<Option<u64>>
     if matches.get_str("moment").is_none() {
         return Some(None);
     }
-    let moment = number_of(matches, "moment")?;
-    if moment >= MOMENTS_END {
-        return None;
-    }
-    Some(Some(moment))
+    Some(Some(import_moment(matches)?))
 }
 
-/// The settings of an import: the skew that is given, or `None` where it is none.
+/// The settings of an import: the skew and the drift that are given, or `None` where one is none.
 fn import_settings(matches: &ArgMatches<'_>) -> Option<Settings>
     ensures some { IfSome result (GivesImport (found_of matches.now)) }
     ensures none { IfNone result ((limits : Limits) → GivesImport (found_of matches.now) limits → ⊥) }
 {
-    Settings::new(10, number_of(matches, "skew")?, 100)
+    let skew = number_of(matches, "skew")?;
+    let drift = number_of(matches, "drift")?;
+    Settings::new(10, skew, 100)?.with_drift(drift)
 }
 
 /// What the words say of an import, or `None` where they say nothing.
@@ -142,7 +188,7 @@ fn import_words<'a>(matches: &ArgMatches<'a>) -> Option<ImportWords<'a>>
 const TURNS_FOREVER: u64 = (1 << 54) - 1;
 
 /// Whether a flag with this name is given.
-fn is_given(matches: &ArgMatches<'_>, name: &str) -> bool
+pub(crate) fn is_given(matches: &ArgMatches<'_>, name: &str) -> bool
     ensures { result ≡ is_flag (first_value (found_of matches.now) name.now) }
 {
     match matches.get_str(name) {
@@ -182,8 +228,10 @@ fn place_of(matches: &ArgMatches<'_>, members: u8) -> Option<Place>
     Place::new(member_number(matches, "node")?, members)
 }
 
-/// What the values of the command `init` ask for, or `None` where they ask for nothing.
-fn init_action<'a>(matches: &ArgMatches<'a>) -> Option<Action<'a>>
+/// What the values of the command `init` ask for where they say nothing of former stores, or `None` where they ask for
+/// nothing.
+fn plain_init<'a>(matches: &ArgMatches<'a>) -> Option<Action<'a>>
+    requires { spec_is_of_former (found_of matches.now) ≡ false }
     ensures some { IfSome result (AsksForAction (codes "init") (found_of matches.now)) }
     ensures none { IfNone result ((action : AnyAction)
         → AsksForAction (codes "init") (found_of matches.now) action → ⊥) }
@@ -197,6 +245,45 @@ fn init_action<'a>(matches: &ArgMatches<'a>) -> Option<Action<'a>>
             moment,
         }),
         None => None,
+    }
+}
+
+/// What they ask for where they say something of former stores, with what they say of these.
+fn remake<'a>(matches: &ArgMatches<'a>, former: FormerWords<'a>) -> Option<Action<'a>>
+    requires of_former { spec_is_of_former (found_of matches.now) ≡ true }
+    requires given { former_given (found_of matches.now) ≡ Some (former_value former) }
+    ensures some { IfSome result (AsksForAction (codes "init") (found_of matches.now)) }
+    ensures none { IfNone result ((action : AnyAction)
+        → AsksForAction (codes "init") (found_of matches.now) action → ⊥) }
+{
+    let node = member_number(matches, "node")?;
+    let moment = moment_of(matches)?;
+    match import_words(matches) {
+        Some(import) => Some(Action::Remake {
+            node,
+            import,
+            moment,
+            former,
+        }),
+        None => None,
+    }
+}
+
+/// What the values of the command `init` ask for, or `None` where they ask for nothing.
+fn init_action<'a>(
+    alloc: Global,
+    matches: &ArgMatches<'a>,
+) -> Result<Option<Action<'a>>, AllocError>
+    ensures some { IfOk result (λ read. IfSome read (AsksForAction (codes "init") (found_of matches.now))) }
+    ensures none { IfOk result (λ read. IfNone read ((action : AnyAction)
+        → AsksForAction (codes "init") (found_of matches.now) action → ⊥)) }
+{
+    if !is_of_former(matches) {
+        return Ok(plain_init(matches));
+    }
+    match former_words(alloc, matches)? {
+        Some(former) => Ok(remake(matches, former)),
+        None => Ok(None),
     }
 }
 
@@ -293,6 +380,59 @@ fn migrate_action<'a>(matches: &ArgMatches<'_>) -> Option<Action<'a>>
     })
 }
 
+/// What the values of the command `floors` ask for, or `None` where they ask for nothing.
+fn floors_action<'a>(matches: &ArgMatches<'a>) -> Option<Action<'a>>
+    ensures some { IfSome result (AsksForAction (codes "floors") (found_of matches.now)) }
+    ensures none { IfNone result ((action : AnyAction)
+        → AsksForAction (codes "floors") (found_of matches.now) action → ⊥) }
+{
+    let node = member_number(matches, "node")?;
+    match count_words(matches, node) {
+        Some(count) => Some(Action::Floors { node, count }),
+        None => None,
+    }
+}
+
+/// What the values of the command `level` ask for, or `None` where they ask for nothing.
+fn level_action<'a>(
+    alloc: Global,
+    matches: &ArgMatches<'a>,
+) -> Result<Option<Action<'a>>, AllocError>
+    ensures some { IfOk result (λ read. IfSome read (AsksForAction (codes "level") (found_of matches.now))) }
+    ensures none { IfOk result (λ read. IfNone read ((action : AnyAction)
+        → AsksForAction (codes "level") (found_of matches.now) action → ⊥)) }
+{
+    let Some(node) = member_number(matches, "node") else {
+        return Ok(None);
+    };
+    match paths_of(alloc, matches, "floors")? {
+        Some(floors) => Ok(Some(Action::Level { node, floors })),
+        None => Ok(None),
+    }
+}
+
+/// What the values of the command `gates` ask for, or `None` where they ask for nothing.
+fn gates_action<'a>(matches: &ArgMatches<'_>) -> Option<Action<'a>>
+    ensures some { IfSome result (AsksForAction (codes "gates") (found_of matches.now)) }
+    ensures none { IfNone result ((action : AnyAction)
+        → AsksForAction (codes "gates") (found_of matches.now) action → ⊥) }
+{
+    Some(Action::Gates {
+        node: member_number(matches, "node")?,
+    })
+}
+
+/// What the values of the command `unlock` ask for, or `None` where they ask for nothing.
+fn unlock_action<'a>(matches: &ArgMatches<'a>) -> Option<Action<'a>>
+    ensures some { IfSome result (AsksForAction (codes "unlock") (found_of matches.now)) }
+    ensures none { IfNone result ((action : AnyAction)
+        → AsksForAction (codes "unlock") (found_of matches.now) action → ⊥) }
+{
+    let node = member_number(matches, "node")?;
+    let user = matches.get_str("USER")?;
+    Some(Action::Unlock { node, user })
+}
+
 /// What the values of a command over a database with this name ask for, or `None` where they ask for nothing.
 pub(crate) fn read_action<'a>(
     alloc: Global,
@@ -304,11 +444,15 @@ pub(crate) fn read_action<'a>(
         → AsksForAction name.now (found_of matches.now) action → ⊥)) }
 {
     match name {
-        "init" => Ok(init_action(matches)),
+        "init" => init_action(alloc, matches),
         "serve" => serve_action(alloc, matches),
         "export" => Ok(Some(Action::Export)),
         "audit" => Ok(audit_action(matches)),
         "migrate" => Ok(migrate_action(matches)),
+        "floors" => Ok(floors_action(matches)),
+        "level" => level_action(alloc, matches),
+        "gates" => Ok(gates_action(matches)),
+        "unlock" => Ok(unlock_action(matches)),
         _ => Ok(None),
     }
 }

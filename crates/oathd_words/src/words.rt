@@ -1,14 +1,16 @@
-ghost use Rattle.std.specs.Prelude.{◌≡◌, ◌≤◌, ℕ, List, Option, Some, codes, IfSome, IfNone, IfOk};
+ghost use Rattle.std.specs.Prelude.{◌≡◌, ℕ, List, Some, codes, IfSome, IfNone, IfOk};
 ghost use Rattle.std.specs.Option.{option_map};
 ghost use Rattle.clap.specs.Matches.{first_value, found_of};
-ghost use Rattle.command_line.specs.Number.{number_at};
 ghost use Rattle.otp_core.specs.Limits.{Limits};
-ghost use Rattle.oathd_words.specs.StoreWords.{AsksForStore};
 ghost use Rattle.oathd_words.specs.Given.{GivesLimits, GivesMember};
-ghost use Rattle.oathd_words.specs.Words.{AsksFor, AsksForNothing, AsksForNodes, AsksToCheck, GivesNumbers, IsInRange, cluster_path_of};
+ghost use Rattle.oathd_words.specs.NodesWords.{AsksForNodes};
+ghost use Rattle.oathd_words.specs.StoreWords.{AsksForStore, GivesMoment};
+ghost use Rattle.oathd_words.specs.Words.{AsksFor, AsksForNothing, AsksToCheck, IsInRange, cluster_path_of};
+ghost use Rattle.oathd_words.specs.declared.nodes_words.NodesWords.{NodesWords as AnyNodes};
 ghost use Rattle.oathd_words.specs.declared.store_words.Action.{Action as AnyAction};
 
 use crate::command_words::{COMMANDS, CommandWords, VERSION_COMMAND, program, value_error};
+use crate::nodes_words::{NodesWords, nodes_words};
 use crate::store_words::{Action, read_action};
 use clap::error::ErrorKind;
 use clap::{ArgMatches, Command, Error};
@@ -19,38 +21,28 @@ use std::alloc::{AllocError, Global};
 /// What the words ask for. It has no Debug, which would show a secret.
 #[derive(Drop)]
 pub enum Task<'a> {
-    /// To answer the lines of the input.
+    /// To answer the lines of the input, as one node.
     Lines {
-        settings: Settings,
+        nodes: NodesWords<'a>,
         /// The moment at which the users are imported, in seconds since 1970-01-01 00:00:00 UTC: 0 to
         /// 1099511627775.
         moment: u64,
-        /// The path of the file of the cluster's key, if one is named.
-        key: Option<&'a str>,
     },
     /// To run the script of the input over a cluster.
     Sim {
-        /// How many nodes there are: 1 to 9.
-        nodes: u8,
-        settings: Settings,
+        nodes: NodesWords<'a>,
         /// The moment at which the users are imported, in seconds since 1970-01-01 00:00:00 UTC: 0 to
         /// 1099511627775.
         moment: u64,
-        /// The path of the file of the cluster's key, if one is named.
-        key: Option<&'a str>,
     },
     /// To run a cluster over sockets of this machine, and to send it the lines of the input.
     Cluster {
         /// The path of the users file.
         users: &'a str,
-        /// How many nodes there are: 1 to 9.
-        nodes: u8,
-        settings: Settings,
+        nodes: NodesWords<'a>,
         /// The moment at which the users are imported, in seconds since 1970-01-01 00:00:00 UTC: 0 to
         /// 1099511627775.
         moment: u64,
-        /// The path of the file of the cluster's key, if one is named.
-        key: Option<&'a str>,
     },
     /// To do something with the store of a node.
     Store {
@@ -81,9 +73,12 @@ impl<'a> Task<'a> {
         ensures { option_map (λ path. path.now) result ≡ cluster_path_of self.now }
     {
         match self {
-            Task::Check { cluster, .. } => Some(*cluster),
+            Task::Lines { nodes, .. } | Task::Sim { nodes, .. } | Task::Cluster { nodes, .. } => {
+                nodes.cluster_path()
+            }
             Task::Store { action, .. } => action.cluster_path(),
-            _ => None,
+            Task::Check { cluster, .. } => Some(*cluster),
+            Task::Secret { .. } => None,
         }
     }
 }
@@ -100,34 +95,16 @@ pub(crate) fn settings_of(matches: &ArgMatches<'_>) -> Option<Settings>
     Settings::new(look_ahead, skew, range)?.with_drift(drift)
 }
 
-/// The limits and the moment that the options give, or `None` where a number is out of its range or written with
-/// anything but digits.
-fn numbers_of(matches: &ArgMatches<'_>) -> Option<(Settings, u64)>
-    ensures some { IfSome result (λ numbers. GivesNumbers (found_of matches.now) numbers.0 numbers.1) }
-    ensures none { IfNone result ((limits : Limits) (moment : ℕ)
-        → GivesNumbers (found_of matches.now) limits moment → ⊥) }
+/// The moment of an import that is given, or `None` where it is out of its range or written with anything but digits.
+pub(crate) fn import_moment(matches: &ArgMatches<'_>) -> Option<u64>
+    ensures some { IfSome result (λ moment. GivesMoment (found_of matches.now) (Some moment)) }
+    ensures none { IfNone result ((moment : ℕ) → GivesMoment (found_of matches.now) (Some moment) → ⊥) }
 {
-    let settings = settings_of(matches)?;
     let moment = number_of(matches, "moment")?;
     if moment >= MOMENTS_END {
         return None;
     }
-    Some((settings, moment))
-}
-
-/// What the values of the command `lines` ask for, or `None` where they ask for nothing.
-fn lines_task<'a>(matches: &ArgMatches<'a>) -> Option<Task<'a>>
-    ensures some { IfSome result (AsksFor (codes "lines") (found_of matches.now)) }
-    ensures none { IfNone result ((limits : Limits) (moment : ℕ)
-        → GivesNumbers (found_of matches.now) limits moment → ⊥) }
-{
-    let (settings, moment) = numbers_of(matches)?;
-    let key = matches.get_str("key");
-    Some(Task::Lines {
-        settings,
-        moment,
-        key,
-    })
+    Some(moment)
 }
 
 /// The number from 1 to 9 that is given under a name, or `None` where it isn't one in digits alone.
@@ -142,41 +119,52 @@ pub(crate) fn member_number(matches: &ArgMatches<'_>, name: &str) -> Option<u8>
     Some(number as u8)
 }
 
+/// What the values of the command `lines` ask for, or `None` where they ask for nothing.
+fn lines_task<'a>(matches: &ArgMatches<'a>) -> Option<Task<'a>>
+    ensures some { IfSome result (AsksFor (codes "lines") (found_of matches.now)) }
+    ensures none { IfNone result ((nodes : AnyNodes) (moment : ℕ)
+        → AsksForNodes (λ n. n ≡ 1) (found_of matches.now) nodes
+        → GivesMoment (found_of matches.now) (Some moment) → ⊥) }
+{
+    let moment = import_moment(matches)?;
+    match nodes_words(matches, Some(1)) {
+        Some(nodes) => Some(Task::Lines { nodes, moment }),
+        None => None,
+    }
+}
+
 /// What the values of the command `sim` ask for, or `None` where they ask for nothing.
 fn sim_task<'a>(matches: &ArgMatches<'a>) -> Option<Task<'a>>
     ensures some { IfSome result (AsksFor (codes "sim") (found_of matches.now)) }
-    ensures none { IfNone result ((nodes : ℕ) (limits : Limits) (moment : ℕ) (key : Option (List ℕ))
-        → AsksForNodes (found_of matches.now) nodes limits moment key → ⊥) }
+    ensures none { IfNone result ((nodes : AnyNodes) (moment : ℕ)
+        → AsksForNodes (GivesMember (found_of matches.now) (codes "N")) (found_of matches.now) nodes
+        → GivesMoment (found_of matches.now) (Some moment) → ⊥) }
 {
-    let nodes = member_number(matches, "N")?;
-    let (settings, moment) = numbers_of(matches)?;
-    let key = matches.get_str("key");
-    Some(Task::Sim {
-        nodes,
-        settings,
-        moment,
-        key,
-    })
+    let moment = import_moment(matches)?;
+    match nodes_words(matches, member_number(matches, "N")) {
+        Some(nodes) => Some(Task::Sim { nodes, moment }),
+        None => None,
+    }
 }
 
 /// What the values of the command `cluster` ask for, or `None` where they ask for nothing.
 fn cluster_task<'a>(matches: &ArgMatches<'a>) -> Option<Task<'a>>
     ensures some { IfSome result (AsksFor (codes "cluster") (found_of matches.now)) }
-    ensures none { IfNone result ((users : List ℕ) (nodes : ℕ) (limits : Limits) (moment : ℕ) (key : Option (List ℕ))
+    ensures none { IfNone result ((users : List ℕ) (nodes : AnyNodes) (moment : ℕ)
         → first_value (found_of matches.now) (codes "USERS") ≡ Some users
-        → AsksForNodes (found_of matches.now) nodes limits moment key → ⊥) }
+        → AsksForNodes (GivesMember (found_of matches.now) (codes "N")) (found_of matches.now) nodes
+        → GivesMoment (found_of matches.now) (Some moment) → ⊥) }
 {
     let users = matches.get_str("USERS")?;
-    let nodes = member_number(matches, "N")?;
-    let (settings, moment) = numbers_of(matches)?;
-    let key = matches.get_str("key");
-    Some(Task::Cluster {
-        users,
-        nodes,
-        settings,
-        moment,
-        key,
-    })
+    let moment = import_moment(matches)?;
+    match nodes_words(matches, member_number(matches, "N")) {
+        Some(nodes) => Some(Task::Cluster {
+            users,
+            nodes,
+            moment,
+        }),
+        None => None,
+    }
 }
 
 /// What the values of the command `check` ask for, or `None` where they ask for nothing.

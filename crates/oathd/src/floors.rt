@@ -1,0 +1,105 @@
+//! The floors files that the words name, and what is wrong with them.
+
+ghost use Rattle.std.specs.Prelude.{◌≡◌, length, IfOk};
+
+use crate::fault::Fault;
+use command_line::ProgramFault;
+use floors_file::{FileFault, FilesFault, FloorsFault, MAX_FLOORS_LEN};
+use oathd_database::GatherFault;
+use oathd_memory::file_text;
+use std::alloc::Global;
+use std::rt::Files;
+use thiserror::Error;
+
+/// What is wrong with floors files, each named by its path.
+#[derive(Clone, Copy, Debug, PartialEq, Eq, Error)]
+pub(crate) enum PathFault<'a> {
+    /// The file is longer than any floors file.
+    #[error("floors {0}: TooLong")]
+    TooLong(&'a str),
+    /// The file has a fault at a line.
+    #[error("floors {0} {1}")]
+    Line(&'a str, FloorsFault),
+    /// The user of this line of the file is not in the users file.
+    #[error("floors {0} line {1}: NoUser")]
+    NoUser(&'a str, usize),
+    /// The file doesn't fit the others, or what is asked.
+    #[error("floors {0}: {1}")]
+    File(&'a str, FileFault),
+    /// Together they don't tell enough.
+    #[error("{0}")]
+    Files(FilesFault),
+}
+
+impl ProgramFault for PathFault<'_> {
+    ghost status_of = { λ _. 1 };
+
+    fn status(self) -> u8 {
+        1
+    }
+}
+
+/// The text of a floors file.
+fn floors_text<'a, F: Files>(
+    alloc: Global,
+    files: &F,
+    path: &'a str,
+) -> Result<Vec<u8>, Fault<'a>> {
+    let text = file_text(alloc, files, path, MAX_FLOORS_LEN)?;
+    if text.len() > MAX_FLOORS_LEN as usize {
+        return Err(Fault::Floors(PathFault::TooLong(path)));
+    }
+    Ok(text)
+}
+
+/// The texts of the floors files with these paths, in order.
+pub(crate) fn floors_texts<'a, F: Files>(
+    alloc: Global,
+    files: &F,
+    paths: &[&'a str],
+) -> Result<Vec<Vec<u8>>, Fault<'a>>
+    ensures { IfOk result (λ texts. length texts.items ≡ length paths.now) }
+{
+    let mut texts = Vec::new(alloc);
+    for path in paths {
+        let text = floors_text(alloc, files, path)?;
+        match texts.push(text) {
+            Ok(()) => {}
+            Err(_) => return Err(Fault::Database(oathd_database::Fault::Memory)),
+        }
+    }
+    Ok(texts)
+}
+
+/// The path of the file with a number, from 1.
+fn path_of<'a>(paths: &[&'a str], number: usize) -> &'a str {
+    match number {
+        0 => "",
+        number => match paths.get(number - 1) {
+            Some(path) => path,
+            None => "",
+        },
+    }
+}
+
+/// A fault of the file with this path.
+fn file_fault<'a>(path: &'a str, fault: FileFault) -> PathFault<'a> {
+    match fault {
+        FileFault::NoUser(line) => PathFault::NoUser(path, line),
+        fault => PathFault::File(path, fault),
+    }
+}
+
+/// A fault of a command over the floors files with these paths, which names them.
+pub(crate) fn with_paths<'a>(paths: &[&'a str], fault: GatherFault) -> Fault<'a> {
+    match fault {
+        GatherFault::Command(fault) => Fault::Database(fault),
+        GatherFault::Floors(number, fault) => {
+            Fault::Floors(PathFault::Line(path_of(paths, number), fault))
+        }
+        GatherFault::Files(FilesFault::File(number, fault)) => {
+            Fault::Floors(file_fault(path_of(paths, number), fault))
+        }
+        GatherFault::Files(fault) => Fault::Floors(PathFault::Files(fault)),
+    }
+}
