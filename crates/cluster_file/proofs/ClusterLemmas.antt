@@ -1,7 +1,8 @@
 -- What every cluster is that a file says.
 use Rattle.std.proofs.Common.{◌≡◌, ℕ, zero, suc, ◌+◌, ◌<◌, ◌≤◌, Bool, true, false, List, [], ◌∷◌, ◌++◌, length, Option, Some, None, Result, Ok, Err, refl, sym, ap, ◌∙◌, subst, arith, length-append, ne_eqb}
-use Rattle.std.specs.Prelude.{not, nat_eq, nat_le, option_map, take, slice_index, unwrap_or, IfSome, if◌then◌else◌}
+use Rattle.std.specs.Prelude.{not, nat_eq, nat_le, option_map, take, slice_index, unwrap_or, IfOk, IfSome, if◌then◌else◌}
 use Rattle.std.specs.List.{AllByRecursion}
+use Rattle.std.proofs.lemmas.List.{length-map}
 use Rattle.std.proofs.lemmas.Option.{none-some}
 use Rattle.std.specs.Net.Grammar.{IsDotted}
 use Rattle.std.specs.Net.Reader.{Read, read_socket_v4, whole_value}
@@ -11,12 +12,13 @@ use Rattle.otp_core.specs.Limits.{AreLimits}
 use Rattle.token_file.specs.Credential.{Credential, is_word}
 use Rattle.token_file.specs.Fields.{fields_of, lines_of}
 use Rattle.token_file.specs.Writing.{IsCredential}
+use Rattle.cluster_file.specs.declared.cluster.Cluster.{Cluster}
 use Rattle.cluster_file.specs.declared.fault.LineFault.{LineFault}
 use Rattle.cluster_file.specs.declared.fault.LineFault.TheVariants.{BadNumber, BadLife, MemberNumber, TooManyMembers, TwiceAddress, NoMember, TooLong}
 use Rattle.cluster_file.specs.declared.word.Word.{Word}
 use Rattle.cluster_file.specs.declared.word.Word.TheVariants.{Member, LookAhead, Skew, Range, Drift, KeyFile, Key, Life}
-use Rattle.cluster_file.specs.Address.{Address, IsAddress, address_of, address_with, is_among}
-use Rattle.cluster_file.specs.ClusterFile.{ClusterRecord, after_lines, at_line, cluster_of, cluster_with_key, cluster_with_life, finished, outcome_of, settings_of}
+use Rattle.cluster_file.specs.Address.{Address, IsAddress, address_of, address_value, address_with, is_among}
+use Rattle.cluster_file.specs.ClusterFile.{ClusterRecord, after_lines, at_line, cluster_of, cluster_value, cluster_with_key, cluster_with_life, finished, outcome_of, settings_of}
 use Rattle.cluster_file.specs.Fields.{◌>>=◌, life_of, number_up_to, one_field, setting_of, two_fields, unless_given, word_of}
 use Rattle.cluster_file.specs.Said.{Given, InFile, KeyPlace, Said, after_fields, after_named, after_word, bytes_of, is_number, is_remark, life_in, member_of, new_member, next_member, nothing_said, path_of}
 use Rattle.cluster_file.specs.Shared.{IsShared, shared_of}
@@ -284,28 +286,34 @@ settings_fit said can = (
 
 -- what every cluster has that a file says
 record HasParts (cluster : ClusterRecord) : Type 0 where
+  first : 1 ≤ length cluster.members
+  few : length cluster.members ≤ 9
   life : is_word cluster.life ≡ true
   members : AllByRecursion IsAddress cluster.members
   settings : AreLimits cluster.settings
 
-with_life_fits : (said : Said) (key : KeyPlace) (life : Option (List ℕ)) (end : ClusterRecord) → CanBeSaid said → IfSome life (λ life. is_word life ≡ true)
-    → cluster_with_life said key life ≡ Ok end → HasParts end
-with_life_fits said key None end can h e = absurd cc
-with_life_fits said key (Some life) end can h e =
+with_life_fits : (said : Said) (key : KeyPlace) (life : Option (List ℕ)) (end : ClusterRecord) → CanBeSaid said → 1 ≤ length said.members
+    → IfSome life (λ life. is_word life ≡ true) → cluster_with_life said key life ≡ Ok end → HasParts end
+with_life_fits said key None end can first h e = absurd cc
+with_life_fits said key (Some life) end can first h e =
     let made : ClusterRecord = record { members = said.members; settings = settings_of said; key = key; life = life } in
     let same : made ≡ end = cc in
-    subst HasParts same (record { life = h; members = can.members; settings = settings_fit said can })
+    subst HasParts same (record { first = first; few = can.few; life = h; members = can.members; settings = settings_fit said can })
 
-with_key_fits : (said : Said) (key : Option KeyPlace) (end : ClusterRecord) → CanBeSaid said → cluster_with_key said key ≡ Ok end → HasParts end
-with_key_fits said None end can e = absurd cc
-with_key_fits said (Some key) end can e = with_life_fits said key said.life end can can.life e
+with_key_fits : (said : Said) (key : Option KeyPlace) (end : ClusterRecord) → CanBeSaid said → 1 ≤ length said.members
+    → cluster_with_key said key ≡ Ok end → HasParts end
+with_key_fits said None end can first e = absurd cc
+with_key_fits said (Some key) end can first e = with_life_fits said key said.life end can first can.life e
 
 finished_fits : (said : Said) (end : ClusterRecord) → CanBeSaid said → finished said ≡ Ok end → HasParts end
-finished_fits said end can e = by said.members e
+finished_fits said end can e = by said.members refl e
   where
-    by : (members : List Address) → (if nat_eq (length members) 0 then Err NoMember else cluster_with_key said said.key) ≡ Ok end → HasParts end
-    by [] e = absurd cc
-    by (x ∷ members) e = with_key_fits said said.key end can (sym (rw (ne_eqb (length (x ∷ members)) 0 (omega arith)) refl) ∙ e)
+    by : (members : List Address) → said.members ≡ members
+        → (if nat_eq (length members) 0 then Err NoMember else cluster_with_key said said.key) ≡ Ok end → HasParts end
+    by [] same e = absurd cc
+    by (x ∷ members) same e =
+        let count : length said.members ≡ length (x ∷ members) = ap (length {A = Address}) same in
+        with_key_fits said said.key end can (omega (arith, count)) (sym (rw (ne_eqb (length (x ∷ members)) 0 (omega arith)) refl) ∙ e)
 
 outcome_fits : (limit : ℕ) (text : List ℕ) (end : ClusterRecord) → outcome_of limit text ≡ Ok end → HasParts end
 outcome_fits limit text end e = by (nat_le (length text) limit) e
@@ -325,3 +333,19 @@ pub cluster_shared : (text : List ℕ) (cluster : ClusterRecord) (book : List Cr
 cluster_shared text cluster book e are =
     let parts = outcome_fits 65536 text cluster e in
     record { life = parts.life; members = parts.members; settings = parts.settings; book = are }
+
+-- a cluster has one to nine members
+pub cluster_members : (text : List ℕ) (cluster : ClusterRecord) → cluster_of text ≡ Ok cluster
+    → (1 ≤ length cluster.members) × (length cluster.members ≤ 9)
+cluster_members text cluster e =
+    let parts = outcome_fits 65536 text cluster e in
+    (parts.first, parts.few)
+
+-- a cluster that was read has one to nine members
+pub members_read : {E : Type 0} (text : List ℕ) (read : Result Cluster E) → IfOk read (λ cluster. cluster_of text ≡ Ok (cluster_value cluster))
+    → IfOk read (λ cluster. (1 ≤ length cluster.members.items) × (length cluster.members.items ≤ 9))
+members_read text (Err fault) h = tt
+members_read text (Ok cluster) h =
+    let counts = cluster_members text (cluster_value cluster) h in
+    let same = length-map cluster.members.items address_value in
+    (omega (arith, counts.0, same), omega (arith, counts.1, same))

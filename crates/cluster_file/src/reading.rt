@@ -77,6 +77,8 @@ fn read_up_to(alloc: Global, limit: usize, text: &[u8]) -> Result<Cluster<'_>, C
 /// at any member.
 pub fn read_cluster(alloc: Global, text: &[u8]) -> Result<Cluster<'_>, ClusterFault>
     ensures cluster { IfOk result (λ cluster. cluster_of text.now ≡ Ok (cluster_value cluster)) }
+    ensures members { IfOk result (λ cluster.
+        (1 ≤ length cluster.members.items) × (length cluster.members.items ≤ 9)) }
     ensures fault { IfErr result (λ fault. is_memory fault.kind ≡ false →
         cluster_of text.now ≡ Err (fault.line, fault.kind)) }
 {
