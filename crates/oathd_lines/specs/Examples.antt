@@ -1,11 +1,12 @@
 -- Inputs and runs that the laws work through.
-use Rattle.std.specs.Prelude.{ℕ, List, [], ◌∷◌, Option, Some, codes}
-use Rattle.otp_core.specs.Limits.{default_limits}
+use Rattle.std.specs.Prelude.{ℕ, List, [], ◌∷◌, ◌++◌, Option, Some, codes}
+use Rattle.otp_core.specs.Limits.{default_limits, limits_of}
 use Rattle.oath_node.specs.ReferenceServer.{Line}
 use Rattle.token_file.specs.declared.fault.FileFault.{FileFault}
 use Rattle.token_file.specs.declared.fault.LineFault.{LineFault}
 use Rattle.oathd_lines.specs.Client.{LinesRead}
-use Rattle.oathd_lines.specs.Run.{Run, Answered, run_of}
+use Rattle.oathd_lines.specs.Run.{IsCutSo, Run, Answered, run_of}
+use Rattle.oathd_lines.specs.declared.fault.Fault.{Fault}
 
 -- a line of a client
 abbrev pub line_saying : ℕ → ℕ → List ℕ → Line
@@ -27,3 +28,17 @@ run_at_most longest limit text =
 -- two lines are answered, and the seventh line of the input is bad
 abbrev pub answered : Run
 answered = Answered (codes "OK 1 0" ∷ codes "NO 2 INVALID" ∷ []) (Some 7)
+
+-- a users file of a time token, and a client's line at the fifth step of its clock, with this code
+abbrev pub time_line : List ℕ → List ℕ
+time_line code =
+    codes "HOTP/T30 silver - 3132333435363738393031323334353637383930\n%%\n7 150 CHECK 1 silver " ++ code
+    ++ codes " -\n"
+
+-- the run over it of a server with this skew, whose users are imported at that step
+abbrev pub run_at_step_5 : ℕ → List ℕ → Run
+run_at_step_5 skew code = run_of (record { limits = limits_of 10 skew 100; moment = 150 }) 199 299 (time_line code)
+
+-- a fault says where an input was cut off, of which so many bytes are read, in a users file of at most so many
+abbrev pub IsCutAt : ℕ → ℕ → List ℕ → Fault → Type 0
+IsCutAt longest limit read fault = IsCutSo (record { limits = default_limits; moment = 0 }) longest limit read fault

@@ -2,12 +2,12 @@ ghost use Rattle.std.specs.Prelude.{◌≡◌, [], ◌∷◌, ◌++◌, ℕ, Lis
 ghost use Rattle.otp_core.specs.Limits.{Limits};
 ghost use Rattle.secret_text.specs.declared.fault.SecretFault.TheVariants.{BadLength, Empty};
 ghost use Rattle.command_line.specs.declared.fault.OutsideFault.TheVariants as outside;
-ghost use Rattle.token_file.specs.declared.fault.LineFault.TheVariants.{FileTooLong, MissingField};
+ghost use Rattle.token_file.specs.declared.fault.LineFault.TheVariants.{FileTooLong, MissingField, Read};
 ghost use Rattle.oathd_lines.specs.Client.{client_line_of, client_lines};
-ghost use Rattle.oathd_lines.specs.Examples.{answered, fault_at, line_saying, lines_before, run_at_most};
+ghost use Rattle.oathd_lines.specs.Examples.{IsCutAt, answered, fault_at, line_saying, lines_before, run_at_most, run_at_step_5};
 ghost use Rattle.oathd_lines.specs.Fault.{IsOutside, outside_fault_of, status_of};
 ghost use Rattle.users_input.specs.Input.{lines_of};
-ghost use Rattle.oathd_lines.specs.Run.{Answered, EndsSo, Refused, clients_of, end_of, output_of, run_of, run_of_input};
+ghost use Rattle.oathd_lines.specs.Run.{Answered, EndsSo, IsTaken, Refused, WritesFirst, clients_of, end_of, output_of, run_of, run_of_input};
 ghost use Rattle.oathd_lines.specs.Secret.{EndsWithText};
 ghost use Rattle.oathd_lines.specs.declared.fault.Fault.{Fault};
 ghost use Rattle.oathd_lines.specs.declared.fault.Fault.TheVariants.{BadKey, CannotRead, CannotWrite, InputLine, Memory, NotText, Users};
@@ -49,6 +49,10 @@ pub fn runs_are_worked()
     ensures again { run_at_most 199 299 (codes "HOTP silver pw 3132333435363738393031323334353637383930\n%%\n"
         ++ codes "7 100 CHECK 1 silver 755224 -\n7 101 CHECK 1 silver 755224 -\n8 102 CHECK 1 silver 755224 -\n")
         ≡ Answered (codes "NO 1 PASSWORD" ∷ codes "NO 1 PASSWORD" ∷ codes "NO 1 THROTTLED 3" ∷ []) None }
+    // no step up to the skew behind that of the import is free
+    ensures moment { run_at_step_5 1 (codes "254676") ≡ Answered (codes "NO 1 INVALID" ∷ []) None }
+    ensures skew_of_the_node { run_at_step_5 0 (codes "287922") ≡ Answered (codes "NO 1 INVALID" ∷ []) None }
+    ensures skew_of_the_import { run_at_step_5 3 (codes "162583") ≡ Answered (codes "NO 1 INVALID" ∷ []) None }
     ensures longest { run_at_most 2 99 (codes "#\n%%\n7 1 x\n") ≡ Answered (codes "NO - BADLINE" ∷ []) None }
     ensures too_long { run_at_most 1 99 (codes "#\n%%\n7 1 x\n") ≡ Refused (fault_at 1 FileTooLong) }
     ensures to_the_limit { run_at_most 2 2 (codes "##") ≡ Answered [] None }
@@ -70,7 +74,8 @@ pub fn runs_are_worked()
     ensures text { (status_of NotText ≡ 2) × (outside_fault_of outside.NotText ≡ NotText) }
 {}
 
-/// What is promised of the end of a run is broken by an end that differs the least.
+/// What is promised of the end of a run, and of a fault in the midst of its users file, is broken by an end that differs
+/// the least.
 pub fn promises_can_be_broken()
     ensures kept { EndsSo answered (Err (InputLine 7)) (Some []) (Some (codes "OK 1 0\nNO 2 INVALID\n")) }
     ensures lost_answer { EndsSo answered (Err (InputLine 7)) (Some []) (Some (codes "OK 1 0\n")) → ⊥ }
@@ -84,12 +89,24 @@ pub fn promises_can_be_broken()
     ensures read { EndsSo answered (Err CannotRead) (Some []) (Some (codes "NO 2 INVALID\n")) → ⊥ }
     ensures read_more { EndsSo answered (Err CannotRead) (Some []) (Some (codes "OK 1 0\nNO 2 INVALID\n\n")) → ⊥ }
     ensures read_users { EndsSo (Refused (fault_at 2 MissingField)) (Err CannotRead) (Some []) (Some []) → ⊥ }
+    ensures first { WritesFirst answered (Some []) (Some (codes "OK 1 0\n")) }
+    ensures first_in_part { WritesFirst answered (Some []) (Some (codes "OK 1 0")) → ⊥ }
+    ensures first_of_no_users { WritesFirst (Refused (fault_at 2 MissingField)) (Some []) (Some (codes "\n")) → ⊥ }
+    ensures taken { IsTaken answered }
+    ensures not_taken { IsTaken (Refused (fault_at 2 MissingField)) → ⊥ }
     ensures users { EndsSo answered (Err (Users (fault_at 1 MissingField))) (Some []) (Some []) → ⊥ }
     ensures users_line { EndsSo (Refused (fault_at 2 MissingField)) (Err (Users (fault_at 1 MissingField)))
         (Some []) (Some []) → ⊥ }
     ensures users_output { EndsSo (Refused (fault_at 2 MissingField)) (Err (Users (fault_at 2 MissingField)))
         (Some []) (Some (codes "\n")) → ⊥ }
     ensures no_text { EndsSo answered (Err NotText) (Some []) (Some (codes "OK 1 0\nNO 2 INVALID\n")) → ⊥ }
+    ensures cut { IsCutAt 99 99 (codes "#\n#") (Users (fault_at 2 Read)) }
+    ensures cut_at_another_line { IsCutAt 99 99 (codes "#") (Users (fault_at 2 Read)) → ⊥ }
+    ensures cut_behind_a_fault { IsCutAt 99 99 (codes "HOTP\n") (Users (fault_at 2 Read)) → ⊥ }
+    ensures cut_past_the_longest { IsCutAt 1 99 (codes "#\n") (Users (fault_at 2 Read)) → ⊥ }
+    ensures cut_behind_the_users { IsCutAt 99 99 (codes "%%\n") (Users (fault_at 2 Read)) → ⊥ }
+    ensures cut_marker { IsCutAt 99 2 (codes "%%\n") (Users (fault_at 2 Read)) }
+    ensures cut_by_no_read { IsCutAt 99 99 [] (Users (fault_at 7 MissingField)) × IsCutAt 99 99 [] Memory }
     ensures secret { EndsWithText (codes "666f6f626172") (Ok tt) (Some []) (Some (codes "MZXW6YTBOI======\n")) }
     ensures secret_lf { EndsWithText (codes "666f6f626172") (Ok tt) (Some []) (Some (codes "MZXW6YTBOI======")) → ⊥ }
     ensures refused_key { EndsWithText (codes "666") (Err (BadKey BadLength)) (Some []) (Some []) }

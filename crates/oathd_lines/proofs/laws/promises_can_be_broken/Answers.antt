@@ -1,8 +1,13 @@
--- The secret's text is computed, and what some first answers print.
-use Rattle.std.proofs.Common.{◌≡◌, ℕ, zero, suc, List, [], ◌∷◌, length, take, refl, ap, ◌∙◌, arith, take_all}
+-- The secret's text is computed, and what some first answers print, and where some first bytes of a users file end.
+use Rattle.std.proofs.Common.{◌≡◌, ℕ, zero, suc, List, [], ◌∷◌, ◌++◌, length, take, Some, Result, Ok, Err, refl, sym, ap, subst, ◌∙◌, arith, take_all}
+use Rattle.std.proofs.Math.Seq.{take-append_seam}
 use Rattle.std.specs.Prelude.{codes, slice_index}
 use Rattle.hex.specs.Hex.{decode_pairs}
+use Rattle.otp_core.specs.Limits.{default_limits}
 use Rattle.secret_text.specs.Bits.{bits_of}
+use Rattle.token_file.specs.UsersFile.{Import, IsCutOff, instant_of, outcome_of}
+use Rattle.token_file.specs.declared.fault.LineFault.{LineFault}
+use Rattle.token_file.specs.declared.fault.LineFault.TheVariants.{Read}
 use Rattle.oathd_lines.specs.Run.{printed_lines}
 use Rattle.oathd_lines.proofs.laws.promises_can_be_broken.Goals as goal
 
@@ -33,6 +38,21 @@ returns-clause-memory c h = not_second h.count h.written
 pub returns-clause-memory_more : goal.returns-clause-memory_more
 returns-clause-memory_more c h = not_more h.count h.written
 
+-- the first answer is written whole
+not_in_part : (count : ℕ) → codes "OK 1 0" ≡ printed_lines (take count two_answers) → ⊥
+not_in_part zero e = let lengths : 6 ≡ 0 = ap (length {A = ℕ}) e in omega (arith, lengths)
+not_in_part (suc zero) e = let lengths : 6 ≡ 7 = ap (length {A = ℕ}) e in omega (arith, lengths)
+not_in_part (suc (suc n)) e =
+    let all = e ∙ ap (λ (l : List (List ℕ)). printed_lines (codes "OK 1 0" ∷ codes "NO 2 INVALID" ∷ l)) (take_all n [] (omega arith)) in
+    let lengths : 6 ≡ 20 = ap (length {A = ℕ}) all in
+    omega (arith, lengths)
+
+pub returns-clause-first : goal.returns-clause-first
+returns-clause-first c = record { count = 1; written = refl }
+
+pub returns-clause-first_in_part : goal.returns-clause-first_in_part
+returns-clause-first_in_part c h = not_in_part h.count h.written
+
 pub returns-clause-memory_users : goal.returns-clause-memory_users
 returns-clause-memory_users c h = let lengths : 1 ≡ 0 = ap (length {A = ℕ}) h.written in omega (arith, lengths)
 
@@ -41,6 +61,70 @@ returns-clause-read c h = not_second h.1.count h.1.written
 
 pub returns-clause-read_more : goal.returns-clause-read_more
 returns-clause-read_more c h = not_more h.1.count h.1.written
+
+-- the line that is told of a fault
+abbrev line_told : Result Import (ℕ × LineFault) → ℕ
+line_told (Ok import) = 0
+line_told (Err fault) = fault.0
+
+-- what some first bytes of a users file, of which there may be so many, come to where it is cut off behind them
+abbrev outcome_after : ℕ → List ℕ → ℕ → Result Import (ℕ × LineFault)
+outcome_after longest text n = outcome_of (Some Read) longest (instant_of default_limits 0) (take n text)
+
+taken_first : (text taken left : List ℕ) → text ≡ taken ++ left → taken ≡ take (length taken) text
+taken_first text taken left parts = sym (take-append_seam taken left) ∙ ap (take (length taken)) (sym parts)
+
+-- a fault that is told at line 1 wherever a text is cut off is not told at line 2
+not_cut : (longest : ℕ) (text : List ℕ) → ((n : ℕ) → line_told (outcome_after longest text n) ≡ 1)
+    → IsCutOff Read longest (instant_of default_limits 0) text 2 → ⊥
+not_cut longest text first h =
+    let told : line_told (outcome_of (Some Read) longest (instant_of default_limits 0) h.taken) ≡ 2 = ap line_told h.outcome in
+    let same = subst (λ t. line_told (outcome_of (Some Read) longest (instant_of default_limits 0) t) ≡ 2)
+    (taken_first text h.taken h.left h.parts) told in
+    let lines : 1 ≡ 2 = sym (first (length h.taken)) ∙ same in
+    omega (arith, lines)
+
+of_a_remark : (n : ℕ) → line_told (outcome_after 99 (codes "#") n) ≡ 1
+of_a_remark zero = refl
+of_a_remark (suc zero) = refl
+of_a_remark (suc (suc n)) = refl
+
+of_a_fault : (n : ℕ) → line_told (outcome_after 99 (codes "HOTP\n") n) ≡ 1
+of_a_fault zero = refl
+of_a_fault (suc zero) = refl
+of_a_fault (suc (suc zero)) = refl
+of_a_fault (suc (suc (suc zero))) = refl
+of_a_fault (suc (suc (suc (suc zero)))) = refl
+of_a_fault (suc (suc (suc (suc (suc zero))))) = refl
+of_a_fault (suc (suc (suc (suc (suc (suc n)))))) = refl
+
+of_two_bytes : (n : ℕ) → line_told (outcome_after 1 (codes "#\n") n) ≡ 1
+of_two_bytes zero = refl
+of_two_bytes (suc zero) = refl
+of_two_bytes (suc (suc zero)) = refl
+of_two_bytes (suc (suc (suc n))) = refl
+
+of_nothing : (n : ℕ) → line_told (outcome_after 99 [] n) ≡ 1
+of_nothing zero = refl
+of_nothing (suc n) = refl
+
+pub returns-clause-cut : goal.returns-clause-cut
+returns-clause-cut c read = record { taken = codes "#\n#"; left = []; parts = refl; outcome = refl }
+
+pub returns-clause-cut_at_another_line : goal.returns-clause-cut_at_another_line
+returns-clause-cut_at_another_line c h = not_cut 99 (codes "#") of_a_remark (h refl)
+
+pub returns-clause-cut_behind_a_fault : goal.returns-clause-cut_behind_a_fault
+returns-clause-cut_behind_a_fault c h = not_cut 99 (codes "HOTP\n") of_a_fault (h refl)
+
+pub returns-clause-cut_past_the_longest : goal.returns-clause-cut_past_the_longest
+returns-clause-cut_past_the_longest c h = not_cut 1 (codes "#\n") of_two_bytes (h refl)
+
+pub returns-clause-cut_behind_the_users : goal.returns-clause-cut_behind_the_users
+returns-clause-cut_behind_the_users c h = not_cut 99 [] of_nothing (h refl)
+
+pub returns-clause-cut_marker : goal.returns-clause-cut_marker
+returns-clause-cut_marker c read = record { taken = codes "%%\n"; left = []; parts = refl; outcome = refl }
 
 pub returns-clause-secret : goal.returns-clause-secret
 unfolding bits_of decode_pairs

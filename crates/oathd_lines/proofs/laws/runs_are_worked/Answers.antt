@@ -24,3 +24,15 @@ returns-clause-to_the_limit c = refl
 pub returns-clause-two_past_the_limit : goal.returns-clause-two_past_the_limit
 unfolding report_from
 returns-clause-two_past_the_limit c = refl
+
+pub returns-clause-moment : goal.returns-clause-moment
+unfolding decode_pairs digits report_from
+returns-clause-moment c = refl
+
+pub returns-clause-skew_of_the_node : goal.returns-clause-skew_of_the_node
+unfolding decode_pairs digits report_from
+returns-clause-skew_of_the_node c = refl
+
+pub returns-clause-skew_of_the_import : goal.returns-clause-skew_of_the_import
+unfolding decode_pairs digits report_from
+returns-clause-skew_of_the_import c = refl
