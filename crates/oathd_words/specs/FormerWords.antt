@@ -79,7 +79,8 @@ former_given found = former_of
 -- whether anything is said of former stores
 abbrev pub is_of_former : Found → Bool
 is_of_former found = is_flag (first_value found (codes "anew"))
-    || (is_some (matched_of found (codes "lost")) || is_some (matched_of found (codes "floors")))
+    || (is_some (matched_of found (codes "lost"))
+    || (is_some (matched_of found (codes "floors")) || is_some (matched_of found (codes "since"))))
 
 -- How many members there are is said so: by a number, where no cluster file is named, of which the node is one, or by
 -- the cluster file at this path.

@@ -360,13 +360,31 @@ fn floors_error(usage: &mut Command<'_>) -> Result<Error, AllocError> {
     )
 }
 
+/// The error that says what the moment stands beside from which on floors files were read.
+fn since_error(usage: &mut Command<'_>) -> Result<Error, AllocError> {
+    usage.error(
+        ErrorKind::MissingRequiredArgument,
+        "'--since <SECONDS>' stands beside '--lost <K,..>' or '--anew'",
+    )
+}
+
+/// Whether it is said which databases are made anew.
+fn is_said_for_whom(matches: &ArgMatches<'_>) -> bool {
+    matches.contains_id("lost") || is_given(matches, "anew")
+}
+
 /// Whether floors files are named, and nothing says for whom.
 fn are_floors_alone(matches: &ArgMatches<'_>) -> bool {
-    matches.contains_id("floors") && !matches.contains_id("lost") && !is_given(matches, "anew")
+    matches.contains_id("floors") && !is_said_for_whom(matches)
+}
+
+/// Whether a moment is given from which on floors files were read, and nothing says for whom.
+fn is_since_alone(matches: &ArgMatches<'_>) -> bool {
+    matches.contains_id("since") && !is_said_for_whom(matches)
 }
 
 /// The error for values of a command that asks for its numbers.
-fn number_or_floors_error(
+fn number_or_former_error(
     alloc: Global,
     usage: &mut Command<'_>,
     numbers: &[NumberOption],
@@ -379,12 +397,15 @@ fn number_or_floors_error(
     if are_floors_alone(matches) {
         return floors_error(usage);
     }
+    if is_since_alone(matches) {
+        return since_error(usage);
+    }
     number_error(alloc, usage, matches, numbers)
 }
 
 /// The error that names the first of some numbers that is out of its range or not in digits alone, with that range, or
-/// else the members, or what floors files stand beside. A command without numbers is told how many members there are,
-/// and one with numbers their addresses.
+/// else the members, or what floors files and their moment stand beside. A command without numbers is told how many
+/// members there are, and one with numbers their addresses.
 fn error_of(
     alloc: Global,
     usage: &mut Command<'_>,
@@ -396,7 +417,7 @@ fn error_of(
         Some(members) if first_out_of_range(matches, numbers).is_none() => {
             addresses_error(alloc, usage, members)
         }
-        _ => number_or_floors_error(alloc, usage, numbers, matches),
+        _ => number_or_former_error(alloc, usage, numbers, matches),
     }
 }
 

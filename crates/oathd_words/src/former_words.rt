@@ -135,7 +135,10 @@ pub(crate) fn paths_of<'a>(
 pub(crate) fn is_of_former(matches: &ArgMatches<'_>) -> bool
     ensures { result ≡ is_of_former (found_of matches.now) }
 {
-    is_given(matches, "anew") || matches.contains_id("lost") || matches.contains_id("floors")
+    is_given(matches, "anew")
+        || matches.contains_id("lost")
+        || matches.contains_id("floors")
+        || matches.contains_id("since")
 }
 
 /// What is said of former stores, or `None` where it isn't all said.
