@@ -1,3 +1,4 @@
+pub mod Broken
 pub mod FormerWords
 pub mod Given
 pub mod Members

@@ -5,6 +5,7 @@
 mod command_words;
 mod former_words;
 mod help;
+mod laws;
 mod members;
 mod nodes_words;
 mod option_words;
@@ -12,6 +13,9 @@ mod store_words;
 mod words;
 
 pub use former_words::{CountWords, FormerWords};
+pub use laws::{
+    former_words_are_worked, members_can_be_broken, paths_are_worked, ranges_can_be_broken,
+};
 pub use members::read_members;
 pub use nodes_words::NodesWords;
 pub use store_words::{Action, ClusterWords, ImportWords};

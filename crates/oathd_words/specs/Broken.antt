@@ -1,0 +1,112 @@
+-- Small values of what words ask for, each of which breaks one range or one promise. No contract cites them.
+use Rattle.std.specs.Prelude.{ℕ, ◌+◌, false, List, [], ◌∷◌, ◌++◌, Option, None, codes}
+use Rattle.std.specs.Borrow.{Bor}
+use Rattle.std.specs.Global.{Vec}
+use Rattle.std.specs.declared.net.socket_addr.SocketAddrV4.{SocketAddrV4}
+use Rattle.otp_core.specs.Limits.{default_limits}
+use Rattle.vote_core.specs.Cases.{place}
+use Rattle.oathd_words.specs.declared.former_words.CountWords.TheVariants as counts
+use Rattle.oathd_words.specs.declared.former_words.FormerWords.{FormerWords}
+use Rattle.oathd_words.specs.declared.nodes_words.NodesWords.{NodesWords}
+use Rattle.oathd_words.specs.declared.nodes_words.NodesWords.TheVariants as nodes
+use Rattle.oathd_words.specs.declared.store_words.Action.{Action}
+use Rattle.oathd_words.specs.declared.store_words.Action.TheVariants.{Init, Remake, Serve, Floors, Level, Unlock}
+use Rattle.oathd_words.specs.declared.store_words.ClusterWords.{ClusterWords}
+use Rattle.oathd_words.specs.declared.store_words.ClusterWords.TheVariants as clusters
+use Rattle.oathd_words.specs.declared.store_words.ImportWords.TheVariants as imports
+use Rattle.oathd_words.specs.declared.words.Task.{Task}
+use Rattle.oathd_words.specs.declared.words.Task.TheVariants as tasks
+
+-- a word of the command line
+abbrev pub word : List ℕ → Bor (List ℕ)
+word text = record { ref_ptr = (0, 0); now = text }
+
+-- the path of a cluster file
+abbrev pub file : Bor (List ℕ)
+file = word (codes "c")
+
+-- ---- Members
+
+-- the text of 127.0.0.1 with a port of one digit
+abbrev pub local_text : ℕ → List ℕ
+local_text port = codes "127.0.0.1:" ++ (48 + port) ∷ []
+
+-- such texts with commas between them, behind a first one
+abbrev pub local_texts : ℕ → List ℕ → List ℕ
+local_texts first [] = local_text first
+local_texts first (port ∷ ports) = local_text first ++ 44 ∷ local_texts port ports
+
+-- ---- Nodes
+
+-- so many nodes are given
+abbrev pub given_nodes : ℕ → NodesWords
+given_nodes count = nodes.Given count default_limits None
+
+-- the cluster file says which nodes there are
+abbrev pub named_nodes : NodesWords
+named_nodes = nodes.Named file
+
+-- a cluster is given, of which the node is the first of so many members
+abbrev pub given_cluster : ℕ → Vec SocketAddrV4 → ClusterWords
+given_cluster count members = clusters.Given default_limits (place 1 count) members (word [])
+
+-- the cluster file says a cluster, of which the node has this number
+abbrev pub named_cluster : ℕ → ClusterWords
+named_cluster node = clusters.Named node file
+
+-- ---- What is done with a store
+
+-- a store is made at a moment, or at the present one, by the cluster file
+abbrev pub init_at : Option ℕ → ℕ → Action
+init_at moment node = Init node (imports.Named file) moment
+
+-- one is made with the usual settings
+abbrev pub usual_init : Action
+usual_init = Init 1 (imports.Given default_limits) None
+
+-- one is made anew by the cluster file
+abbrev pub remake_at : Option ℕ → FormerWords → ℕ → Action
+remake_at moment former node = Remake node (imports.Named file) moment former
+
+-- one is made anew with the usual settings
+abbrev pub usual_remake : FormerWords → Action
+usual_remake former = Remake 1 (imports.Given default_limits) None former
+
+-- a node of the cluster file is served for so many receives
+abbrev pub serve_for : ℕ → ℕ → Action
+serve_for turns node = Serve (named_cluster node) turns false
+
+-- the first of these members is served
+abbrev pub usual_serve : Vec SocketAddrV4 → Action
+usual_serve members = Serve (given_cluster 1 members) 0 false
+
+-- a floors file is written, for nine members or for those of the cluster file
+abbrev pub floors_of : ℕ → Action
+floors_of node = Floors node (counts.Given 9)
+
+abbrev pub floors_by_file : Action
+floors_by_file = Floors 1 (counts.Named file)
+
+-- a store is levelled
+abbrev pub level_by : Vec (Bor (List ℕ)) → ℕ → Action
+level_by floors node = Level node floors
+
+-- failures are forgotten
+abbrev pub unlock_of : ℕ → Action
+unlock_of node = Unlock node (word [])
+
+-- ---- Tasks
+
+-- these nodes answer lines, run a script, or run over sockets, with the users imported at a moment
+abbrev pub lines_at : ℕ → NodesWords → Task
+lines_at moment nodes = tasks.Lines nodes moment
+
+abbrev pub sim_at : ℕ → NodesWords → Task
+sim_at moment nodes = tasks.Sim nodes moment
+
+abbrev pub cluster_at : ℕ → NodesWords → Task
+cluster_at moment nodes = tasks.Cluster (word []) nodes moment
+
+-- this is done with a store
+abbrev pub store_of : Action → Task
+store_of action = tasks.Store (word []) (word []) action

@@ -1,0 +1,151 @@
+ghost use Rattle.std.specs.Prelude.{◌≡◌, [], ◌∷◌, ◌++◌, length, map, replicate, List, ℕ, None, Some, codes, false, true};
+ghost use Rattle.std.specs.Borrow.{Bor};
+ghost use Rattle.std.specs.Global.{Vec};
+ghost use Rattle.std.specs.declared.net.socket_addr.SocketAddrV4.{SocketAddrV4};
+ghost use Rattle.udp_port.specs.Examples.{at_host, at_local};
+ghost use Rattle.oathd_words.specs.Broken.{cluster_at, file, floors_by_file, floors_of, given_cluster, given_nodes, init_at, level_by, lines_at, local_text, local_texts, named_cluster, named_nodes, remake_at, serve_for, sim_at, store_of, unlock_of, usual_init, usual_remake, usual_serve, word};
+ghost use Rattle.clap.specs.declared.parser.matches.Found.{Found};
+ghost use Rattle.clap.specs.declared.parser.matches.MatchedArg.{MatchedArg};
+ghost use Rattle.oathd_words.specs.FormerWords.{former_of, is_of_former, lost_said, moment_or_0, nodes_in};
+ghost use Rattle.oathd_words.specs.Members.{AreMembers, SayAddresses, are_different};
+ghost use Rattle.oathd_words.specs.NodesWords.{AreNodesInRange};
+ghost use Rattle.oathd_words.specs.StoreWords.{IsActionInRange, IsClusterInRange};
+ghost use Rattle.oathd_words.specs.Words.{IsInRange, cluster_path_of, path_of_action};
+ghost use Rattle.oathd_words.specs.declared.former_words.FormerWords.{FormerWords as AnyFormer};
+ghost use Rattle.oathd_words.specs.declared.store_words.Action.TheVariants.{Audit, Export, Gates, Migrate};
+ghost use Rattle.oathd_words.specs.declared.words.Task.TheVariants.{Check, Secret};
+
+/// What is promised of the addresses of members holds of the least that keeps it, and each part is broken by the least
+/// that keeps all others.
+pub fn members_can_be_broken()
+    ensures says { SayAddresses [] [] × SayAddresses (local_text 5 ∷ []) (at_local 5 ∷ []) }
+    ensures says_of_no_text { SayAddresses [] (at_local 5 ∷ []) → ⊥ }
+    ensures says_of_no_address { SayAddresses (local_text 5 ∷ []) [] → ⊥ }
+    ensures says_another { SayAddresses (local_text 5 ∷ []) (at_local 6 ∷ []) → ⊥ }
+    ensures says_another_behind { SayAddresses (local_text 5 ∷ local_text 6 ∷ []) (at_local 5 ∷ at_local 7 ∷ []) → ⊥ }
+
+    ensures members { AreMembers (codes "127.0.0.1:5,127.0.0.1:6") (at_local 5 ∷ at_local 6 ∷ []) }
+    ensures members_said { AreMembers (local_text 5) (at_local 6 ∷ []) → ⊥ }
+    ensures members_few { AreMembers (local_texts 0 (1 ∷ 2 ∷ 3 ∷ 4 ∷ 5 ∷ 6 ∷ 7 ∷ 8 ∷ 9 ∷ []))
+        (map at_local (0 ∷ 1 ∷ 2 ∷ 3 ∷ 4 ∷ 5 ∷ 6 ∷ 7 ∷ 8 ∷ 9 ∷ [])) → ⊥ }
+    ensures members_different { AreMembers (local_texts 5 (5 ∷ [])) (at_local 5 ∷ at_local 5 ∷ []) → ⊥ }
+
+    // two are alike where host and port are
+    ensures different { map are_different (
+        [] ∷ (at_local 5 ∷ at_local 6 ∷ at_host 126 5 ∷ []) ∷ (at_local 5 ∷ at_local 6 ∷ at_local 5 ∷ [])
+        ∷ (at_local 6 ∷ at_local 5 ∷ at_local 5 ∷ []) ∷ []) ≡ true ∷ true ∷ false ∷ false ∷ [] }
+{}
+
+/// The numbers of what is asked for are in their ranges at the ends of each, and out of them behind these.
+pub fn ranges_can_be_broken()
+    ensures nodes { AreNodesInRange (given_nodes 1) × AreNodesInRange (given_nodes 9) × AreNodesInRange named_nodes }
+    ensures no_nodes { AreNodesInRange (given_nodes 0) → ⊥ }
+    ensures ten_nodes { AreNodesInRange (given_nodes 10) → ⊥ }
+
+    ensures members { (members : Vec SocketAddrV4) → length members.items ≡ 3
+        → IsClusterInRange (given_cluster 3 members) }
+    ensures two_of_three_members { (members : Vec SocketAddrV4) → length members.items ≡ 2
+        → IsClusterInRange (given_cluster 3 members) → ⊥ }
+    ensures member { IsClusterInRange (named_cluster 1) × IsClusterInRange (named_cluster 9) }
+    ensures member_0 { IsClusterInRange (named_cluster 0) → ⊥ }
+    ensures member_10 { IsClusterInRange (named_cluster 10) → ⊥ }
+
+    ensures init { IsActionInRange (init_at None 1) × IsActionInRange (init_at None 9)
+        × IsActionInRange (init_at (Some 0) 1) × IsActionInRange (init_at (Some 1099511627775) 9) }
+    ensures init_0 { IsActionInRange (init_at None 0) → ⊥ }
+    ensures init_10 { IsActionInRange (init_at None 10) → ⊥ }
+    ensures init_0_at_0 { IsActionInRange (init_at (Some 0) 0) → ⊥ }
+    ensures init_10_at_0 { IsActionInRange (init_at (Some 0) 10) → ⊥ }
+    ensures init_at_2_to_40 { IsActionInRange (init_at (Some 1099511627776) 1) → ⊥ }
+    ensures remake { (former : AnyFormer) → IsActionInRange (remake_at None former 1)
+        × IsActionInRange (remake_at None former 9) × IsActionInRange (remake_at (Some 0) former 1)
+        × IsActionInRange (remake_at (Some 1099511627775) former 9) }
+    ensures remake_0 { (former : AnyFormer) → IsActionInRange (remake_at None former 0) → ⊥ }
+    ensures remake_10 { (former : AnyFormer) → IsActionInRange (remake_at None former 10) → ⊥ }
+    ensures remake_0_at_0 { (former : AnyFormer) → IsActionInRange (remake_at (Some 0) former 0) → ⊥ }
+    ensures remake_10_at_0 { (former : AnyFormer) → IsActionInRange (remake_at (Some 0) former 10) → ⊥ }
+    ensures remake_at_2_to_40 { (former : AnyFormer) → IsActionInRange (remake_at (Some 1099511627776) former 1) → ⊥ }
+    ensures serve { IsActionInRange (serve_for 0 1) × IsActionInRange (serve_for 18014398509481983 9) }
+    ensures serve_0 { IsActionInRange (serve_for 0 0) → ⊥ }
+    ensures serve_for_2_to_54 { IsActionInRange (serve_for 18014398509481984 1) → ⊥ }
+    ensures export { IsActionInRange Export }
+    ensures audit { IsActionInRange (Audit 1) × IsActionInRange (Audit 9) }
+    ensures audit_0 { IsActionInRange (Audit 0) → ⊥ }
+    ensures audit_10 { IsActionInRange (Audit 10) → ⊥ }
+    ensures migrate { IsActionInRange (Migrate 1) × IsActionInRange (Migrate 9) }
+    ensures migrate_0 { IsActionInRange (Migrate 0) → ⊥ }
+    ensures migrate_10 { IsActionInRange (Migrate 10) → ⊥ }
+    ensures floors { IsActionInRange (floors_of 1) × IsActionInRange (floors_of 9) }
+    ensures floors_0 { IsActionInRange (floors_of 0) → ⊥ }
+    ensures floors_10 { IsActionInRange (floors_of 10) → ⊥ }
+    ensures level { (floors : Vec (Bor (List ℕ))) → IsActionInRange (level_by floors 1)
+        × IsActionInRange (level_by floors 9) }
+    ensures level_0 { (floors : Vec (Bor (List ℕ))) → IsActionInRange (level_by floors 0) → ⊥ }
+    ensures level_10 { (floors : Vec (Bor (List ℕ))) → IsActionInRange (level_by floors 10) → ⊥ }
+    ensures gates { IsActionInRange (Gates 1) × IsActionInRange (Gates 9) }
+    ensures gates_0 { IsActionInRange (Gates 0) → ⊥ }
+    ensures gates_10 { IsActionInRange (Gates 10) → ⊥ }
+    ensures unlock { IsActionInRange (unlock_of 1) × IsActionInRange (unlock_of 9) }
+    ensures unlock_0 { IsActionInRange (unlock_of 0) → ⊥ }
+    ensures unlock_10 { IsActionInRange (unlock_of 10) → ⊥ }
+
+    ensures lines { IsInRange (lines_at 0 (given_nodes 1)) × IsInRange (lines_at 1099511627775 named_nodes) }
+    ensures lines_of_none { IsInRange (lines_at 0 (given_nodes 0)) → ⊥ }
+    ensures lines_at_2_to_40 { IsInRange (lines_at 1099511627776 named_nodes) → ⊥ }
+    ensures sim { IsInRange (sim_at 0 (given_nodes 1)) × IsInRange (sim_at 1099511627775 named_nodes) }
+    ensures sim_of_none { IsInRange (sim_at 0 (given_nodes 0)) → ⊥ }
+    ensures sim_at_2_to_40 { IsInRange (sim_at 1099511627776 named_nodes) → ⊥ }
+    ensures cluster { IsInRange (cluster_at 0 (given_nodes 1)) × IsInRange (cluster_at 1099511627775 named_nodes) }
+    ensures cluster_of_none { IsInRange (cluster_at 0 (given_nodes 0)) → ⊥ }
+    ensures cluster_at_2_to_40 { IsInRange (cluster_at 1099511627776 named_nodes) → ⊥ }
+    ensures store { IsInRange (store_of (Audit 1)) }
+    ensures store_of_node_0 { IsInRange (store_of (Audit 0)) → ⊥ }
+    ensures check { IsInRange (Check (word []) (word [])) }
+    ensures secret { IsInRange (Secret (word [])) }
+{}
+
+/// Which cluster file is named, worked through.
+pub fn paths_are_worked()
+    ensures named { map cluster_path_of (lines_at 0 named_nodes ∷ sim_at 0 named_nodes ∷ cluster_at 0 named_nodes
+        ∷ store_of (init_at None 1) ∷ store_of (serve_for 0 1) ∷ store_of floors_by_file ∷ Check (word []) file ∷ [])
+        ≡ replicate 7 (Some (codes "c")) }
+    ensures remake { (former : AnyFormer) → path_of_action (remake_at None former 1) ≡ Some (codes "c") }
+    ensures none { map cluster_path_of (lines_at 0 (given_nodes 1) ∷ sim_at 0 (given_nodes 1)
+        ∷ cluster_at 0 (given_nodes 1) ∷ store_of usual_init ∷ store_of Export ∷ store_of (Audit 1)
+        ∷ store_of (Migrate 1) ∷ store_of (floors_of 1) ∷ store_of (Gates 1) ∷ store_of (unlock_of 1) ∷ Secret file ∷ [])
+        ≡ replicate 11 None }
+    ensures given_remake { (former : AnyFormer) → path_of_action (usual_remake former) ≡ None }
+    ensures given_serve { (members : Vec SocketAddrV4) → path_of_action (usual_serve members) ≡ None }
+    ensures level { (floors : Vec (Bor (List ℕ))) → path_of_action (level_by floors 1) ≡ None }
+{}
+
+/// What words say of former stores, worked through.
+pub fn former_words_are_worked()
+    ensures nodes { map nodes_in ((codes "1" ∷ codes "9" ∷ []) ∷ [] ∷ (codes "0" ∷ []) ∷ (codes ":" ∷ [])
+        ∷ (codes "1" ∷ codes "12" ∷ []) ∷ ([] ∷ []) ∷ [])
+        ≡ Some (1 ∷ 9 ∷ []) ∷ Some [] ∷ None ∷ None ∷ None ∷ None ∷ [] }
+    ensures anew { lost_said true None ≡ Some None }
+    ensures lost { lost_said false (Some (codes "2" ∷ [])) ≡ Some (Some (2 ∷ [])) }
+    ensures neither { lost_said false None ≡ None }
+    ensures both { lost_said true (Some (codes "2" ∷ [])) ≡ None }
+    ensures no_node { lost_said false (Some (codes "x" ∷ [])) ≡ None }
+    ensures since { map (moment_or_0 (Some [])) (None ∷ Some 0 ∷ Some 1099511627775 ∷ Some 1099511627776 ∷ [])
+        ≡ None ∷ Some 0 ∷ Some 1099511627775 ∷ None ∷ [] }
+    ensures no_since { moment_or_0 None None ≡ Some 0 }
+    ensures all { former_of (Some None) (Some 5) (Some []) ≡ Some (record { lost = None; since = 5; floors = [] }) }
+    ensures not_all { former_of None (Some 5) (Some []) ∷ former_of (Some None) None (Some [])
+        ∷ former_of (Some None) (Some 5) None ∷ [] ≡ replicate 3 None }
+
+    // any of them makes it something of former stores
+    ensures of_none { (found : Found) → found.entries.items ≡ [] → is_of_former found ≡ false }
+    ensures of_lost { (found : Found) (value : MatchedArg) → found.entries.items ≡ (word (codes "lost"), value) ∷ []
+        → is_of_former found ≡ true }
+    ensures of_floors { (found : Found) (value : MatchedArg) → found.entries.items ≡ (word (codes "floors"), value) ∷ []
+        → is_of_former found ≡ true }
+    ensures of_since { (found : Found) (value : MatchedArg) → found.entries.items ≡ (word (codes "since"), value) ∷ []
+        → is_of_former found ≡ true }
+    ensures of_anew { (found : Found) (value : MatchedArg) → found.entries.items ≡ (word (codes "anew"), value) ∷ []
+        → value.vals.items ≡ word (codes "true") ∷ [] → is_of_former found ≡ true }
+    ensures not_of_anew { (found : Found) (value : MatchedArg) → found.entries.items ≡ (word (codes "anew"), value) ∷ []
+        → value.vals.items ≡ word (codes "false") ∷ [] → is_of_former found ≡ false }
+{}
