@@ -39,6 +39,8 @@ time_line code =
 abbrev pub run_at_step_5 : ℕ → List ℕ → Run
 run_at_step_5 skew code = run_of (record { limits = limits_of 10 skew 100; moment = 150 }) 199 299 (time_line code)
 
--- a fault says where an input was cut off, of which so many bytes are read, in a users file of at most so many
-abbrev pub IsCutAt : ℕ → ℕ → List ℕ → Fault → Type 0
-IsCutAt longest limit read fault = IsCutSo (record { limits = default_limits; moment = 0 }) longest limit read fault
+-- A fault says where an input was cut off, of which so many bytes are read, in a users file of at most so many that is
+-- imported at this moment.
+abbrev pub IsCutAt : ℕ → ℕ → ℕ → List ℕ → Fault → Type 0
+IsCutAt moment longest limit read fault =
+    IsCutSo (record { limits = default_limits; moment = moment }) longest limit read fault

@@ -100,13 +100,13 @@ pub fn promises_can_be_broken()
     ensures users_output { EndsSo (Refused (fault_at 2 MissingField)) (Err (Users (fault_at 2 MissingField)))
         (Some []) (Some (codes "\n")) → ⊥ }
     ensures no_text { EndsSo answered (Err NotText) (Some []) (Some (codes "OK 1 0\nNO 2 INVALID\n")) → ⊥ }
-    ensures cut { IsCutAt 99 99 (codes "#\n#") (Users (fault_at 2 Read)) }
-    ensures cut_at_another_line { IsCutAt 99 99 (codes "#") (Users (fault_at 2 Read)) → ⊥ }
-    ensures cut_behind_a_fault { IsCutAt 99 99 (codes "HOTP\n") (Users (fault_at 2 Read)) → ⊥ }
-    ensures cut_past_the_longest { IsCutAt 1 99 (codes "#\n") (Users (fault_at 2 Read)) → ⊥ }
-    ensures cut_behind_the_users { IsCutAt 99 99 (codes "%%\n") (Users (fault_at 2 Read)) → ⊥ }
-    ensures cut_marker { IsCutAt 99 2 (codes "%%\n") (Users (fault_at 2 Read)) }
-    ensures cut_by_no_read { IsCutAt 99 99 [] (Users (fault_at 7 MissingField)) × IsCutAt 99 99 [] Memory }
+    ensures cut { (moment : ℕ) → IsCutAt moment 99 99 (codes "#\n#") (Users (fault_at 2 Read)) }
+    ensures cut_at_another_line { (moment : ℕ) → IsCutAt moment 99 99 (codes "#") (Users (fault_at 2 Read)) → ⊥ }
+    ensures cut_behind_a_fault { (moment : ℕ) → IsCutAt moment 99 99 (codes "HOTP\n") (Users (fault_at 2 Read)) → ⊥ }
+    ensures cut_past_the_longest { (moment : ℕ) → IsCutAt moment 1 99 (codes "#\n") (Users (fault_at 2 Read)) → ⊥ }
+    ensures cut_behind_the_users { (moment : ℕ) → IsCutAt moment 99 99 (codes "%%\n") (Users (fault_at 2 Read)) → ⊥ }
+    ensures cut_marker { (moment : ℕ) → IsCutAt moment 99 2 (codes "%%\n") (Users (fault_at 2 Read)) }
+    ensures cut_by_no_read { IsCutAt 0 99 99 [] (Users (fault_at 7 MissingField)) × IsCutAt 0 99 99 [] Memory }
     ensures secret { EndsWithText (codes "666f6f626172") (Ok tt) (Some []) (Some (codes "MZXW6YTBOI======\n")) }
     ensures secret_lf { EndsWithText (codes "666f6f626172") (Ok tt) (Some []) (Some (codes "MZXW6YTBOI======")) → ⊥ }
     ensures refused_key { EndsWithText (codes "666") (Err (BadKey BadLength)) (Some []) (Some []) }

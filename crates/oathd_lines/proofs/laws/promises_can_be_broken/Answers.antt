@@ -68,63 +68,63 @@ line_told (Ok import) = 0
 line_told (Err fault) = fault.0
 
 -- what some first bytes of a users file, of which there may be so many, come to where it is cut off behind them
-abbrev outcome_after : ℕ → List ℕ → ℕ → Result Import (ℕ × LineFault)
-outcome_after longest text n = outcome_of (Some Read) longest (instant_of default_limits 0) (take n text)
+abbrev outcome_after : ℕ → ℕ → List ℕ → ℕ → Result Import (ℕ × LineFault)
+outcome_after moment longest text n = outcome_of (Some Read) longest (instant_of default_limits moment) (take n text)
 
 taken_first : (text taken left : List ℕ) → text ≡ taken ++ left → taken ≡ take (length taken) text
 taken_first text taken left parts = sym (take-append_seam taken left) ∙ ap (take (length taken)) (sym parts)
 
 -- a fault that is told at line 1 wherever a text is cut off is not told at line 2
-not_cut : (longest : ℕ) (text : List ℕ) → ((n : ℕ) → line_told (outcome_after longest text n) ≡ 1)
-    → IsCutOff Read longest (instant_of default_limits 0) text 2 → ⊥
-not_cut longest text first h =
-    let told : line_told (outcome_of (Some Read) longest (instant_of default_limits 0) h.taken) ≡ 2 = ap line_told h.outcome in
-    let same = subst (λ t. line_told (outcome_of (Some Read) longest (instant_of default_limits 0) t) ≡ 2)
+not_cut : (moment longest : ℕ) (text : List ℕ) → ((n : ℕ) → line_told (outcome_after moment longest text n) ≡ 1)
+    → IsCutOff Read longest (instant_of default_limits moment) text 2 → ⊥
+not_cut moment longest text first h =
+    let told : line_told (outcome_of (Some Read) longest (instant_of default_limits moment) h.taken) ≡ 2 = ap line_told h.outcome in
+    let same = subst (λ t. line_told (outcome_of (Some Read) longest (instant_of default_limits moment) t) ≡ 2)
     (taken_first text h.taken h.left h.parts) told in
     let lines : 1 ≡ 2 = sym (first (length h.taken)) ∙ same in
     omega (arith, lines)
 
-of_a_remark : (n : ℕ) → line_told (outcome_after 99 (codes "#") n) ≡ 1
-of_a_remark zero = refl
-of_a_remark (suc zero) = refl
-of_a_remark (suc (suc n)) = refl
+of_a_remark : (moment n : ℕ) → line_told (outcome_after moment 99 (codes "#") n) ≡ 1
+of_a_remark moment zero = refl
+of_a_remark moment (suc zero) = refl
+of_a_remark moment (suc (suc n)) = refl
 
-of_a_fault : (n : ℕ) → line_told (outcome_after 99 (codes "HOTP\n") n) ≡ 1
-of_a_fault zero = refl
-of_a_fault (suc zero) = refl
-of_a_fault (suc (suc zero)) = refl
-of_a_fault (suc (suc (suc zero))) = refl
-of_a_fault (suc (suc (suc (suc zero)))) = refl
-of_a_fault (suc (suc (suc (suc (suc zero))))) = refl
-of_a_fault (suc (suc (suc (suc (suc (suc n)))))) = refl
+of_a_fault : (moment n : ℕ) → line_told (outcome_after moment 99 (codes "HOTP\n") n) ≡ 1
+of_a_fault moment zero = refl
+of_a_fault moment (suc zero) = refl
+of_a_fault moment (suc (suc zero)) = refl
+of_a_fault moment (suc (suc (suc zero))) = refl
+of_a_fault moment (suc (suc (suc (suc zero)))) = refl
+of_a_fault moment (suc (suc (suc (suc (suc zero))))) = refl
+of_a_fault moment (suc (suc (suc (suc (suc (suc n)))))) = refl
 
-of_two_bytes : (n : ℕ) → line_told (outcome_after 1 (codes "#\n") n) ≡ 1
-of_two_bytes zero = refl
-of_two_bytes (suc zero) = refl
-of_two_bytes (suc (suc zero)) = refl
-of_two_bytes (suc (suc (suc n))) = refl
+of_two_bytes : (moment n : ℕ) → line_told (outcome_after moment 1 (codes "#\n") n) ≡ 1
+of_two_bytes moment zero = refl
+of_two_bytes moment (suc zero) = refl
+of_two_bytes moment (suc (suc zero)) = refl
+of_two_bytes moment (suc (suc (suc n))) = refl
 
-of_nothing : (n : ℕ) → line_told (outcome_after 99 [] n) ≡ 1
-of_nothing zero = refl
-of_nothing (suc n) = refl
+of_nothing : (moment n : ℕ) → line_told (outcome_after moment 99 [] n) ≡ 1
+of_nothing moment zero = refl
+of_nothing moment (suc n) = refl
 
 pub returns-clause-cut : goal.returns-clause-cut
-returns-clause-cut c read = record { taken = codes "#\n#"; left = []; parts = refl; outcome = refl }
+returns-clause-cut c moment read = record { taken = codes "#\n#"; left = []; parts = refl; outcome = refl }
 
 pub returns-clause-cut_at_another_line : goal.returns-clause-cut_at_another_line
-returns-clause-cut_at_another_line c h = not_cut 99 (codes "#") of_a_remark (h refl)
+returns-clause-cut_at_another_line c moment h = not_cut moment 99 (codes "#") (of_a_remark moment) (h refl)
 
 pub returns-clause-cut_behind_a_fault : goal.returns-clause-cut_behind_a_fault
-returns-clause-cut_behind_a_fault c h = not_cut 99 (codes "HOTP\n") of_a_fault (h refl)
+returns-clause-cut_behind_a_fault c moment h = not_cut moment 99 (codes "HOTP\n") (of_a_fault moment) (h refl)
 
 pub returns-clause-cut_past_the_longest : goal.returns-clause-cut_past_the_longest
-returns-clause-cut_past_the_longest c h = not_cut 1 (codes "#\n") of_two_bytes (h refl)
+returns-clause-cut_past_the_longest c moment h = not_cut moment 1 (codes "#\n") (of_two_bytes moment) (h refl)
 
 pub returns-clause-cut_behind_the_users : goal.returns-clause-cut_behind_the_users
-returns-clause-cut_behind_the_users c h = not_cut 99 [] of_nothing (h refl)
+returns-clause-cut_behind_the_users c moment h = not_cut moment 99 [] (of_nothing moment) (h refl)
 
 pub returns-clause-cut_marker : goal.returns-clause-cut_marker
-returns-clause-cut_marker c read = record { taken = codes "%%\n"; left = []; parts = refl; outcome = refl }
+returns-clause-cut_marker c moment read = record { taken = codes "%%\n"; left = []; parts = refl; outcome = refl }
 
 pub returns-clause-secret : goal.returns-clause-secret
 unfolding bits_of decode_pairs
