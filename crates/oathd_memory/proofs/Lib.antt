@@ -1,4 +1,5 @@
 pub mod CheckLemmas
 mod FlushLemmas
+mod LawLemmas
 mod LinesLemmas
 mod SetupLemmas

@@ -1,3 +1,4 @@
+pub mod Broken
 pub mod Check
 pub mod Fault
 pub mod Nodes

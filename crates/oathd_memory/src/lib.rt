@@ -9,9 +9,14 @@ mod cluster;
 mod commands;
 mod fault;
 mod key;
+mod laws;
 mod setup;
 
 pub use cluster::{cluster_in, cluster_key, cluster_text, member_place};
 pub use commands::perform;
 pub use fault::Fault;
 pub use key::{file_text, read_key};
+pub use laws::{
+    checks_can_be_broken, ends_can_be_broken, keys_can_be_broken, setups_can_be_broken,
+    tasks_can_be_broken,
+};
