@@ -21,6 +21,7 @@ pub fn members_can_be_broken()
     ensures says { SayAddresses [] [] × SayAddresses (local_text 5 ∷ []) (at_local 5 ∷ []) }
     ensures says_of_no_text { SayAddresses [] (at_local 5 ∷ []) → ⊥ }
     ensures says_of_no_address { SayAddresses (local_text 5 ∷ []) [] → ⊥ }
+    ensures says_too_few { SayAddresses (local_text 5 ∷ local_text 6 ∷ []) (at_local 5 ∷ []) → ⊥ }
     ensures says_another { SayAddresses (local_text 5 ∷ []) (at_local 6 ∷ []) → ⊥ }
     ensures says_another_behind { SayAddresses (local_text 5 ∷ local_text 6 ∷ []) (at_local 5 ∷ at_local 7 ∷ []) → ⊥ }
 
@@ -28,7 +29,7 @@ pub fn members_can_be_broken()
     ensures members_said { AreMembers (local_text 5) (at_local 6 ∷ []) → ⊥ }
     ensures members_few { AreMembers (local_texts 0 (1 ∷ 2 ∷ 3 ∷ 4 ∷ 5 ∷ 6 ∷ 7 ∷ 8 ∷ 9 ∷ []))
         (map at_local (0 ∷ 1 ∷ 2 ∷ 3 ∷ 4 ∷ 5 ∷ 6 ∷ 7 ∷ 8 ∷ 9 ∷ [])) → ⊥ }
-    ensures members_different { AreMembers (local_texts 5 (5 ∷ [])) (at_local 5 ∷ at_local 5 ∷ []) → ⊥ }
+    ensures members_different { (text : List ℕ) → AreMembers text (at_local 5 ∷ at_local 5 ∷ []) → ⊥ }
 
     // two are alike where host and port are
     ensures different { map are_different (
@@ -112,8 +113,8 @@ pub fn paths_are_worked()
     ensures remake { (former : AnyFormer) → path_of_action (remake_at None former 1) ≡ Some (codes "c") }
     ensures none { map cluster_path_of (lines_at 0 (given_nodes 1) ∷ sim_at 0 (given_nodes 1)
         ∷ cluster_at 0 (given_nodes 1) ∷ store_of usual_init ∷ store_of Export ∷ store_of (Audit 1)
-        ∷ store_of (Migrate 1) ∷ store_of (floors_of 1) ∷ store_of (Gates 1) ∷ store_of (unlock_of 1) ∷ Secret file ∷ [])
-        ≡ replicate 11 None }
+        ∷ store_of (Migrate 1) ∷ store_of (floors_of 1) ∷ store_of (Gates 1) ∷ store_of (unlock_of 1)
+        ∷ Secret file ∷ []) ≡ replicate 11 None }
     ensures given_remake { (former : AnyFormer) → path_of_action (usual_remake former) ≡ None }
     ensures given_serve { (members : Vec SocketAddrV4) → path_of_action (usual_serve members) ≡ None }
     ensures level { (floors : Vec (Bor (List ℕ))) → path_of_action (level_by floors 1) ≡ None }

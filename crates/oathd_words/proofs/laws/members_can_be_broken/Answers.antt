@@ -50,7 +50,7 @@ returns-clause-members_said c h =
 
 pub returns-clause-members_different : goal.returns-clause-members_different
 unfolding ipv4_bits
-returns-clause-members_different c h = let e = h.different in absurd cc
+returns-clause-members_different c text h = let e = h.different in absurd cc
 
 pub returns-clause-different : goal.returns-clause-different
 unfolding ipv4_bits
