@@ -1,17 +1,20 @@
 -- Small nodes, each of which breaks one field of a promise. No contract cites them.
-use Rattle.std.specs.Prelude.{ℕ, pos, true, false, List, [], ◌∷◌, None, replicate, Result, Ok, Err, codes}
+use Rattle.std.specs.Prelude.{ℕ, ℤ, true, false, List, [], ◌∷◌, None, replicate, Result, Ok, Err, codes}
 use Rattle.otp_core.specs.Limits.{default_limits}
 use Rattle.floor_store.specs.Broken.{SmallStore, broken_at, fallen_at, holding, small_held, store_at}
 use Rattle.floor_store.specs.Content.{opening_content}
 use Rattle.floor_store.specs.declared.fault.StoreFault.TheVariants.{Disk}
 use Rattle.vote_core.specs.Broken.{lone_voter, small_ballot}
 use Rattle.vote_core.specs.Cases.{place}
-use Rattle.answer_ring.specs.Answers.{KeptAnswer}
+use Rattle.vote_core.specs.State.{ballot_of}
 use Rattle.oath_node.specs.Cases.{config, content_with, rows_at_start}
+use Rattle.oath_node.specs.Examples.{narrow_limits, standing_with, three_tokens}
+use Rattle.oath_node.specs.Grounds.{IsFitting}
 use Rattle.oath_node.specs.Hosted.{Hosted, made_of, state_of}
 use Rattle.oath_node.specs.Machine.{NodeEvent, NodeState, Owner, Peer, Tick, opened_node}
 use Rattle.oath_node.specs.Outputs.{OutputsRecord, no_outputs, outputs_of}
 use Rattle.oath_node.specs.ReferenceServer.{Line}
+use Rattle.oath_node.specs.Rules.{Standing}
 use Rattle.oath_node.specs.Serving.{Serving}
 use Rattle.oath_node.specs.declared.fault.NodeFault.{NodeFault}
 use Rattle.oath_node.specs.declared.fault.NodeFault.TheVariants.{Store, Stopped, Spent}
@@ -62,6 +65,10 @@ node_of_three seq = record (node_over (holding (content_with rows_at_start)) [])
   limits = config.limits;
   voter = record lone_voter { tokens = 3; boot = 1; seq = seq };
 }
+
+-- the node under a key
+abbrev pub under : List ℕ → Hosted SmallStore → Hosted SmallStore
+under key node = record node { key = key }
 
 -- node 1 of nine, in which 34 proposals wait, which no call leaves there
 abbrev pub crowded_node : Hosted SmallStore
@@ -114,6 +121,12 @@ owning owners seq = record (state_of small_held small_node) {
   owners = owners;
 }
 
+-- the machine of the small node with these owners, and this next number, where proposal 0 waits
+abbrev pub waiting : List Owner → ℕ → NodeState
+waiting owners seq = record (owning owners seq) {
+  voter = record { pending = ballot_of small_ballot ∷ []; seq = seq; turn = 0 };
+}
+
 -- ---- A node in memory
 
 -- the machine of a node in memory with one token, whose first free factor is 5
@@ -132,6 +145,16 @@ serving_node = record {
   answers = [];
   running = true;
 }
+
+-- ---- A line whose factors are proposed
+
+-- the line is one of these, for one of three tokens under the narrow settings
+abbrev pub IsProposed : Standing → ℕ → List ℕ → List ℕ → ℕ → ℕ → ℕ → ℤ → Type 0
+IsProposed = IsFitting three_tokens narrow_limits
+
+-- each of the three tokens is open, and has factor 0 free
+abbrev pub all_free : Standing
+all_free = record (standing_with 0 0) { next = λ token. 0 }
 
 -- a line that is none
 abbrev pub no_line : Line

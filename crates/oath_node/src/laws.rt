@@ -21,17 +21,17 @@ ghost use Rattle.vote_core.specs.Rows.{row};
 ghost use Rattle.vote_core.specs.State.{IsPlace, ballot_of};
 ghost use Rattle.vote_core.specs.Voting.{fresh_voter};
 ghost use Rattle.vote_core.specs.declared.message.Message.TheVariants.{Ask, Floor, Grant};
-ghost use Rattle.oath_node.specs.Examples.{IsJustifiedByClock, IsJustifiedInRun, drift_of_passes, kept_in, lines_given_again, lines_of_a_run, outcome_of, outcome_of_clock, pass_with, server_of, silver_before, ruling_by_clock, ruling_on, narrow_limits, one_clock, standing_with};
+ghost use Rattle.oath_node.specs.Examples.{IsJustifiedByClock, IsJustifiedInRun, drift_of_passes, kept_in, lines_given_again, lines_of_a_run, outcome_of, outcome_of_clock, pass_with, server_of, silver_before, ruling_by_clock, ruling_on, narrow_limits, one_clock, standing_with, three_tokens};
 ghost use Rattle.vote_wire.specs.declared.answer.Reason.TheVariants.{Clock, Exhausted, Invalid, Password, Throttled, Unknown};
-ghost use Rattle.oath_node.specs.declared.ruling.Ruling.TheVariants.{Denied, Fitting, Outside, Wrong};
+ghost use Rattle.oath_node.specs.declared.ruling.Ruling.TheVariants.{Again, Denied, Fitting, Outside, Waiting, Wrong};
 ghost use Rattle.floor_store.specs.Broken.{broken_at, fallen_at, small_held, store_at, unsettled_at};
 ghost use Rattle.floor_store.specs.Examples.{content_at, granted_row, later_row, two_rows};
 ghost use Rattle.floor_store.specs.declared.fault.StoreFault.TheVariants.{Disk};
 ghost use Rattle.vote_core.specs.Broken.{lone_voter, small_ballot};
-ghost use Rattle.oath_node.specs.Broken.{all_of_a_tick, answering, crowded_node, done, failed, failed_node, fallen_node, first_state, keyed, no_line, node_of_three, node_over, noise, number_spent, opened_at_1, owner_of, owning, quiet, serving_node, small_node, stopped, was_stopped};
-ghost use Rattle.oath_node.specs.Calls.{CommitsNode, Handles, IsMade, IsOpened, IsRefused, Restarts, Takes};
-ghost use Rattle.oath_node.specs.Hosted.{AreApart, IsNode, IsOwned, IsSameNode};
-ghost use Rattle.oath_node.specs.Serving.{IsAnswered, IsInMemory, IsServing};
+ghost use Rattle.oath_node.specs.Broken.{IsProposed, all_free, all_of_a_tick, answering, crowded_node, done, failed, failed_node, fallen_node, first_state, keyed, no_line, node_of_three, node_over, noise, number_spent, opened_at_1, owner_of, owning, quiet, serving_node, small_node, stopped, under, waiting, was_stopped};
+ghost use Rattle.oath_node.specs.Calls.{CommitsNode, Handles, IsMade, IsOpened, IsProposal, IsProposing, IsRefused, Restarts, Takes};
+ghost use Rattle.oath_node.specs.Hosted.{IsNode, IsOwned, IsSameNode};
+ghost use Rattle.oath_node.specs.Serving.{IsAnswered, IsInMemory, IsServerAfter, IsServing};
 ghost use Rattle.oath_node.specs.declared.fault.NodeFault.TheVariants.{Store, Stopped, Spent};
 ghost use Rattle.oath_node.specs.declared.fault.OpenFault.TheVariants.{Memory, Store as OpenStore};
 
@@ -327,13 +327,11 @@ pub fn calls_can_be_broken()
 
     ensures takes { Takes small_held small_node small_node noise quiet }
     ensures takes_failed { Takes small_held small_node failed_node noise (Err (Store Disk)) }
-    ensures takes_made { Takes small_held small_node (answering small_node) noise quiet → ⊥ }
     ensures takes_runs { Takes small_held fallen_node (stopped fallen_node) noise quiet → ⊥ }
     ensures takes_puts { Takes small_held (node_over (record (fallen_at 0) { failures = 1 }) []) fallen_node noise quiet
         → ⊥ }
     ensures takes_fails { Takes small_held small_node (node_over (broken_at 0) []) noise (Err (Store Disk)) → ⊥ }
     ensures takes_stopped { Takes small_held (stopped small_node) failed_node noise (Err (Store Disk)) → ⊥ }
-    ensures takes_few { Takes small_held crowded_node crowded_node Tick (all_of_a_tick crowded_node) → ⊥ }
     ensures takes_same { Takes small_held fallen_node (keyed fallen_node) noise quiet → ⊥ }
 
     ensures commits { CommitsNode small_held (node_over (unsettled_at 0 1) []) small_node done }
@@ -352,7 +350,6 @@ pub fn calls_can_be_broken()
     ensures handles_stopped { Handles small_held (stopped small_node) (stopped small_node) noise (Err Stopped) }
     ensures handles_no_number { Handles small_held (node_of_three 4611686018427387904)
         (stopped (node_of_three 4611686018427387904)) (line first_line) (Err Spent) }
-    ensures handles_made { Handles small_held small_node (answering small_node) noise quiet → ⊥ }
     ensures handles_runs { Handles small_held fallen_node (stopped fallen_node) noise quiet → ⊥ }
     ensures handles_writes { Handles small_held (node_over (record (fallen_at 0) { failures = 1 }) []) fallen_node noise
         quiet → ⊥ }
@@ -371,6 +368,35 @@ pub fn calls_can_be_broken()
         (Err Spent) → ⊥ }
     ensures no_number_stops { Handles small_held (node_of_three 4611686018427387904)
         (node_of_three 4611686018427387904) (line first_line) (Err Spent) → ⊥ }
+{}
+
+/// What a call does to a node is the step of its machine, and sends no more than there is room for, under any key.
+pub fn calls_make_steps()
+    ensures takes_made { (key : List ℕ) → Takes small_held (under key small_node) (under key (answering small_node))
+        noise quiet → ⊥ }
+    ensures takes_few { (key : List ℕ) → Takes small_held (under key crowded_node) (under key crowded_node) Tick
+        (all_of_a_tick (under key crowded_node)) → ⊥ }
+    ensures handles_made { (key : List ℕ) → Handles small_held (under key small_node) (under key (answering small_node))
+        noise quiet → ⊥ }
+{}
+
+/// Which rulings propose factors and which refuse a line, which tokens they spare, and which events propose.
+pub fn rulings_are_told_apart()
+    ensures proposes { IsProposal (Fitting [] 0 (span_of 0 0) (pos 0)) }
+    ensures bad_line { IsProposal Outside → ⊥ }
+    ensures kept { IsProposal (Again []) → ⊥ }
+    ensures waits { IsProposal Waiting → ⊥ }
+    ensures denied { IsProposal (Denied [] Unknown) → ⊥ }
+    ensures wrong { IsProposal (Wrong [] Invalid 0) → ⊥ }
+    ensures tick { IsProposing config (idle_node 0) Tick → ⊥ }
+    ensures datagram { IsProposing config (idle_node 0) noise → ⊥ }
+    ensures refuses { IsRefusal Outside × IsRefusal (Again []) × IsRefusal Waiting × IsRefusal (Denied [] Unknown)
+        × IsRefusal (Wrong [] Invalid 0) }
+    ensures proposal_is_none { IsRefusal (Fitting [] 0 (span_of 0 0) (pos 0)) → ⊥ }
+    ensures spares { SparesToken 0 Outside × SparesToken 0 (Again []) × SparesToken 0 Waiting
+        × SparesToken 0 (Denied [] Unknown) × SparesToken 1 (Wrong [] Invalid 0)
+        × SparesToken 0 (Fitting [] 0 (span_of 0 0) (pos 0)) }
+    ensures spares_not { SparesToken 0 (Wrong [] Invalid 0) → ⊥ }
 {}
 
 /// What is promised of the opening of a node, of its restart and of what it always is holds of the least that keeps it,
@@ -401,9 +427,11 @@ pub fn openings_can_be_broken()
     ensures node_works { IsNode small_held (node_over (record (fallen_at 0) { fault = Some Disk }) []) → ⊥ }
     ensures node_store { IsNode small_held (record small_node { voter = record lone_voter { boot = 1 } }) → ⊥ }
     ensures node_owned { IsNode small_held (record small_node { owners = owner_of 0 ∷ [] }) → ⊥ }
-    ensures owned_apart { IsOwned (owning (owner_of 0 ∷ []) 0) → ⊥ }
-    ensures owned_twice { AreApart 2 (owner_of 1 ∷ owner_of 1 ∷ []) → ⊥ }
+    ensures owned { IsOwned (waiting (owner_of 0 ∷ []) 1) }
+    ensures owned_below { IsOwned (waiting (owner_of 0 ∷ []) 0) → ⊥ }
+    ensures owned_twice { IsOwned (waiting (owner_of 0 ∷ owner_of 0 ∷ []) 1) → ⊥ }
     ensures owned_pending { IsOwned (owning (owner_of 0 ∷ []) 1) → ⊥ }
+    ensures owned_all_pending { IsOwned (waiting (owner_of 0 ∷ owner_of 1 ∷ []) 2) → ⊥ }
 
     ensures in_memory { IsInMemory [] default_limits (place 1 1) [] (5 ∷ []) serving_node }
     ensures in_memory_state { IsInMemory [] default_limits (place 1 1) [] (6 ∷ []) serving_node → ⊥ }
@@ -453,6 +481,8 @@ pub fn service_can_be_broken()
         default_limits 0 (server_at (5 ∷ [])) → ⊥ }
     ensures serving_alone { IsServing serving_node [] default_limits 0 (server_at (6 ∷ [])) → ⊥ }
 
+    ensures server_after { IsServerAfter (record serving_node { running = false }) 0 → ⊥ }
+
     ensures answered { IsAnswered serving_node [] default_limits 0 (server_at (5 ∷ [])) no_line (λ bytes. bytes)
         (Ok (codes "NO - BADLINE")) }
     ensures answered_bytes { IsAnswered serving_node [] default_limits 0 (server_at (5 ∷ [])) no_line (λ bytes. bytes)
@@ -493,3 +523,30 @@ pub fn refusals_can_be_broken()
         (record (standing_with 0 0) { drift = λ (token : ℕ). pos 1 }) → ⊥ }
     ensures same_wait { IsSameStanding 1 (standing_with 0 0) (standing_with 0 1) → ⊥ }
 {}
+
+/// What is said of a line whose factors are proposed holds of the first line of the worked steps, and each field is
+/// broken by the least that keeps all others. The other fields follow from these: that the token is in the book, that
+/// its factors are free, and that they are one or two.
+pub fn fittings_can_be_broken()
+    ensures fitting { IsProposed (standing_with 0 0) 100 first_line (codes "a") 0 0 0 (pos 0) }
+    ensures fitting_room { IsProposed (record (standing_with 0 0) { is_full = true }) 100 first_line (codes "a") 0 0 0
+        (pos 0) → ⊥ }
+    ensures fitting_grammar { IsProposed (standing_with 0 0) 100 (codes "CHECK") (codes "a") 0 0 0 (pos 0) → ⊥ }
+    ensures fitting_nonce { IsProposed (standing_with 0 0) 100 first_line (codes "b") 0 0 0 (pos 0) → ⊥ }
+    // silver's line, and the place of iron, which has the same secret
+    ensures fitting_token { IsProposed all_free 100 first_line (codes "a") 2 0 0 (pos 0) → ⊥ }
+    ensures fitting_in_range { IsProposed (standing_with 0 0) 1099511627776 first_line (codes "a") 0 0 0 (pos 0) → ⊥ }
+    ensures fitting_is_open { IsProposed (standing_with 0 1) 100 first_line (codes "a") 0 0 0 (pos 0) → ⊥ }
+    ensures fitting_password { IsProposed (standing_with 0 0) 100 (codes "CHECK a silver 755224 pw") (codes "a") 0 0 0
+        (pos 0) → ⊥ }
+    ensures fitting_fit { IsProposed (standing_with 0 0) 100 first_line (codes "a") 0 0 1 (pos 0) → ⊥ }
+    ensures fitting_kept { IsProposed (standing_with 0 0) 100 first_line (codes "a") 0 0 0 (pos 1) → ⊥ }
+
+    ensures grounds_kept { HasGrounds [] default_limits (standing_with 0 0) 0 [] (Again []) → ⊥ }
+    ensures grounds_waiting { HasGrounds [] default_limits (standing_with 0 0) 0 [] Waiting → ⊥ }
+    ensures grounds_wrong { HasGrounds one_clock default_limits (standing_with 0 1) 0 [] (Wrong [] Invalid 0) → ⊥ }
+    ensures grounds_fitting { HasGrounds three_tokens narrow_limits (standing_with 0 0) 100 first_line
+        (Fitting (codes "b") 0 (span_of 0 0) (pos 0)) → ⊥ }
+{
+    least_fit_is_least();
+}

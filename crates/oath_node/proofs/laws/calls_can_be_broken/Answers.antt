@@ -1,12 +1,12 @@
 -- Each promise is asked about the one that breaks it. The steps are computed, and where a line fits its code.
-use Rattle.std.proofs.Common.{◌≡◌, ◌≤◌, inl, inr, ℕ, refl, ap, arith}
+use Rattle.std.proofs.Common.{◌≡◌, inl, inr, refl, ap, arith}
 use Rattle.std.specs.Fmt.{digits}
 use Rattle.admit_core.specs.Fit.{code_at}
 use Rattle.floor_store.specs.Broken.{booted}
 use Rattle.floor_store.specs.Content.{Content}
 use Rattle.hmac_core.specs.Unfolded.sha1_steps
-use Rattle.vote_core.specs.Voting.{propose, propose_alone, propose_among, tick}
-use Rattle.oath_node.specs.Machine.{NodeState, made_by_datagram, made_by_event, made_by_proposal, made_by_ruling, made_while_running}
+use Rattle.vote_core.specs.Voting.{propose, propose_alone, propose_among}
+use Rattle.oath_node.specs.Machine.{made_by_datagram, made_by_event, made_by_proposal, made_by_ruling, made_while_running}
 use Rattle.oath_node.proofs.laws.calls_can_be_broken.Goals as goal
 
 pub returns-clause-takes : goal.returns-clause-takes
@@ -32,16 +32,6 @@ returns-clause-takes c = record {
   few = λ clean. omega arith;
   same = record { book = refl; limits = refl; key = refl; place = refl };
 }
-
-pub returns-clause-takes_made : goal.returns-clause-takes_made
-unfolding made_by_event made_while_running made_by_datagram
-returns-clause-takes_made c h =
-    let e = ap (λ (node : NodeState). node.answers) (h.made refl).left in absurd cc
-
-pub returns-clause-takes_few : goal.returns-clause-takes_few
-unfolding made_by_event made_while_running tick
-returns-clause-takes_few c h =
-    let few : 272 ≤ 264 = h.few refl in omega (arith, few)
 
 pub returns-clause-commits_all : goal.returns-clause-commits_all
 returns-clause-commits_all c h =
@@ -91,8 +81,3 @@ returns-clause-handles_no_number c = record {
   fails = record { proposing = λ clean. tt; none_left = refl; unchanged = refl };
   same = record { book = refl; limits = refl; key = refl; place = refl };
 }
-
-pub returns-clause-handles_made : goal.returns-clause-handles_made
-unfolding made_by_event made_while_running made_by_datagram
-returns-clause-handles_made c h =
-    let e = ap (λ (node : NodeState). node.answers) (h.made refl).left in absurd cc

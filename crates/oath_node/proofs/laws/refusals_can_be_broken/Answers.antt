@@ -1,5 +1,5 @@
 -- What is kept of each token is asked about the first one.
-use Rattle.std.proofs.Common.{◌≡◌, ℕ, refl, arith}
+use Rattle.std.proofs.Common.{◌≡◌, arith}
 use Rattle.oath_node.proofs.laws.refusals_can_be_broken.Goals as goal
 
 pub returns-clause-kept_next : goal.returns-clause-kept_next
