@@ -1,12 +1,12 @@
 ghost use Rattle.std.specs.Prelude.{◌≡◌, ℕ, ◌≤◌, length, ◌∷◌, [], ◌++◌, List, Some, None, false, replicate, true};
 ghost use Rattle.floor_store.specs.Broken.{booted, broken_at, fallen_at, small_held, store_at, unsettled_at};
-ghost use Rattle.oath_node.specs.Broken.{node_over};
+ghost use Rattle.oath_node.specs.Broken.{failed_node, node_of_three, node_over, noise as peer_noise, small_node, stopped};
 ghost use Rattle.node_turns.specs.Broken.{bad_line_replied, ended_by, entries_of, entries_of_batches, floor_told, lines_replied, no_line_came, nothing_yet, run_from, served, store_failed};
-ghost use Rattle.node_turns.specs.Serving.{EndsByClock, EndsSettled, FailsAmong, IsAmong, LeavesAmong, Serves, Stands};
+ghost use Rattle.node_turns.specs.Serving.{EndsByClock, EndsSettled, EndsSo, FailsAfter, FailsAmong, FailsNext, IsAmong, LeavesAmong, Serves, Stands};
 ghost use Rattle.oath_node.specs.declared.fault.NodeFault.TheVariants.{Spent as NoNumber};
 ghost use Rattle.node_turns.specs.TurnExamples.{batches_of, going_with, line_without_moment, no_line, noise, order_of, run_of};
-ghost use Rattle.oath_node.specs.Cases.{idle_node};
-ghost use Rattle.node_turns.specs.Port.{Faulted, Offered, Quiet, Received};
+ghost use Rattle.oath_node.specs.Cases.{first_line, idle_node, line};
+ghost use Rattle.node_turns.specs.Port.{Faulted, Grows, Offered, Quiet, Received};
 ghost use Rattle.node_turns.specs.Turns.{AreBatches, ComesToTheSame, DoesTheSame, Failure, GoesOn, IsBatch, Member, Nothing, Receipt, Run, moments_in, offers_in, receipts_in, run_at, run_with_batch, run_with_batches, run_with_turn, run_with_turns, without_failures};
 ghost use Rattle.node_turns.specs.declared.fault.ServeFault.TheVariants.{Clock, Node, Port};
 ghost use Rattle.node_turns.specs.declared.port.Sender.TheVariants.{Client, Peer};
@@ -101,6 +101,16 @@ pub fn differences_are_seen()
     ensures other_replies { (run : Run) → DoesTheSame (record run { tally = record run.tally { replied = 1 } })
         (record run { tally = record run.tally { replied = 2 } }) → ⊥ }
     ensures other_node { DoesTheSame (run_at (idle_node 0)) (run_at (idle_node 1)) → ⊥ }
+    ensures comes_to_another_node { ComesToTheSame (run_at (idle_node 0)) (run_at (idle_node 1)) → ⊥ }
+    ensures comes_to_another_offer { (run : Run) → ComesToTheSame (record run { entries = Offered (Peer 2) [] ∷ [] })
+        (record run { entries = [] }) → ⊥ }
+    ensures comes_to_another_receive { (run : Run) → ComesToTheSame (record run { entries = Quiet ∷ [] })
+        (record run { entries = Faulted ∷ [] }) → ⊥ }
+    ensures comes_to_another_count { (run : Run) → ComesToTheSame
+        (record run { tally = record run.tally { faults = 1 } })
+        (record run { tally = record run.tally { faults = 2 } }) → ⊥ }
+    ensures comes_to_another_end { (run : Run) → ComesToTheSame (record run { end = Some Port })
+        (record run { end = Some Clock }) → ⊥ }
 {}
 
 /// The entries of some runs, to whom each offer goes and in which order.
@@ -191,4 +201,66 @@ pub fn promises_can_be_broken()
         (run_from (node_over (store_at 0) [])) []
         (record (node_over (broken_at 0) []) { running = false }) (Some (Offered (Peer 2) [] ∷ []))
         store_failed → ⊥ }
+{}
+
+/// What is said of a record that grows, of how a run ends and of which call of its node fails holds of the least that
+/// keeps it, and each field is broken by the least that keeps all others.
+pub fn ends_can_be_broken()
+    // a record, with what was added behind it
+    ensures grows { Grows (Some (Quiet ∷ [])) (Some (Quiet ∷ Faulted ∷ [])) (Faulted ∷ []) }
+    ensures grows_unseen { Grows (Some (Quiet ∷ [])) None (Faulted ∷ []) }
+    ensures grows_from_none { Grows None (Some (Quiet ∷ [])) (Quiet ∷ []) → ⊥ }
+    ensures grows_by_nothing { Grows (Some (Quiet ∷ [])) (Some (Quiet ∷ Faulted ∷ [])) [] → ⊥ }
+    ensures grows_before { Grows (Some (Quiet ∷ [])) (Some (Faulted ∷ Quiet ∷ [])) (Faulted ∷ []) → ⊥ }
+
+    // a run that went on to the end, and one that the port or the clock ended
+    ensures ends { EndsSo small_held (node_over (store_at 0) []) (node_over (store_at 0) []) nothing_yet nothing_yet []
+        (served 0 0) }
+    ensures ends_state { EndsSo small_held (node_over (store_at 0) []) (node_over (store_at 1) []) nothing_yet
+        nothing_yet [] (served 0 0) → ⊥ }
+    ensures ends_before { EndsSo small_held (node_over (store_at 0) []) (node_over (store_at 0) []) nothing_yet
+        (Some (no_line_came ∷ [])) ((line_without_moment ∷ []) ∷ []) (served 1 0) → ⊥ }
+    ensures ends_served { EndsSo small_held (node_over (store_at 0) []) (node_over (store_at 0) []) nothing_yet
+        nothing_yet [] (served 1 0) → ⊥ }
+    ensures ends_by_port { EndsSo small_held (node_over (store_at 0) []) (node_over (store_at 0) []) nothing_yet
+        (Some (replicate 16 Faulted)) (replicate 16 (Failure ∷ [])) (ended_by Port) }
+    ensures ends_by_port_state { EndsSo small_held (node_over (store_at 0) []) (node_over (store_at 1) []) nothing_yet
+        (Some (replicate 16 Faulted)) (replicate 16 (Failure ∷ [])) (ended_by Port) → ⊥ }
+    ensures ends_by_no_port { EndsSo small_held (node_over (store_at 0) []) (node_over (store_at 0) []) nothing_yet
+        nothing_yet [] (ended_by Port) → ⊥ }
+    ensures ends_by_clock { EndsSo small_held (node_over (store_at 0) []) (node_over (store_at 0) []) nothing_yet
+        (Some (no_line_came ∷ [])) ((line_without_moment ∷ []) ∷ []) (ended_by Clock) }
+    ensures ends_by_clock_state { EndsSo small_held (node_over (store_at 0) []) (node_over (store_at 1) []) nothing_yet
+        (Some (no_line_came ∷ [])) ((line_without_moment ∷ []) ∷ []) (ended_by Clock) → ⊥ }
+    ensures ends_by_no_clock { EndsSo small_held (node_over (store_at 0) []) (node_over (store_at 0) []) nothing_yet
+        nothing_yet [] (ended_by Clock) → ⊥ }
+
+    // an event that a node answers by a fault, and a commit
+    ensures next_event { FailsNext small_held small_node failed_node (peer_noise ∷ []) store_failed }
+    ensures next_event_runs_on { FailsNext small_held small_node (node_over (broken_at 0) []) (peer_noise ∷ [])
+        store_failed → ⊥ }
+    ensures next_event_is_the_first { FailsNext small_held (node_of_three 4611686018427387904)
+        (stopped (node_of_three 4611686018427387904)) (peer_noise ∷ line first_line ∷ []) NoNumber → ⊥ }
+    ensures next_commit { FailsNext small_held small_node failed_node [] store_failed }
+    ensures next_commit_runs_on { FailsNext small_held small_node (node_over (broken_at 0) []) [] store_failed → ⊥ }
+
+    // a run whose node fails in its last batch
+    ensures after { (key : List ℕ) → FailsAfter small_held (node_over (store_at 0) key)
+        (stopped (node_over (broken_at 0) key)) nothing_yet (Some (Faulted ∷ [])) ((Failure ∷ []) ∷ []) store_failed }
+    ensures after_no_batch { (key : List ℕ) → FailsAfter small_held (node_over (store_at 0) key)
+        (stopped (node_over (broken_at 0) key)) nothing_yet (Some (Faulted ∷ [])) [] store_failed → ⊥ }
+    ensures after_the_end { (key : List ℕ) → FailsAfter small_held (node_over (store_at 0) key)
+        (stopped (node_over (broken_at 0) key)) nothing_yet (Some (no_line_came ∷ Faulted ∷ []))
+        ((line_without_moment ∷ []) ∷ (Failure ∷ []) ∷ []) store_failed → ⊥ }
+    ensures after_and_runs_on { (key : List ℕ) → FailsAfter small_held (node_over (store_at 0) key)
+        (node_over (broken_at 0) key) nothing_yet (Some (Faulted ∷ [])) ((Failure ∷ []) ∷ []) store_failed → ⊥ }
+    ensures after_leaves { (key : List ℕ) → FailsAfter small_held (node_over (store_at 0) key)
+        (stopped (node_over (record (broken_at 0) { other = booted 1 }) key)) nothing_yet (Some (Faulted ∷ []))
+        ((Failure ∷ []) ∷ []) store_failed → ⊥ }
+    // receipts of which the first ends its batch, and the run
+    ensures serves_formed { (key : List ℕ) → Serves small_held (node_over (store_at 0) key) (node_over (store_at 0) key)
+        nothing_yet (Some (no_line_came ∷ Faulted ∷ [])) nothing_yet (Some (None ∷ [])) 2 (served 1 0) → ⊥ }
+    ensures fails_of_no_event { (member : Member) → FailsAmong small_held nothing_yet member
+        (run_from (node_of_three 4611686018427387904)) [] (stopped (node_of_three 4611686018427387904)) nothing_yet
+        NoNumber → ⊥ }
 {}

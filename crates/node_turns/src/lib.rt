@@ -18,8 +18,8 @@ mod turns;
 pub use clock::Clock;
 pub use fault::ServeFault;
 pub use laws::{
-    batches_are_turns, batches_are_worked, differences_are_seen, entries_are_worked,
-    faults_change_no_offer, promises_can_be_broken, turns_are_worked,
+    batches_are_turns, batches_are_worked, differences_are_seen, ends_can_be_broken,
+    entries_are_worked, faults_change_no_offer, promises_can_be_broken, turns_are_worked,
 };
 pub use list_port::{Coming, ListClock, ListPort, PortEntry};
 pub use port::{MAX_DATAGRAM_LEN, Port, Received, Sender};
