@@ -1,6 +1,6 @@
 //! What follows of a store over its lives.
 
-ghost use Rattle.std.specs.Prelude.{◌≡◌, ◌≢◌, ℕ, length, pos, false, true, List, [], ◌∷◌, None, Some, Ok, Err, IsTrue, ⊤};
+ghost use Rattle.std.specs.Prelude.{◌≡◌, ◌≢◌, ℕ, ℤ, ◌+◌, length, pos, false, true, List, [], ◌∷◌, None, Some, Ok, Err, IsTrue, ⊤};
 ghost use Rattle.sqlite_disk.specs.declared.Disk.{Ghosts};
 ghost use Rattle.sqlite.specs.declared.types.Value.TheVariants.{Int, Null};
 ghost use Rattle.sqlite.specs.Effect.{Database};
@@ -11,14 +11,14 @@ ghost use Rattle.sqlite_store.specs.declared.store.FileStore.{FileStore};
 ghost use Rattle.floor_store.specs.Examples.{free_row, new_pass, old_pass, proposal, two_rows};
 ghost use Rattle.floor_store.specs.Content.{Content, opening_content};
 ghost use Rattle.floor_store.specs.Records.{span_of};
-ghost use Rattle.floor_sql.specs.Broken.{IsOne, IsSecond, db_at, db_of, old_db_at, old_db_of, old_token_db, put_of, refused, showing, shut_state, small_content, small_state, tables_at, token_content, token_db, token_db_of, trees_of, version_row};
+ghost use Rattle.floor_sql.specs.Broken.{IsOne, IsSecond, db_at, db_of, old_db_at, old_db_of, old_token_db, put_of, refused, showing, shut_state, small_content, small_db, small_state, tables_at, token_content, token_db, token_db_of, trees_of, version_row};
 ghost use Rattle.floor_sql.specs.Created.{AreMade, IsForeign, Opens, first_schema, no_schema};
 ghost use Rattle.floor_sql.specs.Held.{HasAudit, HasCommitted, HasSame, HasTables, Leaves, Mirrors, MirrorsLast, SqlHeld, failures_of};
 ghost use Rattle.floor_sql.specs.Migrate.{HoldsUndrifted, IsMigrated, IsUsableUndrifted, Migrates};
 ghost use Rattle.floor_sql.specs.Schema.{floor_schema, undrifted_schema};
 ghost use Rattle.floor_sql.specs.Shown.{IsLeft, IsRead, ShowsNode};
 ghost use Rattle.floor_sql.specs.Staged.{CanPut, HasRows, MakesAll, MakesPuts, passes_in, with_boot, with_puts};
-ghost use Rattle.floor_sql.specs.Stored.{Commits, HasKey, HasOneRow, HasRow, Holds, HoldsRow, IsAppended, IsDrifted, IsUpdated, KeepsCommit, Raises, drift_columns, drift_row, drift_values, floor_row, pass_row, self_row};
+ghost use Rattle.floor_sql.specs.Stored.{Commits, HasKey, HasOneRow, HasRow, Holds, HoldsRow, IsAppended, IsDrifted, IsUpdated, KeepsCommit, MayCommit, Raises, drift_columns, drift_row, drift_values, floor_row, pass_row, self_row};
 ghost use Rattle.floor_sql.specs.Usable.{HasOnly, HasUsableDrift, HasUsableFloor, HasUsableNode, HasUsablePasses, HasUsableRow, HasUsableSelf, HasUsableVersion, IsAudit, IsGrant, IsNode, IsOwn, IsRow, IsSpanOfFactors, IsUsable};
 ghost use Rattle.floor_sql.specs.Steps.{Changes, ReadsOnly, ReadsTables, StepsInside, Transacts};
 ghost use Rattle.floor_sql.specs.Calls.{HandsBack, IsMade, IsOfNode, IsOpened, IsSound, KeepsTables, ReadsAudit, Stages};
@@ -65,6 +65,9 @@ pub fn promises_can_be_broken()
     ensures keeps_was_open { KeepsCommit (shut_state 1 1) (small_state 1 1) → ⊥ }
     ensures keeps_committed { KeepsCommit (small_state 1 1) (small_state 1 2) → ⊥ }
     ensures keeps_now { KeepsCommit (small_state 1 1) (small_state 2 1) → ⊥ }
+    ensures may_commit { MayCommit IsSecond (small_state 1 1) (small_db 2).trees }
+    ensures may_commit_change { MayCommit (λ old new. ⊥) (small_state 1 1) (small_db 2).trees → ⊥ }
+    ensures may_commit_trees { (rows : ℕ) → MayCommit IsSecond (small_state 1 1) (small_db (rows + 3)).trees → ⊥ }
 
     // rows
     ensures shows { ShowsNode (Int (pos 1) ∷ Int (pos 2) ∷ Int (pos 3) ∷ []) 2 3 }
@@ -273,17 +276,18 @@ pub fn tables_can_be_broken()
     ensures only_none { HasOnly [] 5 drift_columns (drift_values 5 (pos 3)) → ⊥ }
     ensures only_two { HasOnly (drift_row 5 (pos 3) ∷ drift_row 5 (pos 3) ∷ []) 5 drift_columns
         (drift_values 5 (pos 3)) → ⊥ }
-    ensures only_shows { HasOnly (drift_row 5 (pos 3) ∷ []) 5 drift_columns (drift_values 5 (pos 4)) → ⊥ }
+    ensures only_shows { (steps : ℕ) → HasOnly (drift_row 5 (pos steps) ∷ []) 5 drift_columns
+        (drift_values 5 (pos (steps + 1))) → ⊥ }
 
     // the node that tables name
     ensures names { HasUsableNode (db_at 4 []) }
     ensures names_schema { HasUsableNode (old_db_of (self_row 1 0 4 ∷ []) [] []) → ⊥ }
     ensures names_nowhere { HasUsableNode (db_of [] [] [] []) → ⊥ }
     ensures names_twice { HasUsableNode (db_of (self_row 1 0 4 ∷ self_row 1 0 4 ∷ []) [] [] []) → ⊥ }
-    ensures names_at_version_1 { HasUsableNode (db_of (version_row 1 1 0 4 ∷ []) [] [] []) → ⊥ }
-    ensures names_no_number { HasUsableNode
-        (db_of ((Int (pos 1) ∷ Null ∷ Int (pos 2) ∷ Null ∷ Int (pos 0) ∷ Int (pos 4) ∷ []) ∷ []) [] [] []) → ⊥ }
-    ensures names_node_10 { HasUsableNode (db_of (self_row 10 0 4 ∷ []) [] [] []) → ⊥ }
+    ensures names_at_version_1 { (boot : ℕ) → HasUsableNode (db_of (version_row 1 1 0 boot ∷ []) [] [] []) → ⊥ }
+    ensures names_no_number { (boot : ℕ) → HasUsableNode
+        (db_of ((Int (pos 1) ∷ Null ∷ Int (pos 2) ∷ Null ∷ Int (pos 0) ∷ Int (pos boot) ∷ []) ∷ []) [] [] []) → ⊥ }
+    ensures names_node_10 { (boot : ℕ) → HasUsableNode (db_of (self_row 10 0 boot ∷ []) [] [] []) → ⊥ }
     ensures of_node { IsOfNode (db_at 4 []) 1 }
     ensures of_node_schema { IsOfNode (old_db_of (self_row 1 0 4 ∷ []) [] []) 1 → ⊥ }
     ensures of_node_nowhere { IsOfNode (db_of [] [] [] []) 1 → ⊥ }
@@ -292,21 +296,22 @@ pub fn tables_can_be_broken()
 
     // the row of `self`
     ensures version { HasUsableVersion (tables_at 4611686018427387903 []) 2 1 0 }
-    ensures version_boot { HasUsableVersion (tables_at 4611686018427387904 []) 2 1 0 → ⊥ }
-    ensures version_1 { HasUsableVersion (tables_at 4 []) 1 1 0 → ⊥ }
-    ensures version_of_node_2 { HasUsableVersion (tables_at 4 []) 2 2 0 → ⊥ }
-    ensures version_of_a_token { HasUsableVersion (tables_at 4 []) 2 1 1 → ⊥ }
+    ensures version_boot { (more : ℕ) → HasUsableVersion (tables_at (more + 4611686018427387904) []) 2 1 0 → ⊥ }
+    ensures version_1 { (boot : ℕ) → HasUsableVersion (tables_at boot []) 1 1 0 → ⊥ }
+    ensures version_of_node_2 { (boot : ℕ) → HasUsableVersion (tables_at boot []) 2 2 0 → ⊥ }
+    ensures version_of_a_token { (boot : ℕ) → HasUsableVersion (tables_at boot []) 2 1 1 → ⊥ }
     ensures own_row { HasUsableSelf (trees_of (self_row 9 10000 4 ∷ []) [] [] []) 2 }
-    ensures own_row_of_node { HasUsableSelf (trees_of (self_row 10 0 4 ∷ []) [] [] []) 2 → ⊥ }
-    ensures own_row_of_tokens { HasUsableSelf (trees_of (self_row 1 10001 4 ∷ []) [] [] []) 2 → ⊥ }
-    ensures own_row_version { HasUsableSelf (tables_at 4 []) 1 → ⊥ }
+    ensures own_row_of_node { (boot : ℕ) → HasUsableSelf (trees_of (self_row 10 0 boot ∷ []) [] [] []) 2 → ⊥ }
+    ensures own_row_of_tokens { (boot : ℕ) → HasUsableSelf (trees_of (self_row 1 10001 boot ∷ []) [] [] []) 2 → ⊥ }
+    ensures own_row_version { (boot : ℕ) → HasUsableSelf (tables_at boot []) 1 → ⊥ }
 
     // the rows of a token
     ensures floor { HasUsableFloor token_db.trees 0 }
-    ensures floor_range { HasUsableFloor (trees_of [] (floor_row 0 (free_row 4611686018427387905) ∷ []) [] []) 0 → ⊥ }
+    ensures floor_range { (more : ℕ)
+        → HasUsableFloor (trees_of [] (floor_row 0 (free_row (more + 4611686018427387905)) ∷ []) [] []) 0 → ⊥ }
     ensures floor_none { HasUsableFloor (tables_at 4 []) 0 → ⊥ }
     ensures drift { HasUsableDrift token_db.trees 0 }
-    ensures drift_range { HasUsableDrift (trees_of [] [] [] (drift_row 0 (pos 11) ∷ [])) 0 → ⊥ }
+    ensures drift_range { (rows : List Row) → HasUsableDrift (trees_of rows [] [] (drift_row 0 (pos 11) ∷ [])) 0 → ⊥ }
     ensures drift_none { HasUsableDrift (tables_at 4 []) 0 → ⊥ }
     ensures token { HasUsableRow token_db.trees 0 }
     ensures token_floor { HasUsableRow (trees_of [] [] [] (drift_row 0 (pos 0) ∷ [])) 0 → ⊥ }
@@ -314,24 +319,25 @@ pub fn tables_can_be_broken()
 
     // the passes
     ensures passes { HasUsablePasses (tables_at 4 (pass_row 1 old_pass ∷ [])) }
-    ensures passes_range { HasUsablePasses (tables_at 4 (pass_row 1 (record old_pass { token = 10000 }) ∷ [])) → ⊥ }
+    ensures passes_range { (boot : ℕ)
+        → HasUsablePasses (tables_at boot (pass_row 1 (record old_pass { token = 10000 }) ∷ [])) → ⊥ }
     ensures passes_room { (rows : List Row) → length rows ≡ 4611686018427387905 → HasUsablePasses (tables_at 4 rows)
         → ⊥ }
-    ensures passes_numbers { HasUsablePasses (tables_at 4 (pass_row 2 old_pass ∷ [])) → ⊥ }
+    ensures passes_numbers { (boot : ℕ) → HasUsablePasses (tables_at boot (pass_row 2 old_pass ∷ [])) → ⊥ }
 
     // a whole store, of version 2 and of version 1
     ensures usable { IsUsable token_db 1 1 }
     ensures usable_schema { IsUsable (record (db_at 4 []) { schema = undrifted_schema }) 1 0 → ⊥ }
     ensures usable_of_node { IsUsable (db_of (self_row 10 0 4 ∷ []) [] [] []) 10 0 → ⊥ }
-    ensures usable_self { IsUsable (db_at 4 []) 2 0 → ⊥ }
-    ensures usable_rows { IsUsable (db_of (self_row 1 1 4 ∷ []) [] [] []) 1 1 → ⊥ }
-    ensures usable_passes { IsUsable (db_at 4 (pass_row 2 old_pass ∷ [])) 1 0 → ⊥ }
+    ensures usable_self { (boot : ℕ) → IsUsable (db_at boot []) 2 0 → ⊥ }
+    ensures usable_rows { (boot : ℕ) → IsUsable (db_of (self_row 1 1 boot ∷ []) [] [] []) 1 1 → ⊥ }
+    ensures usable_passes { (boot : ℕ) → IsUsable (db_at boot (pass_row 2 old_pass ∷ [])) 1 0 → ⊥ }
     ensures old_usable { IsUsableUndrifted old_token_db 1 1 }
     ensures old_usable_schema { IsUsableUndrifted (record (old_db_at 4 []) { schema = floor_schema }) 1 0 → ⊥ }
     ensures old_usable_of_node { IsUsableUndrifted (old_db_of (version_row 1 10 0 4 ∷ []) [] []) 10 0 → ⊥ }
-    ensures old_usable_self { IsUsableUndrifted (old_db_at 4 []) 2 0 → ⊥ }
-    ensures old_usable_floors { IsUsableUndrifted (old_db_of (version_row 1 1 1 4 ∷ []) [] []) 1 1 → ⊥ }
-    ensures old_usable_passes { IsUsableUndrifted (old_db_at 4 (pass_row 2 old_pass ∷ [])) 1 0 → ⊥ }
+    ensures old_usable_self { (boot : ℕ) → IsUsableUndrifted (old_db_at boot []) 2 0 → ⊥ }
+    ensures old_usable_floors { (boot : ℕ) → IsUsableUndrifted (old_db_of (version_row 1 1 1 boot ∷ []) [] []) 1 1 → ⊥ }
+    ensures old_usable_passes { (boot : ℕ) → IsUsableUndrifted (old_db_at boot (pass_row 2 old_pass ∷ [])) 1 0 → ⊥ }
 {}
 
 /// What is promised of a migration holds of the least that keeps it, and each field is broken by the least that keeps
@@ -340,29 +346,31 @@ pub fn migrations_can_be_broken()
     ensures undrifted { HoldsUndrifted old_token_db 1 1 (token_content (free_row 9)) [] }
     ensures undrifted_schema { HoldsUndrifted (record (old_db_at 4 []) { schema = floor_schema }) 1 0
         (small_content 4) [] → ⊥ }
-    ensures undrifted_floors { HoldsUndrifted (old_db_of (version_row 1 1 1 4 ∷ []) [] []) 1 1
-        (token_content (free_row 9)) [] → ⊥ }
-    ensures undrifted_drift { HoldsUndrifted old_token_db 1 1 (token_content (record (free_row 9) { drift = pos 1 })) []
-        → ⊥ }
+    ensures undrifted_floors { (next : ℕ) → HoldsUndrifted (old_db_of (version_row 1 1 1 4 ∷ []) [] []) 1 1
+        (token_content (free_row next)) [] → ⊥ }
+    ensures undrifted_drift { (steps : ℕ) → HoldsUndrifted old_token_db 1 1
+        (token_content (record (free_row 9) { drift = pos (steps + 1) })) [] → ⊥ }
     ensures undrifted_tokens { HoldsUndrifted (old_db_of (version_row 1 1 1 4 ∷ []) [] []) 1 1 (small_content 4) []
         → ⊥ }
-    ensures undrifted_self { HoldsUndrifted (old_db_at 5 []) 1 0 (small_content 4) [] → ⊥ }
-    ensures undrifted_pass { HoldsUndrifted (old_db_at 4 (pass_row 1 old_pass ∷ [])) 1 0 (small_content 4) [] → ⊥ }
+    ensures undrifted_self { (boot : ℕ) → HoldsUndrifted (old_db_at (boot + 1) []) 1 0 (small_content boot) [] → ⊥ }
+    ensures undrifted_pass { (boot : ℕ) → HoldsUndrifted (old_db_at boot (pass_row 1 old_pass ∷ [])) 1 0
+        (small_content boot) [] → ⊥ }
     ensures undrifted_last { HoldsUndrifted (old_db_at 4 []) 1 0 (record (small_content 4) { last = Some old_pass }) []
         → ⊥ }
 
     ensures migrates { Migrates 1 1 old_token_db token_db }
     ensures migrates_was { Migrates 1 0 (record (old_db_at 4 []) { schema = floor_schema }) (db_at 4 []) → ⊥ }
     ensures migrates_schema { Migrates 1 0 (old_db_at 4 []) (record (db_at 4 []) { schema = undrifted_schema }) → ⊥ }
-    ensures migrates_holds { Migrates 1 0 (old_db_at 4 []) (db_at 5 []) → ⊥ }
+    ensures migrates_holds { (boot : ℕ) → Migrates 1 0 (old_db_at boot []) (db_at (boot + 1) []) → ⊥ }
     ensures migrates_drift { Migrates 1 1 old_token_db (record token_db {
       trees = trees_of (self_row 1 1 4 ∷ []) (floor_row 0 (free_row 9) ∷ []) [] (drift_row 0 (pos 1) ∷ []);
     }) → ⊥ }
-    ensures migrates_node { Migrates 1 0 (old_db_at 4 []) (db_of (self_row 2 0 4 ∷ []) [] [] []) → ⊥ }
-    ensures migrates_floor { Migrates 1 0 (old_db_at 4 [])
-        (db_of (self_row 1 0 4 ∷ []) (floor_row 7 (free_row 9) ∷ []) [] []) → ⊥ }
-    ensures migrates_pass { Migrates 1 0 (old_db_at 4 (pass_row 1 old_pass ∷ pass_row 2 new_pass ∷ []))
-        (db_at 4 (pass_row 2 new_pass ∷ pass_row 1 old_pass ∷ [])) → ⊥ }
+    ensures migrates_node { (boot : ℕ) → Migrates 1 0 (old_db_at boot []) (db_of (self_row 2 0 boot ∷ []) [] [] [])
+        → ⊥ }
+    ensures migrates_floor { (boot : ℕ) → Migrates 1 0 (old_db_at boot [])
+        (db_of (self_row 1 0 boot ∷ []) (floor_row 7 (free_row 9) ∷ []) [] []) → ⊥ }
+    ensures migrates_pass { (boot : ℕ) → Migrates 1 0 (old_db_at boot (pass_row 1 old_pass ∷ pass_row 2 new_pass ∷ []))
+        (db_at boot (pass_row 2 new_pass ∷ pass_row 1 old_pass ∷ [])) → ⊥ }
 {}
 
 /// What waits for a commit, worked: contents after puts, in order, and the passes among them.
@@ -388,13 +396,17 @@ pub fn stores_can_be_broken<S: Alter>()
     ensures mirrors { Mirrors (showing (db_at 4 []) (db_at 4 [])) (small_content 4) 0 }
     ensures mirrors_schema { Mirrors (showing (old_db_of (self_row 1 0 4 ∷ []) [] [])
         (old_db_of (self_row 1 0 4 ∷ []) [] [])) (small_content 4) 0 → ⊥ }
-    ensures mirrors_holds { Mirrors (showing (db_at 5 []) (db_at 5 [])) (small_content 4) 0 → ⊥ }
-    ensures mirrors_count { Mirrors (showing (db_at 4 []) (db_at 4 [])) (small_content 4) 1 → ⊥ }
-    ensures mirrors_settled { Mirrors (showing (db_at 4 []) (db_at 5 [])) (small_content 4) 0 → ⊥ }
-    ensures last { MirrorsLast (showing token_db token_db) (token_content (free_row 10))
-        (put_of 0 (free_row 10) None ∷ []) 0 }
-    ensures last_replayed { MirrorsLast (showing (db_at 4 []) (db_at 4 [])) (small_content 5) [] 0 → ⊥ }
-    ensures last_tables { MirrorsLast (showing (db_at 4 []) (db_at 4 [])) (small_content 4) [] 1 → ⊥ }
+    ensures mirrors_holds { (boot : ℕ) → Mirrors (showing (db_at (boot + 1) []) (db_at (boot + 1) []))
+        (small_content boot) 0 → ⊥ }
+    ensures mirrors_count { (boot : ℕ) → Mirrors (showing (db_at boot []) (db_at boot [])) (small_content boot) 1 → ⊥ }
+    ensures mirrors_settled { (boot : ℕ) → Mirrors (showing (db_at boot []) (db_at (boot + 1) []))
+        (small_content boot) 0 → ⊥ }
+    ensures last { (next : ℕ) → MirrorsLast (showing token_db token_db) (token_content (free_row next))
+        (put_of 0 (free_row next) None ∷ []) 0 }
+    ensures last_replayed { (boot : ℕ) → MirrorsLast (showing (db_at boot []) (db_at boot []))
+        (small_content (boot + 1)) [] 0 → ⊥ }
+    ensures last_tables { (boot : ℕ) → MirrorsLast (showing (db_at boot []) (db_at boot [])) (small_content boot) [] 1
+        → ⊥ }
 
     // the audit list
     ensures committed { (store : SqlHeld S) → HasCommitted S.Store store [] → store.mirror.boot ≡ 4
@@ -409,16 +421,17 @@ pub fn stores_can_be_broken<S: Alter>()
     // the rows that a write changes
     ensures rows { HasRows token_db.trees (put_of 0 (free_row 10) None ∷ []) }
     ensures rows_none { HasRows (tables_at 4 []) [] }
-    ensures rows_floor { HasRows (trees_of [] [] [] (drift_row 0 (pos 0) ∷ [])) (put_of 0 (free_row 10) None ∷ []) → ⊥ }
+    ensures rows_floor { (next : ℕ) → HasRows (trees_of [] [] [] (drift_row 0 (pos 0) ∷ []))
+        (put_of 0 (free_row next) None ∷ []) → ⊥ }
     ensures rows_two { HasRows (trees_of [] (floor_row 0 (free_row 9) ∷ floor_row 0 (free_row 9) ∷ []) []
         (drift_row 0 (pos 0) ∷ [])) (put_of 0 (free_row 10) None ∷ []) → ⊥ }
-    ensures rows_drift { HasRows (trees_of [] (floor_row 0 (free_row 9) ∷ []) [] []) (put_of 0 (free_row 10) None ∷ [])
-        → ⊥ }
+    ensures rows_drift { (next : ℕ) → HasRows (trees_of [] (floor_row 0 (free_row 9) ∷ []) [] [])
+        (put_of 0 (free_row next) None ∷ []) → ⊥ }
     ensures can_put { CanPut token_db 0 (put_of 0 (free_row 10) None ∷ []) }
     ensures can_put_schema { CanPut (old_db_of (self_row 1 0 4 ∷ []) [] []) 0 [] → ⊥ }
-    ensures can_put_holds { CanPut (db_of [] [] [] []) 0 [] → ⊥ }
-    ensures can_put_count { CanPut (db_at 4 []) 1 [] → ⊥ }
-    ensures can_put_token { CanPut (db_at 4 []) 0 (put_of 0 (free_row 10) None ∷ []) → ⊥ }
+    ensures can_put_holds { (count : ℕ) → CanPut (db_of [] [] [] []) count [] → ⊥ }
+    ensures can_put_count { (boot : ℕ) → CanPut (db_at boot []) 1 [] → ⊥ }
+    ensures can_put_token { (boot : ℕ) → CanPut (db_at boot []) 0 (put_of 0 (free_row 10) None ∷ []) → ⊥ }
 {}
 
 /// Which fault of a store a refusal of the connection is.
@@ -436,20 +449,23 @@ pub fn writes_can_be_broken()
     ensures updated { IsUpdated 0 (floor_row 0 (free_row 10)) token_db (token_db_of (free_row 10) (pos 0)) }
     ensures updated_schema { IsUpdated 0 (floor_row 0 (free_row 10)) token_db
         (record (token_db_of (free_row 10) (pos 0)) { schema = undrifted_schema }) → ⊥ }
-    ensures updated_floor { IsUpdated 0 (floor_row 0 (free_row 10)) token_db token_db → ⊥ }
-    ensures updated_others { IsUpdated 0 (floor_row 0 (free_row 10)) token_db (token_db_of (free_row 10) (pos 1)) → ⊥ }
+    ensures updated_floor { (next : ℕ) → IsUpdated 0 (floor_row 0 (free_row (next + 1)))
+        (token_db_of (free_row next) (pos 0)) (token_db_of (free_row next) (pos 0)) → ⊥ }
+    ensures updated_others { (next : ℕ) → IsUpdated 0 (floor_row 0 (free_row next)) token_db
+        (token_db_of (free_row next) (pos 1)) → ⊥ }
     ensures drifted { IsDrifted 0 (pos 1) token_db (token_db_of (free_row 9) (pos 1)) }
     ensures drifted_schema { IsDrifted 0 (pos 1) token_db
         (record (token_db_of (free_row 9) (pos 1)) { schema = undrifted_schema }) → ⊥ }
     ensures drifted_drift { IsDrifted 0 (pos 1) token_db token_db → ⊥ }
-    ensures drifted_others { IsDrifted 0 (pos 1) token_db (token_db_of (free_row 10) (pos 1)) → ⊥ }
+    ensures drifted_others { (steps : ℤ) → IsDrifted 0 steps token_db (token_db_of (free_row 10) steps) → ⊥ }
 
     // all that waits, and the boot
     ensures made { MakesPuts 0 (put_of 0 (free_row 10) None ∷ []) token_db (token_db_of (free_row 10) (pos 0)) }
-    ensures made_schema { MakesPuts 0 [] (db_at 4 []) (record (db_at 4 []) { schema = undrifted_schema }) → ⊥ }
-    ensures made_content { MakesPuts 0 (put_of 0 (free_row 10) None ∷ []) token_db token_db → ⊥ }
+    ensures made_schema { (boot : ℕ) → MakesPuts 0 [] (db_at boot [])
+        (record (db_at boot []) { schema = undrifted_schema }) → ⊥ }
+    ensures made_content { (next : ℕ) → MakesPuts 0 (put_of 0 (free_row (next + 10)) None ∷ []) token_db token_db → ⊥ }
     ensures made_pass { MakesPuts 0 [] (db_at 4 []) (db_at 4 (pass_row 1 old_pass ∷ [])) → ⊥ }
     ensures raised { MakesAll 0 [] (Some 5) (db_at 4 []) (db_at 5 []) }
-    ensures not_raised { MakesAll 0 [] (Some 5) (db_at 4 []) (db_at 4 []) → ⊥ }
+    ensures not_raised { (boot : ℕ) → MakesAll 0 [] (Some (boot + 1)) (db_at boot []) (db_at boot []) → ⊥ }
     ensures raised_unasked { MakesAll 0 [] None (db_at 4 []) (db_at 5 []) → ⊥ }
 {}

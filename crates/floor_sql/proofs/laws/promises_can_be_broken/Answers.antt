@@ -1,9 +1,11 @@
 -- Databases are told apart by their rows, and what stands in a table is computed.
-use Rattle.std.proofs.Common.{◌≡◌, ◌≢◌, inl, inr, ℕ, zero, suc, true, false, List, [], ◌∷◌, length, refl, ap, sym, arith}
+use Rattle.std.proofs.Common.{◌≡◌, ◌≢◌, inl, inr, ℕ, ◌+◌, zero, suc, true, false, List, [], ◌∷◌, length, replicate, refl, ap, sym, ◌∙◌, arith}
 use Rattle.std.specs.Prelude.{pos}
+use Rattle.std.proofs.lemmas.List.{length-replicate}
 use Rattle.std.proofs.lemmas.List.Sorted.{IsPermutation-refl, length_permutation}
 use Rattle.sqlite.specs.Effect.{Database}
 use Rattle.sqlite.specs.Order.{Row}
+use Rattle.sqlite.specs.Tree.{Trees}
 use Rattle.sqlite_schema.specs.Names.{same_name}
 use Rattle.sqlite_value.specs.Order.{value_cmp}
 use Rattle.floor_store.specs.Content.{opening_row}
@@ -155,6 +157,19 @@ returns-clause-appended_pass c h = let lengths : 0 ≡ 1 = length_permutation _ 
 
 pub returns-clause-appended_others : goal.returns-clause-appended_others
 returns-clause-appended_others c h = let rows = h.others 0 (λ e. omega (arith, e)) in absurd cc
+
+pub returns-clause-may_commit : goal.returns-clause-may_commit
+returns-clause-may_commit c = (small_db 2, refl, refl)
+
+-- trees of so many rows are those of a database of as many
+rows_are : (rows count : ℕ) (db : Database) → db ≡ small_db count → (small_db rows).trees ≡ db.trees → rows ≡ count
+rows_are rows count db is left =
+    let same : replicate rows [] ≡ replicate count [] =
+    ap (λ (trees : Trees). trees 0) left ∙ ap (λ (db : Database). db.trees 0) is in
+    sym (length-replicate rows []) ∙ ap (λ (list : List Row). length list) same ∙ length-replicate count []
+
+pub returns-clause-may_commit_trees : goal.returns-clause-may_commit_trees
+returns-clause-may_commit_trees c = λ rows h. let e = rows_are (rows + 3) 2 h.0 h.1 h.2 in omega (arith, e)
 
 pub returns-clause-foreign_other : goal.returns-clause-foreign_other
 unfolding same_name

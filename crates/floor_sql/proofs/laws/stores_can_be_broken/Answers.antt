@@ -1,5 +1,5 @@
 -- Tables hold one content and one list of passes.
-use Rattle.std.proofs.Common.{◌≡◌, ◌<◌, ℕ, zero, suc, List, [], ◌∷◌, ◌++◌, length, slice_get, Some, None, refl, ap, sym, ◌∙◌, subst, arith}
+use Rattle.std.proofs.Common.{◌≡◌, ◌<◌, ◌+◌, ℕ, zero, suc, List, [], ◌∷◌, ◌++◌, length, slice_get, Some, None, refl, ap, sym, ◌∙◌, subst, arith}
 use Rattle.sqlite.specs.Effect.{Database}
 use Rattle.sqlite.specs.Held.{state}
 use Rattle.sqlite.specs.Order.{Row}
@@ -7,9 +7,11 @@ use Rattle.sqlite.specs.Tree.{Trees}
 use Rattle.sqlite_value.specs.Order.{value_cmp}
 use Rattle.floor_store.specs.Content.{Content}
 use Rattle.floor_store.specs.Examples.{free_row, old_pass}
-use Rattle.floor_store.specs.Records.{PassRecord}
-use Rattle.floor_sql.specs.Broken.{put_of, token_content, token_db}
+use Rattle.floor_store.specs.Records.{PassRecord, RowRecord}
+use Rattle.floor_sql.specs.Broken.{db_at, put_of, showing, small_content, tables_at, token_content, token_db, trees_of}
+use Rattle.floor_sql.specs.Held.{Mirrors}
 use Rattle.floor_sql.specs.Staged.{HasRowOnce, passes_in, with_puts}
+use Rattle.floor_sql.specs.Stored.{HasOneRow, Holds, self_row}
 use Rattle.floor_sql.specs.declared.put.Put.{Put}
 use Rattle.floor_sql.proofs.BrokenLemmas.{count_of_none, none_holds, own_row_is, token_holds}
 use Rattle.floor_sql.proofs.ContentLemmas.{one_content}
@@ -19,37 +21,59 @@ use Rattle.floor_sql.proofs.laws.stores_can_be_broken.Goals as goal
 pub returns-clause-mirrors : goal.returns-clause-mirrors
 returns-clause-mirrors g c = record { schema = refl; passes = []; holds = none_holds 4; counted = refl; settled = refl }
 
+-- the boot of tables of no token is that of the content that they hold
+boot_held : (now : ℕ) (content : Content) (passes : List PassRecord) → Holds (tables_at now []) content passes → now ≡ content.boot
+boot_held now content passes h = (own_row_is 2 1 0 now 2 h.node (length content.rows) content.boot h.self).3
+
+-- and they hold no pass
+count_held : (now : ℕ) (content : Content) (passes : List PassRecord) → Holds (tables_at now []) content passes → length passes ≡ 0
+count_held now content passes h = count_of_none passes h.pass
+
 pub returns-clause-mirrors_holds : goal.returns-clause-mirrors_holds
-returns-clause-mirrors_holds g c h =
-    let e = (own_row_is 2 1 0 5 2 h.holds.node 0 4 h.holds.self).3 in omega (arith, e)
+returns-clause-mirrors_holds g c = λ boot h.
+    let e = boot_held (boot + 1) (small_content boot) h.passes h.holds in omega (arith, e)
 
 pub returns-clause-mirrors_count : goal.returns-clause-mirrors_count
-returns-clause-mirrors_count g c h =
-    let none = count_of_none h.passes h.holds.pass in
-    let counted = h.counted in
+returns-clause-mirrors_count g c = λ boot h.
+    let none = count_held boot (small_content boot) h.passes h.holds in
+    let counted : length h.passes ≡ 1 = h.counted in
     omega (arith, none, counted)
 
+-- databases of no token are told apart by their boots
+same_boot : (a b : ℕ) → db_at a [] ≡ db_at b [] → a ≡ b
+same_boot a b e = let rows : self_row 1 0 a ∷ [] ≡ self_row 1 0 b ∷ [] = ap (λ (db : Database). db.trees 0) e in cc
+
 pub returns-clause-mirrors_settled : goal.returns-clause-mirrors_settled
-returns-clause-mirrors_settled g c h = let rows = ap (λ (db : Database). db.trees 0) h.settled in absurd cc
+returns-clause-mirrors_settled g c = λ boot h. let e = same_boot boot (boot + 1) h.settled in omega (arith, e)
 
 pub returns-clause-last : goal.returns-clause-last
-returns-clause-last g c = record {
+returns-clause-last g c = λ next. record {
   base = token_content (free_row 9);
   replayed = refl;
   tables = record { schema = refl; passes = []; holds = token_holds; counted = refl; settled = refl };
 }
 
+-- the same of tables that mirror a content
+boot_mirrored : (now count : ℕ) (content : Content) → Mirrors (showing (db_at now []) (db_at now [])) content count → now ≡ content.boot
+boot_mirrored now count content h = boot_held now content h.passes h.holds
+
+count_mirrored : (now count : ℕ) (content : Content) → Mirrors (showing (db_at now []) (db_at now [])) content count → count ≡ 0
+count_mirrored now count content h =
+    let none = count_held now content h.passes h.holds in
+    let counted : length h.passes ≡ count = h.counted in
+    omega (arith, none, counted)
+
+boot_of : (a b : Content) → a ≡ b → a.boot ≡ b.boot
+boot_of a b e = ap (λ (content : Content). content.boot) e
+
 pub returns-clause-last_replayed : goal.returns-clause-last_replayed
-returns-clause-last_replayed g c h =
-    let held = (own_row_is 2 1 0 4 2 h.tables.holds.node (length h.base.rows) h.base.boot h.tables.holds.self).3 in
-    let base : 5 ≡ h.base.boot = ap (λ (content : Content). content.boot) h.replayed in
+returns-clause-last_replayed g c = λ boot h.
+    let held = boot_mirrored boot 0 h.base h.tables in
+    let base = boot_of (small_content (boot + 1)) h.base h.replayed in
     omega (arith, held, base)
 
 pub returns-clause-last_tables : goal.returns-clause-last_tables
-returns-clause-last_tables g c h =
-    let none = count_of_none h.tables.passes h.tables.holds.pass in
-    let counted = h.tables.counted in
-    omega (arith, none, counted)
+returns-clause-last_tables g c = λ boot h. let e = count_mirrored boot 1 h.base h.tables in omega (arith, e)
 
 pub returns-clause-committed : goal.returns-clause-committed
 returns-clause-committed g c = λ store was boot h.
@@ -91,8 +115,12 @@ once = record { floor = record { found = _; only = refl }; drift = record { foun
 pub returns-clause-rows : goal.returns-clause-rows
 returns-clause-rows g c = one_put token_db.trees (put_of 0 (free_row 10) None) once
 
+-- no row is there once
+none_once : (key : ℕ) → HasOneRow [] key → ⊥
+none_once key h = let only = h.only in absurd cc
+
 pub returns-clause-rows_floor : goal.returns-clause-rows_floor
-returns-clause-rows_floor g c h = let only = (h 0 (put_of 0 (free_row 10) None) refl).floor.only in absurd cc
+returns-clause-rows_floor g c = λ next h. none_once 0 (h 0 (put_of 0 (free_row next) None) refl).floor
 
 pub returns-clause-rows_two : goal.returns-clause-rows_two
 unfolding value_cmp lib.Ieee.is_nan lib.Ieee.lt
@@ -101,7 +129,7 @@ returns-clause-rows_two g c h =
     omega (arith, lengths)
 
 pub returns-clause-rows_drift : goal.returns-clause-rows_drift
-returns-clause-rows_drift g c h = let only = (h 0 (put_of 0 (free_row 10) None) refl).drift.only in absurd cc
+returns-clause-rows_drift g c = λ next h. none_once 0 (h 0 (put_of 0 (free_row next) None) refl).drift
 
 -- the one put is of the first token
 in_tokens : (put : Put) → put.token < 1 → (place : ℕ) (other : Put) → slice_get (put ∷ []) place ≡ Some other → other.token < 1
@@ -118,17 +146,26 @@ returns-clause-can_put g c = record {
   tokens = in_tokens (put_of 0 (free_row 10) None) (omega arith);
 }
 
+-- tables without a row hold nothing
+none_held : (content : Content) (passes : List PassRecord) → Holds (trees_of [] [] [] []) content passes → ⊥
+none_held content passes h = let place = h.self.place in absurd cc
+
 pub returns-clause-can_put_holds : goal.returns-clause-can_put_holds
-returns-clause-can_put_holds g c h = let place = h.holds.self.place in absurd cc
+returns-clause-can_put_holds g c = λ count h. none_held h.content h.passes h.holds
 
 pub returns-clause-can_put_count : goal.returns-clause-can_put_count
-returns-clause-can_put_count g c h =
-    let none = count_of_none h.passes h.holds.pass in
-    let counted = h.counted in
+returns-clause-can_put_count g c = λ boot h.
+    let none = count_held boot h.content h.passes h.holds in
+    let counted : length h.passes ≡ 1 = h.counted in
     omega (arith, none, counted)
 
+-- the one put is of a row
+first_low : (rows : List RowRecord) → ((place : ℕ) (put : Put) → slice_get (put_of 0 (free_row 10) None ∷ []) place ≡ Some put
+    → put.token < length rows) → 0 < length rows
+first_low rows low = low 0 (put_of 0 (free_row 10) None) refl
+
 pub returns-clause-can_put_token : goal.returns-clause-can_put_token
-returns-clause-can_put_token g c h =
-    let tokens = (own_row_is 2 1 0 4 2 h.holds.node (length h.content.rows) h.content.boot h.holds.self).2 in
-    let low : 0 < length h.content.rows = h.tokens 0 (put_of 0 (free_row 10) None) refl in
+returns-clause-can_put_token g c = λ boot h.
+    let tokens = (own_row_is 2 1 0 boot 2 h.holds.node (length h.content.rows) h.content.boot h.holds.self).2 in
+    let low = first_low h.content.rows h.tokens in
     omega (arith, tokens, low)

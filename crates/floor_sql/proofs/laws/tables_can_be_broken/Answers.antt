@@ -1,5 +1,5 @@
 -- What stands in a table is computed.
-use Rattle.std.proofs.Common.{◌≡◌, ℕ, zero, suc, List, [], ◌∷◌, length, map, refl, ap, sym, ◌∙◌, subst, arith}
+use Rattle.std.proofs.Common.{◌≡◌, ◌+◌, ◌<◌, ◌≤◌, ℕ, zero, suc, List, [], ◌∷◌, length, map, refl, ap, sym, ◌∙◌, subst, arith}
 use Rattle.std.specs.Prelude.{ℤ, pos, slice_get}
 use Rattle.std.specs.List.Sorted.{IsPermutation}
 use Rattle.std.proofs.lemmas.Int.{ints}
@@ -11,11 +11,12 @@ use Rattle.sqlite.specs.Tree.{Trees}
 use Rattle.sqlite.proofs.Callers.{one_permutation}
 use Rattle.sqlite_value.specs.Order.{value_cmp}
 use Rattle.otp_core.specs.Range.{IsDrift}
+use Rattle.floor_store.specs.Range.{IsCount}
 use Rattle.floor_store.specs.Examples.{free_row, old_pass}
 use Rattle.floor_store.specs.Records.{PassRecord, RowRecord}
-use Rattle.floor_sql.specs.Broken.{old_token_db, tables_at, token_db, version_row}
+use Rattle.floor_sql.specs.Broken.{old_db_at, old_db_of, old_token_db, tables_at, token_db, trees_of, version_row}
 use Rattle.floor_sql.specs.Stored.{drift_columns, drift_row, drift_values, floor_columns, floor_row, floor_values, node_in, pass_columns, pass_row, pass_rows, pass_values, self_columns, self_row, version_in, version_values}
-use Rattle.floor_sql.specs.Usable.{HasOnly, HasUsableFloor, HasUsableDrift, HasUsablePasses, HasUsableRow, AreAudit, IsAudit, IsRow}
+use Rattle.floor_sql.specs.Usable.{HasOnly, HasUsableVersion, IsNode, HasUsableFloor, HasUsableDrift, HasUsablePasses, HasUsableRow, AreAudit, IsAudit, IsRow}
 use Rattle.floor_sql.proofs.PassLemmas.{length_rows, same_passes}
 use Rattle.floor_sql.proofs.laws.tables_can_be_broken.Goals as goal
 
@@ -30,11 +31,13 @@ returns-clause-only_two c h = let lengths : 2 ≡ 1 = ap (length {A = Row}) h.on
 
 pub returns-clause-only_shows : goal.returns-clause-only_shows
 unfolding value_cmp lib.Ieee.is_nan lib.Ieee.lt
-returns-clause-only_shows c h =
-    let one : drift_row 5 (pos 3) ∷ [] ≡ h.found ∷ [] = h.only in
-    let found : drift_row 5 (pos 3) ≡ h.found = cc in
-    let shows : drift_values 5 (pos 3) ≡ drift_values 5 (pos 4) = ap drift_columns found ∙ h.shows in
-    absurd cc
+returns-clause-only_shows c = λ steps h.
+    let one : drift_row 5 (pos steps) ∷ [] ≡ h.found ∷ [] = h.only in
+    let found : drift_row 5 (pos steps) ≡ h.found = cc in
+    let values : drift_columns h.found ≡ drift_values 5 (pos (steps + 1)) = h.shows in
+    let shows : drift_values 5 (pos steps) ≡ drift_values 5 (pos (steps + 1)) = ap drift_columns found ∙ values in
+    let e : steps ≡ steps + 1 = cc in
+    omega (arith, e)
 
 -- ---- the row of `self`
 
@@ -74,29 +77,32 @@ returns-clause-names_twice c h = let lengths : 2 ≡ 1 = ap (length {A = Row}) h
 
 pub returns-clause-names_at_version_1 : goal.returns-clause-names_at_version_1
 unfolding value_cmp lib.Ieee.is_nan lib.Ieee.lt
-returns-clause-names_at_version_1 c h =
-    let one : version_row 1 1 0 4 ∷ [] ≡ h.found ∷ [] = h.only in
-    let found : version_row 1 1 0 4 ≡ h.found = cc in
-    let version : Int (pos 1) ≡ Int (pos 2) = ap version_in found ∙ h.version in
+returns-clause-names_at_version_1 c = λ boot h.
+    let one : version_row 1 1 0 boot ∷ [] ≡ h.found ∷ [] = h.only in
+    let found : version_row 1 1 0 boot ≡ h.found = cc in
+    let is : version_in h.found ≡ Int (pos 2) = h.version in
+    let version : Int (pos 1) ≡ Int (pos 2) = ap version_in found ∙ is in
     absurd cc
 
 pub returns-clause-names_no_number : goal.returns-clause-names_no_number
 unfolding value_cmp lib.Ieee.is_nan lib.Ieee.lt
-returns-clause-names_no_number c h =
-    let row : Row = Int (pos 1) ∷ Null ∷ Int (pos 2) ∷ Null ∷ Int (pos 0) ∷ Int (pos 4) ∷ [] in
+returns-clause-names_no_number c = λ boot h.
+    let row : Row = Int (pos 1) ∷ Null ∷ Int (pos 2) ∷ Null ∷ Int (pos 0) ∷ Int (pos boot) ∷ [] in
     let one : row ∷ [] ≡ h.found ∷ [] = h.only in
     let found : row ≡ h.found = cc in
-    let node : Null ≡ Int (pos h.node) = ap node_in found ∙ h.of_node in
+    let is : node_in h.found ≡ Int (pos h.node) = h.of_node in
+    let node : Null ≡ Int (pos h.node) = ap node_in found ∙ is in
     absurd cc
 
 pub returns-clause-names_node_10 : goal.returns-clause-names_node_10
 unfolding value_cmp lib.Ieee.is_nan lib.Ieee.lt
-returns-clause-names_node_10 c h =
-    let one : self_row 10 0 4 ∷ [] ≡ h.found ∷ [] = h.only in
-    let found : self_row 10 0 4 ≡ h.found = cc in
+returns-clause-names_node_10 c = λ boot h.
+    let one : self_row 10 0 boot ∷ [] ≡ h.found ∷ [] = h.only in
+    let found : self_row 10 0 boot ≡ h.found = cc in
     let node : Int (pos 10) ≡ Int (pos h.node) = ap node_in found ∙ h.of_node in
     let same : 10 ≡ h.node = cc in
-    let last = h.range.last in
+    let range : IsNode h.node = h.range in
+    let last = range.last in
     omega (arith, same, last)
 
 pub returns-clause-of_node : goal.returns-clause-of_node
@@ -107,19 +113,19 @@ pub returns-clause-version : goal.returns-clause-version
 returns-clause-version c = record { boot = 4611686018427387903; range = omega arith; only = self_has 2 1 0 4611686018427387903 }
 
 pub returns-clause-version_boot : goal.returns-clause-version_boot
-returns-clause-version_boot c h =
-    let boot = (self_is 2 1 0 4611686018427387904 2 1 0 h.boot h.only).3 in
-    let range = h.range in
+returns-clause-version_boot c = λ more h.
+    let boot = (self_is 2 1 0 (more + 4611686018427387904) 2 1 0 h.boot h.only).3 in
+    let range : IsCount h.boot = h.range in
     omega (arith, boot, range)
 
 pub returns-clause-version_1 : goal.returns-clause-version_1
-returns-clause-version_1 c h = let e = (self_is 2 1 0 4 1 1 0 h.boot h.only).0 in omega (arith, e)
+returns-clause-version_1 c = λ boot h. let e = (self_is 2 1 0 boot 1 1 0 h.boot h.only).0 in omega (arith, e)
 
 pub returns-clause-version_of_node_2 : goal.returns-clause-version_of_node_2
-returns-clause-version_of_node_2 c h = let e = (self_is 2 1 0 4 2 2 0 h.boot h.only).1 in omega (arith, e)
+returns-clause-version_of_node_2 c = λ boot h. let e = (self_is 2 1 0 boot 2 2 0 h.boot h.only).1 in omega (arith, e)
 
 pub returns-clause-version_of_a_token : goal.returns-clause-version_of_a_token
-returns-clause-version_of_a_token c h = let e = (self_is 2 1 0 4 2 1 1 h.boot h.only).2 in omega (arith, e)
+returns-clause-version_of_a_token c = λ boot h. let e = (self_is 2 1 0 boot 2 1 1 h.boot h.only).2 in omega (arith, e)
 
 pub returns-clause-own_row : goal.returns-clause-own_row
 returns-clause-own_row c = record {
@@ -131,20 +137,23 @@ returns-clause-own_row c = record {
 }
 
 pub returns-clause-own_row_of_node : goal.returns-clause-own_row_of_node
-returns-clause-own_row_of_node c h =
-    let node = (self_is 2 10 0 4 2 h.node h.tokens h.self.boot h.self.only).1 in
-    let last = h.of_node.last in
+returns-clause-own_row_of_node c = λ boot h.
+    let node = (self_is 2 10 0 boot 2 h.node h.tokens h.self.boot h.self.only).1 in
+    let of_node : IsNode h.node = h.of_node in
+    let last = of_node.last in
     omega (arith, node, last)
 
 pub returns-clause-own_row_of_tokens : goal.returns-clause-own_row_of_tokens
-returns-clause-own_row_of_tokens c h =
-    let tokens = (self_is 2 1 10001 4 2 h.node h.tokens h.self.boot h.self.only).2 in
-    let range = h.of_tokens in
+returns-clause-own_row_of_tokens c = λ boot h.
+    let tokens = (self_is 2 1 10001 boot 2 h.node h.tokens h.self.boot h.self.only).2 in
+    let range : h.tokens ≤ 10000 = h.of_tokens in
     omega (arith, tokens, range)
 
 pub returns-clause-own_row_version : goal.returns-clause-own_row_version
-returns-clause-own_row_version c h =
-    let e = (self_is 2 1 0 4 1 h.node h.tokens h.self.boot h.self.only).0 in omega (arith, e)
+returns-clause-own_row_version c = λ boot h.
+    let self : HasUsableVersion (tables_at boot []) 1 h.node h.tokens = h.self in
+    let e = (self_is 2 1 0 boot 1 h.node h.tokens self.boot self.only).0 in
+    omega (arith, e)
 
 -- ---- the rows of a token
 
@@ -193,16 +202,17 @@ pub returns-clause-floor : goal.returns-clause-floor
 returns-clause-floor c = usable_floor
 
 pub returns-clause-floor_range : goal.returns-clause-floor_range
-returns-clause-floor_range c h =
-    let next = floor_is 4611686018427387905 h.row h.only in
-    let range = h.range.next in
-    omega (arith, next, range)
+returns-clause-floor_range c = λ more h.
+    let next = floor_is (more + 4611686018427387905) h.row h.only in
+    let range : IsRow h.row = h.range in
+    let most = range.next in
+    omega (arith, next, most)
 
 pub returns-clause-drift : goal.returns-clause-drift
 returns-clause-drift c = usable_drift
 
 pub returns-clause-drift_range : goal.returns-clause-drift_range
-returns-clause-drift_range c h =
+returns-clause-drift_range c = λ rows h.
     let steps : pos 11 ≡ h.steps = drift_is (pos 11) h.steps h.only in
     let range = (subst IsDrift (sym steps) h.range).1 in
     omega (arith, ints)
@@ -229,11 +239,12 @@ returns-clause-passes c = record {
 }
 
 pub returns-clause-passes_range : goal.returns-clause-passes_range
-returns-clause-passes_range c h =
+returns-clause-passes_range c = λ boot h.
     let bad : PassRecord = record old_pass { token = 10000 } in
     let passes : h.passes ≡ bad ∷ [] =
-    same_passes (tables_at 4 (pass_row 1 bad ∷ [])) h.passes (bad ∷ []) h.holds (IsPermutation-refl (pass_values 1 bad ∷ [])) in
-    let audit : IsAudit bad = h.ranges 0 bad (ap (λ (all : List PassRecord). slice_get all 0) passes) in
+    same_passes (tables_at boot (pass_row 1 bad ∷ [])) h.passes (bad ∷ []) h.holds (IsPermutation-refl (pass_values 1 bad ∷ [])) in
+    let ranges : AreAudit h.passes = h.ranges in
+    let audit : IsAudit bad = ranges 0 bad (ap (λ (all : List PassRecord). slice_get all 0) passes) in
     let token = audit.whole.token in
     omega (arith, token)
 
@@ -242,7 +253,7 @@ returns-clause-passes_room c = λ rows many h.
     let lengths : length (map pass_columns rows) ≡ length (pass_rows 1 h.passes) = length_permutation _ _ h.holds in
     let passes = length_rows 1 h.passes in
     let all : length (map pass_columns rows) ≡ length rows = length-map rows pass_columns in
-    let room = h.room in
+    let room : length h.passes ≤ 4611686018427387904 = h.room in
     omega (arith, many, lengths, passes, all, room)
 
 -- passes have the numbers from 1 on
@@ -254,7 +265,7 @@ numbered (pass ∷ next ∷ passes) h =
     let lengths : 1 ≡ suc (suc (length (pass_rows 3 passes))) = length_permutation _ _ h in omega (arith, lengths)
 
 pub returns-clause-passes_numbers : goal.returns-clause-passes_numbers
-returns-clause-passes_numbers c h = numbered h.passes h.holds
+returns-clause-passes_numbers c = λ boot h. numbered h.passes h.holds
 
 -- ---- a whole store
 
@@ -278,13 +289,20 @@ returns-clause-usable c = record {
 }
 
 pub returns-clause-usable_self : goal.returns-clause-usable_self
-returns-clause-usable_self c h = let e = (self_is 2 1 0 4 2 2 0 h.self.boot h.self.only).1 in omega (arith, e)
+returns-clause-usable_self c = λ boot h.
+    let self : HasUsableVersion (tables_at boot []) 2 2 0 = h.self in
+    let e = (self_is 2 1 0 boot 2 2 0 self.boot self.only).1 in
+    omega (arith, e)
 
 pub returns-clause-usable_rows : goal.returns-clause-usable_rows
-returns-clause-usable_rows c h = let only = (h.rows 0 (omega arith)).floor.only.only in absurd cc
+returns-clause-usable_rows c = λ boot h.
+    let rows : (token : ℕ) → token < 1 → HasUsableRow (trees_of (self_row 1 1 boot ∷ []) [] [] []) token = h.rows in
+    let only = (rows 0 (omega arith)).floor.only.only in
+    absurd cc
 
 pub returns-clause-usable_passes : goal.returns-clause-usable_passes
-returns-clause-usable_passes c h = numbered h.passes.passes h.passes.holds
+returns-clause-usable_passes c = λ boot h.
+    let passes : HasUsablePasses (tables_at boot (pass_row 2 old_pass ∷ [])) = h.passes in numbered passes.passes passes.holds
 
 pub returns-clause-old_usable : goal.returns-clause-old_usable
 returns-clause-old_usable c = record {
@@ -301,10 +319,18 @@ returns-clause-old_usable c = record {
 }
 
 pub returns-clause-old_usable_self : goal.returns-clause-old_usable_self
-returns-clause-old_usable_self c h = let e = (self_is 1 1 0 4 1 2 0 h.self.boot h.self.only).1 in omega (arith, e)
+returns-clause-old_usable_self c = λ boot h.
+    let self : HasUsableVersion (old_db_at boot []).trees 1 2 0 = h.self in
+    let e = (self_is 1 1 0 boot 1 2 0 self.boot self.only).1 in
+    omega (arith, e)
 
 pub returns-clause-old_usable_floors : goal.returns-clause-old_usable_floors
-returns-clause-old_usable_floors c h = let only = (h.floors 0 (omega arith)).only.only in absurd cc
+returns-clause-old_usable_floors c = λ boot h.
+    let floors : (token : ℕ) → token < 1 → HasUsableFloor (old_db_of (version_row 1 1 1 boot ∷ []) [] []).trees token = h.floors in
+    let only = (floors 0 (omega arith)).only.only in
+    absurd cc
 
 pub returns-clause-old_usable_passes : goal.returns-clause-old_usable_passes
-returns-clause-old_usable_passes c h = numbered h.passes.passes h.passes.holds
+returns-clause-old_usable_passes c = λ boot h.
+    let passes : HasUsablePasses (old_db_at boot (pass_row 2 old_pass ∷ [])).trees = h.passes in
+    numbered passes.passes passes.holds

@@ -1,5 +1,5 @@
 -- What a write makes of the small tables is computed, and is what they hold then.
-use Rattle.std.proofs.Common.{◌≡◌, ◌≢◌, ℕ, zero, suc, List, [], ◌∷◌, find, length, Some, None, refl, ap, sym, ◌∙◌, subst, append-nil, arith}
+use Rattle.std.proofs.Common.{◌≡◌, ◌≢◌, ◌+◌, ℕ, zero, suc, List, [], ◌∷◌, find, length, Some, None, refl, ap, sym, ◌∙◌, subst, append-nil, arith}
 use Rattle.std.specs.Prelude.{ℤ, pos}
 use Rattle.std.proofs.lemmas.List.Sorted.{length_permutation}
 use Rattle.sqlite.specs.Order.{Row}
@@ -7,9 +7,10 @@ use Rattle.sqlite.specs.Schema.{Schema}
 use Rattle.sqlite.specs.Tree.{has_rowid, without_rowid}
 use Rattle.sqlite_value.specs.Order.{value_cmp}
 use Rattle.floor_store.specs.Examples.{free_row}
-use Rattle.floor_sql.specs.Broken.{db_at, small_content, token_content, token_db, token_db_of, trees_of}
+use Rattle.floor_sql.specs.Broken.{db_at, small_content, tables_at, token_content, token_db, token_db_of, trees_of}
+use Rattle.floor_sql.specs.Schema as tables
 use Rattle.floor_sql.specs.Schema.{floor_schema, undrifted_schema}
-use Rattle.floor_sql.specs.Stored.{HasRow, Holds, IsDrifted, IsUpdated, PutsRow, drift_row, floor_columns, floor_row, floor_values, self_row}
+use Rattle.floor_sql.specs.Stored.{HasRow, Holds, OthersStay, IsDrifted, IsUpdated, PutsRow, drift_row, floor_columns, floor_row, floor_values, self_row}
 use Rattle.floor_sql.proofs.BrokenLemmas.{none_holds, own_row_has, own_row_is, token_holds}
 use Rattle.floor_sql.proofs.ContentLemmas.{puts}
 use Rattle.floor_sql.proofs.RowLemmas.{find-put_row}
@@ -52,12 +53,18 @@ returns-clause-updated c = is_updated
 
 pub returns-clause-updated_floor : goal.returns-clause-updated_floor
 unfolding value_cmp lib.Ieee.is_nan lib.Ieee.lt
-returns-clause-updated_floor c h =
-    let rows : floor_row 0 (free_row 9) ∷ [] ≡ floor_row 0 (free_row 10) ∷ [] = h.floor in absurd cc
+returns-clause-updated_floor c = λ next h.
+    let rows : floor_row 0 (free_row next) ∷ [] ≡ floor_row 0 (free_row (next + 1)) ∷ [] = h.floor in
+    let e : next ≡ next + 1 = cc in
+    omega (arith, e)
+
+-- the drift of the token doesn't stay
+no_drift_stays : (next : ℕ) → OthersStay tables.floor token_db.trees (token_db_of (free_row next) (pos 1)).trees → ⊥
+no_drift_stays next others =
+    let rows : drift_row 0 (pos 1) ∷ [] ≡ drift_row 0 (pos 0) ∷ [] = others 3 (λ e. omega (arith, e)) in absurd cc
 
 pub returns-clause-updated_others : goal.returns-clause-updated_others
-returns-clause-updated_others c h =
-    let rows : drift_row 0 (pos 1) ∷ [] ≡ drift_row 0 (pos 0) ∷ [] = h.others 3 (λ e. omega (arith, e)) in absurd cc
+returns-clause-updated_others c = λ next h. no_drift_stays next h.others
 
 pub returns-clause-drifted : goal.returns-clause-drifted
 returns-clause-drifted c = is_drifted 9 (pos 1)
@@ -67,9 +74,13 @@ unfolding value_cmp lib.Ieee.is_nan lib.Ieee.lt
 returns-clause-drifted_drift c h =
     let rows : drift_row 0 (pos 0) ∷ [] ≡ drift_row 0 (pos 1) ∷ [] = h.drift in absurd cc
 
+-- nor does its row
+no_floor_stays : (steps : ℤ) → OthersStay tables.drift token_db.trees (token_db_of (free_row 10) steps).trees → ⊥
+no_floor_stays steps others =
+    let rows : floor_row 0 (free_row 10) ∷ [] ≡ floor_row 0 (free_row 9) ∷ [] = others 1 (λ e. omega (arith, e)) in absurd cc
+
 pub returns-clause-drifted_others : goal.returns-clause-drifted_others
-returns-clause-drifted_others c h =
-    let rows : floor_row 0 (free_row 10) ∷ [] ≡ floor_row 0 (free_row 9) ∷ [] = h.others 1 (λ e. omega (arith, e)) in absurd cc
+returns-clause-drifted_others c = λ steps h. no_floor_stays steps h.others
 
 pub returns-clause-made : goal.returns-clause-made
 returns-clause-made c = λ content passes schema held counted.
@@ -78,8 +89,10 @@ returns-clause-made c = λ content passes schema held counted.
     puts 0 (free_row 10) 0 None content token_db (token_db_of (free_row 10) (pos 0)) passes schema held counted change
 
 pub returns-clause-made_schema : goal.returns-clause-made_schema
-returns-clause-made_schema c h =
-    let schema : undrifted_schema ≡ floor_schema = (h (small_content 4) [] refl (none_holds 4) refl).0 in
+returns-clause-made_schema c = λ boot h.
+    let made : (undrifted_schema ≡ floor_schema) × Holds (tables_at boot []) (small_content boot) [] =
+    h (small_content boot) [] refl (none_holds boot) refl in
+    let schema = made.0 in
     let tables : 3 ≡ 4 = ap (λ (schema : Schema). length schema.tables) schema in
     omega (arith, tables)
 
@@ -93,10 +106,11 @@ next_is next other h =
     cc
 
 pub returns-clause-made_content : goal.returns-clause-made_content
-returns-clause-made_content c h =
-    let held = (h (token_content (free_row 9)) [] refl token_holds refl).1 in
-    let next = next_is 9 10 (held.rows 0 (free_row 10) refl).floor in
-    omega (arith, next)
+returns-clause-made_content c = λ next h.
+    let held : Holds token_db.trees (token_content (free_row (next + 10))) [] =
+    (h (token_content (free_row 9)) [] refl token_holds refl).1 in
+    let same = next_is 9 (next + 10) (held.rows 0 (free_row (next + 10)) refl).floor in
+    omega (arith, same)
 
 pub returns-clause-made_pass : goal.returns-clause-made_pass
 returns-clause-made_pass c h =
@@ -123,11 +137,12 @@ returns-clause-raised c = (
 
 pub returns-clause-not_raised : goal.returns-clause-not_raised
 unfolding value_cmp lib.Ieee.is_nan lib.Ieee.lt
-returns-clause-not_raised c h =
-    let row = self_row h.2.was.node h.2.was.tokens 5 in
-    let found : Some (self_row 1 0 4) ≡ Some row =
+returns-clause-not_raised c = λ boot h.
+    let row = self_row h.2.was.node h.2.was.tokens (boot + 1) in
+    let found : Some (self_row 1 0 boot) ≡ Some row =
     ap (find (has_rowid (pos 1))) h.2.self ∙ find-put_row (pos 1) row refl (without_rowid (pos 1) (h.0.trees 0)) in
-    absurd cc
+    let e : boot ≡ boot + 1 = cc in
+    omega (arith, e)
 
 pub returns-clause-raised_unasked : goal.returns-clause-raised_unasked
 returns-clause-raised_unasked c h =
