@@ -10,3 +10,4 @@ mod ReachLemmas
 mod KeyLemmas
 mod BootLemmas
 mod AnewLemmas
+pub mod BrokenLemmas

@@ -12,3 +12,4 @@ pub mod Level
 pub mod Reach
 pub mod Anew
 pub mod Examples
+pub mod Broken

@@ -30,7 +30,9 @@ pub use floors::{floors_file, floors_of, floors_store};
 pub use gather::GatherFault;
 pub use init::{init_file, init_store};
 pub use laws::{
-    anew_is_worked, drifted_floors_are_worked, files_reach, files_reach_anew, levelling_is_worked,
+    anew_is_worked, commands_can_be_broken, drifted_floors_are_worked, faults_are_worked,
+    files_reach, files_reach_anew, floors_can_be_broken, imports_can_be_broken,
+    levelling_is_worked, texts_are_worked,
 };
 pub use level::{level_file, level_rows, level_store};
 pub use lost::{LostNode, init_lost_file, init_lost_store};

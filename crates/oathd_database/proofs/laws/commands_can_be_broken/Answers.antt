@@ -1,0 +1,219 @@
+-- Each promise is asked about the one that breaks it.
+use Rattle.std.proofs.Common.{◌≡◌, ℕ, zero, suc, ◌+◌, false, List, [], ◌∷◌, length, true, refl, ap, subst, ◌∙◌, arith}
+use Rattle.std.specs.Prelude.{codes}
+use Rattle.sqlite.specs.Effect.{Database}
+use Rattle.sqlite.specs.Tree.{Trees}
+use Rattle.otp_core.specs.Limits.{default_limits}
+use Rattle.token_file.specs.Credential.{Credential}
+use Rattle.token_file.specs.Examples.{time_token}
+use Rattle.token_file.specs.declared.token.Kind.TheVariants.{Time30}
+use Rattle.floor_store.specs.Content.{Content}
+use Rattle.floor_store.specs.Records.{PassRecord}
+use Rattle.floor_sql.specs.Broken.{small_content, tables_at}
+use Rattle.floor_sql.specs.Held.{sql_held}
+use Rattle.floor_sql.specs.Schema.{floor_schema, undrifted_schema}
+use Rattle.floor_sql.specs.Stored.{Holds}
+use Rattle.floor_sql.proofs.BrokenLemmas.{none_holds, own_row_is}
+use Rattle.floors_file.specs.Writing.{head_text, floors_text}
+use Rattle.node_turns.specs.declared.turns.Served.{Served}
+use Rattle.oathd_database.specs.Broken.{booting, conn_of, old_and_new, new_store, one_book, so_much, small_conn, two_tables}
+use Rattle.oathd_database.specs.Floors.{told_floors}
+use Rattle.oathd_database.specs.Text.{export_text}
+use Rattle.oathd_database.proofs.BrokenLemmas.{clean_is, fallen_is, fallen_made, fallen_migrated, fallen_opened, imported_is, none_held, nothing_served, nothing_written, one_token, opened_over, stays}
+use Rattle.oathd_database.proofs.laws.commands_can_be_broken.Goals as goal
+
+pub returns-clause-made : goal.returns-clause-made
+returns-clause-made c users is = record {
+  import = record { book = time_token Time30 ∷ []; floors = 3 ∷ []; imported = is };
+  conn = small_conn;
+  made = fallen_made 1 0 (5 ∷ []);
+}
+
+pub returns-clause-made_node : goal.returns-clause-made_node
+returns-clause-made_node c h =
+    let made = (h.made.tables (clean_is (λ disk. tables_at 0 []) small_conn)).committed in
+    let is : made.holds.node ≡ 1 = (none_held 0 _ _ made.holds).0 in
+    let of_node : made.holds.node ≡ 2 = made.of_node in
+    omega (arith, is, of_node)
+
+pub returns-clause-opened : goal.returns-clause-opened
+returns-clause-opened c = (
+  record { conn = small_conn; node = 1; is_given = refl; opened = fallen_opened 1 0 (new_store 4 []).mirror },
+  record { conn = small_conn; node = 1; is_given = tt; opened = fallen_opened 1 0 (new_store 4 []).mirror },
+)
+
+pub returns-clause-opened_given : goal.returns-clause-opened_given
+returns-clause-opened_given c h =
+    let is : h.node ≡ 1 = (opened_over (λ disk. 4) h.conn h.node 0 _ h.opened).0 in
+    let given : h.node ≡ 2 = h.is_given in
+    omega (arith, is, given)
+
+pub returns-clause-opened_tokens : goal.returns-clause-opened_tokens
+returns-clause-opened_tokens c h =
+    let is : 1 ≡ 0 = (opened_over (λ disk. 4) h.conn h.node 1 _ h.opened).1 in omega (arith, is)
+
+pub returns-clause-opened_content : goal.returns-clause-opened_content
+returns-clause-opened_content c h =
+    let is : 5 ≡ 4 = (opened_over (λ disk. 4) h.conn h.node 0 _ h.opened).2 in omega (arith, is)
+
+pub returns-clause-migrated : goal.returns-clause-migrated
+returns-clause-migrated c users is = record {
+  import = record { book = one_book; floors = 0 ∷ []; imported = is };
+  old = small_conn;
+  migrated = fallen_migrated 1 1;
+}
+
+pub returns-clause-migrated_node : goal.returns-clause-migrated_node
+returns-clause-migrated_node c h =
+    let made = (h.migrated.tables (clean_is old_and_new (conn_of floor_schema 1))).committed in
+    let is : made.holds.node ≡ 1 = (none_held 4 _ _ made.holds).0 in
+    let of_node : made.holds.node ≡ 2 = made.of_node in
+    omega (arith, is, of_node)
+
+pub returns-clause-migrated_tokens : goal.returns-clause-migrated_tokens
+returns-clause-migrated_tokens c users of_one h =
+    let made = (h.migrated.tables (clean_is old_and_new (conn_of floor_schema 1))).committed in
+    let is : length made.content.rows ≡ 0 = (none_held 4 _ _ made.holds).1 in
+    let tokens : length made.content.rows ≡ 1 = made.was.of_tokens ∙ one_token 0 11 users of_one h.import in
+    omega (arith, is, tokens)
+
+pub returns-clause-kept : goal.returns-clause-kept
+returns-clause-kept c = record {
+  content = (refl, refl, refl);
+  tables = λ clean. record { now = λ is_open. refl; committed = λ is_open. refl };
+  survives = stays true (λ disk. tables_at 4 []) small_conn (λ left. ⊥);
+}
+
+pub returns-clause-kept_tables : goal.returns-clause-kept_tables
+returns-clause-kept_tables c h =
+    let now = (h.tables (clean_is (λ disk. tables_at 4 []) (conn_of undrifted_schema 0))).now refl in
+    let tables : 3 ≡ 4 = ap (λ (db : Database). length db.schema.tables) now in
+    omega (arith, tables)
+
+pub returns-clause-audit : goal.returns-clause-audit
+returns-clause-audit c = record {
+  passes = [];
+  committed = record { base = small_content 4; replayed = refl; holds = none_holds 4 };
+  written = refl;
+}
+
+pub returns-clause-audit_committed : goal.returns-clause-audit_committed
+returns-clause-audit_committed c h = let e = nothing_written (λ disk. 4) (new_store 4 []) _ h in absurd cc
+
+pub returns-clause-audit_written : goal.returns-clause-audit_written
+returns-clause-audit_written c h = let e = nothing_written (λ disk. 4) (new_store 4 []) (codes "x") h in absurd cc
+
+pub returns-clause-exported : goal.returns-clause-exported
+returns-clause-exported c users is = record {
+  import = record { book = one_book; floors = 0 ∷ []; imported = is };
+  store = new_store 4 [];
+  opened = record { conn = small_conn; node = 1; is_given = tt; opened = fallen_opened 1 1 (new_store 4 []).mirror };
+  written = λ clean. absurd (fallen_is small_conn clean);
+}
+
+pub returns-clause-exported_opened : goal.returns-clause-exported_opened
+returns-clause-exported_opened c users of_one h =
+    let is : length h.import.book ≡ 0 = (opened_over (λ disk. 4) h.opened.conn h.opened.node (length h.import.book) h.store h.opened.opened).1 in
+    let one : length h.import.book ≡ 1 = one_token 0 11 users of_one h.import in
+    omega (arith, is, one)
+
+pub returns-clause-exported_written : goal.returns-clause-exported_written
+returns-clause-exported_written c h =
+    let e : codes "x" ≡ export_text h.import.book h.store.mirror.rows = h.written (clean_is (λ disk. tables_at 4 []) h.store.conn) in
+    let none : codes "x" ≡ [] = e ∙ ap (λ (book : List Credential). export_text book h.store.mirror.rows) (imported_is default_limits 0 11 [] [] [] refl h.import).0 in
+    absurd cc
+
+pub returns-clause-audited : goal.returns-clause-audited
+returns-clause-audited c users is = record {
+  import = record { book = one_book; floors = 0 ∷ []; imported = is };
+  found = new_store 4 [];
+  opened = record { conn = small_conn; node = 1; is_given = refl; opened = fallen_opened 1 1 (new_store 4 []).mirror };
+  store = new_store 4 [];
+  kept = record {
+    content = (refl, refl, refl);
+    tables = λ clean. absurd (fallen_is small_conn clean);
+    survives = stays false (λ disk. tables_at 0 []) small_conn (λ left. ⊥);
+  };
+  written = λ clean. absurd (fallen_is small_conn clean);
+}
+
+pub returns-clause-audited_opened : goal.returns-clause-audited_opened
+returns-clause-audited_opened c h =
+    let is : h.opened.node ≡ 1 = (opened_over (λ disk. 4) h.opened.conn h.opened.node (length h.import.book) h.found h.opened.opened).0 in
+    let given : h.opened.node ≡ 2 = h.opened.is_given in
+    omega (arith, is, given)
+
+pub returns-clause-audited_tokens : goal.returns-clause-audited_tokens
+returns-clause-audited_tokens c users of_one h =
+    let is : length h.import.book ≡ 0 = (opened_over (λ disk. 4) h.opened.conn h.opened.node (length h.import.book) h.found h.opened.opened).1 in
+    let one : length h.import.book ≡ 1 = one_token 0 11 users of_one h.import in
+    omega (arith, is, one)
+
+-- of the two disks the one of node 1 has no pass
+first_disk : (disk : ℕ) (content : Content) (passes : List PassRecord) (h : Holds (two_tables disk) content passes) → h.node ≡ 1
+    → two_tables disk ≡ tables_at 4 []
+first_disk zero content passes h is = refl
+first_disk (suc disk) content passes h is =
+    let other : 2 ≡ h.node = (own_row_is 2 2 0 4 2 h.node (length content.rows) content.boot h.self).1 in
+    absurd (omega (arith, other, is))
+
+pub returns-clause-audited_kept : goal.returns-clause-audited_kept
+returns-clause-audited_kept c h =
+    let found = h.opened.opened.content (clean_is two_tables h.found.conn) in
+    let first : two_tables h.opened.conn.store ≡ tables_at 4 [] =
+    first_disk h.opened.conn.store _ found.passes found.holds (found.of_node ∙ h.opened.is_given) in
+    let read = (h.opened.opened.kept.read (clean_is two_tables h.found.conn)).committed in
+    let same = (h.kept.tables (clean_is two_tables h.store.conn)).committed refl in
+    let trees : two_tables h.store.conn.store ≡ tables_at 4 [] = ap (λ (db : Database). db.trees) (same ∙ read) ∙ first in
+    let writes = h.written (clean_is two_tables h.store.conn) in
+    let holds = subst (λ (t : Trees). Holds t writes.committed.base writes.passes) trees writes.committed.holds in
+    let none = (none_held 4 _ writes.passes holds).3 in
+    let e = nothing_written (λ disk. 4) (record h.store { mirror = writes.committed.base; staged = [] }) _
+    (record { passes = writes.passes; committed = record { base = writes.committed.base; replayed = refl; holds = holds }; written = writes.written }) in
+    absurd cc
+
+pub returns-clause-audited_written : goal.returns-clause-audited_written
+returns-clause-audited_written c h =
+    let e = nothing_written (λ disk. 4) h.store (codes "x") (h.written (clean_is (λ disk. tables_at 4 []) h.store.conn)) in absurd cc
+
+pub returns-clause-told : goal.returns-clause-told
+returns-clause-told c users is = record {
+  import = record { book = one_book; floors = 0 ∷ []; imported = is };
+  store = new_store 4 [];
+  opened = record { conn = small_conn; node = 1; is_given = refl; opened = fallen_opened 1 1 (new_store 4 []).mirror };
+  written = λ clean. absurd (fallen_is small_conn clean);
+}
+
+pub returns-clause-told_opened : goal.returns-clause-told_opened
+returns-clause-told_opened c h =
+    let is : h.opened.node ≡ 1 = (opened_over (λ disk. 4) h.opened.conn h.opened.node (length h.import.book) h.store h.opened.opened).0 in
+    let given : h.opened.node ≡ 2 = h.opened.is_given in
+    omega (arith, is, given)
+
+pub returns-clause-told_written : goal.returns-clause-told_written
+unfolding head_text
+returns-clause-told_written c h =
+    let e : codes "x" ≡ floors_text (told_floors 1 3 5 h.import.book h.store.mirror) = h.written (clean_is (λ disk. tables_at 4 []) h.store.conn) in
+    absurd cc
+
+pub returns-clause-served_opened : goal.returns-clause-served_opened
+returns-clause-served_opened c address users of_one h =
+    let is : length h.import.book ≡ 0 = (opened_over (λ disk. 4 + disk) h.opened.conn h.opened.node (length h.import.book) h.found h.opened.opened).1 in
+    let one : length h.import.book ≡ 1 = one_token 0 16777216 users of_one h.import in
+    omega (arith, is, one)
+
+pub returns-clause-served_in_boot : goal.returns-clause-served_in_boot
+returns-clause-served_in_boot c address h =
+    let clean = clean_is (λ disk. tables_at 4 []) h.first.store.conn in
+    let found : h.found.mirror.boot ≡ 4 = (opened_over (λ disk. 4) h.opened.conn h.opened.node (length h.import.book) h.found h.opened.opened).2 in
+    let now = ap (λ (content : Content). content.boot) (h.in_boot.raises.writes.makes.ok clean) in
+    let left = h.in_boot.raises.writes.settled clean (small_content 4)
+    (record { clean = clean; trees = tables_at 4 []; left = refl; passes = []; holds = none_holds 4 }) in
+    let boot = ap (λ (content : Content). content.boot) left in
+    omega (arith, found, now, boot)
+
+pub returns-clause-served_serves : goal.returns-clause-served_serves
+returns-clause-served_serves c address h =
+    let none = nothing_served (sql_held booting) h.first h.last (so_much 1 0) h.serves (clean_is (λ disk. tables_at (4 + disk) []) h.last.store.conn) in
+    let e : 1 ≡ 0 = ap (λ (served : Served). served.received) none in
+    omega (arith, e)

@@ -1,0 +1,231 @@
+-- Small databases, users files and floors files, each of which breaks one field of a promise. No contract cites them.
+use Rattle.std.specs.Prelude.{◌≡◌, ℕ, zero, suc, ◌+◌, pos, refl, Bool, true, false, List, [], ◌∷◌, Option, None, Some, codes}
+use Rattle.std.specs.Global.{Vec}
+use Rattle.std.specs.Borrow.{Bor}
+use Rattle.std.specs.declared.net.socket_addr.SocketAddrV4.{SocketAddrV4}
+use Rattle.std.proofs.Math.Dec.{lit≤}
+use denote.RawPtr.{null_ptr}
+use Rattle.sqlite.specs.Held.{Held as Conn}
+use Rattle.sqlite.specs.Schema.{Schema}
+use Rattle.sqlite.specs.Store.{Ghosts}
+use Rattle.sqlite.specs.Tree.{Trees}
+use Rattle.sqlite_trees.specs.declared.store.Shape.TheVariants.{Absent}
+use Rattle.otp_core.specs.Limits.{Limits, default_limits}
+use Rattle.token_file.specs.Credential.{Credential}
+use Rattle.token_file.specs.Examples.{event_token, time_token}
+use Rattle.token_file.specs.declared.fault.LineFault.{LineFault}
+use Rattle.token_file.specs.declared.token.Kind.TheVariants.{Time30}
+use Rattle.floor_store.specs.Content.{Content, opening_content_at}
+use Rattle.floor_store.specs.Broken.{SmallStore, holding}
+use Rattle.floor_store.specs.Examples.{old_pass}
+use Rattle.floor_store.specs.declared.fault.StoreFault.TheVariants.{Disk}
+use Rattle.floor_sql.specs.Broken.{old_db_at, tables_at, trees_of}
+use Rattle.floor_sql.specs.Stored.{pass_row, self_row}
+use Rattle.floor_sql.specs.Held.{SqlHeld}
+use Rattle.floor_sql.specs.Schema.{floor_schema}
+use Rattle.floors_file.specs.Examples.{text_of}
+use Rattle.floors_file.specs.declared.fault.LineFault.{LineFault as FloorsLineFault}
+use Rattle.floors_file.specs.declared.gathered.Asked.{Asked}
+use Rattle.node_turns.specs.declared.turns.Served.{Served}
+use Rattle.oathd_database.specs.Users.{IsImported}
+use Rattle.oathd_database.specs.declared.fault.Fault.{Fault}
+use Rattle.oathd_database.specs.declared.fault.Fault.TheVariants.{Users}
+use Rattle.oathd_database.specs.declared.gather.GatherFault.{GatherFault}
+use Rattle.oathd_database.specs.declared.gather.GatherFault.TheVariants.{Floors}
+use Rattle.oathd_database.specs.declared.lost.LostNode.{LostNode}
+use Rattle.oathd_database.specs.declared.node_key.NodeKey.TheVariants.{Own}
+use Rattle.oathd_database.specs.declared.serving.Serving.{Serving}
+
+-- ---- databases
+
+-- A disk, told by a number, that shows these trees and has last committed them. It returns what was written, or it
+-- doesn't.
+abbrev pub disk_of : Bool → (ℕ → Trees) → Ghosts ℕ
+disk_of is_clean trees = record {
+  view = λ disk. record {
+    trees = trees disk;
+    committed = trees disk;
+    cursors = λ cursor. None;
+    shape = λ tree. Absent;
+    reals = λ tree. 0;
+    committed_shape = λ tree. Absent;
+    committed_reals = λ tree. 0;
+    marks = [];
+    is_numbered = true;
+    has_sums = false;
+    is_open = true;
+    is_broken = false;
+    is_clean = is_clean;
+  };
+  faults = λ disk. 0;
+  recovers = λ disk left. left ≡ trees disk;
+  is_shielded = λ disk. Unit {0};
+  is_step = λ old new tree. Unit {0};
+  blamed = λ disk. None;
+  names = λ old new fault. Unit {0};
+}
+
+-- a disk that returned something else
+abbrev pub fallen : Ghosts ℕ
+fallen = disk_of false (λ disk. tables_at 0 [])
+
+-- one that shows these trees for ever
+abbrev pub still : Trees → Ghosts ℕ
+still trees = disk_of true (λ disk. trees)
+
+-- one at boot 4 that may be written once more, at boot 5
+abbrev pub booting : Ghosts ℕ
+booting = disk_of true (λ disk. tables_at (4 + disk) [])
+
+-- the tables of node 1, and of node 2 with a pass
+abbrev pub two_tables : ℕ → Trees
+two_tables zero = tables_at 4 []
+two_tables (suc disk) = trees_of (self_row 2 0 4 ∷ []) [] (pass_row 1 old_pass ∷ []) []
+
+-- a disk that shows the ones or the others
+abbrev pub two_disks : Ghosts ℕ
+two_disks = disk_of true two_tables
+
+-- the tables of node 1 without a token, of version 1 and of version 2
+abbrev pub old_and_new : ℕ → Trees
+old_and_new zero = (old_db_at 4 []).trees
+old_and_new (suc disk) = tables_at 4 []
+
+-- a disk that shows the old ones or the new
+abbrev pub migrating : Ghosts ℕ
+migrating = disk_of true old_and_new
+
+-- a list of the code without an item
+abbrev pub no_items : {A : Type 0} → Vec A
+no_items = record {
+  ptr = null_ptr;
+  len = 0;
+  cap = 0;
+  alloc = record { memory = record { seal = tt } };
+  items = [];
+  ok = (refl, lit≤ tt);
+  small = lit≤ tt;
+}
+
+-- the same, with one
+abbrev pub one_item : {A : Type 0} → A → Vec A
+one_item item = record {
+  ptr = null_ptr;
+  len = 1;
+  cap = 1;
+  alloc = record { memory = record { seal = tt } };
+  items = item ∷ [];
+  ok = (refl, lit≤ tt);
+  small = lit≤ tt;
+}
+
+-- a connection to the disk of that number, with this schema, outside a transaction
+abbrev pub conn_of : Schema → ℕ → Conn ℕ
+conn_of schema disk = record {
+  store = disk;
+  schema = schema;
+  saved = record { base = None; marks = no_items };
+  in_transaction = false;
+  changes = 0;
+  last_rowid = pos 0;
+  cache = [];
+  params = [];
+  step_limit = None;
+  reading = record {
+    stream = record { given = no_items; page = []; marks = []; skip = 0; left = None; rounds = None };
+    budget = record { is_limited = false; left = 0 };
+    row = [];
+    batch = 1;
+    returned = no_items;
+    at = 0;
+  };
+}
+
+-- a connection to tables of a store
+abbrev pub small_conn : Conn ℕ
+small_conn = conn_of floor_schema 0
+
+-- a store of this content over it
+abbrev pub store_of : Content → SqlHeld ℕ
+store_of content = record { conn = small_conn; mirror = content; staged = []; passes = 0; fault = None }
+
+-- a store as it is made at a boot, with these first free factors
+abbrev pub new_store : ℕ → List ℕ → SqlHeld ℕ
+new_store boot floors = store_of (opening_content_at boot floors)
+
+-- ---- users files
+
+-- one event token of user `a`
+abbrev pub one_book : List Credential
+one_book = event_token (codes "a") ∷ []
+
+-- a users file of it, of at most so many bytes, that is imported at a moment
+abbrev pub IsOfOne : ℕ → ℕ → List ℕ → Type 0
+IsOfOne moment longest users = IsImported default_limits moment longest one_book (0 ∷ []) users
+
+-- a row without a name
+abbrev pub no_users : List ℕ
+no_users = codes "HOTP"
+
+-- settings by which clocks may have drifted by so many steps
+abbrev pub drifting : ℕ → Limits
+drifting drift = record default_limits { drift = drift }
+
+-- a users file of one time token, whose clock may have drifted by two steps
+abbrev pub IsOfClock : List ℕ → Type 0
+IsOfClock users = IsImported (drifting 2) 59 15 (time_token Time30 ∷ []) (3 ∷ []) users
+
+-- this fault of a line of a users file
+abbrev pub users_fault : ℕ → LineFault → Fault
+users_fault line kind = Users (record { line = line; kind = kind })
+
+-- ---- floors files
+
+-- the floors file of a node alone that is at boot 7, for user `a`, with this first free factor
+abbrev pub floors_text : List ℕ → List ℕ
+floors_text next = text_of (codes "floors 1 1 1 7 0 1" ∷ next ∷ [])
+
+-- that of a node alone without a token
+abbrev pub no_floors : List ℕ
+no_floors = text_of (codes "floors 1 1 1 7 0 0" ∷ [])
+
+-- these nodes are lost
+abbrev pub lost_nodes : List ℕ → Option (Bor (List ℕ))
+lost_nodes nodes = Some (record { ref_ptr = (0, 0); now = nodes })
+
+-- asked of files: for a new boot of that number
+abbrev pub asked_for : ℕ → Asked
+asked_for boot = record { since = 0; boot = boot }
+
+-- a node of a whole cluster that is made anew
+abbrev pub whole : LostNode
+whole = record { node = 1; lost = None; since = 0 }
+
+-- this fault of a line of the floors file of that number
+abbrev pub floors_fault : ℕ → ℕ → FloorsLineFault → GatherFault
+floors_fault number line kind = Floors number (record { line = line; kind = kind })
+
+-- a store of this content, broken by the disk
+abbrev pub failing : Content → SmallStore
+failing content = record (holding content) { fault = Some Disk; failures = 1 }
+
+-- ---- a node
+
+-- so many datagrams and replies
+abbrev pub so_much : ℕ → ℕ → Served
+so_much received replied = record { received = received; replied = replied }
+
+-- node 1 of one, at that address, is served for so many turns
+abbrev pub serving_for : SocketAddrV4 → Serving
+serving_for address = record {
+  settings = default_limits;
+  place = record { me = 1; n = 1 };
+  members = one_item address;
+  key = Own [];
+  turns = 0;
+  is_logged = false;
+  few = lit≤ tt;
+  each = refl;
+  settings_agreed = refl;
+  members_agreed = refl;
+}
