@@ -5,14 +5,14 @@ use Rattle.std.proofs.lemmas.Bool.{cond_both, cond-true, cond-false, eqb-true, e
 use Rattle.floor_store.specs.Range.{IsSpan}
 use Rattle.vote_core.specs.Rows.{row}
 use Rattle.vote_core.specs.Voting.{propose, on_message, tick, quiet_step}
-use Rattle.vote_core.specs.Schedule.{Envelope, Cluster, Begin, Deliver as Passes, Tick as Ticked, Idle, is_member, is_running, place_of, cluster_after, with_proposal_begun, with_member, stopped_member, may_begin, after_proposal, after_delivery, content_with_gate, after_act, node_of as vote_node, set_node, receiver_of}
+use Rattle.vote_core.specs.Schedule.{Envelope, Cluster, Begin, Deliver as Passes, Tick as Ticked, Idle, is_running, place_of, cluster_after, with_proposal_begun, with_member, stopped_member, may_begin, after_proposal, after_delivery, content_with_gate, after_act, node_of as vote_node, set_node, receiver_of}
 use Rattle.oath_node.specs.Grounds.{HasGrounds, IsFitting}
 use Rattle.vote_wire.specs.Request.{without_lf}
 use Rattle.oath_node.specs.declared.ruling.Ruling.{Ruling}
 use Rattle.oath_node.specs.declared.ruling.Ruling.TheVariants.{Outside, Again, Waiting, Denied, Wrong, Fitting}
 use Rattle.vote_core.specs.NodeSet.{PlaceRecord}
 use Rattle.oath_node.specs.Machine.{Config, NodeState, NodeEvent, Client, Peer, Tick, Owner, next_owner, made_by_message, quiet_made, stopped_node, node_with_answer, gate_with_failure, made_by_vote, next_beginning, made_by_proposal, made_by_ruling, made_by_datagram, is_heard, made_while_running, made_by_event, ruling_at, standing_at}
-use Rattle.cluster_sim.specs.World.{World, Act, Says, Deliver, Ticks, Noise, world_with_made, world_after_turn, world_after_act, delivered_event, noise_event, place_at, node_of, node_if_sent, begun_in, passes_in}
+use Rattle.cluster_sim.specs.World.{World, Act, Says, Deliver, Ticks, Noise, has_store, world_with_made, world_after_turn, world_after_act, delivered_event, noise_event, place_at, node_of, node_if_sent, begun_in, passes_in}
 use Rattle.cluster_sim.proofs.Refinement.{member_of, cluster_of, vote_on_ruling, vote_on_datagram, vote_of}
 use Rattle.cluster_sim.proofs.BelowLaws.{GroundLaw}
 use Rattle.cluster_sim.proofs.Shape.{right_nil, seen_set, of_parts, made_after, made_idle}
@@ -38,12 +38,12 @@ unfolding world_after_turn made_by_event
 gated config e i x w V works rests =
     let place = place_at w i in
     let y = w.nodes i in
-    cond_both (is_member w.n i) (world_with_made e i (made_by_event config place x y) w) w (λ z. cluster_of z ≡ V)
+    cond_both (has_store w i) (world_with_made e i (made_by_event config place x y) w) w (λ z. cluster_of z ≡ V)
     (λ member.
     cond_both y.running (made_while_running config place x y) (quiet_made y) (λ o. cluster_of (world_with_made e i o w) ≡ V)
-    (λ up. works (and_from (is_member w.n i) y.running member up) up)
-    (λ halt. made_idle e i y [] None w refl ∙ rests (and_right (is_member w.n i) y.running halt)))
-    (λ out. rests (and_left (is_member w.n i) y.running out))
+    (λ up. works (and_from (has_store w i) y.running member up) up)
+    (λ halt. made_idle e i y [] None w refl ∙ rests (and_right (has_store w i) y.running halt)))
+    (λ out. rests (and_left (has_store w i) y.running out))
 
 -- ---- a proposal
 
@@ -60,9 +60,9 @@ unfolding world_with_made
 halted_now e i w =
     let B = begun_in w.history in
     let x = stopped_node (w.nodes i) in
-    ap (λ f. of_parts w.n (w.sent ++ []) B f (passes_in w.history ++ [])) (seen_set i x w.nodes)
-    ∙ ap (λ l. of_parts w.n l B (set_node i (member_of x) (λ j. member_of (w.nodes j))) (passes_in w.history ++ [])) (right_nil w.sent)
-    ∙ ap (λ l. of_parts w.n w.sent B (set_node i (member_of x) (λ j. member_of (w.nodes j))) l) (right_nil (passes_in w.history))
+    ap (λ f. of_parts w (w.sent ++ []) B f (passes_in w.history ++ [])) (seen_set i x w.nodes)
+    ∙ ap (λ l. of_parts w l B (set_node i (member_of x) (λ j. member_of (w.nodes j))) (passes_in w.history ++ [])) (right_nil w.sent)
+    ∙ ap (λ l. of_parts w w.sent B (set_node i (member_of x) (λ j. member_of (w.nodes j))) l) (right_nil (passes_in w.history))
 
 span_true : (lo hi : ℕ) → IsSpan lo hi → (eqb hi lo || eqb hi (lo + 1)) ≡ true
 span_true lo hi h =

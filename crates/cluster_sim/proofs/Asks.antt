@@ -6,7 +6,7 @@ use Rattle.std.proofs.lemmas.List.{append-nil, append_assoc}
 use Rattle.cluster_sim.proofs.Servers.{drift_at}
 use Rattle.cluster_sim.proofs.Sound.{AllSound, IsUnder, Lies, happens_sound, lies_row}
 use Rattle.cluster_sim.proofs.VoteDrifts.{same_drift}
-use Rattle.cluster_sim.proofs.Waves.{Stands, hands, is_heard_at, set_all, set_at, set_off, stands_more}
+use Rattle.cluster_sim.proofs.Waves.{Stands, hands, is_heard_at, is_in, set_all, set_at, set_off, stands_more}
 use Rattle.cluster_sim.specs.Results.{results_in, results_with_failure, results_with_pass}
 use Rattle.cluster_sim.specs.Rounds.{AreUp, deliveries, is_between, is_live, next_at}
 use Rattle.cluster_sim.specs.World.{Deliver, Happens, World, told_reply, world_after_event, world_after_events, world_with_made}
@@ -118,7 +118,7 @@ unfolding on_message
 ask_delivered config live i p t lo hi g k e w at sound up asks here other known le low =
     let l : Envelope = record { sender = i; receiver = g; message = Ask p t (span_of lo hi) } in
     let x = w.nodes g in
-    let hears = is_heard_at config w l (λ q. other (sym q)) (up i asks).0 known in
+    let hears = is_heard_at config w l (λ q. other (sym q)) (is_in w i (up i asks).0) known in
     let same = hands config e k l w at (up g here).0 (up g here).1 hears ∙ ap (λ s. world_with_made e g (made_by_vote x.owners None s x) w) (asked i p t lo hi x.content x.voter (sound g).kept.lies low le) in
     subst (λ v. Answered live i p t lo hi g w v) (sym same) (ask_made live (length config.book) e i p t lo hi g w up here (sound g).kept.size known)
 

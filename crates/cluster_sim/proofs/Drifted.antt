@@ -1,14 +1,14 @@
 -- The drift that each node keeps of a token is what the last acceptance of the token there keeps.
-use Rattle.std.proofs.Common.{◌≡◌, ℕ, ℤ, pos, zero, suc, ◌+◌, ◌^◌, ◌<◌, ◌≤◌, ◌&&◌, inl, inr, ⊎_elim, List, [], ◌∷◌, ◌++◌, true, false, cond, length, take, Option, Some, None, refl, sym, ap, ◌∙◌, subst, arith, eqb, ltb}
+use Rattle.std.proofs.Common.{◌≡◌, ℕ, ℤ, pos, zero, suc, ◌+◌, ◌^◌, ◌<◌, ◌≤◌, ◌&&◌, inl, inr, ⊎_elim, Bool, List, [], ◌∷◌, ◌++◌, true, false, cond, length, take, Option, Some, None, refl, sym, ap, ◌∙◌, subst, arith, eqb, get_or, ltb}
 use Rattle.std.specs.List.{slice_get}
-use Rattle.std.proofs.lemmas.Bool.{cond_both, eqb-true, eqb-false, eq-eqb, ne_eqb}
+use Rattle.std.proofs.lemmas.Bool.{cond-false, cond-true, cond_both, eqb-true, eqb-false, eq-eqb, ne_eqb}
 use Rattle.std.proofs.lemmas.List.{append-nil}
 use Rattle.floor_store.specs.Content.{Content}
 use Rattle.floor_store.specs.Records.{ProposalRecord, PassRecord, RowRecord}
 use Rattle.otp_core.specs.Acceptance.{Acceptance}
 use Rattle.vote_core.specs.NodeSet.{PlaceRecord}
 use Rattle.vote_core.specs.Rows.{no_row, row}
-use Rattle.vote_core.specs.Schedule.{Envelope, Begun, began_in, is_member, last_boot, opening_rows}
+use Rattle.vote_core.specs.Schedule.{Envelope, Begun, began_in, last_boot, opening_rows}
 use Rattle.vote_core.specs.Voting.{Ballot, Voted, propose, on_message, tick, pass_in}
 use Rattle.vote_core.proofs.Basics.{Each, each_append, each_get_or, each_weaker}
 use Rattle.vote_wire.specs.Request.{without_lf}
@@ -16,8 +16,8 @@ use Rattle.oath_node.specs.Grounds.{HasGrounds}
 use Rattle.oath_node.specs.Machine.{Config, NodeState, NodeEvent, Client, Peer, Tick, Made, Owner, Beginning, quiet_made, stopped_node, opened_node, restarted_node, gate_with_failure, made_by_vote, next_beginning, next_owner, made_by_proposal, made_by_ruling, made_by_datagram, is_heard, made_while_running, made_by_event, ruling_at, standing_at}
 use Rattle.oath_node.specs.declared.ruling.Ruling.{Ruling}
 use Rattle.oath_node.specs.declared.ruling.Ruling.TheVariants.{Outside, Again, Waiting, Denied, Wrong, Fitting}
-use Rattle.cluster_sim.specs.Drifts.{drift_after, drift_before, drift_by, drift_kept, moment_in}
-use Rattle.cluster_sim.specs.World.{World, Note, Act, Says, Deliver, Ticks, Noise, WorldEvent, Happens, Cut, Restart, acting_node, delivered_event, node_event_of, place_at, note_of, world_with_made, world_after_turn, world_after_act, node_of, world_after_restart, with_told_of, world_after_event, world_after_events, world_before, opening_world, floor_at, begun_with, begun_in, acceptance_in, passes_in}
+use Rattle.cluster_sim.specs.Drifts.{drift_after, drift_before, drift_by, drift_kept, moment_in, passes_since}
+use Rattle.cluster_sim.specs.World.{World, Note, Act, Says, Deliver, Ticks, Noise, WorldEvent, Happens, Cut, Restart, Lost, Anew, floor_in, has_store, lost_node, may_be_anew, note_anew, opening_node, with_state, world_after_anew, world_after_loss, acting_node, delivered_event, node_event_of, place_at, note_of, world_with_made, world_after_turn, world_after_act, node_of, world_after_restart, with_told_of, world_after_event, world_after_events, world_before, opening_world, floor_at, begun_with, begun_in, acceptance_in}
 use Rattle.cluster_sim.proofs.Acts.{noise_cases}
 use Rattle.cluster_sim.proofs.BelowLaws.{GroundLaw}
 use Rattle.cluster_sim.proofs.Servers.{gated_drift}
@@ -76,7 +76,7 @@ pass_drifts config events begun e i n c d ps t lt old (Some p) h =
 
 record Drifted (config : Config) (events : List WorldEvent) (h : List Note) (i : ℕ) (x : NodeState) : Type 0 where
   pending : Each (IsKept (KeptBelow config events (begun_in h) i x.content.boot x.voter.seq)) x.voter.pending
-  drifts : (t : ℕ) → t < length config.book → (row x.content t).drift ≡ drift_after config events i t (pos 0) (passes_in h)
+  drifts : (t : ℕ) → t < length config.book → (row x.content t).drift ≡ drift_after config events i t (pos 0) (passes_since i h)
 
 -- what an event makes of the node
 record MadeDrifted (config : Config) (events : List WorldEvent) (h : List Note) (e i : ℕ) (o : Made) : Type 0 where
@@ -93,8 +93,8 @@ quiet_drifted config events h e i x o none no_pass voter boot rows k = record {
         (subst (λ b. Each (IsKept (KeptBelow config events (begun_with e o.began (begun_in h)) i b x.voter.seq)) x.voter.pending) (sym boot)
         (subst (λ b. Each (IsKept (KeptBelow config events (begun_with e b (begun_in h)) i x.content.boot x.voter.seq)) x.voter.pending) (sym none) k.pending));
     drifts = λ t lt.
-        rows t ∙ k.drifts t lt ∙ ap (λ l. drift_after config events i t (pos 0) l) (sym (append-nil (passes_in h)))
-        ∙ ap (λ p. drift_after config events i t (pos 0) (passes_in h ++ acceptance_in (begun_in (note_of e i o ∷ h)) e i p)) (sym no_pass);
+        rows t ∙ k.drifts t lt ∙ ap (λ l. drift_after config events i t (pos 0) l) (sym (append-nil (passes_since i h)))
+        ∙ ap (λ p. drift_after config events i t (pos 0) (passes_since i h ++ acceptance_in (begun_in (note_of e i o ∷ h)) e i p)) (sym no_pass);
   };
 }
 
@@ -108,7 +108,7 @@ voted_drifted config events h e i n x owners began s sized at le k step =
       state = record {
         pending = subst (λ b. Each (IsKept (KeptBelow config events begun i b s.voter.seq)) s.voter.pending) (sym step.boot)
             (pending_later config events begun begun i x.content.boot n s.voter.seq s.voter.pending le (λ _ _. refl) step.pending);
-        drifts = λ t lt. pass_drifts config events begun e i n x.content s.content (passes_in h) t (subst (λ m. t < m) (sym sized) lt) (k.drifts t lt) (pass_in s.decisions) step.drifts;
+        drifts = λ t lt. pass_drifts config events begun e i n x.content s.content (passes_since i h) t (subst (λ m. t < m) (sym sized) lt) (k.drifts t lt) (pass_in s.decisions) step.drifts;
       };
     }
 
@@ -191,7 +191,7 @@ elsewhere config events h e i o at j y ne k =
     let begun = begun_with e o.began (begun_in h) in
     record {
       pending = pending_later config events (begun_in h) begun j y.content.boot y.voter.seq y.voter.seq y.voter.pending (omega arith) (λ s lt. begun_elsewhere e i o.began (begun_in h) at j y.content.boot s ne) k.pending;
-      drifts = λ t lt. k.drifts t lt ∙ sym (others_drift config events begun e i j t (passes_in h) ne o.pass);
+      drifts = λ t lt. k.drifts t lt ∙ sym (others_drift config events begun e i j t (passes_since j h) ne o.pass);
     }
 
 made_drifted : (config : Config) (events : List WorldEvent) (e i : ℕ) (o : Made) (w : World) → AllDrifted config events w → MadeDrifted config events w.history e i o → AllDrifted config events (world_with_made e i o w)
@@ -213,7 +213,7 @@ turned_drifted law config events e i None w sound h comes = h
 turned_drifted law config events e i (Some v) w sound h comes =
     let place = place_at w i in
     let x = w.nodes i in
-    cond_both (is_member w.n i) (world_with_made e i (made_by_event config place v x) w) w (λ z. AllDrifted config events z)
+    cond_both (has_store w i) (world_with_made e i (made_by_event config place v x) w) w (λ z. AllDrifted config events z)
     (λ _. made_drifted config events e i (made_by_event config place v x) w h
     (cond_both x.running (made_while_running config place v x) (quiet_made x) (λ m. MadeDrifted config events w.history e i m)
     (λ _. event_drifted law config events w.history e place x v (sound i).kept.size comes (h i))
@@ -244,9 +244,46 @@ restart_drifted : (config : Config) (events : List WorldEvent) (o : Option ℕ) 
 unfolding world_after_restart
 restart_drifted config events None w h = h
 restart_drifted config events (Some i) w h =
-    cond_both {A = World} (is_member w.n i) _ w (λ z. AllDrifted config events z)
+    cond_both {A = World} (has_store w i) _ w (λ z. AllDrifted config events z)
     (λ _ j. cond_both (eqb j i) (restarted_node (w.nodes i)) (w.nodes j) (λ y. Drifted config events w.history j y)
     (λ q. subst (λ m. Drifted config events w.history m (restarted_node (w.nodes i))) (sym (eqb-true j i q)) (restarted_drifted config events w.history i (w.nodes i) (h i))) (λ _. h j))
+    (λ _. h)
+
+loss_drifted : (config : Config) (events : List WorldEvent) (i : ℕ) (w : World) → AllDrifted config events w → AllDrifted config events (world_after_loss i w)
+unfolding world_after_loss
+loss_drifted config events i w h =
+    cond_both {A = World} (has_store w i) _ w (λ z. AllDrifted config events z)
+    (λ _ j. cond_both (eqb j i) (lost_node (w.nodes i)) (w.nodes j) (λ y. Drifted config events w.history j y)
+    (λ q. subst (λ m. Drifted config events w.history m (lost_node (w.nodes i))) (sym (eqb-true j i q)) (record { pending = tt; drifts = (h i).drifts })) (λ _. h j))
+    (λ _. h)
+
+opening_drifts : (k : ℕ) (floor : ℕ → ℕ) → Each (λ (r : RowRecord). r.drift ≡ pos 0) (opening_rows k floor)
+opening_drifts zero floor = tt
+opening_drifts (suc k) floor = each_append (λ (r : RowRecord). r.drift ≡ pos 0) (opening_rows k floor) _ (opening_drifts k floor) (refl, tt)
+
+opening_drift : (k : ℕ) (floor : ℕ → ℕ) (t : ℕ) → (get_or (opening_rows k floor) t no_row).drift ≡ pos 0
+opening_drift k floor t = each_get_or (λ (r : RowRecord). r.drift ≡ pos 0) (opening_rows k floor) t no_row (opening_drifts k floor) refl
+
+-- after the note on a store that was made anew, which has no drift
+noted_anew : (config : Config) (events : List WorldEvent) (h : List Note) (e i boot k : ℕ) (floor : ℕ → ℕ) (j : ℕ) (x : NodeState) → (eqb i j ≡ false → Drifted config events h j x) → (eqb i j ≡ true → x ≡ opening_node boot k floor)
+    → Drifted config events (note_anew e i ∷ h) j x
+noted_anew config events h e i boot k floor j x other own = record {
+  pending = cond_both {A = Bool} (eqb i j) true false (λ _. Each (IsKept (KeptBelow config events (begun_in h) j x.content.boot x.voter.seq)) x.voter.pending)
+      (λ q. subst (λ (y : NodeState). Each (IsKept (KeptBelow config events (begun_in h) j y.content.boot y.voter.seq)) y.voter.pending) (sym (own q)) tt) (λ q. (other q).pending);
+  drifts = λ t lt. cond_both (eqb i j) [] (passes_since j h ++ []) (λ l. (row x.content t).drift ≡ drift_after config events j t (pos 0) l)
+      (λ q. subst (λ (y : NodeState). (row y.content t).drift ≡ pos 0) (sym (own q)) (opening_drift k floor t))
+      (λ q. (other q).drifts t lt ∙ ap (λ l. drift_after config events j t (pos 0) l) (sym (append-nil (passes_since j h))));
+}
+
+anew_drifted : (config : Config) (events : List WorldEvent) (e i boot : ℕ) (floor : ℕ → ℕ) (w : World) → AllDrifted config events w → AllDrifted config events (world_after_anew e i boot floor w)
+unfolding world_after_anew
+anew_drifted config events e i boot floor w h =
+    let k = length (w.nodes i).content.rows in
+    let new = opening_node boot k floor in
+    cond_both {A = World} (may_be_anew w i boot floor) _ w (λ z. AllDrifted config events z)
+    (λ _ j. noted_anew config events w.history e i boot k floor j (with_state i new w.nodes j)
+    (λ q. subst (Drifted config events w.history j) (sym (cond-false (eqb j i) new (w.nodes j) (ne_eqb j i (λ same. eqb-false i j q (sym same))))) (h j))
+    (λ q. cond-true (eqb j i) new (w.nodes j) (eq-eqb j i (sym (eqb-true i j q)))))
     (λ _. h)
 
 happens_drifted : GroundLaw → (config : Config) (events : List WorldEvent) (e : ℕ) (x : WorldEvent) (w : World) → slice_get events e ≡ Some x → AllSound (length config.book) w → AllDrifted config events w
@@ -257,6 +294,8 @@ happens_drifted law config events e (Cut true a) w at sound h =
     restart_drifted config events (node_of a w) (with_told_of w (world_after_act config e a w)) (acted_drifted law config events e a w sound h (inr at))
 happens_drifted law config events e (Cut false a) w at sound h = restart_drifted config events (node_of a w) w h
 happens_drifted law config events e (Restart i) w at sound h = restart_drifted config events (Some i) w h
+happens_drifted law config events e (Lost i) w at sound h = loss_drifted config events i w h
+happens_drifted law config events e (Anew i boot floors) w at sound h = anew_drifted config events e i boot (floor_in floors) w h
 
 -- the first events from number e on
 abbrev Goes : List WorldEvent → ℕ → List WorldEvent → Type 0
@@ -273,14 +312,10 @@ run_drifted law config events (x ∷ xs) e w goes sound h =
 
 -- ---- the start
 
-opening_drifts : (k : ℕ) (floor : ℕ → ℕ) → Each (λ (r : RowRecord). r.drift ≡ pos 0) (opening_rows k floor)
-opening_drifts zero floor = tt
-opening_drifts (suc k) floor = each_append (λ (r : RowRecord). r.drift ≡ pos 0) (opening_rows k floor) _ (opening_drifts k floor) (refl, tt)
-
 start_drifted : (config : Config) (floors : List (List ℕ)) (events : List WorldEvent) → AllDrifted config events (opening_world config floors)
 start_drifted config floors events i = record {
   pending = tt;
-  drifts = λ t lt. each_get_or (λ (r : RowRecord). r.drift ≡ pos 0) (opening_rows (length config.book) (floor_at floors i)) t no_row (opening_drifts (length config.book) (floor_at floors i)) refl;
+  drifts = λ t lt. opening_drift (length config.book) (floor_at floors i) t;
 }
 
 taken : (events : List WorldEvent) (n k : ℕ) → k < length (take n events) → slice_get (take n events) k ≡ slice_get events k

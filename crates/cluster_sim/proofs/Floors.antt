@@ -1,11 +1,15 @@
 -- First free factors that are in range, list by list.
-use Rattle.std.proofs.Common.{◌≡◌, ℕ, zero, suc, ◌+◌, ◌-◌, ◌<◌, ◌≤◌, ⊎_elim, List, [], ◌∷◌, length, get_or, sym, ap, ◌∙◌, subst, arith}
+use Rattle.std.proofs.Common.{◌≡◌, ℕ, zero, suc, ◌+◌, ◌-◌, ◌<◌, ◌≤◌, ⊎_elim, List, [], ◌∷◌, ◌++◌, length, get_or, map, take, Bor, refl, sym, ap, ◌∙◌, subst, arith}
 use Rattle.std.specs.Global.{Vec}
 use Rattle.std.proofs.lemmas.Bool.{cases_lt}
 use Rattle.std.proofs.lemmas.List.{get_or-map, length-map}
 use Rattle.std.proofs.lemmas.Option.{same_Some, slice_get-get_or}
 use Rattle.otp_core.specs.Range.{IsNext}
-use Rattle.cluster_sim.specs.Run.{floor_lists}
+use Rattle.cluster_sim.specs.Run.{HasFloorsInRange, HaveFloorsInRange, event_of, floor_lists}
+use Rattle.cluster_sim.specs.declared.script.WorldEvent.{WorldEvent}
+use Rattle.cluster_sim.specs.declared.script.WorldEvent.TheVariants.{Happens as HappensEvent, Cut as CutEvent, Restart as RestartEvent, Lost as LostEvent, Anew as AnewEvent}
+use Rattle.vote_core.proofs.Basics.{Each, each_append, each_get}
+use Rattle.std.proofs.Math.Seq.{take-suc, take-length}
 use Rattle.cluster_sim.specs.World.{floor_at}
 
 -- what stands at a place of a list doesn't rest on what stands for nothing
@@ -57,3 +61,36 @@ all_lists (x ∷ xs) k h old (suc i) t = all_lists xs (k - 1) (omega (arith, h))
 
 pub all_nexts : (lists : List (Vec ℕ)) (k : ℕ) → length lists ≤ k → AreNexts (floor_lists lists) k → (node t : ℕ) → IsNext (floor_at (floor_lists lists) node t)
 all_nexts lists k h old node t = all_lists (floor_lists lists) k (subst (λ n. n ≤ k) (sym (length-map lists (λ (v : Vec ℕ). v.items))) h) old (node - 1) t
+
+-- ---- events
+
+abbrev pub AreEventsTo : List ℕ → List WorldEvent → ℕ → Type 0
+AreEventsTo key xs k = Each HasFloorsInRange (map (event_of key) (take k xs))
+
+pub no_events : (key : List ℕ) (xs : List WorldEvent) → AreEventsTo key xs 0
+no_events key [] = tt
+no_events key (x ∷ xs) = tt
+
+pub next_events : (key : List ℕ) (xs : List WorldEvent) (k : ℕ) (x : WorldEvent) → k < length xs → x ≡ get_or xs k x → HasFloorsInRange (event_of key x) → AreEventsTo key xs k → AreEventsTo key xs (k + 1)
+next_events key xs k x h is new old =
+    let z : suc k ≡ k + 1 = omega arith in
+    subst (AreEventsTo key xs) z
+    (subst (λ l. Each HasFloorsInRange (map (event_of key) l)) (sym (take-suc xs k x h ∙ ap (λ y. take k xs ++ y ∷ []) (sym is)))
+    (subst (Each HasFloorsInRange) (sym (map_snoc (event_of key) (take k xs) x)) (each_append HasFloorsInRange (map (event_of key) (take k xs)) (event_of key x ∷ []) old (new, tt))))
+  where
+    map_snoc : {A B : Type 0} (f : A → B) (ys : List A) (y : A) → map f (ys ++ y ∷ []) ≡ map f ys ++ f y ∷ []
+    map_snoc f [] y = refl
+    map_snoc f (u ∷ ys) y = ap (λ l. f u ∷ l) (map_snoc f ys y)
+
+-- an event that makes no store anew
+pub not_anew : (key : List ℕ) (x : WorldEvent) → ((node boot : ℕ) (floors : Bor (List ℕ)) → x ≡ AnewEvent node boot floors → ⊥) → HasFloorsInRange (event_of key x)
+not_anew key (HappensEvent act) h = tt
+not_anew key (CutEvent kept act) h = tt
+not_anew key (RestartEvent node) h = tt
+not_anew key (LostEvent node) h = tt
+not_anew key (AnewEvent node boot floors) h = absurd (h node boot floors refl)
+
+pub all_events : (key : List ℕ) (xs : List WorldEvent) (k : ℕ) → length xs ≤ k → k ≤ length xs → AreEventsTo key xs k → HaveFloorsInRange (map (event_of key) xs)
+all_events key xs k low high h n event at =
+    let z : k ≡ length xs = omega (arith, low, high) in
+    each_get HasFloorsInRange (map (event_of key) xs) n event (subst (λ l. Each HasFloorsInRange (map (event_of key) l)) (ap (λ j. take j xs) z ∙ take-length xs) h) at

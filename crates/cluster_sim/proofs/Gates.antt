@@ -1,5 +1,5 @@
 -- The gate of each token at each node is the gate after its results there, and each failure came while the token was open.
-use Rattle.std.proofs.Common.{◌≡◌, ℕ, zero, suc, ◌-◌, ◌^◌, ◌<◌, ◌≤◌, Bool, true, false, cond, List, [], ◌∷◌, ◌++◌, length, Option, Some, None, refl, sym, ap, ◌∙◌, subst, arith, eqb, ltb}
+use Rattle.std.proofs.Common.{◌≡◌, ℕ, zero, suc, ◌-◌, ◌^◌, ◌<◌, ◌≤◌, Bool, true, false, cond, List, [], ◌∷◌, ◌++◌, length, Option, Some, None, refl, sym, ap, ◌∙◌, subst, arith, eqb, get_or, ltb}
 use Rattle.std.proofs.lemmas.Bool.{cond_both, eqb-true}
 use Rattle.admit_core.specs.Gate.{GateRecord, clear_gate, with_failure}
 use Rattle.admit_core.specs.Throttle.{Result, Failed, Accepted, gate_after, IsOpenAfter, AreGated, SpacesFailures}
@@ -7,7 +7,7 @@ use Rattle.floor_store.specs.Records.{RowRecord, PassRecord}
 use Rattle.vote_core.specs.NodeSet.{PlaceRecord}
 use Rattle.vote_core.specs.Rows.{row, no_row, row_with_gate}
 use Rattle.vote_core.specs.Voting.{Voted, propose, on_message, tick, pass_in}
-use Rattle.vote_core.specs.Schedule.{is_member, last_boot, opening_rows}
+use Rattle.vote_core.specs.Schedule.{last_boot, opening_rows}
 use Rattle.vote_core.proofs.Basics.{Each, each_append, each_get_or}
 use Rattle.oath_node.specs.Grounds.{HasGrounds}
 use Rattle.vote_wire.specs.Request.{without_lf}
@@ -15,7 +15,7 @@ use Rattle.oath_node.specs.declared.ruling.Ruling.{Ruling}
 use Rattle.oath_node.specs.declared.ruling.Ruling.TheVariants.{Outside, Again, Waiting, Denied, Wrong, Fitting}
 use Rattle.oath_node.specs.Machine.{Config, NodeState, NodeEvent, Client, Peer, Tick, Made, Owner, Beginning, quiet_made, stopped_node, gate_with_failure, made_by_vote, next_beginning, made_by_proposal, made_by_ruling, made_by_datagram, is_heard, made_while_running, made_by_event, ruling_at, standing_at, restarted_node}
 use Rattle.vote_core.specs.Schedule.{content_with_gate}
-use Rattle.cluster_sim.specs.World.{World, WorldEvent, Happens, Cut, Restart, world_with_made, world_after_turn, world_after_act, node_event_of, place_at, acting_node, node_of, world_after_restart, with_told_of, world_after_event, world_after_events, opening_world, floor_at}
+use Rattle.cluster_sim.specs.World.{World, WorldEvent, Happens, Cut, Restart, Lost, Anew, floor_in, has_store, lost_node, may_be_anew, opening_node, world_after_anew, world_after_loss, world_with_made, world_after_turn, world_after_act, node_event_of, place_at, acting_node, node_of, world_after_restart, with_told_of, world_after_event, world_after_events, opening_world, floor_at}
 use Rattle.cluster_sim.specs.Results.{results_with_failure, results_with_pass, results_in, results_of}
 use Rattle.cluster_sim.proofs.Refinement.{cluster_of}
 use Rattle.cluster_sim.proofs.BelowLaws.{GroundLaw, GateLaw, SpaceLaw}
@@ -143,7 +143,7 @@ turned_gated grounds law config e i (Some v) w sized h =
     let place = place_at w i in
     let x = w.nodes i in
     let rs : ℕ → List Result = λ t. results_in w.history i t in
-    cond_both (is_member w.n i) (world_with_made e i (made_by_event config place v x) w) w (λ z. Gated (length config.book) z)
+    cond_both (has_store w i) (world_with_made e i (made_by_event config place v x) w) w (λ z. Gated (length config.book) z)
     (λ _. made_gated (length config.book) e i (made_by_event config place v x) w h
     (cond_both x.running (made_while_running config place v x) (quiet_made x) (λ o. MadeRight (length config.book) rs o)
     (λ _. event_right grounds law config rs place x (sized i) (h.gates i) v) (λ _. quiet_right _ rs (quiet_made x) (h.gates i) refl refl)))
@@ -156,11 +156,42 @@ restart_gated : (tokens : ℕ) (o : Option ℕ) (w : World) → Gated tokens w �
 unfolding world_after_restart
 restart_gated tokens None w h = h
 restart_gated tokens (Some i) w h =
-    cond_both {A = World} (is_member w.n i) _ w (λ z. Gated tokens z)
+    cond_both {A = World} (has_store w i) _ w (λ z. Gated tokens z)
     (λ _. record {
       gates = λ j t lt. cond_both (eqb j i) (restarted_node (w.nodes i)) (w.nodes j) (λ y. (row y.content t).gate ≡ gate_after (results_in w.history j t))
           (λ q. restarted_rows (w.nodes i) t ∙ ap (λ m. (row (w.nodes m).content t).gate) (sym (eqb-true j i q)) ∙ h.gates j t lt) (λ _. h.gates j t lt);
       opened = h.opened;
+    })
+    (λ _. h)
+
+loss_gated : (tokens i : ℕ) (w : World) → Gated tokens w → Gated tokens (world_after_loss i w)
+unfolding world_after_loss
+loss_gated tokens i w h =
+    cond_both {A = World} (has_store w i) _ w (λ z. Gated tokens z)
+    (λ _. record {
+      gates = λ j t lt. cond_both (eqb j i) (lost_node (w.nodes i)) (w.nodes j) (λ y. (row y.content t).gate ≡ gate_after (results_in w.history j t))
+          (λ q. ap (λ m. (row (w.nodes m).content t).gate) (sym (eqb-true j i q)) ∙ h.gates j t lt) (λ _. h.gates j t lt);
+      opened = h.opened;
+    })
+    (λ _. h)
+
+opening_clear : (k : ℕ) (floor : ℕ → ℕ) → Each (λ (r : RowRecord). r.gate ≡ clear_gate) (opening_rows k floor)
+opening_clear zero floor = tt
+opening_clear (suc k) floor = each_append (λ (r : RowRecord). r.gate ≡ clear_gate) (opening_rows k floor) _ (opening_clear k floor) (refl, tt)
+
+opening_gate : (k : ℕ) (floor : ℕ → ℕ) (t : ℕ) → (get_or (opening_rows k floor) t no_row).gate ≡ clear_gate
+opening_gate k floor t = each_get_or (λ (r : RowRecord). r.gate ≡ clear_gate) (opening_rows k floor) t no_row (opening_clear k floor) refl
+
+-- a store that is made anew has no results, and clear gates
+anew_gated : GateLaw → (tokens e i boot : ℕ) (floor : ℕ → ℕ) (w : World) → Gated tokens w → Gated tokens (world_after_anew e i boot floor w)
+unfolding world_after_anew
+anew_gated law tokens e i boot floor w h =
+    let k = length (w.nodes i).content.rows in
+    cond_both {A = World} (may_be_anew w i boot floor) _ w (λ z. Gated tokens z)
+    (λ _. record {
+      gates = λ j t lt.
+          split_on (eqb j i) (opening_node boot k floor) (w.nodes j) [] (results_in w.history j t) t (λ _. opening_gate k floor t ∙ sym law.start) (λ _. h.gates j t lt);
+      opened = λ j t. cond_both (eqb j i) [] (results_in w.history j t) AreGated (λ _. tt) (λ _. h.opened j t);
     })
     (λ _. h)
 
@@ -175,6 +206,8 @@ happens_gated grounds law config e (Cut true a) w sized h =
     (unsent_gated (length config.book) w (world_after_act config e a w) (turned_gated grounds law config e (acting_node a) (node_event_of w.sent a) w sized h))
 happens_gated grounds law config e (Cut false a) w sized h = restart_gated (length config.book) (node_of a w) w h
 happens_gated grounds law config e (Restart i) w sized h = restart_gated (length config.book) (Some i) w h
+happens_gated grounds law config e (Lost i) w sized h = loss_gated (length config.book) i w h
+happens_gated grounds law config e (Anew i boot floors) w sized h = anew_gated law (length config.book) e i boot (floor_in floors) w h
 
 pub run_gated : GroundLaw → GateLaw → (config : Config) (e : ℕ) (xs : List WorldEvent) (w : World) → Sized (length config.book) (cluster_of w) → Gated (length config.book) w → Gated (length config.book) (world_after_events config e xs w)
 unfolding world_after_events
@@ -182,13 +215,9 @@ run_gated grounds law config e [] w sized h = h
 run_gated grounds law config e (x ∷ xs) w sized h =
     run_gated grounds law config (suc e) xs (world_after_event config e x w) (next_sized grounds config e x w sized) (happens_gated grounds law config e x w sized h)
 
-opening_clear : (k : ℕ) (floor : ℕ → ℕ) → Each (λ (r : RowRecord). r.gate ≡ clear_gate) (opening_rows k floor)
-opening_clear zero floor = tt
-opening_clear (suc k) floor = each_append (λ (r : RowRecord). r.gate ≡ clear_gate) (opening_rows k floor) _ (opening_clear k floor) (refl, tt)
-
 start_gated : GateLaw → (config : Config) (floors : List (List ℕ)) → Gated (length config.book) (opening_world config floors)
 start_gated law config floors = record {
-  gates = λ i t lt. each_get_or (λ (r : RowRecord). r.gate ≡ clear_gate) (opening_rows (length config.book) (floor_at floors i)) t no_row (opening_clear (length config.book) (floor_at floors i)) refl ∙ sym law.start;
+  gates = λ i t lt. opening_gate (length config.book) (floor_at floors i) t ∙ sym law.start;
   opened = λ i t. tt;
 }
 

@@ -7,7 +7,7 @@ use Rattle.answer_ring.specs.Answers.{KeptAnswer, kept_with}
 use Rattle.cluster_sim.proofs.Asks.{Differs, Distinct, Silent, each_both, grant_to, made_silent, silent_none, silent_then}
 use Rattle.cluster_sim.proofs.Servers.{ascending_above, ascending_rest}
 use Rattle.cluster_sim.proofs.Turns.{member_parts}
-use Rattle.cluster_sim.proofs.Waves.{Stands, hands, is_heard_at, set_all, set_at, set_off}
+use Rattle.cluster_sim.proofs.Waves.{is_in, Stands, hands, is_heard_at, set_all, set_at, set_off}
 use Rattle.cluster_sim.specs.Answered.{ok_bytes}
 use Rattle.cluster_sim.specs.Results.{results_in, results_with_pass}
 use Rattle.cluster_sim.specs.Rounds.{AreUp, IsAscending, deliveries, is_between, is_live}
@@ -165,7 +165,7 @@ granted_at : (config : Config) (live : List ℕ) (i k e : ℕ) (p : ProposalReco
     → (g ≡ i → ⊥) → t < length config.book → w.nodes i ≡ x
     → world_after_event config e (Happens (Deliver i k)) w ≡ world_with_made e i (made_by_vote x.owners None (on_message (place_at w i) g (Grant p t (span_of lo hi)) x.content x.voter) x) w
 granted_at config live i k e p t lo hi g w x at up here from other known is =
-    hands config e k (grant_to i p t lo hi g) w at (up i here).0 (up i here).1 (is_heard_at config w (grant_to i p t lo hi g) other (up g from).0 known)
+    hands config e k (grant_to i p t lo hi g) w at (up i here).0 (up i here).1 (is_heard_at config w (grant_to i p t lo hi g) other (is_in w g (up g from).0) known)
     ∙ ap (λ y. world_with_made e i (made_by_vote y.owners None (on_message (place_at w i) g (Grant p t (span_of lo hi)) y.content y.voter) y) w) is
 
 -- ---- late Grants
@@ -298,7 +298,7 @@ pub grant_wave : (config : Config) (live : List ℕ) (i s t lo hi : ℕ) (drift 
     Accepts live e (length xs + e) i t client (ok_bytes nonce hi) (pass_of t lo hi c.boot s) (passing c s sq turn t lo hi drift client line nonce A).state w (world_after_events config e xs w))
 unfolding world_after_events
 grant_wave config live i s t lo hi drift c sq turn client line nonce A [] G k e w at up ascending most here known from other distinct fresh_voter covered few is =
-    absurd (apart (covered_all live w.n G ascending most (λ j at. (up j at).0) covered) few)
+    absurd (apart (covered_all live w.n G ascending most (λ j at. is_in w j (up j at).0) covered) few)
   where
     apart : {a b : ℕ} → a ≤ b → b < a → ⊥
     apart x y = omega (arith, x, y)

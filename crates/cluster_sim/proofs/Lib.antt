@@ -11,6 +11,7 @@ mod HostLemmas
 mod Hosts
 pub mod Lines
 pub mod Lone
+mod Lost
 pub mod OkLemmas
 mod Opening
 pub mod Owners

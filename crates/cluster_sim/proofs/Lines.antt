@@ -12,7 +12,7 @@ use Rattle.vote_wire.specs.Request.{without_lf}
 use Rattle.oath_node.specs.declared.ruling.Ruling.{Ruling}
 use Rattle.oath_node.specs.declared.ruling.Ruling.TheVariants.{Outside, Again, Waiting, Denied, Wrong, Fitting}
 use Rattle.oath_node.specs.Machine.{Config, is_heard, standing_at, ruling_at}
-use Rattle.cluster_sim.specs.World.{World, Act, Says, Deliver, Ticks, Noise, WorldEvent, Happens, Cut, Restart, world_after_event, world_after_events, opening_world, place_at, world_before, passes_of}
+use Rattle.cluster_sim.specs.World.{World, Act, Says, Deliver, Ticks, Noise, WorldEvent, Happens, Cut, Restart, Lost, Anew, world_after_event, world_after_events, opening_world, place_at, world_before, passes_of}
 use Rattle.cluster_sim.proofs.Refinement.{vote_on_ruling, vote_on_datagram, vote_of, vote_event, vote_events}
 use Rattle.cluster_sim.specs.Drifts.{drift_before}
 use Rattle.cluster_sim.specs.Justified.{IsGround, IsGroundIn, IsGroundOf, AreJustified}
@@ -87,6 +87,8 @@ event_back grounds law config w drifts gated drifted p (Some (Happens a)) h = ac
 event_back grounds law config w drifts gated drifted p (Some (Cut true a)) h = act_back grounds law config w drifts gated drifted p a h
 event_back grounds law config w drifts gated drifted p (Some (Cut false a)) h = h
 event_back grounds law config w drifts gated drifted p (Some (Restart i)) h = h
+event_back grounds law config w drifts gated drifted p (Some (Lost i)) h = h
+event_back grounds law config w drifts gated drifted p (Some (Anew i boot floors)) h = h
 
 vote_found : (config : Config) (k e : ℕ) (xs : List WorldEvent) (w : World) → slice_get (vote_events config e xs w) k ≡ voted_at config (world_after_events config e (take k xs) w) (slice_get xs k)
 unfolding world_after_events

@@ -1,7 +1,7 @@
 -- One node alone answers as the reference server.
-use Rattle.std.proofs.Common.{◌≡◌, ℕ, pos, zero, suc, ◌+◌, ◌^◌, ◌<◌, ◌≤◌, ⊎_elim, List, [], ◌∷◌, ◌++◌, Bool, true, false, cond, length, get_or, map, replicate, Option, Some, None, refl, sym, ap, ◌∙◌, subst, arith, eqb, leb, ltb}
+use Rattle.std.proofs.Common.{◌≡◌, ℕ, pos, zero, suc, ◌+◌, ◌^◌, ◌<◌, ◌≤◌, ◌&&◌, ⊎_elim, List, [], ◌∷◌, ◌++◌, Bool, true, false, not, cond, length, get_or, map, replicate, Option, Some, None, refl, sym, ap, ◌∙◌, subst, arith, eqb, leb, ltb, true≢false}
 use Rattle.std.specs.List.{slice_get}
-use Rattle.std.proofs.lemmas.Bool.{cond_both, eqb-true, eqb-false, and_parts, leb-true, ltb-false, cases_lt}
+use Rattle.std.proofs.lemmas.Bool.{and_left, and_right, both_ways, cases_Bool, cond-false, cond_both, eqb-true, eqb-false, and_parts, leb-true, ltb-false, cases_lt}
 use Rattle.std.proofs.lemmas.List.{append_assoc, ext_get_or, get_or-replicate, length-map, length-replicate}
 use Rattle.std.proofs.lemmas.List.FromFn.{fill_by_all, length-map-range_with_len}
 use Rattle.std.proofs.Math.ListN.{get_or-map}
@@ -9,6 +9,7 @@ use Rattle.admit_core.specs.Gate.{clear_gate}
 use Rattle.answer_ring.specs.Answers.{KeptAnswer}
 use Rattle.floor_store.specs.Content.{Content, opening_row}
 use Rattle.floor_store.specs.Records.{RowRecord}
+use Rattle.otp_core.specs.Acceptance.{majority_of, size}
 use Rattle.vote_core.specs.Rows.{no_row}
 use Rattle.vote_core.specs.Schedule.{Envelope, envelope_from, is_member, last_boot, opening_rows}
 use Rattle.vote_core.specs.Voting.{Ballot, floor_sends, propose, propose_alone, tick, turn_after}
@@ -19,8 +20,8 @@ use Rattle.oath_node.specs.ReferenceServer.{Line, Server, restarted_server, serv
 use Rattle.oath_node.specs.declared.ruling.Ruling.{Ruling}
 use Rattle.oath_node.specs.declared.ruling.Ruling.TheVariants.{Again, Denied, Fitting, Outside, Waiting, Wrong}
 use Rattle.vote_wire.specs.Request.{without_lf}
-use Rattle.cluster_sim.specs.SingleNode.{answers_to_act, answers_to_event, front_of, opening_server, reference_answers, server_after_act, server_after_event, server_after_restart, told_of_line}
-use Rattle.cluster_sim.specs.World.{World, Told, Act, Says, Deliver, Ticks, Noise, WorldEvent, Happens, Cut, Restart, delivered_event, noise_event, place_at, with_state, told_reply, world_with_made, world_after_turn, world_after_act, node_if_sent, node_of, world_after_restart, with_told_of, world_after_event, world_after_events, opening_world, floor_at, report_of}
+use Rattle.cluster_sim.specs.SingleNode.{answers_to_act, answers_to_event, front_of, is_end, opening_server, reference_answers, server_after_act, server_after_event, server_after_restart, told_of_line}
+use Rattle.cluster_sim.specs.World.{World, Told, Act, Says, Deliver, Ticks, Noise, WorldEvent, Happens, Cut, Restart, Lost, Anew, acting_node, floor_in, has_store, may_be_anew, node_event_of, world_after_anew, world_after_loss, delivered_event, noise_event, place_at, with_state, told_reply, world_with_made, world_after_turn, world_after_act, node_if_sent, node_of, world_after_restart, with_told_of, world_after_event, world_after_events, opening_world, floor_at, report_of}
 use Rattle.cluster_sim.proofs.Acts.{noise_cases, unheard, unread}
 use Rattle.cluster_sim.proofs.BelowLaws.{AloneLaw}
 use Rattle.cluster_sim.proofs.Shape.{right_nil}
@@ -68,6 +69,7 @@ line_boot config client moment text x =
 -- there is the node alone, to which nothing was ever sent, and it is a state of the server; its boot is at most this one
 pub record Lone (b q : ℕ) (w : World) (s : Server) : Type 0 where
   pub alone : w.n ≡ 1
+  pub here : w.lost 1 ≡ false
   pub unsaid : w.sent ≡ []
   pub node : IsAlone q (w.nodes 1) s
   pub boot : (w.nodes 1).content.boot ≤ b
@@ -78,18 +80,32 @@ pub record LoneStep (b q : ℕ) (w new : World) (s : Server) (told : List Told) 
   pub tells : new.told ≡ w.told ++ told
 
 lone_weaker : (b q b' q' : ℕ) (w : World) (s : Server) → b ≤ b' → q ≤ q' → Lone b q w s → Lone b' q' w s
-lone_weaker b q b' q' w s lb lq h = record { alone = h.alone; unsaid = h.unsaid; node = later q q' (w.nodes 1) s lq h.node; boot = omega (arith, h.boot, lb) }
+lone_weaker b q b' q' w s lb lq h = record { alone = h.alone; here = h.here; unsaid = h.unsaid; node = later q q' (w.nodes 1) s lq h.node; boot = omega (arith, h.boot, lb) }
 
 still : (b q : ℕ) (w : World) (s : Server) → Lone b q w s → LoneStep b (q + 1) w w s []
 still b q w s h = record { lone = lone_weaker b q b (q + 1) w s (omega arith) (omega arith) h; tells = sym (right_nil w.told) }
 
+-- no other is a member
+no_member : (w : World) (i : ℕ) → w.n ≡ 1 → eqb i 1 ≡ false → is_member w.n i ≡ false
+no_member w i alone out = ap (λ n. is_member n i) alone ∙ none (is_member 1 i) refl
+  where
+    one : is_member 1 i ≡ true → i ≡ 1
+    one z = let parts = and_parts (leb 1 i) (leb i 1) z in omega (arith, leb-true 1 i parts.0, leb-true i 1 parts.1)
+
+    none : (b : Bool) → is_member 1 i ≡ b → b ≡ false
+    none true q = absurd (eqb-false i 1 out (one q))
+    none false q = refl
+
+no_store : (w : World) (i : ℕ) → w.n ≡ 1 → eqb i 1 ≡ false → has_store w i ≡ false
+no_store w i alone out = and_right (not (w.lost i)) (is_member w.n i) (no_member w i alone out)
+
 -- an event at the node
-member_step : (config : Config) (e : ℕ) (v : NodeEvent) (w : World) (P : World → Type 0) → w.n ≡ 1 → (x : NodeState) → w.nodes 1 ≡ x → P (world_with_made e 1 (made_by_event config alone_place v x) w) → P (world_after_turn config e 1 (Some v) w)
+member_step : (config : Config) (e : ℕ) (v : NodeEvent) (w : World) (P : World → Type 0) → w.n ≡ 1 → w.lost 1 ≡ false → (x : NodeState) → w.nodes 1 ≡ x → P (world_with_made e 1 (made_by_event config alone_place v x) w) → P (world_after_turn config e 1 (Some v) w)
 unfolding world_after_turn
-member_step config e v w P alone x at h =
-    cond_both (is_member w.n 1) (world_with_made e 1 (made_by_event config (place_at w 1) v (w.nodes 1)) w) w P
+member_step config e v w P alone here x at h =
+    cond_both (has_store w 1) (world_with_made e 1 (made_by_event config (place_at w 1) v (w.nodes 1)) w) w P
     (λ _. subst (λ n. P (world_with_made e 1 (made_by_event config (record { me = 1; n = n }) v (w.nodes 1)) w)) (sym alone) (subst (λ y. P (world_with_made e 1 (made_by_event config alone_place v y) w)) (sym at) h))
-    (λ out. absurd (apart (ap (λ n. is_member n 1) (sym alone) ∙ out)))
+    (λ out. absurd (apart (ap (λ n. is_member n 1) (sym alone) ∙ ap (λ b. not b && is_member w.n 1) (sym here) ∙ out)))
   where
     apart : is_member 1 1 ≡ false → ⊥
     apart z = cc
@@ -99,17 +115,14 @@ outside_step : (config : Config) (e i : ℕ) (o : Option NodeEvent) (w : World) 
 unfolding world_after_turn
 outside_step config e i None w P alone out h = h
 outside_step config e i (Some v) w P alone out h =
-    cond_both (is_member w.n i) (world_with_made e i (made_by_event config (place_at w i) v (w.nodes i)) w) w P
-    (λ at. absurd (eqb-false i 1 out (one i (ap (λ n. is_member n i) (sym alone) ∙ at)))) (λ _. h)
-  where
-    one : (i : ℕ) → is_member 1 i ≡ true → i ≡ 1
-    one i z = let parts = and_parts (leb 1 i) (leb i 1) z in omega (arith, leb-true 1 i parts.0, leb-true i 1 parts.1)
+    cond_both (has_store w i) (world_with_made e i (made_by_event config (place_at w i) v (w.nodes i)) w) w P
+    (λ at. absurd (both_ways (has_store w i) (no_store w i alone out) at)) (λ _. h)
 
 -- what the node made of an event, in the world
-made_lone : (b q e : ℕ) (o : Made) (w : World) (s : Server) (told : List Told) → w.n ≡ 1 → w.sent ≡ [] → IsAlone q o.state s → o.state.content.boot ≤ b → o.sends ≡ [] → map (told_reply e 1) o.replies ≡ told → LoneStep b q w (world_with_made e 1 o w) s told
+made_lone : (b q e : ℕ) (o : Made) (w : World) (s : Server) (told : List Told) → w.n ≡ 1 → w.lost 1 ≡ false → w.sent ≡ [] → IsAlone q o.state s → o.state.content.boot ≤ b → o.sends ≡ [] → map (told_reply e 1) o.replies ≡ told → LoneStep b q w (world_with_made e 1 o w) s told
 unfolding world_with_made
-made_lone b q e o w s told alone unsaid node boot sends replies = record {
-  lone = record { alone = alone; unsaid = ap (λ l. w.sent ++ map (envelope_from 1) l) sends ∙ right_nil w.sent ∙ unsaid; node = node; boot = boot };
+made_lone b q e o w s told alone here unsaid node boot sends replies = record {
+  lone = record { alone = alone; here = here; unsaid = ap (λ l. w.sent ++ map (envelope_from 1) l) sends ∙ right_nil w.sent ∙ unsaid; node = node; boot = boot };
   tells = ap (λ l. w.told ++ l) replies;
 }
 
@@ -130,8 +143,8 @@ says_lone law config b q e i client moment text w s few h =
     let boot : made.state.content.boot ≤ b = subst (λ m. m ≤ b) (sym (line_boot config client moment text x)) h.boot in
     both_cond b (q + 1) w (world_after_turn config e i (Some v) w) (eqb i 1) t.server s told []
     (λ at. subst (λ j. LoneStep b (q + 1) w (world_after_turn config e j (Some v) w) t.server told) (sym (eqb-true i 1 at))
-    (member_step config e v w (λ z. LoneStep b (q + 1) w z t.server told) h.alone x refl
-    (made_lone b (q + 1) e made w t.server told h.alone h.unsaid a.state boot a.sends (ap (λ l. map (told_reply e 1) l) a.replies))))
+    (member_step config e v w (λ z. LoneStep b (q + 1) w z t.server told) h.alone h.here x refl
+    (made_lone b (q + 1) e made w t.server told h.alone h.here h.unsaid a.state boot a.sends (ap (λ l. map (told_reply e 1) l) a.replies))))
     (λ out. outside_step config e i (Some v) w (λ z. LoneStep b (q + 1) w z s []) h.alone out (still b q w s h))
 
 -- what leaves a lone node as it is, but for whose floor is told next
@@ -155,8 +168,8 @@ unseen config b q e i v w s h same =
     let boot : o.state.content.boot ≤ b = subst (λ (z : NodeState). z.content.boot ≤ b) (sym m.state) h.boot in
     cond_both {A = Bool} (eqb i 1) true false (λ _. LoneStep b (q + 1) w (world_after_turn config e i (Some v) w) s [])
     (λ at. subst (λ j. LoneStep b (q + 1) w (world_after_turn config e j (Some v) w) s []) (sym (eqb-true i 1 at))
-    (member_step config e v w (λ z. LoneStep b (q + 1) w z s []) h.alone y (same_state q x s h.node)
-    (made_lone b (q + 1) e o w s [] h.alone h.unsaid node boot m.sends (ap (λ l. map (told_reply e 1) l) m.replies))))
+    (member_step config e v w (λ z. LoneStep b (q + 1) w z s []) h.alone h.here y (same_state q x s h.node)
+    (made_lone b (q + 1) e o w s [] h.alone h.here h.unsaid node boot m.sends (ap (λ l. map (told_reply e 1) l) m.replies))))
     (λ out. outside_step config e i (Some v) w (λ z. LoneStep b (q + 1) w z s []) h.alone out (still b q w s h))
 
 tick_lone : (config : Config) (b q e i : ℕ) (w : World) (s : Server) → Lone b q w s → LoneStep b (q + 1) w (world_after_turn config e i (Some Tick) w) s []
@@ -199,10 +212,10 @@ record Back (b q : ℕ) (w new : World) (s : Server) : Type 0 where
   lone : Lone b q new s
   tells : new.told ≡ w.told
 
-restart_member : (w : World) (P : World → Type 0) → w.n ≡ 1 → P (record { n = w.n; nodes = with_state 1 (restarted_node (w.nodes 1)) w.nodes; sent = w.sent; history = w.history; told = w.told }) → P (world_after_restart (Some 1) w)
+restart_member : (w : World) (P : World → Type 0) → w.n ≡ 1 → w.lost 1 ≡ false → P (record { n = w.n; lost = w.lost; least = w.least; nodes = with_state 1 (restarted_node (w.nodes 1)) w.nodes; sent = w.sent; history = w.history; told = w.told }) → P (world_after_restart (Some 1) w)
 unfolding world_after_restart
-restart_member w P alone h =
-    cond_both {A = World} (is_member w.n 1) _ w P (λ _. h) (λ out. absurd (apart (ap (λ n. is_member n 1) (sym alone) ∙ out)))
+restart_member w P alone here h =
+    cond_both {A = World} (has_store w 1) _ w P (λ _. h) (λ out. absurd (apart (ap (λ n. is_member n 1) (sym alone) ∙ ap (λ b. not b && is_member w.n 1) (sym here) ∙ out)))
   where
     apart : is_member 1 1 ≡ false → ⊥
     apart z = cc
@@ -210,10 +223,7 @@ restart_member w P alone h =
 restart_outside : (i : ℕ) (w : World) (P : World → Type 0) → w.n ≡ 1 → eqb i 1 ≡ false → P w → P (world_after_restart (Some i) w)
 unfolding world_after_restart
 restart_outside i w P alone out h =
-    cond_both {A = World} (is_member w.n i) _ w P (λ at. absurd (eqb-false i 1 out (one i (ap (λ n. is_member n i) (sym alone) ∙ at)))) (λ _. h)
-  where
-    one : (i : ℕ) → is_member 1 i ≡ true → i ≡ 1
-    one i z = let parts = and_parts (leb 1 i) (leb i 1) z in omega (arith, leb-true 1 i parts.0, leb-true i 1 parts.1)
+    cond_both {A = World} (has_store w i) _ w P (λ at. absurd (both_ways (has_store w i) (no_store w i alone out) at)) (λ _. h)
 
 -- a node that is opened again, in the next boot
 record Reopened (b q : ℕ) (x : NodeState) (s : Server) : Type 0 where
@@ -234,8 +244,8 @@ restart_lone b q i w s low h =
     let again = reopened b q (w.nodes 1) s low h.node h.boot in
     cond_both (eqb i 1) (restarted_server s) s (λ z. Back (b + 1) q w (world_after_restart (Some i) w) z)
     (λ at. subst (λ j. Back (b + 1) q w (world_after_restart (Some j) w) (restarted_server s)) (sym (eqb-true i 1 at))
-    (restart_member w (λ z. Back (b + 1) q w z (restarted_server s)) h.alone
-    (record { lone = record { alone = h.alone; unsaid = h.unsaid; node = again.node; boot = again.boot }; tells = refl })))
+    (restart_member w (λ z. Back (b + 1) q w z (restarted_server s)) h.alone h.here
+    (record { lone = record { alone = h.alone; here = h.here; unsaid = h.unsaid; node = again.node; boot = again.boot }; tells = refl })))
     (λ out. restart_outside i w (λ z. Back (b + 1) q w z s) h.alone out (record { lone = lone_weaker b q (b + 1) q w s (omega arith) (omega arith) h; tells = refl }))
 
 -- a stop inside an act
@@ -248,36 +258,127 @@ stop_lone b q (Deliver i k) w v s low unsaid h =
 stop_lone b q (Ticks i) w v s low unsaid h = restart_lone b q i v s low h
 stop_lone b q (Noise i from read) w v s low unsaid h = restart_lone b q i v s low h
 
+-- ---- the store is lost
+
+-- nothing changes
+same_lone : (b q : ℕ) (w new : World) (s : Server) → new ≡ w → Lone b q w s → LoneStep (b + 1) (q + 1) w new s []
+same_lone b q w new s same h =
+    subst (λ z. LoneStep (b + 1) (q + 1) w z s []) (sym same) (record { lone = lone_weaker b q (b + 1) (q + 1) w s (omega arith) (omega arith) h; tells = sym (right_nil w.told) })
+
+-- no node is lost beside the one
+no_loss : (i : ℕ) (w : World) → w.n ≡ 1 → eqb i 1 ≡ false → world_after_loss i w ≡ w
+unfolding world_after_loss
+no_loss i w alone out = cond-false (has_store w i) _ w (no_store w i alone out)
+
+-- and none is made anew for a node that isn't lost
+no_anew : (e i boot : ℕ) (floor : ℕ → ℕ) (w : World) → w.n ≡ 1 → w.lost 1 ≡ false → world_after_anew e i boot floor w ≡ w
+unfolding world_after_anew
+no_anew e i boot floor w alone here =
+    cond-false (may_be_anew w i boot floor) _ w (and_left (is_member w.n i && w.lost i) _ (⊎_elim (λ (at : eqb i 1 ≡ true). and_right (is_member w.n i) (w.lost i) (ap w.lost (eqb-true i 1 at) ∙ here))
+    (λ (out : eqb i 1 ≡ false). and_left (is_member w.n i) (w.lost i) (no_member w i alone out)) (cases_Bool (eqb i 1))))
+
+-- the one node has lost its store
+record Gone (w : World) : Type 0 where
+  alone : w.n ≡ 1
+  lost : w.lost 1 ≡ true
+
+gone_store : (w : World) (i : ℕ) → Gone w → has_store w i ≡ false
+gone_store w i h =
+    ⊎_elim (λ (at : eqb i 1 ≡ true). and_left (not (w.lost i)) (is_member w.n i) (ap not (ap w.lost (eqb-true i 1 at) ∙ h.lost)))
+    (λ (out : eqb i 1 ≡ false). no_store w i h.alone out) (cases_Bool (eqb i 1))
+
+-- it was a majority, so none is made anew
+gone_for_good : (w : World) (i boot : ℕ) (floor : ℕ → ℕ) → Gone w → may_be_anew w i boot floor ≡ false
+gone_for_good w i boot floor h =
+    and_right (is_member w.n i && w.lost i) _ (and_left (ltb (size w.n w.lost) (majority_of w.n)) _
+    (ap (λ n. ltb (size n w.lost) (majority_of n)) h.alone ∙ ap (λ (b : Bool). ltb ((cond b 1 0) + 0) 1) h.lost))
+
+gone_turn : (config : Config) (e i : ℕ) (o : Option NodeEvent) (w : World) → Gone w → world_after_turn config e i o w ≡ w
+unfolding world_after_turn
+gone_turn config e i None w h = refl
+gone_turn config e i (Some v) w h = cond-false (has_store w i) _ w (gone_store w i h)
+
+gone_act : (config : Config) (e : ℕ) (a : Act) (w : World) → Gone w → world_after_act config e a w ≡ w
+unfolding world_after_act
+gone_act config e a w h = gone_turn config e (acting_node a) (node_event_of w.sent a) w h
+
+gone_restart : (o : Option ℕ) (w : World) → Gone w → world_after_restart o w ≡ w
+unfolding world_after_restart
+gone_restart None w h = refl
+gone_restart (Some i) w h = cond-false (has_store w i) _ w (gone_store w i h)
+
+gone_event : (config : Config) (e : ℕ) (x : WorldEvent) (w : World) → Gone w → world_after_event config e x w ≡ w
+unfolding world_after_event world_after_loss world_after_anew
+gone_event config e (Happens a) w h = gone_act config e a w h
+gone_event config e (Cut true a) w h = ap (λ z. world_after_restart (node_of a w) (with_told_of w z)) (gone_act config e a w h) ∙ gone_restart (node_of a w) w h
+gone_event config e (Cut false a) w h = gone_restart (node_of a w) w h
+gone_event config e (Restart i) w h = gone_restart (Some i) w h
+gone_event config e (Lost i) w h = cond-false (has_store w i) _ w (gone_store w i h)
+gone_event config e (Anew i boot floors) w h = cond-false (may_be_anew w i boot (floor_in floors)) _ w (gone_for_good w i boot (floor_in floors) h)
+
+gone_run : (config : Config) (e : ℕ) (xs : List WorldEvent) (w : World) → Gone w → world_after_events config e xs w ≡ w
+unfolding world_after_events
+gone_run config e [] w h = refl
+gone_run config e (x ∷ xs) w h = ap (λ z. world_after_events config (suc e) xs z) (gone_event config e x w h) ∙ gone_run config (suc e) xs w h
+
+-- what the loss leaves
+record Ended (w new : World) : Type 0 where
+  gone : Gone new
+  tells : new.told ≡ w.told
+
+ended : (config : Config) (e : ℕ) (x : WorldEvent) (w : World) → w.n ≡ 1 → w.lost 1 ≡ false → is_end x ≡ true → Ended w (world_after_event config e x w)
+unfolding world_after_event world_after_loss
+ended config e (Happens a) w alone here h = absurd (true≢false (sym h))
+ended config e (Cut kept a) w alone here h = absurd (true≢false (sym h))
+ended config e (Restart i) w alone here h = absurd (true≢false (sym h))
+ended config e (Lost i) w alone here h =
+    subst (λ j. Ended w (world_after_loss j w)) (sym (eqb-true i 1 h))
+    (cond_both {A = World} (has_store w 1) _ w (λ z. Ended w z) (λ _. record { gone = record { alone = alone; lost = refl }; tells = refl })
+    (λ out. absurd (apart (ap (λ n. is_member n 1) (sym alone) ∙ ap (λ b. not b && is_member w.n 1) (sym here) ∙ out))))
+  where
+    apart : is_member 1 1 ≡ false → ⊥
+    apart z = cc
+ended config e (Anew i boot floors) w alone here h = absurd (true≢false (sym h))
+
 -- ---- events and runs
 
-pub happens_lone : AloneLaw → (config : Config) (b q e : ℕ) (x : WorldEvent) (w : World) (s : Server) → b < last_boot → q < 2 ^ 62 → Lone b q w s
+pub happens_lone : AloneLaw → (config : Config) (b q e : ℕ) (x : WorldEvent) (w : World) (s : Server) → b < last_boot → q < 2 ^ 62 → is_end x ≡ false → Lone b q w s
     → LoneStep (b + 1) (q + 1) w (world_after_event config e x w) (server_after_event config x s) (answers_to_event config e x s)
 unfolding world_after_event
-happens_lone law config b q e (Happens a) w s low few h =
+happens_lone law config b q e (Happens a) w s low few goes h =
     let k = act_lone law config b q e a w s few h in
     record { lone = lone_weaker b (q + 1) (b + 1) (q + 1) (world_after_act config e a w) (server_after_act config a s) (omega arith) (omega arith) k.lone; tells = k.tells }
-happens_lone law config b q e (Cut true a) w s low few h =
+happens_lone law config b q e (Cut true a) w s low few goes h =
     let k = act_lone law config b q e a w s few h in
     let v = with_told_of w (world_after_act config e a w) in
-    let there : Lone b (q + 1) v (server_after_act config a s) = record { alone = k.lone.alone; unsaid = h.unsaid; node = k.lone.node; boot = k.lone.boot } in
+    let there : Lone b (q + 1) v (server_after_act config a s) = record { alone = k.lone.alone; here = k.lone.here; unsaid = h.unsaid; node = k.lone.node; boot = k.lone.boot } in
     let back = stop_lone b (q + 1) a w v (server_after_act config a s) low h.unsaid there in
     record { lone = back.lone; tells = back.tells ∙ sym (right_nil w.told) }
-happens_lone law config b q e (Cut false a) w s low few h =
+happens_lone law config b q e (Cut false a) w s low few goes h =
     let back = stop_lone b q a w w s low h.unsaid h in
     record { lone = lone_weaker (b + 1) q (b + 1) (q + 1) (world_after_restart (node_of a w) w) (server_after_restart (front_of a) s) (omega arith) (omega arith) back.lone; tells = back.tells ∙ sym (right_nil w.told) }
-happens_lone law config b q e (Restart i) w s low few h =
+happens_lone law config b q e (Restart i) w s low few goes h =
     let back = restart_lone b q i w s low h in
     record { lone = lone_weaker (b + 1) q (b + 1) (q + 1) (world_after_restart (Some i) w) (server_after_restart i s) (omega arith) (omega arith) back.lone; tells = back.tells ∙ sym (right_nil w.told) }
+
+happens_lone law config b q e (Lost i) w s low few goes h = same_lone b q w (world_after_loss i w) s (no_loss i w h.alone goes) h
+happens_lone law config b q e (Anew i boot floors) w s low few goes h =
+    same_lone b q w (world_after_anew e i boot (floor_in floors) w) s (no_anew e i boot (floor_in floors) w h.alone h.here) h
 
 run_lone : AloneLaw → (config : Config) (xs : List WorldEvent) (b q e : ℕ) (w : World) (s : Server) → b + length xs ≤ last_boot → q + length xs ≤ 2 ^ 62 → Lone b q w s
     → (world_after_events config e xs w).told ≡ w.told ++ reference_answers config e xs s
 unfolding world_after_events reference_answers
 run_lone law config [] b q e w s low few h = sym (right_nil w.told)
 run_lone law config (x ∷ xs) b q e w s low few h =
-    let k = happens_lone law config b q e x w s (omega (arith, low)) (omega (arith, few)) h in
-    run_lone law config xs (b + 1) (q + 1) (suc e) (world_after_event config e x w) (server_after_event config x s) (omega (arith, low)) (omega (arith, few)) k.lone
-    ∙ ap (λ l. l ++ reference_answers config (suc e) xs (server_after_event config x s)) k.tells
-    ∙ append_assoc w.told (answers_to_event config e x s) (reference_answers config (suc e) xs (server_after_event config x s))
+    let v = world_after_event config e x w in
+    let answers = answers_to_event config e x s in
+    let rest = reference_answers config (suc e) xs (server_after_event config x s) in
+    cond_both (is_end x) [] (answers ++ rest) (λ l. (world_after_events config (suc e) xs v).told ≡ w.told ++ l)
+    (λ ends. (let k = ended config e x w h.alone h.here ends in ap (λ (z : World). z.told) (gone_run config (suc e) xs v k.gone) ∙ k.tells ∙ sym (right_nil w.told)))
+    (λ goes. (let k = happens_lone law config b q e x w s (omega (arith, low)) (omega (arith, few)) goes h in
+    run_lone law config xs (b + 1) (q + 1) (suc e) v (server_after_event config x s) (omega (arith, low)) (omega (arith, few)) k.lone
+    ∙ ap (λ l. l ++ rest) k.tells
+    ∙ append_assoc w.told answers rest))
 
 -- ---- the start
 
@@ -323,6 +424,7 @@ start_lone config floors =
     let size = length-map-range_with_len floor 0 k in
     record {
       alone = refl;
+      here = refl;
       unsaid = refl;
       node = record {
         running = refl;

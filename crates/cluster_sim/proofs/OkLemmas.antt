@@ -20,7 +20,7 @@ use Rattle.cluster_sim.specs.Answered.{IsOk, ok_bytes, IsTextOf, IsAskedIn, Name
 use Rattle.cluster_sim.specs.Justified.{IsGround, IsGroundOf}
 use Rattle.cluster_sim.specs.Drifts.{drift_before}
 use Rattle.cluster_sim.specs.Results.{results_before}
-use Rattle.cluster_sim.specs.World.{Says, Deliver, Ticks, Noise, WorldEvent, Happens, Cut, Restart, floor_before, report_of}
+use Rattle.cluster_sim.specs.World.{Says, Deliver, Ticks, Noise, WorldEvent, Happens, Cut, Restart, Lost, Anew, floor_before, report_of}
 use Rattle.cluster_sim.proofs.BelowLaws.{GroundLaw, GateLaw, VoteLaw}
 use Rattle.cluster_sim.proofs.Lines.{justified}
 use Rattle.cluster_sim.proofs.Reports.{tell_truth}
@@ -83,6 +83,8 @@ asked_nonce node client line nonce (Some (Cut true (Ticks i))) h = absurd h
 asked_nonce node client line nonce (Some (Cut true (Noise i from read))) h = absurd h
 asked_nonce node client line nonce (Some (Cut false a)) h = absurd h
 asked_nonce node client line nonce (Some (Restart i)) h = absurd h
+asked_nonce node client line nonce (Some (Lost i)) h = absurd h
+asked_nonce node client line nonce (Some (Anew i boot floors)) h = absurd h
 
 window_factor : (kind : Kind) (reach : ℕ) (limits : Limits) (next : ℕ) (drift : ℤ) (moment m : ℕ) → InWindow kind reach limits next drift moment m → IsFactor m
 window_factor Event reach limits next drift moment m h = h.factor
@@ -104,6 +106,8 @@ ground_factor config next drift results p (Some (Cut true (Ticks i))) h = absurd
 ground_factor config next drift results p (Some (Cut true (Noise i from read))) h = absurd h
 ground_factor config next drift results p (Some (Cut false a)) h = absurd h
 ground_factor config next drift results p (Some (Restart i)) h = absurd h
+ground_factor config next drift results p (Some (Lost i)) h = absurd h
+ground_factor config next drift results p (Some (Anew i boot floors)) h = absurd h
 
 pub name_passes : GroundLaw → GateLaw → VoteLaw → (config : Config) (floors : List (List ℕ)) (events : List WorldEvent) → let report = report_of config floors events in NamePasses events report.passes report.answers
 name_passes grounds gates votes config floors events k t nonce hi at is_nonce is_factor bytes =

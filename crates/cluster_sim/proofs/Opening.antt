@@ -1,6 +1,6 @@
 -- What a node is that opens over a store in memory.
 use mathlib.Core.Path.{fun_ext}
-use Rattle.std.proofs.Common.{◌≡◌, ℕ, zero, suc, ◌+◌, ◌-◌, ◌<◌, ◌≤◌, List, [], ◌∷◌, ◌++◌, length, take, get_or, map, Some, None, refl, sym, ap, ◌∙◌, subst, arith}
+use Rattle.std.proofs.Common.{false, ◌≡◌, ℕ, zero, suc, ◌+◌, ◌-◌, ◌<◌, ◌≤◌, List, [], ◌∷◌, ◌++◌, length, take, get_or, map, Some, None, refl, sym, ap, ◌∙◌, subst, arith}
 use Rattle.std.specs.Global.{Vec}
 use Rattle.std.specs.List.{slice_get}
 use Rattle.std.specs.Prelude.{slice_index_or}
@@ -16,7 +16,7 @@ use Rattle.oath_node.specs.Hosted.{Hosted}
 use Rattle.oath_node.specs.Machine.{Config, opened_node}
 use Rattle.cluster_sim.specs.Journal.{AreHosts, IsHost, IsRun, no_journal}
 use Rattle.cluster_sim.specs.Run.{floor_lists}
-use Rattle.cluster_sim.specs.World.{floor_at, opening_node, opening_world}
+use Rattle.cluster_sim.specs.World.{floor_at, floor_in, opening_node, opening_world}
 
 map_snoc : {A B : Type 0} (f : A → B) (xs : List A) (y : A) → map f (xs ++ y ∷ []) ≡ map f xs ++ f y ∷ []
 map_snoc f [] y = refl
@@ -37,11 +37,11 @@ all_rows floors n len =
     ∙ rows_up_to floors (length floors) (omega arith)
     ∙ ap (λ (l : List ℕ). map opening_row l) (take-length floors)
 
-opened_is : (floors : List ℕ) (n : ℕ) → length floors ≡ n → opened_node (opening_content floors) ≡ opening_node n (λ t. slice_index_or floors t 0)
+opened_is : (floors : List ℕ) (n : ℕ) → length floors ≡ n → opened_node (opening_content floors) ≡ opening_node 1 n (floor_in floors)
 opened_is floors n len = ap (λ (rows : List RowRecord). opened_node (record { rows = rows; boot = 0; last = None })) (sym (all_rows floors n len))
 
 opened_host : (config : Config) (key : List ℕ) (place : PlaceRecord) (floors : List ℕ) (n : ℕ) (node : Hosted Content) → length floors ≡ n
-    → IsInMemory config.book config.limits place key floors node → IsHost config key place (opening_node n (λ t. slice_index_or floors t 0)) node
+    → IsInMemory config.book config.limits place key floors node → IsHost config key place (opening_node 1 n (floor_in floors)) node
 opened_host config key place floors n node len h = record {
   state = h.state ∙ opened_is floors n len;
   book = h.book_is;
@@ -63,7 +63,7 @@ of_snoc P (a ∷ xs) y old new (suc j) x e = of_snoc (λ i z. P (suc i) z) xs y 
 -- so many nodes are open
 pub record AreOpen (config : Config) (key : List ℕ) (lists : List (Vec ℕ)) (count : ℕ) (hosts : List (Hosted Content)) : Type 0 where
   pub size : length hosts ≡ count
-  pub hosts_are : AreHosts config key (length lists) (opening_world config (floor_lists lists)).nodes hosts
+  pub hosts_are : AreHosts config key (length lists) (opening_world config (floor_lists lists)).lost (opening_world config (floor_lists lists)).nodes hosts
 
 pub none_open : (config : Config) (key : List ℕ) (lists : List (Vec ℕ)) (hosts : List (Hosted Content)) → hosts ≡ [] → AreOpen config key lists 0 hosts
 none_open config key lists hosts is = record {
@@ -81,13 +81,13 @@ floor_is lists k d h t =
     before k = omega arith
 
 one_open : (config : Config) (key : List ℕ) (lists : List (Vec ℕ)) (k : ℕ) (d : Vec ℕ) (floors : List ℕ) (place : PlaceRecord) (old new : List (Hosted Content)) (h : Hosted Content) → k < length lists
-    → floors ≡ (get_or lists k d).items → place ≡ record { me = k + 1; n = length lists } → new ≡ old ++ h ∷ [] → IsHost config key place (opening_node (length config.book) (λ t. slice_index_or floors t 0)) h
+    → floors ≡ (get_or lists k d).items → place ≡ record { me = k + 1; n = length lists } → new ≡ old ++ h ∷ [] → IsHost config key place (opening_node 1 (length config.book) (floor_in floors)) h
     → AreOpen config key lists k old → AreOpen config key lists (k + 1) new
 one_open config key lists k d floors place old new h within are at is host opened = record {
   size = ap (λ (l : List (Hosted Content)). length l) is ∙ grown old h ∙ more (length old) k opened.size;
-  hosts_are = subst (AreHosts config key (length lists) (opening_world config (floor_lists lists)).nodes) (sym is)
-      (of_snoc (λ j y. IsHost config key (record { me = suc j; n = length lists }) ((opening_world config (floor_lists lists)).nodes (suc j)) y) old h opened.hosts_are
-      (subst (λ j. IsHost config key (record { me = suc j; n = length lists }) ((opening_world config (floor_lists lists)).nodes (suc j)) h) (sym opened.size) here));
+  hosts_are = subst (AreHosts config key (length lists) (opening_world config (floor_lists lists)).lost (opening_world config (floor_lists lists)).nodes) (sym is)
+      (of_snoc (λ j y. (opening_world config (floor_lists lists)).lost (suc j) ≡ false → IsHost config key (record { me = suc j; n = length lists }) ((opening_world config (floor_lists lists)).nodes (suc j)) y) old h opened.hosts_are
+      (λ _. subst (λ j. IsHost config key (record { me = suc j; n = length lists }) ((opening_world config (floor_lists lists)).nodes (suc j)) h) (sym opened.size) here));
 }
   where
     grown : (xs : List (Hosted Content)) (y : Hosted Content) → length (xs ++ y ∷ []) ≡ suc (length xs)
@@ -105,8 +105,8 @@ one_open config key lists k d floors place old new h within are at is host opene
 
     here : IsHost config key (record { me = suc k; n = length lists }) ((opening_world config (floor_lists lists)).nodes (suc k)) h
     here =
-        subst (λ (f : ℕ → ℕ). IsHost config key (record { me = suc k; n = length lists }) (opening_node (length config.book) f) h) same
-        (subst (λ (p : PlaceRecord). IsHost config key p (opening_node (length config.book) (λ t. slice_index_or floors t 0)) h) (at ∙ ap (λ j. record { me = j; n = length lists }) (next k)) host)
+        subst (λ (f : ℕ → ℕ). IsHost config key (record { me = suc k; n = length lists }) (opening_node 1 (length config.book) f) h) same
+        (subst (λ (p : PlaceRecord). IsHost config key p (opening_node 1 (length config.book) (floor_in floors)) h) (at ∙ ap (λ j. record { me = j; n = length lists }) (next k)) host)
 
 pub next_open : (config : Config) (key : List ℕ) (lists : List (Vec ℕ)) (k : ℕ) (d : Vec ℕ) (floors : List ℕ) (place : PlaceRecord) (old new : List (Hosted Content)) (h : Hosted Content) → k < length lists
     → floors ≡ (get_or lists k d).items → place ≡ record { me = k + 1; n = length lists } → new ≡ old ++ h ∷ []
@@ -120,8 +120,9 @@ pub all_open : (config : Config) (key : List ℕ) (lists : List (Vec ℕ)) (coun
     → IsRun config key (opening_world config (floor_lists lists)) (record { nodes = hosts; journal = no_journal })
 all_open config key lists count hosts low high opened = record {
   n = length-map lists (λ (v : Vec ℕ). v.items) ∙ same (length lists) count (length hosts) low high opened.size;
-  hosts = subst (λ n. AreHosts config key n (opening_world config (floor_lists lists)).nodes hosts) (sym (length-map lists (λ (v : Vec ℕ). v.items))) opened.hosts_are;
+  hosts = subst (λ n. AreHosts config key n (opening_world config (floor_lists lists)).lost (opening_world config (floor_lists lists)).nodes hosts) (sym (length-map lists (λ (v : Vec ℕ). v.items))) opened.hosts_are;
   recorded = record { sent = refl; starts = λ _. refl; passes = refl; answers = refl };
+  losses = record { used = λ _. refl; least = λ _ _. refl };
 }
   where
     same : (n k m : ℕ) → n ≤ k → k ≤ n → m ≡ k → n ≡ m

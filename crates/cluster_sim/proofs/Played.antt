@@ -45,15 +45,15 @@ pub at_start : (config : Config) (key : List ℕ) (xs : List WorldEvent) (w : Wo
 at_start config key xs w s h = subst (λ v. IsRun config key v s) (sym (none_played config 0 xs w)) h
 
 -- what a call of the simulation makes of each world
-abbrev pub MakesEvent : List ℕ → ℕ → WorldEvent → SimulationRecord → SimulationRecord → Type 0
-MakesEvent key k x old new = (config : Config) (w : World) → IsRun config key w old → AreSpelled w → IsRun config key (world_after_event config k x w) new
+abbrev pub MakesEvent : Config → List ℕ → ℕ → WorldEvent → SimulationRecord → SimulationRecord → Type 0
+MakesEvent config key k x old new = (w : World) → IsRun config key w old → AreSpelled w → IsRun config key (world_after_event config k x w) new
 
 pub at_next : {A : Type 0} (f : A → WorldEvent) (config : Config) (key : List ℕ) (xs : List A) (w : World) (k : ℕ) (x : A) (old new : SimulationRecord) → slice_get xs k ≡ Some x
-    → AreSpelledAlong config (map f xs) w → MakesEvent key k (f x) old new → IsPlayed config key (map f xs) w k old → IsPlayed config key (map f xs) w (k + 1) new
+    → AreSpelledAlong config (map f xs) w → MakesEvent config key k (f x) old new → IsPlayed config key (map f xs) w k old → IsPlayed config key (map f xs) w (k + 1) new
 at_next f config key xs w k x old new at spelled makes h =
     subst (λ j. IsPlayed config key (map f xs) w j new) (more k)
     (subst (λ v. IsRun config key v new) (sym (one_played config 0 k k (map f xs) w (f x) (omega arith) (get_map f xs k x at)))
-    (makes config (world_after_events config 0 (take k (map f xs)) w) h (spelled k)))
+    (makes (world_after_events config 0 (take k (map f xs)) w) h (spelled k)))
   where
     more : (k : ℕ) → suc k ≡ k + 1
     more k = omega arith

@@ -11,7 +11,7 @@ use Rattle.cluster_sim.proofs.Servers.{OthersSame, drift_at}
 use Rattle.cluster_sim.proofs.Sound.{AllSound, happens_sound, no_owners}
 use Rattle.cluster_sim.proofs.Turns.{member_parts, others_each}
 use Rattle.cluster_sim.proofs.VoteDrifts.{same_drift}
-use Rattle.cluster_sim.proofs.Waves.{Stands, run_append, says, set_at, set_off, stands_last}
+use Rattle.cluster_sim.proofs.Waves.{is_in, Stands, run_append, says, set_at, set_off, stands_last}
 use Rattle.cluster_sim.specs.Answered.{ok_bytes}
 use Rattle.cluster_sim.specs.Results.{results_in, results_with_pass}
 use Rattle.cluster_sim.specs.Rounds.{AreUp, IsSettled, RoundLine, deliveries, is_between, is_live, line_event, next_at, round_events}
@@ -199,7 +199,7 @@ alone_moved config live e w l nonce t lo hi drift b h one =
     let r = accepted_row drift (granted_row (proposal i c x.voter.seq) lo hi (row c t)) in
     let p = Some (pass_of t lo hi c.boot x.voter.seq) in
     let o = alone_made i c x.voter.seq x.voter.turn t lo hi drift l.client (without_lf l.line) nonce x.answers b in
-    let at : (j : ℕ) → is_live live j ≡ true → j ≡ i = λ j k. one_alone w.n i j one (h.calm.up i h.here).0 (h.calm.up j k).0 in
+    let at : (j : ℕ) → is_live live j ≡ true → j ≡ i = λ j k. one_alone w.n i j one (is_in w i (h.calm.up i h.here).0) (is_in w j (h.calm.up j k).0) in
     let node : (j : ℕ) → is_live live j ≡ true → with_state i o.state w.nodes j ≡ o.state = λ j k. ap (λ m. with_state i o.state w.nodes m) (at j k) ∙ set_at i o.state w.nodes in
     record {
       n = refl;
@@ -351,7 +351,7 @@ among_moved config live e w l nonce t lo hi drift h more is xs all =
     let asks = ask_letters i p t lo hi gs in
     let grants = map (grant_to i p t lo hi) hs in
     let w1 = world_with_made e i o w in
-    let member : (j : ℕ) → is_live live j ≡ true → is_member w.n j ≡ true = λ j at. (h.calm.up j at).0 in
+    let member : (j : ℕ) → is_live live j ≡ true → is_member w.n j ≡ true = λ j at. is_in w j (h.calm.up j at).0 in
     let first = asked_made live e i x t lo hi drift l.client line nonce b w refl h.calm.up in
     let sound1 : AllSound tokens w1 = subst (λ z. AllSound tokens z) is (happens_sound config tokens e (line_event l) w h.sound) in
     let differ = others_differ w.n i in

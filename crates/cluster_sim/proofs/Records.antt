@@ -1,9 +1,9 @@
 -- What the simulation takes of an event is what the world does.
-use Rattle.std.proofs.Common.{◌≡◌, ℕ, suc, Bool, true, false, cond, List, [], ◌∷◌, ◌++◌, length, map, Option, Some, None, refl, sym, ap, ◌∙◌, subst, eqb}
+use Rattle.std.proofs.Common.{◌≡◌, ℕ, suc, Bool, true, false, cond, ⊎_elim, List, [], ◌∷◌, ◌++◌, length, map, Option, Some, None, refl, sym, ap, ◌∙◌, subst, eqb}
 use Rattle.std.specs.Option.{option_map}
 use Rattle.std.specs.Prelude.{OnOk, Result}
 use Rattle.std.proofs.lemmas.Result.{on_ok_weaker}
-use Rattle.std.proofs.lemmas.Bool.{cond-false, cond-true, cond_both, eqb-true}
+use Rattle.std.proofs.lemmas.Bool.{cases_Bool, cond-false, cond-true, cond_both, eqb-true}
 use Rattle.floor_store.specs.Content.{Content}
 use Rattle.floor_store.specs.Records.{PassRecord, ProposalRecord}
 use Rattle.otp_core.specs.Acceptance.{Acceptance}
@@ -14,10 +14,11 @@ use Rattle.vote_core.specs.declared.message.Message.{Message}
 use Rattle.oath_node.specs.Hosted.{Hosted}
 use Rattle.oath_node.specs.Machine.{Beginning, Config, Made, NodeEvent, NodeState, Peer, Reply, made_by_event, made_by_datagram, made_while_running, quiet_made}
 use Rattle.oath_node.specs.Outputs.{OutputsRecord, datagram_item, outputs_of, reply_item}
-use Rattle.cluster_sim.specs.Journal.{AreHosts, IsAsked, IsHost, IsRecorded, IsRun, IsPutOut, JournalRecord, Letter, SimulationRecord, StartRecord, letter_of, outputs_at, nodes_after, passes_with_pass, sent_items, start_event, starts_with_begun, journal_with, journal_with_outputs, told_world, told_act, told_items, told_turn}
+use Rattle.cluster_sim.specs.Journal.{AreHosts, AreLosses, IsAsked, IsHost, IsRecorded, IsRun, IsPutOut, JournalRecord, Letter, SimulationRecord, StartRecord, letter_of, outputs_at, nodes_after, passes_with_pass, sent_items, start_event, starts_with_begun, journal_with, journal_with_outputs, told_world, told_act, told_items, told_turn}
 use Rattle.oath_node.specs.Outputs.{no_outputs}
-use Rattle.cluster_sim.specs.World.{Act, Note, Told, World, acting_node, node_event_of, world_after_act, begun_with, begun_in, is_from, world_with_made, note_of, acceptance_in, passes_in, with_state, told_reply, world_after_turn, with_told_of}
+use Rattle.cluster_sim.specs.World.{Act, Note, Told, World, acting_node, has_store, node_event_of, world_after_act, begun_with, begun_in, is_from, world_with_made, note_of, acceptance_in, passes_in, with_state, told_reply, world_after_turn, with_told_of}
 use Rattle.cluster_sim.proofs.Acts.{unheard, unread}
+use Rattle.cluster_sim.proofs.HostLemmas.{has_it, has_none, losses_set}
 use Rattle.cluster_sim.proofs.Shape.{right_nil}
 use Rattle.cluster_sim.proofs.Starts.{one_more}
 
@@ -89,8 +90,8 @@ taken_kept key e i n m w j h = record { sent = h.sent; starts = noted_starts key
 
 taken_nothing : (e i : ℕ) (b : Bool) (j : JournalRecord) → journal_with e i b no_outputs j ≡ j
 taken_nothing e i true j =
-    ap (λ (l : List Letter). record { sent = l; starts = j.starts; passes = j.passes; answers = j.answers ++ [] }) (right_nil j.sent)
-    ∙ ap (λ (l : List Told). record { sent = j.sent; starts = j.starts; passes = j.passes; answers = l }) (right_nil j.answers)
+    ap (λ (l : List Letter). record { sent = l; starts = j.starts; passes = j.passes; answers = j.answers ++ []; losses = j.losses; least = j.least }) (right_nil j.sent)
+    ∙ ap (λ (l : List Told). record { sent = j.sent; starts = j.starts; passes = j.passes; answers = l; losses = j.losses; least = j.least }) (right_nil j.answers)
 taken_nothing e i false j = refl
 
 taken_from : (e i : ℕ) (b : Bool) (o : Option OutputsRecord) (out : OutputsRecord) (j : JournalRecord) → IsPutOut o out → journal_with e i b out j ≡ journal_with_outputs e i b o j
@@ -105,10 +106,10 @@ unmoved : (b : Bool) (w : World) → told_world b w w ≡ w
 unmoved true w = refl
 unmoved false w = refl
 
-turned_recorded : (config : Config) (key : List ℕ) (e i : ℕ) (x : NodeEvent) (w : World) (b : Bool) (o : Option OutputsRecord) (j : JournalRecord) → IsRecorded key w j → IsPutOut o (outputs_at config key w.n w.nodes i x)
+turned_recorded : (config : Config) (key : List ℕ) (e i : ℕ) (x : NodeEvent) (w : World) (b : Bool) (o : Option OutputsRecord) (j : JournalRecord) → w.lost i ≡ false → IsRecorded key w j → IsPutOut o (outputs_at config key w.n w.nodes i x)
     → IsRecorded key (told_world b w (world_after_turn config e i (Some x) w)) (journal_with_outputs e i b o j)
 unfolding world_after_turn
-turned_recorded config key e i x w b o j h told = split (is_member w.n i) told
+turned_recorded config key e i x w b o j there h told = split (has_store w i) (subst (λ t. IsPutOut o (cond t (outputs_of key place m) no_outputs)) (has_it w i there) told)
   where
     place : PlaceRecord
     place = record { me = i; n = w.n }
@@ -122,12 +123,17 @@ turned_recorded config key e i x w b o j h told = split (is_member w.n i) told
 
 turned_n : (config : Config) (e i : ℕ) (x : NodeEvent) (w : World) (b : Bool) → (told_world b w (world_after_turn config e i (Some x) w)).n ≡ w.n
 unfolding world_after_turn world_with_made
-turned_n config e i x w true = cond_both (is_member w.n i) (world_with_made e i (made_by_event config (record { me = i; n = w.n }) x (w.nodes i)) w) w (λ (y : World). y.n ≡ w.n) (λ _. refl) (λ _. refl)
-turned_n config e i x w false = cond_both (is_member w.n i) (world_with_made e i (made_by_event config (record { me = i; n = w.n }) x (w.nodes i)) w) w (λ (y : World). y.n ≡ w.n) (λ _. refl) (λ _. refl)
+turned_n config e i x w true = cond_both (has_store w i) (world_with_made e i (made_by_event config (record { me = i; n = w.n }) x (w.nodes i)) w) w (λ (y : World). y.n ≡ w.n) (λ _. refl) (λ _. refl)
+turned_n config e i x w false = cond_both (has_store w i) (world_with_made e i (made_by_event config (record { me = i; n = w.n }) x (w.nodes i)) w) w (λ (y : World). y.n ≡ w.n) (λ _. refl) (λ _. refl)
 
-turned_nodes : (config : Config) (e i : ℕ) (x : NodeEvent) (w : World) (b : Bool) → nodes_after config w.n w.nodes i x ≡ (told_world b w (world_after_turn config e i (Some x) w)).nodes
+turned_lost : (config : Config) (e i : ℕ) (x : NodeEvent) (w : World) (b : Bool) → (told_world b w (world_after_turn config e i (Some x) w)).lost ≡ w.lost
 unfolding world_after_turn world_with_made
-turned_nodes config e i x w b = split (is_member w.n i) b
+turned_lost config e i x w true = cond_both (has_store w i) (world_with_made e i (made_by_event config (record { me = i; n = w.n }) x (w.nodes i)) w) w (λ (y : World). y.lost ≡ w.lost) (λ _. refl) (λ _. refl)
+turned_lost config e i x w false = cond_both (has_store w i) (world_with_made e i (made_by_event config (record { me = i; n = w.n }) x (w.nodes i)) w) w (λ (y : World). y.lost ≡ w.lost) (λ _. refl) (λ _. refl)
+
+turned_nodes : (config : Config) (e i : ℕ) (x : NodeEvent) (w : World) (b : Bool) → w.lost i ≡ false → nodes_after config w.n w.nodes i x ≡ (told_world b w (world_after_turn config e i (Some x) w)).nodes
+unfolding world_after_turn world_with_made
+turned_nodes config e i x w b there = ap (λ t. cond t (with_state i m.state w.nodes) w.nodes) (has_it w i there) ∙ split (has_store w i) b
   where
     m : Made
     m = made_by_event config (record { me = i; n = w.n }) x (w.nodes i)
@@ -138,24 +144,48 @@ turned_nodes config e i x w b = split (is_member w.n i) b
     split false true = refl
     split false false = refl
 
+turned_losses : (config : Config) (tokens e i : ℕ) (x : NodeEvent) (w : World) (b : Bool) (j : JournalRecord) → w.lost i ≡ false → AreLosses tokens w j → AreLosses tokens (told_world b w (world_after_turn config e i (Some x) w)) j
+unfolding world_after_turn world_with_made
+turned_losses config tokens e i x w b j there h = split (has_store w i) b
+  where
+    m : Made
+    m = made_by_event config (record { me = i; n = w.n }) x (w.nodes i)
+
+    split : (t b : Bool) → AreLosses tokens (told_world b w (cond t (world_with_made e i m w) w)) j
+    split true true = record { used = losses_set tokens i m.state w j there h.used; least = h.least }
+    split true false = record { used = losses_set tokens i m.state w j there h.used; least = h.least }
+    split false true = record { used = h.used; least = h.least }
+    split false false = record { used = h.used; least = h.least }
+
+-- what is put out changes no losses
+put_out_losses : (tokens e i : ℕ) (b : Bool) (o : Option OutputsRecord) (w : World) (j : JournalRecord) → AreLosses tokens w j → AreLosses tokens w (journal_with_outputs e i b o j)
+put_out_losses tokens e i b None w j h = h
+put_out_losses tokens e i true (Some outputs) w j h = record { used = h.used; least = h.least }
+put_out_losses tokens e i false (Some outputs) w j h = record { used = h.used; least = h.least }
+
 pub turned_run : (config : Config) (key : List ℕ) (e i : ℕ) (x : NodeEvent) (w : World) (b : Bool) (o : Option OutputsRecord) (s : SimulationRecord) (hosts : List (Hosted Content)) → IsRun config key w s
-    → length hosts ≡ length s.nodes → AreHosts config key w.n (nodes_after config w.n w.nodes i x) hosts → IsPutOut o (outputs_at config key w.n w.nodes i x)
+    → length hosts ≡ length s.nodes → w.lost i ≡ false → AreHosts config key w.n w.lost (nodes_after config w.n w.nodes i x) hosts → IsPutOut o (outputs_at config key w.n w.nodes i x)
     → IsRun config key (told_world b w (world_after_turn config e i (Some x) w)) (record { nodes = hosts; journal = journal_with_outputs e i b o s.journal })
-turned_run config key e i x w b o s hosts h len are told = record {
-  n = turned_n config e i x w b ∙ h.n ∙ sym len;
-  hosts = subst (λ (k : ℕ). AreHosts config key k (told_world b w (world_after_turn config e i (Some x) w)).nodes hosts) (sym (turned_n config e i x w b))
-      (subst (λ (f : ℕ → NodeState). AreHosts config key w.n f hosts) (turned_nodes config e i x w b) are);
-  recorded = turned_recorded config key e i x w b o s.journal h.recorded told;
-}
+turned_run config key e i x w b o s hosts h len there are told =
+    let new = told_world b w (world_after_turn config e i (Some x) w) in
+    let tokens = length config.book in
+    record {
+      n = turned_n config e i x w b ∙ h.n ∙ sym len;
+      hosts = subst (λ (k : ℕ). AreHosts config key k new.lost new.nodes hosts) (sym (turned_n config e i x w b))
+          (subst (λ (l : ℕ → Bool). AreHosts config key w.n l new.nodes hosts) (sym (turned_lost config e i x w b))
+          (subst (λ (f : ℕ → NodeState). AreHosts config key w.n w.lost f hosts) (turned_nodes config e i x w b there) are));
+      recorded = turned_recorded config key e i x w b o s.journal there h.recorded told;
+      losses = put_out_losses tokens e i b o new s.journal (turned_losses config tokens e i x w b s.journal there h.losses);
+    }
 
 -- a turn, once what it puts out is in the journal
 pub turn_plays : {A E : Type 0} (config : Config) (key : List ℕ) (e i : ℕ) (x : NodeEvent) (w : World) (b : Bool) (o : Option OutputsRecord) (s : SimulationRecord) (hosts : List (Hosted Content)) (j : JournalRecord)
-    (result : Result A E) → IsRun config key w s → length hosts ≡ length s.nodes → IsAsked config key w.n w.nodes i x hosts o → OnOk result (j ≡ journal_with_outputs e i b o s.journal)
+    (result : Result A E) → IsRun config key w s → length hosts ≡ length s.nodes → w.lost i ≡ false → IsAsked config key w.n w.lost w.nodes i x hosts o → OnOk result (j ≡ journal_with_outputs e i b o s.journal)
     → OnOk result (IsRun config key (told_turn b e i (Some x) config w) (record { nodes = hosts; journal = j }))
-turn_plays config key e i x w b o s hosts j result h len asked taken =
+turn_plays config key e i x w b o s hosts j result h len there asked taken =
     on_ok_weaker result
     (λ (is : j ≡ journal_with_outputs e i b o s.journal). subst (λ (k : JournalRecord). IsRun config key (told_turn b e i (Some x) config w) (record { nodes = hosts; journal = k })) (sym is)
-    (turned_run config key e i x w b o s hosts h len asked.left asked.put_out)) taken
+    (turned_run config key e i x w b o s hosts h len there asked.left asked.put_out)) taken
 
 -- ---- noise
 
@@ -178,10 +208,18 @@ silent : (config : Config) (place : PlaceRecord) (x : NodeState) (from : ℕ) (r
 unfolding made_by_event made_while_running
 silent config place x from r s = cond_both x.running (made_by_datagram config place from r x) (quiet_made x) (λ (m : Made). m ≡ quiet_made x) (λ _. s place x) (λ _. refl)
 
--- what is dropped leaves all as it was
-pub silent_run : (config : Config) (key : List ℕ) (e i from : ℕ) (r : Option Envelope) (w : World) (b : Bool) (s : SimulationRecord) → IsSilent config from r → IsRun config key w s
+-- where the store is gone nothing happens
+pub gone_run : (config : Config) (key : List ℕ) (e i : ℕ) (o : Option NodeEvent) (w : World) (b : Bool) (s : SimulationRecord) → w.lost i ≡ true → IsRun config key w s
+    → IsRun config key (told_world b w (world_after_turn config e i o w)) s
+unfolding world_after_turn
+gone_run config key e i None w b s gone h = subst (λ (x : World). IsRun config key x s) (sym (unmoved b w)) h
+gone_run config key e i (Some x) w b s gone h =
+    subst (λ (t : Bool). IsRun config key (told_world b w (cond t (world_with_made e i (made_by_event config (record { me = i; n = w.n }) x (w.nodes i)) w) w)) s) (sym (has_none w i gone))
+    (subst (λ (x : World). IsRun config key x s) (sym (unmoved b w)) h)
+
+dropped_run : (config : Config) (key : List ℕ) (e i from : ℕ) (r : Option Envelope) (w : World) (b : Bool) (s : SimulationRecord) → IsSilent config from r → w.lost i ≡ false → IsRun config key w s
     → IsRun config key (told_world b w (world_after_turn config e i (Some (Peer from r)) w)) s
-silent_run config key e i from r w b s drops h = turned_run config key e i (Peer from r) w b None s s.nodes h refl are (told (is_member w.n i))
+dropped_run config key e i from r w b s drops there h = turned_run config key e i (Peer from r) w b None s s.nodes h refl there are (told (is_member w.n i))
   where
     place : PlaceRecord
     place = record { me = i; n = w.n }
@@ -203,8 +241,15 @@ silent_run config key e i from r w b s drops h = turned_run config key e i (Peer
     nodes true j = stays j
     nodes false j = refl
 
-    are : AreHosts config key w.n (nodes_after config w.n w.nodes i (Peer from r)) s.nodes
-    are k y g = subst (λ (x : NodeState). IsHost config key (record { me = suc k; n = w.n }) x y) (sym (nodes (is_member w.n i) (suc k))) (h.hosts k y g)
+    are : AreHosts config key w.n w.lost (nodes_after config w.n w.nodes i (Peer from r)) s.nodes
+    are k y g at = subst (λ (x : NodeState). IsHost config key (record { me = suc k; n = w.n }) x y) (sym (nodes (is_member w.n i) (suc k))) (h.hosts k y g at)
+
+-- what is dropped leaves all as it was
+pub silent_run : (config : Config) (key : List ℕ) (e i from : ℕ) (r : Option Envelope) (w : World) (b : Bool) (s : SimulationRecord) → IsSilent config from r → IsRun config key w s
+    → IsRun config key (told_world b w (world_after_turn config e i (Some (Peer from r)) w)) s
+silent_run config key e i from r w b s drops h =
+    ⊎_elim (λ (gone : w.lost i ≡ true). gone_run config key e i (Some (Peer from r)) w b s gone h)
+    (λ (there : w.lost i ≡ false). dropped_run config key e i from r w b s drops there h) (cases_Bool (w.lost i))
 
 -- with no event all is as it was
 pub idle_run : (config : Config) (key : List ℕ) (e i : ℕ) (w : World) (b : Bool) (s : SimulationRecord) → IsRun config key w s → IsRun config key (told_world b w (world_after_turn config e i None w)) s
@@ -232,3 +277,8 @@ pub act_turn : {A E : Type 0} (config : Config) (key : List ℕ) (e : ℕ) (x : 
 unfolding world_after_act
 act_turn config key e x a w b s result is h =
     subst (λ (o : Option NodeEvent). OnOk result (IsRun config key (told_turn b e (acting_node a) o config w) s)) is h
+
+-- an act at a node whose store is gone
+pub act_gone : (config : Config) (key : List ℕ) (e : ℕ) (a : Act) (w : World) (b : Bool) (s : SimulationRecord) → w.lost (acting_node a) ≡ true → IsRun config key w s → IsRun config key (told_act b e a config w) s
+unfolding world_after_act
+act_gone config key e a w b s gone h = gone_run config key e (acting_node a) (node_event_of w.sent a) w b s gone h

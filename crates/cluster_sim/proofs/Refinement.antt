@@ -1,10 +1,10 @@
 -- The world of nodes as a cluster of voters: which voting event each event is.
 use Rattle.std.specs.Prelude.{ℕ, suc, false, if◌then◌else◌, List, [], ◌∷◌, Option, Some, None, slice_get}
-use Rattle.vote_core.specs.Schedule.{Member, Envelope, Cluster, Act as Vote, Begin, Deliver as Passes, Tick, Throttle, Idle, Event, Happens as Done, Cut as Stopped, Restart as Reopened}
+use Rattle.vote_core.specs.Schedule.{Member, Envelope, Cluster, Act as Vote, Begin, Deliver as Passes, Tick, Throttle, Idle, Event, Happens as Done, Cut as Stopped, Restart as Reopened, Lost as Gone, Replaced}
 use Rattle.oath_node.specs.Machine.{Config, NodeState, gate_with_failure, is_heard, ruling_at}
 use Rattle.oath_node.specs.declared.ruling.Ruling.{Ruling}
 use Rattle.oath_node.specs.declared.ruling.Ruling.TheVariants.{Outside, Again, Waiting, Denied, Wrong, Fitting}
-use Rattle.cluster_sim.specs.World.{World, Act, Says, Deliver, Ticks, Noise, WorldEvent, Happens, Cut, Restart, begun_in, passes_in, place_at, world_after_event}
+use Rattle.cluster_sim.specs.World.{World, Act, Says, Deliver, Ticks, Noise, WorldEvent, Happens, Cut, Restart, Lost, Anew, begun_in, floor_in, passes_in, place_at, world_after_event}
 
 -- a node without its lines and kept answers
 abbrev pub member_of : NodeState → Member
@@ -15,8 +15,8 @@ abbrev pub cluster_of : World → Cluster
 cluster_of world = record {
   n = world.n;
   nodes = λ node. member_of (world.nodes node);
-  lost = λ node. false;
-  least = λ token. 0;
+  lost = world.lost;
+  least = world.least;
   sent = world.sent;
   begun = begun_in world.history;
   accepted = passes_in world.history;
@@ -51,6 +51,8 @@ abbrev pub vote_event : Config → World → WorldEvent → Event
 vote_event config world (Happens act) = Done (vote_of config world act)
 vote_event config world (Cut kept act) = Stopped kept (vote_of config world act)
 vote_event config world (Restart node) = Reopened node
+vote_event config world (Lost node) = Gone node
+vote_event config world (Anew node boot floors) = Replaced node boot (floor_in floors)
 
 -- the voting events that these events are, the first of which has this number
 abbrev pub vote_events : Config → ℕ → List WorldEvent → World → List Event

@@ -5,14 +5,14 @@ use Rattle.std.proofs.lemmas.Bool.{cond_both, eqb-true, eqb-false, and_parts}
 use Rattle.std.proofs.lemmas.Option.{same_Some, none-some}
 use Rattle.floor_store.specs.Records.{ProposalRecord, PassRecord}
 use Rattle.otp_core.specs.Acceptance.{Acceptance}
-use Rattle.vote_core.specs.Schedule.{Envelope, Begun, is_member, last_boot, began_in}
+use Rattle.vote_core.specs.Schedule.{Envelope, Begun, last_boot, began_in}
 use Rattle.vote_core.specs.Voting.{same_proposal}
 use Rattle.vote_core.proofs.Basics.{Each, each_append, each_get, each_map, each_weaker}
 use Rattle.answer_ring.specs.Answers.{KeptAnswer}
 use Rattle.oath_node.specs.Machine.{Config, NodeState, NodeEvent, Made, Reply, Beginning, quiet_made, stopped_node, opened_node, restarted_node, made_while_running, made_by_event}
 use Rattle.vote_wire.specs.Request.{without_lf}
 use Rattle.cluster_sim.specs.Answered.{IsAskedIn, IsSaidIn, BelongsToPass, TellTruth, IsAnsweredIn, AreAnswered}
-use Rattle.cluster_sim.specs.World.{World, Note, Told, Act, Says, Deliver, Ticks, Noise, WorldEvent, Happens, Cut, Restart, acting_node, delivered_event, noise_event, node_event_of, place_at, told_reply, note_of, world_with_made, world_after_turn, world_after_act, node_of, world_after_restart, with_told_of, world_after_event, world_after_events, opening_world, begun_with, begun_in, acceptance_in, passes_in, passes_of, world_of}
+use Rattle.cluster_sim.specs.World.{World, Note, Told, Act, Says, Deliver, Ticks, Noise, WorldEvent, Happens, Cut, Restart, Lost, Anew, floor_in, has_store, lost_node, may_be_anew, note_anew, opening_node, world_after_anew, world_after_loss, acting_node, delivered_event, noise_event, node_event_of, place_at, told_reply, note_of, world_with_made, world_after_turn, world_after_act, node_of, world_after_restart, with_told_of, world_after_event, world_after_events, opening_world, begun_with, begun_in, acceptance_in, passes_in, passes_of, world_of}
 use Rattle.cluster_sim.proofs.Acts.{noise_cases}
 use Rattle.cluster_sim.proofs.BelowLaws.{GroundLaw}
 use Rattle.cluster_sim.proofs.Owners.{get_more}
@@ -65,6 +65,8 @@ answered_later events told more p (Some (Happens a)) h = record {
 answered_later events told more p (Some (Cut true a)) h = h
 answered_later events told more p (Some (Cut false a)) h = h
 answered_later events told more p (Some (Restart i)) h = h
+answered_later events told more p (Some (Lost i)) h = h
+answered_later events told more p (Some (Anew i boot floors)) h = h
 
 all_answered_later : (events : List WorldEvent) (told more : List Told) (passes : List Acceptance) → Each (λ (p : Acceptance). IsAnsweredIn events told p (slice_get events p.ended)) passes
     → Each (λ (p : Acceptance). IsAnsweredIn events (told ++ more) p (slice_get events p.ended)) passes
@@ -198,7 +200,7 @@ turned_halves law config events e i None w h comes = idle_halves events e (Unit 
 turned_halves law config events e i (Some v) w h comes =
     let place = place_at w i in
     let x = w.nodes i in
-    cond_both (is_member w.n i) (world_with_made e i (made_by_event config place v x) w) w (λ z. Halves events e (Said events e i v) w z)
+    cond_both (has_store w i) (world_with_made e i (made_by_event config place v x) w) w (λ z. Halves events e (Said events e i v) w z)
     (λ _. made_halves events e i (Said events e i v) (made_by_event config place v x) w h
     (cond_both x.running (made_while_running config place v x) (quiet_made x) (λ m. Tells events w.history e i (Said events e i v) m)
     (λ _. event_tells law config events w.history e place x v comes (h.nodes i)) (λ _. resting_tells events w.history e i (Said events e i v) x (h.nodes i))))
@@ -252,7 +254,7 @@ restart_honest : (events : List WorldEvent) (e : ℕ) (o : Option ℕ) (w : Worl
 unfolding world_after_restart
 restart_honest events e None w h = h
 restart_honest events e (Some i) w h =
-    cond_both {A = World} (is_member w.n i) _ w (λ z. Honest events e z)
+    cond_both {A = World} (has_store w i) _ w (λ z. Honest events e z)
     (λ _. record {
       nodes = λ j. cond_both (eqb j i) (restarted_node (w.nodes i)) (w.nodes j) (λ y. NodeKept events w.history e j y)
           (λ q. subst (λ m. NodeKept events w.history e m (restarted_node (w.nodes i))) (sym (eqb-true j i q)) (restarted_kept events w.history e i (w.nodes i) (h.nodes i))) (λ _. h.nodes j);
@@ -260,6 +262,36 @@ restart_honest events e (Some i) w h =
       answered = h.answered;
     })
     (λ _. h)
+
+-- ---- stores that are lost and made anew
+
+loss_honest : (events : List WorldEvent) (e i : ℕ) (w : World) → Honest events e w → Honest events e (world_after_loss i w)
+unfolding world_after_loss
+loss_honest events e i w h =
+    cond_both {A = World} (has_store w i) _ w (λ z. Honest events e z)
+    (λ _. record {
+      nodes = λ j. cond_both (eqb j i) (lost_node (w.nodes i)) (w.nodes j) (λ y. NodeKept events w.history e j y) (λ _. record { owners = tt; owned = tt; answers = tt }) (λ _. h.nodes j);
+      told = h.told;
+      answered = h.answered;
+    })
+    (λ _. h)
+
+-- nothing is begun or accepted where a store is made anew
+noted_anew : (events : List WorldEvent) (h : List Note) (e i j : ℕ) (x : NodeState) → NodeKept events h e j x → NodeKept events (note_anew e i ∷ h) (suc e) j x
+noted_anew events h e i j x k = record { owners = k.owners; owned = k.owned; answers = answers_later events (passes_in h) [] e j x.answers k.answers }
+
+anew_honest : (events : List WorldEvent) (e i boot : ℕ) (floor : ℕ → ℕ) (w : World) → Honest events e w → Honest events (suc e) (world_after_anew e i boot floor w)
+unfolding world_after_anew
+anew_honest events e i boot floor w h =
+    let new = opening_node boot (length (w.nodes i).content.rows) floor in
+    cond_both {A = World} (may_be_anew w i boot floor) _ w (λ z. Honest events (suc e) z)
+    (λ _. record {
+      nodes = λ j. cond_both (eqb j i) new (w.nodes j) (λ y. NodeKept events (note_anew e i ∷ w.history) (suc e) j y)
+          (λ _. record { owners = tt; owned = tt; answers = tt }) (λ _. noted_anew events w.history e i j (w.nodes j) (h.nodes j));
+      told = told_later events (passes_in w.history) [] w.told h.told;
+      answered = each_append (λ (p : Acceptance). IsAnsweredIn events w.told p (slice_get events p.ended)) (passes_in w.history) [] h.answered tt;
+    })
+    (λ _. next_honest events e w h)
 
 happens_honest : GroundLaw → (config : Config) (events : List WorldEvent) (e : ℕ) (x : WorldEvent) (w : World) → slice_get events e ≡ Some x → Honest events e w → Honest events (suc e) (world_after_event config e x w)
 unfolding world_after_event
@@ -271,6 +303,8 @@ happens_honest law config events e (Cut true a) w at h =
     restart_honest events (suc e) (node_of a w) (with_told_of w (world_after_act config e a w)) (record { nodes = k.nodes; told = k.old_told; answered = k.stopped a at })
 happens_honest law config events e (Cut false a) w at h = restart_honest events (suc e) (node_of a w) w (next_honest events e w h)
 happens_honest law config events e (Restart i) w at h = restart_honest events (suc e) (Some i) w (next_honest events e w h)
+happens_honest law config events e (Lost i) w at h = loss_honest events (suc e) i w (next_honest events e w h)
+happens_honest law config events e (Anew i boot floors) w at h = anew_honest events e i boot (floor_in floors) w h
 
 -- the events from number e on
 abbrev Rest : List WorldEvent → ℕ → List WorldEvent → Type 0

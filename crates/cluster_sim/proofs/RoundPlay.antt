@@ -1,17 +1,17 @@
 -- The rounds of a simulation, event by event, and as a whole.
-use Rattle.std.proofs.Common.{◌≡◌, ℕ, zero, suc, ◌+◌, ◌<◌, ◌≤◌, true, false, ◌&&◌, List, [], ◌∷◌, ◌++◌, length, map, drop, take, Some, None, refl, sym, ap, ◌∙◌, subst, arith}
+use Rattle.std.proofs.Common.{◌≡◌, ℕ, zero, suc, ◌+◌, ◌<◌, ◌≤◌, Bool, true, false, ◌&&◌, List, [], ◌∷◌, ◌++◌, length, map, drop, take, Some, None, refl, sym, ap, ◌∙◌, subst, arith}
 use Rattle.std.specs.List.{slice_get}
 use Rattle.std.proofs.Math.Seq.{take-length}
-use Rattle.std.proofs.lemmas.Bool.{cond-true, cond-false}
+use Rattle.std.proofs.lemmas.Bool.{cond_both, cond-true, cond-false}
 use Rattle.std.proofs.lemmas.List.{append-nil, append_assoc, drop_all, length-append, length-map}
 use Rattle.std.proofs.lemmas.Option.{none-some, same_Some}
 use Rattle.vote_core.specs.Schedule.{Envelope}
 use Rattle.oath_node.specs.Machine.{Config}
 use Rattle.cluster_sim.specs.Journal.{AreSpelled, AreSpelledAlong, IsRun, Letter, SimulationRecord, letter_of}
-use Rattle.cluster_sim.specs.RoundRun.{HaveHappened, StaySpelled, deliveries_from, delivery_of}
+use Rattle.cluster_sim.specs.RoundRun.{AreActs, HaveHappened, StaySpelled, deliveries_from, delivery_of}
 use Rattle.cluster_sim.specs.Run.{round_line, round_lines}
 use Rattle.cluster_sim.specs.Rounds.{RoundLine, deliveries, events_with_rounds, is_between, is_live, line_event, round_events, rounds_events}
-use Rattle.cluster_sim.specs.World.{Deliver, Happens, World, WorldEvent, opening_world, world_after_event, world_after_events, world_of}
+use Rattle.cluster_sim.specs.World.{Anew, Cut, Deliver, Happens, Lost, Restart, World, WorldEvent, opening_world, world_after_event, world_after_events, world_of}
 use Rattle.cluster_sim.specs.declared.rounds.RoundLine.{RoundLine as CallerLine}
 use Rattle.cluster_sim.proofs.Proposals.{handed_append}
 use Rattle.cluster_sim.proofs.Seqs.{run_longer}
@@ -22,12 +22,30 @@ use Rattle.cluster_sim.proofs.Waves.{run_append}
 -- it reads as it was meant now
 pub spelled_now : (config : Config) (n : ℕ) (w : World) → StaySpelled config n w → AreSpelled w
 unfolding world_after_events
-spelled_now config n w h = h []
+spelled_now config n w h = h [] tt
+
+acts_append : (xs ys : List WorldEvent) → AreActs xs → AreActs ys → AreActs (xs ++ ys)
+acts_append [] ys h k = k
+acts_append (Happens a ∷ xs) ys h k = acts_append xs ys h k
+acts_append (Cut kept a ∷ xs) ys h k = absurd h
+acts_append (Restart i ∷ xs) ys h k = absurd h
+acts_append (Lost i ∷ xs) ys h k = absurd h
+acts_append (Anew i boot floors ∷ xs) ys h k = absurd h
+
+pub deliveries_are_acts : (test : Envelope → Bool) (k : ℕ) (ls : List Envelope) → AreActs (deliveries test k ls)
+deliveries_are_acts test k [] = tt
+deliveries_are_acts test k (l ∷ ls) =
+    cond_both (test l) (Happens (Deliver l.receiver k) ∷ deliveries test (suc k) ls) (deliveries test (suc k) ls) AreActs (λ _. deliveries_are_acts test (suc k) ls) (λ _. deliveries_are_acts test (suc k) ls)
+
+round_is_acts : (config : Config) (live : List ℕ) (n : ℕ) (w : World) (l : RoundLine) → AreActs (round_events config live n w l)
+round_is_acts config live n w l =
+    acts_append (deliveries (is_between live) (length w.sent) _) (deliveries (is_between live) _ _)
+    (deliveries_are_acts (is_between live) (length w.sent) _) (deliveries_are_acts (is_between live) _ _)
 
 -- and whatever has happened
-pub spelled_on : (config : Config) (n m : ℕ) (xs : List WorldEvent) (w : World) → m ≡ length xs + n → StaySpelled config n w → StaySpelled config m (world_after_events config n xs w)
-spelled_on config n m xs w is h =
-    subst (λ j. StaySpelled config j (world_after_events config n xs w)) (sym is) (λ ys. subst AreSpelled (run_append config xs ys n w) (h (xs ++ ys)))
+pub spelled_on : (config : Config) (n m : ℕ) (xs : List WorldEvent) (w : World) → AreActs xs → m ≡ length xs + n → StaySpelled config n w → StaySpelled config m (world_after_events config n xs w)
+spelled_on config n m xs w acts is h =
+    subst (λ j. StaySpelled config j (world_after_events config n xs w)) (sym is) (λ ys more. subst AreSpelled (run_append config xs ys n w) (h (xs ++ ys) (acts_append xs ys acts more)))
 
 -- ---- events that happened
 
@@ -169,7 +187,7 @@ handed_next config key live first n w k next next' s t lt h happened =
       ends = ap (λ j. world_after_events config j rest (world_after_events config next one now)) did.count ∙ sym (run_append config one rest next now)
           ∙ ap (λ xs. world_after_events config next xs now) (sym split) ∙ h.ends;
       count = sum (length one) (length rest) (length (one ++ rest)) next next' (length (deliveries_from live first w) + n) (length-append one rest) did.count (ap (λ (xs : List WorldEvent). length xs + next) (sym split) ∙ h.count);
-      spelled = spelled_on config next next' one now did.count h.spelled;
+      spelled = spelled_on config next next' one now (deliveries_are_acts (is_between live) k (l ∷ [])) did.count h.spelled;
       more = h.more ++ longer.0;
       sent = longer.1 ∙ ap (λ ls. ls ++ longer.0) h.sent ∙ append_assoc w.sent h.more longer.0;
     })
@@ -253,7 +271,7 @@ rounds_next config key live n w lines k next next' line s t at h did =
           ∙ ap (λ xs. world_after_events config next xs now) (sym split) ∙ h.ends;
       count = ap (λ j. length (rounds_events config live j later rest) + j) did.count
           ∙ sum (length one) (length more) (length (one ++ more)) next (length (rounds_events config live n w (round_lines lines)) + n) (length-append one more) (ap (λ (xs : List WorldEvent). length xs + next) (sym split) ∙ h.count);
-      spelled = spelled_on config next next' one now did.count h.spelled;
+      spelled = spelled_on config next next' one now (round_is_acts config live next now (round_line line)) did.count h.spelled;
     })
   where
     sum : (a b l n total : ℕ) → l ≡ a + b → l + n ≡ total → b + (a + n) ≡ total
@@ -274,14 +292,15 @@ rounds_end config key live n w lines k next s le h =
 
 -- ---- from the start
 
--- what is spelled along every list of events stays so
-pub stay_spelled : (config : Config) (floors : List (List ℕ)) (before : List WorldEvent) (n : ℕ) → n ≡ length before → ((events : List WorldEvent) → AreSpelledAlong config events (opening_world config floors))
-    → StaySpelled config n (world_of config floors before)
-stay_spelled config floors before n is all =
-    spelled_on config 0 n before (opening_world config floors) (more is)
-    (λ ys. subst (λ l. AreSpelled (world_after_events config 0 l (opening_world config floors))) (take-length ys) (all ys (length ys)))
+-- what is spelled along these events and all acts after them stays so
+pub stay_spelled : (config : Config) (floors : List (List ℕ)) (before : List WorldEvent) (n : ℕ) → n ≡ length before
+    → ((acts : List WorldEvent) → AreActs acts → AreSpelledAlong config (before ++ acts) (opening_world config floors)) → StaySpelled config n (world_of config floors before)
+stay_spelled config floors before n is all ys acts =
+    let w = opening_world config floors in
+    subst AreSpelled (ap (λ l. world_after_events config 0 l w) (take-length (before ++ ys)) ∙ run_append config before ys 0 w ∙ ap (λ m. world_after_events config m ys (world_of config floors before)) (more is))
+    (all ys acts (length (before ++ ys)))
   where
-    more : {n m : ℕ} → n ≡ m → n ≡ m + 0
+    more : {n m : ℕ} → n ≡ m → m + 0 ≡ n
     more e = omega (arith, e)
 
 -- the world after all

@@ -3,7 +3,7 @@ use Rattle.std.proofs.Common.{◌≡◌, ℕ, ℤ, suc, ◌+◌, ◌^◌, ◌≤
 use Rattle.std.proofs.lemmas.Bool.{cond_both}
 use Rattle.std.proofs.lemmas.List.{append-nil, append_assoc}
 use Rattle.cluster_sim.proofs.Waves.{set_all}
-use Rattle.cluster_sim.specs.World.{Cut, Happens, Restart, World, WorldEvent, acting_node, node_event_of, node_of, place_at, with_told_of, world_after_act, world_after_event, world_after_events, world_after_restart, world_after_turn, world_with_made}
+use Rattle.cluster_sim.specs.World.{Anew, Cut, Happens, Lost, Restart, World, WorldEvent, floor_in, has_store, lost_node, may_be_anew, opening_node, world_after_anew, world_after_loss, acting_node, node_event_of, node_of, place_at, with_told_of, world_after_act, world_after_event, world_after_events, world_after_restart, world_after_turn, world_with_made}
 use Rattle.floor_store.specs.Content.{Content, with_row}
 use Rattle.floor_store.specs.Records.{ProposalRecord, span_of}
 use Rattle.oath_node.specs.Machine.{Client, Config, Made, NodeEvent, NodeState, Peer, Tick, is_heard, made_by_datagram, made_by_event, made_by_proposal, made_by_ruling, made_by_vote, made_while_running, next_beginning, quiet_made, restarted_node, ruling_at, stopped_node}
@@ -12,7 +12,7 @@ use Rattle.oath_node.specs.declared.ruling.Ruling.TheVariants.{Again, Denied, Fi
 use Rattle.otp_core.specs.Acceptance.{majority_of, size}
 use Rattle.vote_core.specs.NodeSet.{PlaceRecord, with_node}
 use Rattle.vote_core.specs.Rows.{granted_row, row}
-use Rattle.vote_core.specs.Schedule.{Envelope, envelope_from, is_member, last_boot}
+use Rattle.vote_core.specs.Schedule.{Envelope, envelope_from, last_boot}
 use Rattle.vote_core.specs.Voting.{Ballot, Voted, VoterState, accept, count_deny, count_grant, denied_one, granted_one, is_grant, of_this_boot, on_ask, on_deny, on_floor, on_grant, on_message, propose, propose_alone, propose_among, quiet_step, raise, replace, reply_step, tick, with_granting, with_pending}
 use Rattle.vote_core.specs.declared.message.Message.{Message}
 use Rattle.vote_core.specs.declared.message.Message.TheVariants.{Ask, Deny, Floor, Grant}
@@ -93,7 +93,7 @@ turned_seq config e i None w k h = λ j. omega (arith, h j)
 turned_seq config e i (Some v) w k h =
     let place = place_at w i in
     let x = w.nodes i in
-    cond_both (is_member w.n i) (world_with_made e i (made_by_event config place v x) w) w (λ z. SeqsWithin (suc k) z)
+    cond_both (has_store w i) (world_with_made e i (made_by_event config place v x) w) w (λ z. SeqsWithin (suc k) z)
     (λ _ j. set_all (λ m y. y.voter.seq ≤ suc k) i (made_by_event config place v x).state w.nodes
     (cond_both x.running (made_while_running config place v x) (quiet_made x) (λ (o : Made). o.state.voter.seq ≤ suc k) (λ _. omega (arith, event_seq config place x v, h i)) (λ _. omega (arith, h i))) (λ m. omega (arith, h m)) j)
     (λ _ j. omega (arith, h j))
@@ -104,7 +104,17 @@ reopened_seq x k h = cond_both {A = NodeState} (ltb x.content.boot last_boot) _ 
 pub restart_seq : (o : Option ℕ) (w : World) (k : ℕ) → SeqsWithin k w → SeqsWithin k (world_after_restart o w)
 unfolding world_after_restart
 restart_seq None w k h = h
-restart_seq (Some i) w k h = cond_both {A = World} (is_member w.n i) _ w (λ z. SeqsWithin k z) (λ _ j. set_all (λ m y. y.voter.seq ≤ k) i (restarted_node (w.nodes i)) w.nodes (reopened_seq (w.nodes i) k (h i)) h j) (λ _. h)
+restart_seq (Some i) w k h = cond_both {A = World} (has_store w i) _ w (λ z. SeqsWithin k z) (λ _ j. set_all (λ m y. y.voter.seq ≤ k) i (restarted_node (w.nodes i)) w.nodes (reopened_seq (w.nodes i) k (h i)) h j) (λ _. h)
+
+loss_seq : (i : ℕ) (w : World) (k : ℕ) → SeqsWithin k w → SeqsWithin k (world_after_loss i w)
+unfolding world_after_loss
+loss_seq i w k h = cond_both {A = World} (has_store w i) _ w (λ z. SeqsWithin k z) (λ _ j. set_all (λ m y. y.voter.seq ≤ k) i (lost_node (w.nodes i)) w.nodes (omega arith) h j) (λ _. h)
+
+anew_seq : (e i boot : ℕ) (floor : ℕ → ℕ) (w : World) (k : ℕ) → SeqsWithin k w → SeqsWithin k (world_after_anew e i boot floor w)
+unfolding world_after_anew
+anew_seq e i boot floor w k h =
+    cond_both {A = World} (may_be_anew w i boot floor) _ w (λ z. SeqsWithin k z)
+    (λ _ j. set_all (λ m y. y.voter.seq ≤ k) i (opening_node boot (length (w.nodes i).content.rows) floor) w.nodes (omega arith) h j) (λ _. h)
 
 pub happens_seq : (config : Config) (e : ℕ) (x : WorldEvent) (w : World) (k : ℕ) → SeqsWithin k w → SeqsWithin (suc k) (world_after_event config e x w)
 unfolding world_after_event world_after_act
@@ -112,6 +122,8 @@ happens_seq config e (Happens a) w k h = turned_seq config e (acting_node a) (no
 happens_seq config e (Cut true a) w k h = restart_seq (node_of a w) (with_told_of w (world_after_act config e a w)) (suc k) (turned_seq config e (acting_node a) (node_event_of w.sent a) w k h)
 happens_seq config e (Cut false a) w k h = restart_seq (node_of a w) w (suc k) (λ i. omega (arith, h i))
 happens_seq config e (Restart i) w k h = restart_seq (Some i) w (suc k) (λ i. omega (arith, h i))
+happens_seq config e (Lost i) w k h = loss_seq i w (suc k) (λ i. omega (arith, h i))
+happens_seq config e (Anew i boot floors) w k h = anew_seq e i boot (floor_in floors) w (suc k) (λ i. omega (arith, h i))
 
 pub run_seq : (config : Config) (e : ℕ) (xs : List WorldEvent) (w : World) (k : ℕ) → SeqsWithin k w → SeqsWithin (length xs + k) (world_after_events config e xs w)
 unfolding world_after_events
@@ -123,12 +135,20 @@ run_seq config e (x ∷ xs) w k h = λ i. let z = run_seq config (suc e) xs (wor
 pub turned_n : (config : Config) (e i : ℕ) (o : Option NodeEvent) (w : World) → (world_after_turn config e i o w).n ≡ w.n
 unfolding world_after_turn world_with_made
 turned_n config e i None w = refl
-turned_n config e i (Some v) w = cond_both (is_member w.n i) (world_with_made e i (made_by_event config (place_at w i) v (w.nodes i)) w) w (λ (z : World). z.n ≡ w.n) (λ _. refl) (λ _. refl)
+turned_n config e i (Some v) w = cond_both (has_store w i) (world_with_made e i (made_by_event config (place_at w i) v (w.nodes i)) w) w (λ (z : World). z.n ≡ w.n) (λ _. refl) (λ _. refl)
 
 pub restart_n : (o : Option ℕ) (w : World) → (world_after_restart o w).n ≡ w.n
 unfolding world_after_restart
 restart_n None w = refl
-restart_n (Some i) w = cond_both {A = World} (is_member w.n i) _ w (λ z. z.n ≡ w.n) (λ _. refl) (λ _. refl)
+restart_n (Some i) w = cond_both {A = World} (has_store w i) _ w (λ z. z.n ≡ w.n) (λ _. refl) (λ _. refl)
+
+loss_n : (i : ℕ) (w : World) → (world_after_loss i w).n ≡ w.n
+unfolding world_after_loss
+loss_n i w = cond_both {A = World} (has_store w i) _ w (λ z. z.n ≡ w.n) (λ _. refl) (λ _. refl)
+
+anew_n : (e i boot : ℕ) (floor : ℕ → ℕ) (w : World) → (world_after_anew e i boot floor w).n ≡ w.n
+unfolding world_after_anew
+anew_n e i boot floor w = cond_both {A = World} (may_be_anew w i boot floor) _ w (λ z. z.n ≡ w.n) (λ _. refl) (λ _. refl)
 
 pub happens_n : (config : Config) (e : ℕ) (x : WorldEvent) (w : World) → (world_after_event config e x w).n ≡ w.n
 unfolding world_after_event world_after_act
@@ -136,6 +156,8 @@ happens_n config e (Happens a) w = turned_n config e (acting_node a) (node_event
 happens_n config e (Cut true a) w = restart_n (node_of a w) (with_told_of w (world_after_act config e a w)) ∙ turned_n config e (acting_node a) (node_event_of w.sent a) w
 happens_n config e (Cut false a) w = restart_n (node_of a w) w
 happens_n config e (Restart i) w = restart_n (Some i) w
+happens_n config e (Lost i) w = loss_n i w
+happens_n config e (Anew i boot floors) w = anew_n e i boot (floor_in floors) w
 
 pub run_n : (config : Config) (e : ℕ) (xs : List WorldEvent) (w : World) → (world_after_events config e xs w).n ≡ w.n
 unfolding world_after_events
@@ -150,12 +172,20 @@ unfolding world_after_turn world_with_made
 turned_longer config e i None w = ([], sym (append-nil w.sent))
 turned_longer config e i (Some v) w =
     let o = made_by_event config (place_at w i) v (w.nodes i) in
-    cond_both (is_member w.n i) (world_with_made e i o w) w (λ (z : World). Longer w z) (λ _. (map (envelope_from i) o.sends, refl)) (λ _. ([], sym (append-nil w.sent)))
+    cond_both (has_store w i) (world_with_made e i o w) w (λ (z : World). Longer w z) (λ _. (map (envelope_from i) o.sends, refl)) (λ _. ([], sym (append-nil w.sent)))
 
 restart_sent : (o : Option ℕ) (w : World) → (world_after_restart o w).sent ≡ w.sent
 unfolding world_after_restart
 restart_sent None w = refl
-restart_sent (Some i) w = cond_both {A = World} (is_member w.n i) _ w (λ z. z.sent ≡ w.sent) (λ _. refl) (λ _. refl)
+restart_sent (Some i) w = cond_both {A = World} (has_store w i) _ w (λ z. z.sent ≡ w.sent) (λ _. refl) (λ _. refl)
+
+loss_sent : (i : ℕ) (w : World) → (world_after_loss i w).sent ≡ w.sent
+unfolding world_after_loss
+loss_sent i w = cond_both {A = World} (has_store w i) _ w (λ z. z.sent ≡ w.sent) (λ _. refl) (λ _. refl)
+
+anew_sent : (e i boot : ℕ) (floor : ℕ → ℕ) (w : World) → (world_after_anew e i boot floor w).sent ≡ w.sent
+unfolding world_after_anew
+anew_sent e i boot floor w = cond_both {A = World} (may_be_anew w i boot floor) _ w (λ z. z.sent ≡ w.sent) (λ _. refl) (λ _. refl)
 
 pub happens_longer : (config : Config) (e : ℕ) (x : WorldEvent) (w : World) → Longer w (world_after_event config e x w)
 unfolding world_after_event world_after_act
@@ -163,6 +193,8 @@ happens_longer config e (Happens a) w = turned_longer config e (acting_node a) (
 happens_longer config e (Cut true a) w = ([], restart_sent (node_of a w) (with_told_of w (world_after_act config e a w)) ∙ sym (append-nil w.sent))
 happens_longer config e (Cut false a) w = ([], restart_sent (node_of a w) w ∙ sym (append-nil w.sent))
 happens_longer config e (Restart i) w = ([], restart_sent (Some i) w ∙ sym (append-nil w.sent))
+happens_longer config e (Lost i) w = ([], loss_sent i w ∙ sym (append-nil w.sent))
+happens_longer config e (Anew i boot floors) w = ([], anew_sent e i boot (floor_in floors) w ∙ sym (append-nil w.sent))
 
 pub run_longer : (config : Config) (e : ℕ) (xs : List WorldEvent) (w : World) → Longer w (world_after_events config e xs w)
 unfolding world_after_events

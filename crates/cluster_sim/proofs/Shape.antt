@@ -34,8 +34,8 @@ passed_same : (w : Cluster) (e i : ℕ) (o : Option PassRecord) → acceptance_i
 passed_same w e i None = refl
 passed_same w e i (Some p) = refl
 
-abbrev pub of_parts : ℕ → List Envelope → (ProposalRecord → Option Begun) → (ℕ → Member) → List Acceptance → Cluster
-of_parts n sent begun nodes passes = record { n = n; nodes = nodes; lost = λ node. false; least = λ token. 0; sent = sent; begun = begun; accepted = passes }
+abbrev pub of_parts : World → List Envelope → (ProposalRecord → Option Begun) → (ℕ → Member) → List Acceptance → Cluster
+of_parts w sent begun nodes passes = record { n = w.n; nodes = nodes; lost = w.lost; least = w.least; sent = sent; begun = begun; accepted = passes }
 
 pub made_after : (e i : ℕ) (o : Made) (decisions : List (ℕ × Decision)) (w : World) → pass_in decisions ≡ o.pass → o.state.running ≡ true
     → cluster_of (world_with_made e i o w) ≡ cluster_after e i (step_in o decisions) (with_book (begun_with e o.began (begun_in w.history)) (cluster_of w))
@@ -45,8 +45,8 @@ made_after e i o decisions w is up =
     let sent = w.sent ++ map (envelope_from i) o.sends in
     let nodes = seen_set i o.state w.nodes ∙ ap (λ u. set_node i (record { content = o.state.content; voter = o.state.voter; running = u }) (λ j. member_of (w.nodes j))) up in
     let more = ap (λ l. passes_in w.history ++ l) (passed_same (with_book B (cluster_of w)) e i o.pass ∙ ap (λ p. accepted_in (with_book B (cluster_of w)) e i p) (sym is)) in
-    ap (λ f. of_parts w.n sent B f (passes_in w.history ++ acceptance_in B e i o.pass)) nodes
-    ∙ ap (λ l. of_parts w.n sent B (set_node i (record { content = o.state.content; voter = o.state.voter; running = true }) (λ j. member_of (w.nodes j))) l) more
+    ap (λ f. of_parts w sent B f (passes_in w.history ++ acceptance_in B e i o.pass)) nodes
+    ∙ ap (λ l. of_parts w sent B (set_node i (record { content = o.state.content; voter = o.state.voter; running = true }) (λ j. member_of (w.nodes j))) l) more
 
 -- nothing sent, begun or passed, and the voter's part as it was
 pub made_idle : (e i : ℕ) (x : NodeState) (replies : List Reply) (failed : Option (ℕ × ℕ)) (w : World) → member_of x ≡ member_of (w.nodes i)
@@ -56,6 +56,6 @@ made_idle e i x replies failed w same =
     let B = begun_in w.history in
     let nodes : (λ j. member_of (with_state i x w.nodes j)) ≡ (λ j. member_of (w.nodes j)) =
     fun_ext (λ j. cond_both (eqb j i) x (w.nodes j) (λ y. member_of y ≡ member_of (w.nodes j)) (λ q. same ∙ ap (λ m. member_of (w.nodes m)) (sym (eqb-true j i q))) (λ _. refl)) in
-    ap (λ f. of_parts w.n (w.sent ++ []) B f (passes_in w.history ++ [])) nodes
-    ∙ ap (λ l. of_parts w.n l B (λ j. member_of (w.nodes j)) (passes_in w.history ++ [])) (right_nil w.sent)
-    ∙ ap (λ l. of_parts w.n w.sent B (λ j. member_of (w.nodes j)) l) (right_nil (passes_in w.history))
+    ap (λ f. of_parts w (w.sent ++ []) B f (passes_in w.history ++ [])) nodes
+    ∙ ap (λ l. of_parts w l B (λ j. member_of (w.nodes j)) (passes_in w.history ++ [])) (right_nil w.sent)
+    ∙ ap (λ l. of_parts w w.sent B (λ j. member_of (w.nodes j)) l) (right_nil (passes_in w.history))

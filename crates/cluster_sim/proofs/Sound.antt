@@ -4,7 +4,7 @@ use Rattle.std.proofs.Common.{◌≡◌, ℕ, ℤ, zero, suc, ◌+◌, ◌^◌, 
 use Rattle.std.proofs.lemmas.Bool.{cond_both, ltb-true, false≢true}
 use Rattle.std.proofs.lemmas.List.{length-set}
 use Rattle.admit_core.specs.Gate.{GateRecord}
-use Rattle.cluster_sim.specs.World.{Cut, Happens, Restart, World, WorldEvent, acting_node, floor_at, node_event_of, node_of, opening_world, place_at, with_state, with_told_of, world_after_act, world_after_event, world_after_events, world_after_restart, world_after_turn, world_with_made}
+use Rattle.cluster_sim.specs.World.{Anew, Cut, Happens, Lost, Restart, World, WorldEvent, acting_node, floor_at, floor_in, has_store, lost_node, may_be_anew, opening_node, node_event_of, node_of, opening_world, place_at, with_state, with_told_of, world_after_act, world_after_anew, world_after_event, world_after_loss, world_after_events, world_after_restart, world_after_turn, world_with_made}
 use Rattle.floor_store.specs.Content.{Content, accepted_row, with_row}
 use Rattle.floor_store.specs.Records.{ProposalRecord, RowRecord, span_of, SpanRecord}
 use Rattle.oath_node.specs.Machine.{Beginning, Client, Config, Made, NodeEvent, NodeState, Owner, Peer, Tick, is_heard, is_pending, made_by_datagram, made_by_event, made_by_proposal, made_by_ruling, made_by_vote, made_while_running, next_beginning, quiet_made, restarted_node, ruling_at, stopped_node}
@@ -14,7 +14,7 @@ use Rattle.otp_core.specs.Acceptance.{majority_of, size}
 use Rattle.vote_core.proofs.Basics.{Each, each_append, each_get_or, each_passes, opening_size}
 use Rattle.vote_core.specs.NodeSet.{PlaceRecord, with_node}
 use Rattle.vote_core.specs.Rows.{granted_row, no_row, row, row_with_gate, row_with_next}
-use Rattle.vote_core.specs.Schedule.{is_member, last_boot, opening_rows}
+use Rattle.vote_core.specs.Schedule.{last_boot, opening_rows}
 use Rattle.vote_core.specs.Voting.{Ballot, Voted, VoterState, accept, count_deny, count_grant, denied_one, granted_one, is_grant, of_this_boot, on_ask, on_deny, on_floor, on_grant, on_message, proposal_of, propose, propose_alone, propose_among, quiet_step, raise, replace, reply_step, tick, turn_after, with_granting, with_pending}
 use Rattle.vote_core.specs.declared.message.Message.{Message}
 use Rattle.vote_core.specs.declared.message.Message.TheVariants.{Ask, Deny, Floor, Grant}
@@ -161,7 +161,7 @@ turned_sound config tokens e i None w h = h
 turned_sound config tokens e i (Some v) w h =
     let place = place_at w i in
     let x = w.nodes i in
-    cond_both (is_member w.n i) (world_with_made e i (made_by_event config place v x) w) w (λ z. AllSound tokens z)
+    cond_both (has_store w i) (world_with_made e i (made_by_event config place v x) w) w (λ z. AllSound tokens z)
     (λ _. set_sound tokens i (made_by_event config place v x).state w.nodes h
     (cond_both x.running (made_while_running config place v x) (quiet_made x) (λ (o : Made). Sound tokens o.state) (λ _. event_sound config tokens place x (h i) v) (λ _. h i)))
     (λ _. h)
@@ -174,7 +174,27 @@ reopened_sound tokens x h =
 pub restart_sound : (tokens : ℕ) (o : Option ℕ) (w : World) → AllSound tokens w → AllSound tokens (world_after_restart o w)
 unfolding world_after_restart
 restart_sound tokens None w h = h
-restart_sound tokens (Some i) w h = cond_both {A = World} (is_member w.n i) _ w (λ z. AllSound tokens z) (λ _. set_sound tokens i (restarted_node (w.nodes i)) w.nodes h (reopened_sound tokens (w.nodes i) (h i))) (λ _. h)
+restart_sound tokens (Some i) w h = cond_both {A = World} (has_store w i) _ w (λ z. AllSound tokens z) (λ _. set_sound tokens i (restarted_node (w.nodes i)) w.nodes h (reopened_sound tokens (w.nodes i) (h i))) (λ _. h)
+
+loss_sound : (tokens i : ℕ) (w : World) → AllSound tokens w → AllSound tokens (world_after_loss i w)
+unfolding world_after_loss
+loss_sound tokens i w h =
+    cond_both {A = World} (has_store w i) _ w (λ z. AllSound tokens z)
+    (λ _. set_sound tokens i (lost_node (w.nodes i)) w.nodes h (record { kept = record { size = (h i).kept.size; lies = (h i).kept.lies; turn = inr refl }; owned = tt })) (λ _. h)
+
+opening_lies : (k : ℕ) (floor : ℕ → ℕ) → Each Lies (opening_rows k floor)
+opening_lies zero floor = tt
+opening_lies (suc k) floor = each_append Lies (opening_rows k floor) _ (opening_lies k floor) (tt, tt)
+
+opening_sound : (tokens boot k : ℕ) (floor : ℕ → ℕ) → k ≡ tokens → Sound tokens (opening_node boot k floor)
+opening_sound tokens boot k floor same = record { kept = record { size = opening_size k floor ∙ same; lies = opening_lies k floor; turn = inr refl }; owned = tt }
+
+anew_sound : (tokens e i boot : ℕ) (floor : ℕ → ℕ) (w : World) → AllSound tokens w → AllSound tokens (world_after_anew e i boot floor w)
+unfolding world_after_anew
+anew_sound tokens e i boot floor w h =
+    let k = length (w.nodes i).content.rows in
+    cond_both {A = World} (may_be_anew w i boot floor) _ w (λ z. AllSound tokens z)
+    (λ _. set_sound tokens i (opening_node boot k floor) w.nodes h (opening_sound tokens boot k floor (h i).kept.size)) (λ _. h)
 
 pub happens_sound : (config : Config) (tokens e : ℕ) (x : WorldEvent) (w : World) → AllSound tokens w → AllSound tokens (world_after_event config e x w)
 unfolding world_after_event world_after_act
@@ -182,18 +202,16 @@ happens_sound config tokens e (Happens a) w h = turned_sound config tokens e (ac
 happens_sound config tokens e (Cut true a) w h = restart_sound tokens (node_of a w) (with_told_of w (world_after_act config e a w)) (turned_sound config tokens e (acting_node a) (node_event_of w.sent a) w h)
 happens_sound config tokens e (Cut false a) w h = restart_sound tokens (node_of a w) w h
 happens_sound config tokens e (Restart i) w h = restart_sound tokens (Some i) w h
+happens_sound config tokens e (Lost i) w h = loss_sound tokens i w h
+happens_sound config tokens e (Anew i boot floors) w h = anew_sound tokens e i boot (floor_in floors) w h
 
 pub run_sound : (config : Config) (tokens e : ℕ) (xs : List WorldEvent) (w : World) → AllSound tokens w → AllSound tokens (world_after_events config e xs w)
 unfolding world_after_events
 run_sound config tokens e [] w h = h
 run_sound config tokens e (x ∷ xs) w h = run_sound config tokens (suc e) xs (world_after_event config e x w) (happens_sound config tokens e x w h)
 
-opening_lies : (k : ℕ) (floor : ℕ → ℕ) → Each Lies (opening_rows k floor)
-opening_lies zero floor = tt
-opening_lies (suc k) floor = each_append Lies (opening_rows k floor) _ (opening_lies k floor) (tt, tt)
-
 pub start_sound : (config : Config) (floors : List (List ℕ)) → AllSound (length config.book) (opening_world config floors)
-start_sound config floors i = record { kept = record { size = opening_size (length config.book) (floor_at floors i); lies = opening_lies (length config.book) (floor_at floors i); turn = inr refl }; owned = tt }
+start_sound config floors i = opening_sound (length config.book) 1 (length config.book) (floor_at floors i) refl
 
 -- with nothing pending nobody owns anything
 pub no_owners : (tokens : ℕ) (x : NodeState) → Sound tokens x → x.voter.pending ≡ [] → x.owners ≡ []

@@ -1,5 +1,5 @@
 -- Whatever happens, each datagram that a node sends is in the peer format.
-use Rattle.std.proofs.Common.{◌≡◌, ◌≢◌, ℕ, zero, suc, ◌+◌, ◌-◌, ◌^◌, ◌<◌, ◌≤◌, true, false, cond, not, ⊎_elim, List, [], ◌∷◌, length, map, Option, Some, None, refl, sym, subst, arith, eqb, leb, ltb, take, ℤ}
+use Rattle.std.proofs.Common.{true≢false, ◌≡◌, ◌≢◌, ℕ, zero, suc, ◌+◌, ◌-◌, ◌^◌, ◌<◌, ◌≤◌, Bool, true, false, ◌&&◌, ◌||◌, cond, not, ⊎_elim, List, [], ◌∷◌, ◌++◌, length, map, Option, Some, None, refl, sym, ap, ◌∙◌, subst, arith, eqb, leb, ltb, take, ℤ}
 use Rattle.std.specs.Prelude.{filter}
 use Rattle.std.specs.List.{slice_get}
 use Rattle.std.proofs.lemmas.Bool.{cond_both, eqb-true, eqb-false, and_parts, not-true, ltb-true, leb-true}
@@ -27,8 +27,10 @@ use Rattle.oath_node.specs.Grounds.{HasGrounds}
 use Rattle.oath_node.specs.Machine.{Config, Made, NodeEvent, NodeState, Client, Peer, Tick, made_by_event, made_by_datagram, made_by_ruling, stopped_node, is_heard, made_while_running, opened_node, made_by_proposal, quiet_made, restarted_node, standing_at, made_by_vote}
 use Rattle.oath_node.specs.declared.ruling.Ruling.{Ruling}
 use Rattle.oath_node.specs.declared.ruling.Ruling.TheVariants.{Outside, Again, Waiting, Denied, Wrong, Fitting}
-use Rattle.cluster_sim.specs.World.{World, floor_at, opening_world, world_after_events, Act, Says, Deliver, Ticks, Noise, WorldEvent, Happens, Cut, Restart, world_after_act, delivered_event, world_after_event, world_with_made, node_of, noise_event, place_at, world_after_restart, with_state, world_after_turn, with_told_of}
+use Rattle.cluster_sim.specs.World.{World, floor_at, opening_world, world_after_events, Act, Says, Deliver, Ticks, Noise, WorldEvent, Happens, Cut, Restart, Lost, Anew, floor_in, has_store, lost_node, may_be_anew, opening_node, world_after_anew, world_after_loss, world_after_act, delivered_event, world_after_event, world_with_made, node_of, noise_event, place_at, world_after_restart, with_state, world_after_turn, with_told_of}
 use Rattle.cluster_sim.specs.Journal.{AreSpelled, AreSpelledAlong}
+use Rattle.cluster_sim.specs.RoundRun.{AreActs}
+use Rattle.cluster_sim.specs.Run.{HasFloorsInRange, HaveFloorsInRange}
 use Rattle.cluster_sim.proofs.Acts.{noise_cases, unheard}
 use Rattle.cluster_sim.proofs.BelowLaws.{GroundLaw}
 
@@ -287,19 +289,32 @@ after_fine grounds config place x Tick few p h ok =
 abbrev pub IsSpelled : Envelope → Type 0
 IsSpelled l = HasSpelling l.sender l.receiver l.message
 
+abbrev pub IsFineNode : NodeState → Type 0
+IsFineNode x = IsFine x.content x.voter
+
+-- a node whose store is gone may be past the last boot
 pub record IsFineWorld (w : World) : Type 0 where
   pub few : w.n ≤ 9
-  pub nodes : (i : ℕ) → IsFine (w.nodes i).content (w.nodes i).voter
+  pub nodes : (i : ℕ) → w.lost i ≡ false → IsFineNode (w.nodes i)
+  pub tokens : (i : ℕ) → length (w.nodes i).content.rows ≤ 10000
   pub sent : Each IsSpelled w.sent
 
-set_fine : (i : ℕ) (x : NodeState) (nodes : ℕ → NodeState) → IsFine x.content x.voter → ((j : ℕ) → IsFine (nodes j).content (nodes j).voter) → (j : ℕ) → IsFine (with_state i x nodes j).content (with_state i x nodes j).voter
-set_fine i x nodes hx h j = cond_both (eqb j i) x (nodes j) (λ (y : NodeState). IsFine y.content y.voter) (λ _. hx) (λ _. h j)
+set_fine : (i : ℕ) (x : NodeState) (lost : ℕ → Bool) (nodes : ℕ → NodeState) → IsFineNode x → ((j : ℕ) → lost j ≡ false → IsFineNode (nodes j)) → (j : ℕ) → lost j ≡ false → IsFineNode (with_state i x nodes j)
+set_fine i x lost nodes hx h j at = cond_both (eqb j i) x (nodes j) IsFineNode (λ _. hx) (λ _. h j at)
+
+set_tokens : (i : ℕ) (x : NodeState) (nodes : ℕ → NodeState) → length x.content.rows ≤ 10000 → ((j : ℕ) → length (nodes j).content.rows ≤ 10000) → (j : ℕ) → length (with_state i x nodes j).content.rows ≤ 10000
+set_tokens i x nodes hx h j = cond_both (eqb j i) x (nodes j) (λ (y : NodeState). length y.content.rows ≤ 10000) (λ _. hx) (λ _. h j)
+
+-- a node whose store is there is fine
+there : (i : ℕ) (w : World) → IsFineWorld w → has_store w i ≡ true → IsFineNode (w.nodes i)
+there i w h b = h.nodes i (not-true (w.lost i) (and_parts (not (w.lost i)) (is_member w.n i) b).0)
 
 made_fine : (e i : ℕ) (m : Made) (w : World) → IsFineWorld w → IsFineMade i m → IsFineWorld (world_with_made e i m w)
 unfolding world_with_made
 made_fine e i m w h f = record {
   few = h.few;
-  nodes = set_fine i m.state w.nodes f.fine h.nodes;
+  nodes = set_fine i m.state w.lost w.nodes f.fine h.nodes;
+  tokens = set_tokens i m.state w.nodes f.fine.tokens h.tokens;
   sent = each_append IsSpelled w.sent _ h.sent (each_map IsSpelled (envelope_from i) m.sends f.sends);
 }
 
@@ -307,9 +322,9 @@ turned_fine : GroundLaw → (config : Config) (e i : ℕ) (o : Option NodeEvent)
 unfolding world_after_turn
 turned_fine grounds config e i None w few h ok = h
 turned_fine grounds config e i (Some x) w few h ok =
-    cond_both (is_member w.n i) (world_with_made e i (made_by_event config (place_at w i) x (w.nodes i)) w) w (λ y. IsFineWorld y)
-    (λ b. (let a = and_parts (leb 1 i) (leb i w.n) b in
-    made_fine e i _ w h (after_fine grounds config (place_at w i) (w.nodes i) x few (record { first = leb-true 1 i a.0; last = leb-true i w.n a.1; few = h.few }) (h.nodes i) (ok x refl))))
+    cond_both (has_store w i) (world_with_made e i (made_by_event config (place_at w i) x (w.nodes i)) w) w (λ y. IsFineWorld y)
+    (λ b. (let a = and_parts (leb 1 i) (leb i w.n) (and_parts (not (w.lost i)) (is_member w.n i) b).1 in
+    made_fine e i _ w h (after_fine grounds config (place_at w i) (w.nodes i) x few (record { first = leb-true 1 i a.0; last = leb-true i w.n a.1; few = h.few }) (there i w h b) (ok x refl))))
     (λ _. h)
 
 -- what is not heard leaves the node as it was
@@ -322,8 +337,8 @@ dropped_made config place x from l other h =
 dropped_fine : (config : Config) (e i from : ℕ) (l : Envelope) (w : World) → eqb l.sender from ≡ false → IsFineWorld w → IsFineWorld (world_after_turn config e i (Some (Peer from (Some l))) w)
 unfolding world_after_turn
 dropped_fine config e i from l w other h =
-    cond_both (is_member w.n i) (world_with_made e i (made_by_event config (place_at w i) (Peer from (Some l)) (w.nodes i)) w) w (λ y. IsFineWorld y)
-    (λ b. made_fine e i _ w h (dropped_made config (place_at w i) (w.nodes i) from l other (h.nodes i))) (λ _. h)
+    cond_both (has_store w i) (world_with_made e i (made_by_event config (place_at w i) (Peer from (Some l)) (w.nodes i)) w) w (λ y. IsFineWorld y)
+    (λ b. made_fine e i _ w h (dropped_made config (place_at w i) (w.nodes i) from l other (there i w h b))) (λ _. h)
 
 letter_event : (ls : List Envelope) (o : Option Envelope) → ((l : Envelope) → o ≡ Some l → IsSpelled l) → (x : NodeEvent) → delivered_event o ≡ Some x → IsFineEvent x
 letter_event ls None h x e = absurd (none-some x e)
@@ -358,52 +373,131 @@ restart_fine : (o : Option ℕ) (w : World) → IsFineWorld w → IsFineWorld (w
 unfolding world_after_restart
 restart_fine None w h = h
 restart_fine (Some i) w h =
-    cond_both (is_member w.n i) _ w (λ y. IsFineWorld y)
-    (λ _. record { few = h.few; nodes = set_fine i (restarted_node (w.nodes i)) w.nodes (restarted_fine (w.nodes i) (h.nodes i)) h.nodes; sent = h.sent })
+    let x = restarted_node (w.nodes i) in
+    cond_both (has_store w i) _ w (λ y. IsFineWorld y)
+    (λ b. (let f = restarted_fine (w.nodes i) (there i w h b) in
+    record { few = h.few; nodes = set_fine i x w.lost w.nodes f h.nodes; tokens = set_tokens i x w.nodes f.tokens h.tokens; sent = h.sent }))
     (λ _. h)
 
-pub happens_fine : GroundLaw → (config : Config) (e : ℕ) (x : WorldEvent) (w : World) → length config.book ≤ 10000 → IsFineWorld w → IsFineWorld (world_after_event config e x w)
+-- ---- stores that are lost and made anew
+
+loss_fine : (i : ℕ) (w : World) → IsFineWorld w → IsFineWorld (world_after_loss i w)
+unfolding world_after_loss
+loss_fine i w h =
+    let x = lost_node (w.nodes i) in
+    cond_both (has_store w i) _ w (λ y. IsFineWorld y)
+    (λ b. record {
+      few = h.few;
+      nodes = λ j at. cond_both (eqb j i) x (w.nodes j) (λ y. eqb j i || w.lost j ≡ false → IsFineNode y)
+          (λ q gone. absurd (true≢false (sym (ap (λ z. z || w.lost j) q) ∙ gone)))
+          (λ q kept. h.nodes j (sym (ap (λ z. z || w.lost j) q) ∙ kept)) at;
+      tokens = set_tokens i x w.nodes (h.tokens i) h.tokens;
+      sent = h.sent;
+    })
+    (λ _. h)
+
+-- the rows of a node that opens
+abbrev HasNext : RowRecord → Type 0
+HasNext r = r.next ≤ 2 ^ 62
+
+opening_rows_fine : (k : ℕ) (floor : ℕ → ℕ) → ((t : ℕ) → floor t ≤ 2 ^ 62) → Each HasNext (opening_rows k floor)
+opening_rows_fine zero floor h = tt
+opening_rows_fine (suc k) floor h = each_append HasNext (opening_rows k floor) _ (opening_rows_fine k floor h) (h k, tt)
+
+opening_fine : (boot k : ℕ) (floor : ℕ → ℕ) → boot < 2 ^ 62 → k ≤ 10000 → ((t : ℕ) → floor t ≤ 2 ^ 62) → IsFineNode (opening_node boot k floor)
+opening_fine boot k floor low few h = record {
+  boot = low;
+  next = λ t. each_get_or HasNext (opening_rows k floor) t no_row (opening_rows_fine k floor h) (omega arith);
+  tokens = subst (λ m. m ≤ 10000) (sym (opening_size k floor)) few;
+  seq = omega arith;
+  pending = tt;
+}
+
+anew_fine : (e i boot : ℕ) (floor : ℕ → ℕ) (w : World) → ((t : ℕ) → floor t ≤ 2 ^ 62) → IsFineWorld w → IsFineWorld (world_after_anew e i boot floor w)
+unfolding world_after_anew
+anew_fine e i boot floor w range h =
+    let k = length (w.nodes i).content.rows in
+    let x = opening_node boot k floor in
+    let f : boot < 2 ^ 62 → IsFineNode x = λ low. opening_fine boot k floor low (h.tokens i) range in
+    cond_both (may_be_anew w i boot floor) _ w (λ y. IsFineWorld y)
+    (λ may. (let low = low_boot w i boot floor may in
+    record {
+      few = h.few;
+      nodes = λ j at. cond_both (eqb j i) x (w.nodes j) (λ y. (not (eqb j i) && w.lost j) ≡ false → IsFineNode y)
+          (λ _ _. f low)
+          (λ q kept. h.nodes j (sym (ap (λ z. not z && w.lost j) q) ∙ kept)) at;
+      tokens = set_tokens i x w.nodes (f low).tokens h.tokens;
+      sent = h.sent;
+    }))
+    (λ _. h)
+  where
+    low_boot : (w : World) (i boot : ℕ) (floor : ℕ → ℕ) → may_be_anew w i boot floor ≡ true → boot < 2 ^ 62
+    low_boot w i boot floor may =
+        let a = and_parts (is_member w.n i && w.lost i) _ may in
+        let b = and_parts (ltb (size w.n w.lost) (majority_of w.n)) _ a.1 in
+        let c = and_parts (leb (w.nodes i).content.boot boot) _ b.1 in
+        let d = and_parts (leb boot last_boot) _ c.1 in
+        omega (arith, leb-true boot last_boot d.0)
+
+pub happens_fine : GroundLaw → (config : Config) (e : ℕ) (x : WorldEvent) (w : World) → length config.book ≤ 10000 → HasFloorsInRange x → IsFineWorld w → IsFineWorld (world_after_event config e x w)
 unfolding world_after_event
-happens_fine grounds config e (Happens a) w few h = acted_fine grounds config e a w few h
-happens_fine grounds config e (Cut true a) w few h =
+happens_fine grounds config e (Happens a) w few range h = acted_fine grounds config e a w few h
+happens_fine grounds config e (Cut true a) w few range h =
     let k = acted_fine grounds config e a w few h in
-    restart_fine (node_of a w) (with_told_of w (world_after_act config e a w)) (record { few = k.few; nodes = k.nodes; sent = h.sent })
-happens_fine grounds config e (Cut false a) w few h = restart_fine (node_of a w) w h
-happens_fine grounds config e (Restart i) w few h = restart_fine (Some i) w h
+    restart_fine (node_of a w) (with_told_of w (world_after_act config e a w)) (record { few = k.few; nodes = k.nodes; tokens = k.tokens; sent = h.sent })
+happens_fine grounds config e (Cut false a) w few range h = restart_fine (node_of a w) w h
+happens_fine grounds config e (Restart i) w few range h = restart_fine (Some i) w h
+happens_fine grounds config e (Lost i) w few range h = loss_fine i w h
+happens_fine grounds config e (Anew i boot floors) w few range h = anew_fine e i boot (floor_in floors) w range h
 
 pub are_spelled : (w : World) → IsFineWorld w → AreSpelled w
 are_spelled w h k l e = each_get IsSpelled w.sent k l h.sent e
 
 -- ---- runs
 
-run_fine : GroundLaw → (config : Config) (e : ℕ) (xs : List WorldEvent) (w : World) → length config.book ≤ 10000 → IsFineWorld w → IsFineWorld (world_after_events config e xs w)
+abbrev pub AreInRange : List WorldEvent → Type 0
+AreInRange xs = Each HasFloorsInRange xs
+
+in_range : (xs : List WorldEvent) → HaveFloorsInRange xs → AreInRange xs
+in_range [] h = tt
+in_range (x ∷ xs) h = (h 0 x refl, in_range xs (λ k. h (suc k)))
+
+pub acts_in_range : (xs : List WorldEvent) → AreActs xs → AreInRange xs
+acts_in_range [] h = tt
+acts_in_range (Happens a ∷ xs) h = (tt, acts_in_range xs h)
+acts_in_range (Cut kept a ∷ xs) h = absurd h
+acts_in_range (Restart i ∷ xs) h = absurd h
+acts_in_range (Lost i ∷ xs) h = absurd h
+acts_in_range (Anew i boot floors ∷ xs) h = absurd h
+
+taken_in_range : (k : ℕ) (xs : List WorldEvent) → AreInRange xs → AreInRange (take k xs)
+taken_in_range zero [] h = tt
+taken_in_range zero (x ∷ xs) h = tt
+taken_in_range (suc k) [] h = tt
+taken_in_range (suc k) (x ∷ xs) h = (h.0, taken_in_range k xs h.1)
+
+run_fine : GroundLaw → (config : Config) (e : ℕ) (xs : List WorldEvent) (w : World) → length config.book ≤ 10000 → AreInRange xs → IsFineWorld w → IsFineWorld (world_after_events config e xs w)
 unfolding world_after_events
-run_fine grounds config e [] w few h = h
-run_fine grounds config e (x ∷ xs) w few h = run_fine grounds config (suc e) xs (world_after_event config e x w) few (happens_fine grounds config e x w few h)
-
--- the rows of a node that opens
-abbrev HasNext : RowRecord → Type 0
-HasNext r = r.next ≤ 2 ^ 62
-
-opening_fine : (k : ℕ) (floor : ℕ → ℕ) → ((t : ℕ) → floor t ≤ 2 ^ 62) → Each HasNext (opening_rows k floor)
-opening_fine zero floor h = tt
-opening_fine (suc k) floor h = each_append HasNext (opening_rows k floor) _ (opening_fine k floor h) (h k, tt)
+run_fine grounds config e [] w few range h = h
+run_fine grounds config e (x ∷ xs) w few range h = run_fine grounds config (suc e) xs (world_after_event config e x w) few range.1 (happens_fine grounds config e x w few range.0 h)
 
 pub start_fine : (config : Config) (floors : List (List ℕ)) → length config.book ≤ 10000 → length floors ≤ 9 → ((i t : ℕ) → floor_at floors i t ≤ 2 ^ 62) → IsFineWorld (opening_world config floors)
-start_fine config floors few n h = record {
-  few = n;
-  nodes = λ i. record {
-    boot = omega arith;
-    next = λ t. each_get_or HasNext (opening_rows (length config.book) (floor_at floors i)) t no_row (opening_fine (length config.book) (floor_at floors i) (h i)) (omega arith);
-    tokens = subst (λ m. m ≤ 10000) (sym (opening_size (length config.book) (floor_at floors i))) few;
-    seq = omega arith;
-    pending = tt;
-  };
-  sent = tt;
-}
+start_fine config floors few n h =
+    let node : (i : ℕ) → IsFineNode (opening_node 1 (length config.book) (floor_at floors i)) = λ i. opening_fine 1 (length config.book) (floor_at floors i) (omega arith) few (h i) in
+    record { few = n; nodes = λ i _. node i; tokens = λ i. (node i).tokens; sent = tt }
+
+spelled_in_range : GroundLaw → (config : Config) (floors : List (List ℕ)) (events : List WorldEvent) → length config.book ≤ 10000 → length floors ≤ 9 → ((i t : ℕ) → floor_at floors i t ≤ 2 ^ 62)
+    → AreInRange events → AreSpelledAlong config events (opening_world config floors)
+spelled_in_range grounds config floors events few n h range k =
+    are_spelled (world_after_events config 0 (take k events) (opening_world config floors))
+    (run_fine grounds config 0 (take k events) (opening_world config floors) few (taken_in_range k events range) (start_fine config floors few n h))
 
 pub all_spelled : GroundLaw → (config : Config) (floors : List (List ℕ)) (events : List WorldEvent) → length config.book ≤ 10000 → length floors ≤ 9 → ((i t : ℕ) → floor_at floors i t ≤ 2 ^ 62)
-    → AreSpelledAlong config events (opening_world config floors)
-all_spelled grounds config floors events few n h k =
-    are_spelled (world_after_events config 0 (take k events) (opening_world config floors))
-    (run_fine grounds config 0 (take k events) (opening_world config floors) few (start_fine config floors few n h))
+    → HaveFloorsInRange events → AreSpelledAlong config events (opening_world config floors)
+all_spelled grounds config floors events few n h range = spelled_in_range grounds config floors events few n h (in_range events range)
+
+-- and so are all that come after, if no store is made anew in them
+pub then_spelled : GroundLaw → (config : Config) (floors : List (List ℕ)) (events more : List WorldEvent) → length config.book ≤ 10000 → length floors ≤ 9 → ((i t : ℕ) → floor_at floors i t ≤ 2 ^ 62)
+    → HaveFloorsInRange events → AreInRange more → AreSpelledAlong config (events ++ more) (opening_world config floors)
+then_spelled grounds config floors events more few n h range later =
+    spelled_in_range grounds config floors (events ++ more) few n h (each_append HasFloorsInRange events more (in_range events range) later)

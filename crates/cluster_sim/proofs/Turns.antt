@@ -6,9 +6,9 @@ use Rattle.std.proofs.lemmas.List.{drop_at}
 use Rattle.floor_store.specs.Records.{span_of}
 use Rattle.cluster_sim.proofs.Sound.{AllSound, IsTurn, happens_sound, no_owners, run_sound, start_sound}
 use Rattle.cluster_sim.proofs.Sweeps.{Bounded, FloorFits, Levels, OfTick, Reached, floors_wave, levels_none, levels_then, pending_at}
-use Rattle.cluster_sim.proofs.Waves.{run_append, set_all, set_at, stands_last, ticks}
+use Rattle.cluster_sim.proofs.Waves.{is_in, run_append, set_all, set_at, stands_last, ticks}
 use Rattle.cluster_sim.specs.Rounds.{AreUp, HasNonePending, SweepLevels, TurnLevels, deliveries, greatest, is_floor_to, is_live, next_at, sweep_events, tick_events, turn_events, turns_events}
-use Rattle.cluster_sim.specs.World.{Happens, Ticks, World, WorldEvent, opening_world, place_at, world_after_events, world_of, world_with_made}
+use Rattle.cluster_sim.specs.World.{Happens, Ticks, World, WorldEvent, has_store, opening_world, place_at, world_after_events, world_of, world_with_made}
 use Rattle.oath_node.specs.Machine.{Config, NodeState, made_by_vote}
 use Rattle.otp_core.specs.Acceptance.{size}
 use Rattle.vote_core.proofs.Basics.{Each, each_all, each_append, each_filter, each_flat_map, each_map, each_passes, each_weaker}
@@ -70,7 +70,7 @@ ticked_world e w i = world_with_made e i (made_by_vote (w.nodes i).owners None (
 abbrev letters_of : World → ℕ → List Envelope
 letters_of w i = map (envelope_from i) (ticked w i).sends
 
-tick_run : (config : Config) (live : List ℕ) (e : ℕ) (w : World) (i : ℕ) → is_member w.n i ≡ true → (w.nodes i).running ≡ true
+tick_run : (config : Config) (live : List ℕ) (e : ℕ) (w : World) (i : ℕ) → has_store w i ≡ true → (w.nodes i).running ≡ true
     → world_after_events config e (tick_events config live e w i) w ≡ world_after_events config (suc e) (deliveries (is_floor_to live) (length w.sent) (letters_of w i)) (ticked_world e w i)
 unfolding world_after_events world_with_made
 tick_run config live e w i member up =
@@ -145,7 +145,7 @@ tick_levels config live B e w i sound up bound here =
     let ls = letters_of w i in
     let first = ticked_levels live B e w i up bound in
     let sound1 : AllSound tokens w1 = subst (λ z. AllSound tokens z) (ticks config e i w member (up i here).1) (happens_sound config tokens e (Happens (Ticks i)) w sound) in
-    let wave = floors_wave config live B i ls (length w.sent) (suc e) w1 (stands_last w.sent ls) sound1 first.up first.bound member (letters_fit tokens B w i (sound i).kept.size (bound i here)) in
+    let wave = floors_wave config live B i ls (length w.sent) (suc e) w1 (stands_last w.sent ls) sound1 first.up first.bound (is_in w i member) (letters_fit tokens B w i (sound i).kept.size (bound i here)) in
     let v = world_after_events config (suc e) (deliveries (is_floor_to live) (length w.sent) ls) w1 in
     let own : v.nodes i ≡ (made_by_vote x.owners None (ticked w i) x).state = wave.own ∙ ticked_node e w i in
     let both = levels_then live B w w1 v first wave.levels in
@@ -155,7 +155,7 @@ tick_levels config live B e w i sound up bound here =
       turn = ap (λ (y : NodeState). y.voter.turn) own ∙ ap (λ m. cond (ltb (x.voter.turn + 1) m) (x.voter.turn + 1) 0) (sound i).kept.size;
       reached = λ j at lt.
           ⊎_elim (λ (q : j ≡ i). subst (λ m. next_at w i x.voter.turn ≤ next_at v m x.voter.turn) (sym q) (both.mono i x.voter.turn))
-          (λ (ne : j ≡ i → ⊥). floor_reached live v w i wave.reached (subst (λ m. x.voter.turn < m) (sym (sound i).kept.size) lt) j (up j at).0 ne at) (cases_eq j i);
+          (λ (ne : j ≡ i → ⊥). floor_reached live v w i wave.reached (subst (λ m. x.voter.turn < m) (sym (sound i).kept.size) lt) j (is_in w j (up j at).0) ne at) (cases_eq j i);
     })
 
 -- ---- eight ticks give up all that was pending

@@ -1,9 +1,9 @@
 -- What happens at a running member, and letters that stand in what was sent.
 use Rattle.std.proofs.Common.{◌≡◌, ◌≢◌, ℕ, zero, suc, ◌+◌, ◌<◌, true, not, cond, ◌&&◌, List, [], ◌∷◌, ◌++◌, length, Some, None, refl, sym, ap, ◌∙◌, subst, arith, eqb, ltb}
 use Rattle.std.specs.List.{slice_get}
-use Rattle.std.proofs.lemmas.Bool.{cond_both, cond-true, cond-false, eqb-true, eq-eqb, ne_eqb, and_from, lt-ltb, not_from_false}
+use Rattle.std.proofs.lemmas.Bool.{cond_both, cond-true, cond-false, eqb-true, eq-eqb, ne_eqb, and_from, and_parts, lt-ltb, not_from_false}
 use Rattle.std.proofs.lemmas.Option.{none-some}
-use Rattle.cluster_sim.specs.World.{Deliver, Happens, Says, Ticks, World, WorldEvent, delivered_event, place_at, with_state, world_after_act, world_after_event, world_after_events, world_after_turn, world_with_made}
+use Rattle.cluster_sim.specs.World.{Deliver, Happens, Says, Ticks, World, WorldEvent, delivered_event, has_store, place_at, with_state, world_after_act, world_after_event, world_after_events, world_after_turn, world_with_made}
 use Rattle.oath_node.specs.Machine.{Client, Config, NodeEvent, NodeState, Peer, Tick, is_heard, made_by_datagram, made_by_event, made_by_ruling, made_by_vote, made_while_running, quiet_made, ruling_at, token_of}
 use Rattle.vote_core.specs.Schedule.{Envelope, is_member}
 use Rattle.vote_core.specs.Voting.{on_message, tick}
@@ -18,25 +18,25 @@ run_append config (x ∷ xs) ys e w =
 
 -- ---- what happens at a running member
 
-pub acts : (config : Config) (e i : ℕ) (x : NodeEvent) (w : World) → is_member w.n i ≡ true → (w.nodes i).running ≡ true
+pub acts : (config : Config) (e i : ℕ) (x : NodeEvent) (w : World) → has_store w i ≡ true → (w.nodes i).running ≡ true
     → world_after_turn config e i (Some x) w ≡ world_with_made e i (made_while_running config (place_at w i) x (w.nodes i)) w
 unfolding world_after_turn made_by_event
 acts config e i x w member up =
     let y = w.nodes i in
-    cond-true (is_member w.n i) (world_with_made e i (cond y.running (made_while_running config (place_at w i) x y) (quiet_made y)) w) w member
+    cond-true (has_store w i) (world_with_made e i (cond y.running (made_while_running config (place_at w i) x y) (quiet_made y)) w) w member
     ∙ ap (λ o. world_with_made e i o w) (cond-true y.running (made_while_running config (place_at w i) x y) (quiet_made y) up)
 
-pub ticks : (config : Config) (e i : ℕ) (w : World) → is_member w.n i ≡ true → (w.nodes i).running ≡ true
+pub ticks : (config : Config) (e i : ℕ) (w : World) → has_store w i ≡ true → (w.nodes i).running ≡ true
     → world_after_event config e (Happens (Ticks i)) w ≡ world_with_made e i (made_by_vote (w.nodes i).owners None (tick (place_at w i) (w.nodes i).content (w.nodes i).voter) (w.nodes i)) w
 unfolding world_after_event world_after_act made_while_running
 ticks config e i w member up = acts config e i Tick w member up
 
-pub says : (config : Config) (e i client moment : ℕ) (text : List ℕ) (w : World) → is_member w.n i ≡ true → (w.nodes i).running ≡ true
+pub says : (config : Config) (e i client moment : ℕ) (text : List ℕ) (w : World) → has_store w i ≡ true → (w.nodes i).running ≡ true
     → world_after_event config e (Happens (Says i client moment text)) w ≡ world_with_made e i (made_by_ruling (place_at w i) client moment (without_lf text) (ruling_at config (w.nodes i) client moment text) (w.nodes i)) w
 unfolding world_after_event world_after_act made_while_running
 says config e i client moment text w member up = acts config e i (Client client moment text) w member up
 
-pub hands : (config : Config) (e k : ℕ) (l : Envelope) (w : World) → slice_get w.sent k ≡ Some l → is_member w.n l.receiver ≡ true → (w.nodes l.receiver).running ≡ true
+pub hands : (config : Config) (e k : ℕ) (l : Envelope) (w : World) → slice_get w.sent k ≡ Some l → has_store w l.receiver ≡ true → (w.nodes l.receiver).running ≡ true
     → is_heard config (place_at w l.receiver) l.sender l ≡ true
     → world_after_event config e (Happens (Deliver l.receiver k)) w
     ≡ world_with_made e l.receiver (made_by_vote (w.nodes l.receiver).owners None (on_message (place_at w l.receiver) l.sender l.message (w.nodes l.receiver).content (w.nodes l.receiver).voter) (w.nodes l.receiver)) w
@@ -47,6 +47,10 @@ hands config e k l w at member up hears =
     ap (λ o. world_after_turn config e j (delivered_event o) w) at
     ∙ acts config e j (Peer l.sender (Some l)) w member up
     ∙ ap (λ o. world_with_made e j o w) (cond-true (is_heard config (place_at w j) l.sender l) (made_by_vote x.owners None (on_message (place_at w j) l.sender l.message x.content x.voter) x) (quiet_made x) hears)
+
+-- whose store is there is a member
+pub is_in : (w : World) (i : ℕ) → has_store w i ≡ true → is_member w.n i ≡ true
+is_in w i h = (and_parts (not (w.lost i)) (is_member w.n i) h).1
 
 pub is_heard_at : (config : Config) (w : World) (l : Envelope) → l.sender ≢ l.receiver → is_member w.n l.sender ≡ true → token_of l.message < length config.book
     → is_heard config (place_at w l.receiver) l.sender l ≡ true

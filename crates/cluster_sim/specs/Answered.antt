@@ -7,7 +7,7 @@ use Rattle.vote_wire.specs.Field.{IsNonce}
 use Rattle.vote_wire.specs.Request.{Request, IsLine, without_lf}
 use Rattle.vote_wire.specs.declared.answer.Answer.TheVariants.{Reply}
 use Rattle.vote_wire.specs.declared.answer.Outcome.TheVariants.{Accepted}
-use Rattle.cluster_sim.specs.World.{Act, Says, Deliver, Ticks, Noise, WorldEvent, Happens, Cut, Restart, Told}
+use Rattle.cluster_sim.specs.World.{Act, Says, Deliver, Ticks, Noise, WorldEvent, Happens, Cut, Restart, Lost, Anew, Told}
 
 -- a reply begins as an OK
 abbrev pub IsOk : List ℕ → Type 0
@@ -38,6 +38,8 @@ IsAskedIn node client line nonce (Some (Happens act)) = IsAskedBy node client li
 IsAskedIn node client line nonce (Some (Cut true act)) = IsAskedBy node client line nonce act
 IsAskedIn node client line nonce (Some (Cut false act)) = ⊥
 IsAskedIn node client line nonce (Some (Restart at)) = ⊥
+IsAskedIn node client line nonce (Some (Lost at)) = ⊥
+IsAskedIn node client line nonce (Some (Anew at boot floors)) = ⊥
 
 -- the event is that client sending the line at the node, an LF at its end aside
 abbrev pub IsSaidIn : ℕ → ℕ → List ℕ → Option WorldEvent → Type 0
@@ -96,6 +98,8 @@ IsAnsweredIn events answers pass (Some (Happens act)) = HasAnswer events answers
 IsAnsweredIn events answers pass (Some (Cut true act)) = Unit {0}
 IsAnsweredIn events answers pass (Some (Cut false act)) = ⊥
 IsAnsweredIn events answers pass (Some (Restart node)) = ⊥
+IsAnsweredIn events answers pass (Some (Lost node)) = ⊥
+IsAnsweredIn events answers pass (Some (Anew node boot floors)) = ⊥
 
 -- each acceptance has its OK so
 abbrev pub AreAnswered : List WorldEvent → List Told → List Acceptance → Type 0

@@ -1,11 +1,11 @@
 -- The drift of a token at a node, by the acceptances and the acts of a run. It knows no rows, proposals or votes.
-use Rattle.std.specs.Prelude.{ℕ, ℤ, pos, ◌==◌, ◌&&◌, if◌then◌else◌, List, [], ◌∷◌, take, Option, Some, None, slice_get}
+use Rattle.std.specs.Prelude.{ℕ, ℤ, pos, ◌==◌, ◌&&◌, if◌then◌else◌, List, [], ◌∷◌, ◌++◌, Option, Some, None, slice_get}
 use Rattle.otp_core.specs.Acceptance.{Acceptance}
 use Rattle.otp_core.specs.Limits.{Limits}
 use Rattle.token_file.specs.Credential.{Credential}
 use Rattle.admit_core.specs.Drift.{kept_drift}
 use Rattle.oath_node.specs.Machine.{Config}
-use Rattle.cluster_sim.specs.World.{Act, Says, Deliver, Ticks, Noise, WorldEvent, Happens, Cut, Restart, passes_of}
+use Rattle.cluster_sim.specs.World.{Act, Says, Deliver, Ticks, Noise, Note, WorldEvent, Happens, Cut, Restart, Lost, Anew, acceptance_in, begun_in, world_before}
 
 -- the moment at which a client says a line
 abbrev pub moment_of : Act → Option ℕ
@@ -20,6 +20,8 @@ moment_in None = None
 moment_in (Some (Happens act)) = moment_of act
 moment_in (Some (Cut kept act)) = moment_of act
 moment_in (Some (Restart node)) = None
+moment_in (Some (Lost node)) = None
+moment_in (Some (Anew node boot floors)) = None
 
 -- the drift that an acceptance up to a factor keeps, by its token and the moment at which its line came
 abbrev pub drift_by : Limits → Option Credential → Option ℕ → ℕ → ℤ
@@ -41,8 +43,17 @@ drift_after config events node token drift (pass ∷ passes) =
     let is_own = (pass.node == node) && (pass.token == token) in
     drift_after config events node token (if is_own then drift_kept config events pass else drift) passes
 
+-- the acceptances of a history since a store was made anew for this node, in order
+abbrev pub passes_since : ℕ → List Note → List Acceptance
+passes_since node [] = []
+passes_since node (note ∷ history) =
+    if note.anew && (note.node == node)
+    then []
+    else passes_since node history ++ acceptance_in (begun_in (note ∷ history)) note.event note.node note.pass
+
 -- the drift of the token at the node before the event of that number: what the last acceptance of the token there
--- before it keeps, and 0 where there is none
+-- before it keeps, and 0 where there is none since the node's store was made
 abbrev pub drift_before : Config → List (List ℕ) → List WorldEvent → ℕ → ℕ → ℕ → ℤ
 drift_before config floors events node token event =
-    drift_after config events node token (pos 0) (passes_of config floors (take event events))
+    let history = (world_before config floors events event).history in
+    drift_after config events node token (pos 0) (passes_since node history)

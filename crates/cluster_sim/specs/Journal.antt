@@ -1,6 +1,6 @@
 -- What the simulation keeps of a run, and what it is in the world. Private contracts alone cite it: no public one rests
 -- on it.
-use Rattle.std.specs.Prelude.{◌≡◌, ℕ, suc, Bool, if◌then◌else◌, List, [], ◌∷◌, ◌++◌, length, map, take, Option, Some, None, Result, OnOk, slice_get}
+use Rattle.std.specs.Prelude.{◌≡◌, ℕ, suc, ◌+◌, ◌==◌, ◌<◌, Bool, true, false, if◌then◌else◌, List, [], ◌∷◌, ◌++◌, length, map, take, Option, Some, None, Result, OnOk, slice_get, slice_index_or}
 use Rattle.floor_store.specs.Content.{Content}
 use Rattle.floor_store.specs.Held.{Held}
 use Rattle.floor_store.specs.Records.{ProposalRecord, PassRecord}
@@ -28,16 +28,47 @@ pub record StartRecord : Type 0 where
   pub proposal : ProposalRecord
   pub event : ℕ
 
--- all that was sent, begun, accepted and told, each in order
+-- that a node's store is gone, with the last boot that the node used; or, without one, that a store was made for it anew
+pub record LossRecord : Type 0 where
+  pub node : ℕ
+  pub used : Option ℕ
+
+-- all that was sent, begun, accepted and told, which stores were lost and made anew, each in order, and of each token the
+-- first free factor that a store made anew has at least
 pub record JournalRecord : Type 0 where
   pub sent : List Letter
   pub starts : List StartRecord
   pub passes : List Acceptance
   pub answers : List Told
+  pub losses : List LossRecord
+  pub least : List ℕ
 
 -- nothing yet
 abbrev pub no_journal : JournalRecord
-no_journal = record { sent = []; starts = []; passes = []; answers = [] }
+no_journal = record { sent = []; starts = []; passes = []; answers = []; losses = []; least = [] }
+
+-- ---- Losses
+
+-- the last boot that a node used whose store is gone, by these losses, or else this
+abbrev pub used_from : Option ℕ → List LossRecord → ℕ → Option ℕ
+used_from used [] node = used
+used_from used (loss ∷ losses) node = used_from (if node == loss.node then loss.used else used) losses node
+
+-- the last boot that a node used whose store is gone; none where its store is there
+abbrev pub used_in : List LossRecord → ℕ → Option ℕ
+used_in losses node = used_from None losses node
+
+-- the journal with a loss more, at which these were the greatest first free factors
+abbrev pub journal_with_loss : ℕ → ℕ → List ℕ → JournalRecord → JournalRecord
+journal_with_loss node used least journal = record journal {
+  losses = journal.losses ++ record { node = node; used = Some used } ∷ [];
+  least = least;
+}
+
+-- the journal with a store that was made anew for the node
+abbrev pub journal_with_anew : ℕ → JournalRecord → JournalRecord
+journal_with_anew node journal =
+    record journal { losses = journal.losses ++ record { node = node; used = None } ∷ [] }
 
 -- ---- What a node's outputs make of the journal
 
@@ -142,11 +173,22 @@ pub record IsHanded (config : Config) (key : List ℕ) (at : PlaceRecord) (x : N
   pub left : IsHost config key at (made_by_event config at event x).state host
   pub put_out : IsPutOut outputs (outputs_of key at (made_by_event config at event x))
 
--- the node of number k + 1 of the world is the one at place k
-abbrev pub AreHosts : Config → List ℕ → ℕ → (ℕ → NodeState) → List (Hosted Content) → Type 0
-AreHosts config key n nodes hosts =
-    (k : ℕ) (host : Hosted Content) → slice_get hosts k ≡ Some host
+-- the node of number k + 1 of the world is the one at place k, if its store is there
+abbrev pub AreHosts : Config → List ℕ → ℕ → (ℕ → Bool) → (ℕ → NodeState) → List (Hosted Content) → Type 0
+AreHosts config key n lost nodes hosts =
+    (k : ℕ) (host : Hosted Content) → slice_get hosts k ≡ Some host → lost (suc k) ≡ false
     → IsHost config key (record { me = suc k; n = n }) (nodes (suc k)) host
+
+-- the last boot that a node used, with so many tokens, if its store is gone
+abbrev pub IsLossOf : ℕ → Option ℕ → Bool → NodeState → Type 0
+IsLossOf tokens None lost state = lost ≡ false
+IsLossOf tokens (Some used) lost state =
+    (lost ≡ true) × (state.content.boot ≡ used + 1) × (length state.content.rows ≡ tokens)
+
+-- the journal has which stores of the world are gone
+pub record AreLosses (tokens : ℕ) (world : World) (journal : JournalRecord) : Type 0 where
+  pub used : (node : ℕ) → IsLossOf tokens (used_in journal.losses node) (world.lost node) (world.nodes node)
+  pub least : (token : ℕ) → token < tokens → slice_index_or journal.least token 0 ≡ world.least token
 
 -- the journal has all that is of the world but its nodes
 pub record IsRecorded (key : List ℕ) (world : World) (journal : JournalRecord) : Type 0 where
@@ -168,8 +210,9 @@ simulation_of nodes journal = record { nodes = nodes; journal = journal }
 -- a simulation is this world
 pub record IsRun (config : Config) (key : List ℕ) (world : World) (simulation : SimulationRecord) : Type 0 where
   pub n : world.n ≡ length simulation.nodes
-  pub hosts : AreHosts config key world.n world.nodes simulation.nodes
+  pub hosts : AreHosts config key world.n world.lost world.nodes simulation.nodes
   pub recorded : IsRecorded key world simulation.journal
+  pub losses : AreLosses (length config.book) world simulation.journal
 
 -- what an event makes a node put out: nothing where it is no member
 abbrev pub outputs_at : Config → List ℕ → ℕ → (ℕ → NodeState) → ℕ → NodeEvent → OutputsRecord
@@ -184,9 +227,9 @@ nodes_after config n nodes node event =
     if is_member n node then with_state node (made_by_event config place event (nodes node)).state nodes else nodes
 
 -- the nodes of a world, one of which was handed an event, if there is that one, and what that put out
-pub record IsAsked (config : Config) (key : List ℕ) (n : ℕ) (nodes : ℕ → NodeState) (node : ℕ) (event : NodeEvent)
-    (hosts : List (Hosted Content)) (outputs : Option OutputsRecord) : Type 0 where
-  pub left : AreHosts config key n (nodes_after config n nodes node event) hosts
+pub record IsAsked (config : Config) (key : List ℕ) (n : ℕ) (lost : ℕ → Bool) (nodes : ℕ → NodeState) (node : ℕ)
+    (event : NodeEvent) (hosts : List (Hosted Content)) (outputs : Option OutputsRecord) : Type 0 where
+  pub left : AreHosts config key n lost (nodes_after config n nodes node event) hosts
   pub put_out : IsPutOut outputs (outputs_at config key n nodes node event)
 
 -- the new world, with what was sent and told since the old one, or without
@@ -216,10 +259,14 @@ AreSpelled world =
 abbrev pub AreSpelledAlong : Config → List Event → World → Type 0
 AreSpelledAlong config events world = (k : ℕ) → AreSpelled (world_after_events config 0 (take k events) world)
 
--- A call on a simulation. Whatever world it was, in which each datagram reads as it was meant, it is afterwards what
--- the call makes of that world, unless memory ran out.
+-- A call on a simulation of nodes with this configuration. Whatever world it was, in which each datagram reads as it was
+-- meant, it is afterwards what the call makes of that world, unless memory ran out.
+abbrev pub PlaysAt : {A E : Type 0} → Config → List ℕ → (World → World) → SimulationRecord → SimulationRecord
+    → Result A E → Type 0
+PlaysAt config key makes old new result =
+    (world : World) → IsRun config key world old → AreSpelled world → OnOk result (IsRun config key (makes world) new)
+
+-- a call that does so whatever the configuration is
 abbrev pub Plays : {A E : Type 0} → List ℕ → (Config → World → World) → SimulationRecord → SimulationRecord
     → Result A E → Type 0
-Plays key makes old new result =
-    (config : Config) (world : World) → IsRun config key world old → AreSpelled world
-    → OnOk result (IsRun config key (makes config world) new)
+Plays key makes old new result = (config : Config) → PlaysAt config key (makes config) old new result

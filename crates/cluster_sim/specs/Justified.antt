@@ -8,7 +8,7 @@ use Rattle.oath_node.specs.Machine.{Config}
 use Rattle.vote_wire.specs.Request.{Request, IsLine}
 use Rattle.cluster_sim.specs.Drifts.{drift_before}
 use Rattle.cluster_sim.specs.Results.{results_before}
-use Rattle.cluster_sim.specs.World.{Act, Says, Deliver, Ticks, Noise, WorldEvent, Happens, Cut, Restart, floor_before}
+use Rattle.cluster_sim.specs.World.{Act, Says, Deliver, Ticks, Noise, WorldEvent, Happens, Cut, Restart, Lost, Anew, floor_before}
 
 -- A line at a moment is in the line grammar, for the user of a token, and what it submits is entitled to the factors
 -- lo to hi, where next is the token's first free factor, and drift and results are its drift and its results so far at
@@ -38,6 +38,8 @@ IsGroundOf config next drift results accepted (Some (Happens act)) = IsGroundIn 
 IsGroundOf config next drift results accepted (Some (Cut true act)) = IsGroundIn config next drift results accepted act
 IsGroundOf config next drift results accepted (Some (Cut false act)) = ⊥
 IsGroundOf config next drift results accepted (Some (Restart node)) = ⊥
+IsGroundOf config next drift results accepted (Some (Lost node)) = ⊥
+IsGroundOf config next drift results accepted (Some (Anew node boot floors)) = ⊥
 
 -- the event in which it began is its ground, by the first free factor, the drift and the results there before it
 abbrev pub IsJustified : Config → List (List ℕ) → List WorldEvent → Acceptance → Type 0

@@ -4,6 +4,7 @@ pub mod Drifts
 pub mod Examples
 pub mod FrontEnds
 pub mod Journal
+pub mod Losses
 pub mod Justified
 pub mod Results
 pub mod RoundExamples

@@ -1,4 +1,4 @@
--- The results of a token at a node, by a history.
+-- The results of a token at a node since its store was made, by a history.
 use Rattle.std.specs.Prelude.{ℕ, ◌==◌, if◌then◌else◌, List, [], ◌∷◌, Option, Some, None}
 use Rattle.admit_core.specs.Throttle.{Result, Failed, Accepted}
 use Rattle.floor_store.specs.Records.{PassRecord}
@@ -16,12 +16,19 @@ abbrev pub results_with_pass : ℕ → Option PassRecord → List Result → Lis
 results_with_pass token None results = results
 results_with_pass token (Some pass) results = if pass.token == token then Accepted ∷ results else results
 
--- the results of the token at the node by a history, the newest first
+-- the results of the token after this note at its node: a store that is made anew has none
+abbrev pub results_with_note : Note → ℕ → List Result → List Result
+results_with_note note token results =
+    if note.anew
+    then []
+    else results_with_failure token note.failed (results_with_pass token note.pass results)
+
+-- the results of the token at the node by a history, the newest first, since the node's store was made
 abbrev pub results_in : List Note → ℕ → ℕ → List Result
 results_in [] node token = []
 results_in (note ∷ history) node token =
     if node == note.node
-    then results_with_failure token note.failed (results_with_pass token note.pass (results_in history node token))
+    then results_with_note note token (results_in history node token)
     else results_in history node token
 
 -- the results of the token at the node before the event of that number

@@ -1,13 +1,23 @@
 -- What the calls of a simulation make of a world in rounds. Private contracts alone cite it: no public one rests on it.
-use Rattle.std.specs.Prelude.{◌≡◌, ℕ, ◌+◌, List, length, drop, take, Result, IfOk}
+use Rattle.std.specs.Prelude.{◌≡◌, ℕ, ◌+◌, List, [], ◌∷◌, length, drop, take, Result, IfOk}
 use Rattle.oath_node.specs.Machine.{Config}
 use Rattle.cluster_sim.specs.Journal.{AreSpelled, IsRun, SimulationRecord}
 use Rattle.cluster_sim.specs.Rounds.{deliveries, is_between}
-use Rattle.cluster_sim.specs.World.{World, WorldEvent, world_after_events}
+use Rattle.cluster_sim.specs.World.{World, WorldEvent, Happens, Cut, Restart, Lost, Anew, world_after_events}
 
--- whatever happens from this event on, each datagram that is sent reads as it was meant
+-- each of these events is an act
+abbrev pub AreActs : List WorldEvent → Type 0
+AreActs [] = Unit {0}
+AreActs (Happens act ∷ events) = AreActs events
+AreActs (Cut kept act ∷ events) = ⊥
+AreActs (Restart node ∷ events) = ⊥
+AreActs (Lost node ∷ events) = ⊥
+AreActs (Anew node boot floors ∷ events) = ⊥
+
+-- whatever is done from this event on, each datagram that is sent reads as it was meant
 abbrev pub StaySpelled : Config → ℕ → World → Type 0
-StaySpelled config first world = (events : List WorldEvent) → AreSpelled (world_after_events config first events world)
+StaySpelled config first world =
+    (events : List WorldEvent) → AreActs events → AreSpelled (world_after_events config first events world)
 
 -- these events happened to a world, from the first of this number on, and the next one has that number
 pub record HaveHappened (config : Config) (key : List ℕ) (first : ℕ) (events : List WorldEvent) (world : World)

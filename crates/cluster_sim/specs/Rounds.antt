@@ -4,7 +4,7 @@ use Rattle.std.specs.Prelude.{◌≡◌, ℕ, zero, suc, ◌+◌, ◌*◌, ◌==
 use Rattle.std.specs.List.{list_any, range_with_len}
 use Rattle.admit_core.specs.Throttle.{Result}
 use Rattle.vote_core.specs.Rows.{row}
-use Rattle.vote_core.specs.Schedule.{Envelope, is_member}
+use Rattle.vote_core.specs.Schedule.{Envelope}
 use Rattle.vote_core.specs.declared.message.Message.{Message}
 use Rattle.vote_core.specs.declared.message.Message.TheVariants.{Ask, Grant, Deny, Floor}
 use Rattle.oath_node.specs.Alone.{drifts_in, floors_in}
@@ -12,7 +12,7 @@ use Rattle.oath_node.specs.Machine.{Config}
 use Rattle.oath_node.specs.ReferenceServer.{Front, Line}
 use Rattle.cluster_sim.specs.FrontEnds.{FrontedServer, fronted_after, service_at_front}
 use Rattle.cluster_sim.specs.Results.{results_in}
-use Rattle.cluster_sim.specs.World.{World, WorldEvent, Happens, Says, Deliver, Ticks, Told, world_after_event, world_after_events, world_of, report_of}
+use Rattle.cluster_sim.specs.World.{World, WorldEvent, Happens, Says, Deliver, Ticks, Told, has_store, world_after_event, world_after_events, world_of, report_of}
 
 -- ---- Live members
 
@@ -20,10 +20,10 @@ use Rattle.cluster_sim.specs.World.{World, WorldEvent, Happens, Says, Deliver, T
 abbrev pub is_live : List ℕ → ℕ → Bool
 is_live live node = list_any (λ member. member == node) live
 
--- each of these is a member, and not stopped
+-- each of these is a member whose store is there, and not stopped
 abbrev pub AreUp : List ℕ → World → Type 0
 AreUp live world =
-    (node : ℕ) → is_live live node ≡ true → (is_member world.n node ≡ true) × ((world.nodes node).running ≡ true)
+    (node : ℕ) → is_live live node ≡ true → (has_store world node ≡ true) × ((world.nodes node).running ≡ true)
 
 -- the first free factor that a node has of a token
 abbrev pub next_at : World → ℕ → ℕ → ℕ

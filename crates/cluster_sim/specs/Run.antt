@@ -1,17 +1,18 @@
 -- A run of a script and rounds, as their caller writes them down.
-use Rattle.std.specs.Prelude.{ℕ, List, map}
+use Rattle.std.specs.Prelude.{◌≡◌, ℕ, List, Some, map, slice_get}
 use Rattle.std.specs.Global.{Vec}
 use Rattle.otp_core.specs.Limits.{Limits}
+use Rattle.otp_core.specs.Range.{IsNext}
 use Rattle.token_file.specs.Credential.{Credential}
 use Rattle.oath_node.specs.Machine.{Config}
 use Rattle.oath_node.specs.Hosted.{envelope_at}
 use Rattle.cluster_sim.specs.Rounds.{RoundLine}
-use Rattle.cluster_sim.specs.World.{Act as WorldAct, Says, Deliver, Ticks, Noise, WorldEvent as Event, Happens, Cut, Restart}
+use Rattle.cluster_sim.specs.World.{Act as WorldAct, Says, Deliver, Ticks, Noise, WorldEvent as Event, Happens, Cut, Restart, Lost, Anew, floor_in}
 use Rattle.cluster_sim.specs.declared.rounds.RoundLine.{RoundLine as CallerLine}
 use Rattle.cluster_sim.specs.declared.script.Act.{Act}
 use Rattle.cluster_sim.specs.declared.script.Act.TheVariants.{Client as ClientAct, Deliver as DeliverAct, Tick as TickAct, Noise as NoiseAct}
 use Rattle.cluster_sim.specs.declared.script.WorldEvent.{WorldEvent}
-use Rattle.cluster_sim.specs.declared.script.WorldEvent.TheVariants.{Happens as HappensEvent, Cut as CutEvent, Restart as RestartEvent}
+use Rattle.cluster_sim.specs.declared.script.WorldEvent.TheVariants.{Happens as HappensEvent, Cut as CutEvent, Restart as RestartEvent, Lost as LostEvent, Anew as AnewEvent}
 
 -- an act of a script, its bytes read under the key
 abbrev pub act_of : List ℕ → Act → WorldAct
@@ -25,6 +26,8 @@ abbrev pub event_of : List ℕ → WorldEvent → Event
 event_of key (HappensEvent act) = Happens (act_of key act)
 event_of key (CutEvent kept act) = Cut kept (act_of key act)
 event_of key (RestartEvent node) = Restart node
+event_of key (LostEvent node) = Lost node
+event_of key (AnewEvent node boot floors) = Anew node boot floors.now
 
 -- the lists of first free factors, node by node
 abbrev pub floor_lists : List (Vec ℕ) → List (List ℕ)
@@ -51,3 +54,16 @@ round_line line = record { node = line.node; client = line.client; moment = line
 -- the lines of a caller
 abbrev pub round_lines : List CallerLine → List RoundLine
 round_lines lines = map round_line lines
+
+-- the first free factors with which the event makes a store anew are in range
+abbrev pub HasFloorsInRange : Event → Type 0
+HasFloorsInRange (Happens act) = Unit {0}
+HasFloorsInRange (Cut kept act) = Unit {0}
+HasFloorsInRange (Restart node) = Unit {0}
+HasFloorsInRange (Lost node) = Unit {0}
+HasFloorsInRange (Anew node boot floors) = (token : ℕ) → IsNext (floor_in floors token)
+
+-- those of each of these events are
+abbrev pub HaveFloorsInRange : List Event → Type 0
+HaveFloorsInRange events =
+    (k : ℕ) (event : Event) → slice_get events k ≡ Some event → HasFloorsInRange event

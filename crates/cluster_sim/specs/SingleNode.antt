@@ -1,9 +1,9 @@
 -- One node, and the reference server, over the same events.
-use Rattle.std.specs.Prelude.{ℕ, suc, ◌==◌, true, false, if◌then◌else◌, List, [], ◌∷◌, ◌++◌, length, map, slice_index_or}
+use Rattle.std.specs.Prelude.{ℕ, suc, ◌==◌, Bool, true, false, if◌then◌else◌, List, [], ◌∷◌, ◌++◌, length, map, slice_index_or}
 use Rattle.std.specs.List.{range_with_len}
 use Rattle.oath_node.specs.Machine.{Config}
 use Rattle.oath_node.specs.ReferenceServer.{Server, Service, restarted_server, server_at, service_of}
-use Rattle.cluster_sim.specs.World.{Act, Says, Deliver, Ticks, Noise, WorldEvent, Happens, Cut, Restart, Told}
+use Rattle.cluster_sim.specs.World.{Act, Says, Deliver, Ticks, Noise, WorldEvent, Happens, Cut, Restart, Lost, Anew, Told}
 
 -- what a client's line leads to
 abbrev pub service_to : Config → Server → ℕ → ℕ → List ℕ → Service
@@ -37,6 +37,8 @@ server_after_event config (Cut true act) server =
     server_after_restart (front_of act) (server_after_act config act server)
 server_after_event config (Cut false act) server = server_after_restart (front_of act) server
 server_after_event config (Restart node) server = server_after_restart node server
+server_after_event config (Lost node) server = server
+server_after_event config (Anew node boot floors) server = server
 
 -- what a client is told of a line in this event
 abbrev pub told_of_line : Config → ℕ → Server → ℕ → ℕ → List ℕ → Told
@@ -57,12 +59,23 @@ abbrev pub answers_to_event : Config → ℕ → WorldEvent → Server → List 
 answers_to_event config event (Happens act) server = answers_to_act config event act server
 answers_to_event config event (Cut kept act) server = []
 answers_to_event config event (Restart node) server = []
+answers_to_event config event (Lost node) server = []
+answers_to_event config event (Anew node boot floors) server = []
 
--- the answers to these events, the first of which has this number
+-- the event takes the server's store away; none is made anew for a node that is alone, since it was a majority
+abbrev pub is_end : WorldEvent → Bool
+is_end (Happens act) = false
+is_end (Cut kept act) = false
+is_end (Restart node) = false
+is_end (Lost node) = node == 1
+is_end (Anew node boot floors) = false
+
+-- the answers to these events, the first of which has this number; none once the server's store is gone
 unfoldable pub reference_answers : Config → ℕ → List WorldEvent → Server → List Told
 reference_answers config first [] server = []
 reference_answers config first (event ∷ events) server =
-    answers_to_event config first event server
+    if is_end event then []
+    else answers_to_event config first event server
     ++ reference_answers config (suc first) events (server_after_event config event server)
 
 -- The server with these first free factors, one for each token of the book, and 0 for what the list doesn't have. No

@@ -1,12 +1,13 @@
 -- The world: the nodes of a cluster, all datagrams that they ever sent, and every list of events. What a node makes of
 -- an event is what its machine makes of it. A datagram stands as the envelope that its bytes say under the key of the
 -- cluster.
-use Rattle.std.specs.Prelude.{ℕ, suc, ◌-◌, ◌==◌, Bool, true, false, if◌then◌else◌, List, [], ◌∷◌, ◌++◌, length, map, take, Option, Some, None, slice_get, slice_index_or}
+use Rattle.std.specs.Prelude.{ℕ, suc, ◌-◌, ◌==◌, nat_le, nat_lt, Bool, true, false, not, ◌&&◌, if◌then◌else◌, List, [], ◌∷◌, ◌++◌, length, map, take, Option, Some, None, slice_get, slice_index_or}
+use Rattle.floor_store.specs.Content.{with_next_boot}
 use Rattle.floor_store.specs.Records.{ProposalRecord, PassRecord}
-use Rattle.otp_core.specs.Acceptance.{Acceptance}
-use Rattle.vote_core.specs.NodeSet.{PlaceRecord}
+use Rattle.otp_core.specs.Acceptance.{Acceptance, majority_of, size}
+use Rattle.vote_core.specs.NodeSet.{PlaceRecord, with_node}
 use Rattle.vote_core.specs.Rows.{row}
-use Rattle.vote_core.specs.Schedule.{Envelope, Begun, is_member, envelope_from, with_begun, began_in, opening_rows}
+use Rattle.vote_core.specs.Schedule.{Envelope, Begun, all_most, greatest, is_member, envelope_from, last_boot, with_begun, without_node, began_in, opening_rows}
 use Rattle.vote_core.specs.Voting.{fresh_voter}
 use Rattle.oath_node.specs.Machine.{Config, NodeState, NodeEvent, Client, Peer, Tick, Reply, Beginning, Made, made_by_event, restarted_node}
 
@@ -14,6 +15,8 @@ use Rattle.oath_node.specs.Machine.{Config, NodeState, NodeEvent, Client, Peer, 
 pub record Note : Type 0 where
   pub event : ℕ
   pub node : ℕ
+  -- a store was made for the node, in the place of a lost one
+  pub anew : Bool
   pub began : Option Beginning
   pub pass : Option PassRecord
   -- the token that failed, and the moment
@@ -31,6 +34,10 @@ pub record Told : Type 0 where
 pub record World : Type 0 where
   pub n : ℕ
   pub nodes : ℕ → NodeState
+  -- the nodes whose stores are gone
+  pub lost : ℕ → Bool
+  -- of each token the first free factor that a store made in the place of a lost one has at least
+  pub least : ℕ → ℕ
   pub sent : List Envelope
   pub history : List Note
   pub told : List Told
@@ -45,10 +52,15 @@ pub data Act : Type 0 where
   Noise : (node from : ℕ) (read : Option Envelope) → Act
 
 -- A Cut is a stop inside a step: its change of content is kept or dropped, its outputs are lost, and the node restarts.
+-- Lost: the node's store is gone, and the node does nothing more. Anew: a store is made for it at this boot and with
+-- these first free factors (0 for a token that the list doesn't have), and the node is open on it: nothing of its former
+-- life is there, neither gates, drifts nor answers.
 pub data WorldEvent : Type 0 where
   Happens : (act : Act) → WorldEvent
   Cut : (kept : Bool) (act : Act) → WorldEvent
   Restart : (node : ℕ) → WorldEvent
+  Lost : (node : ℕ) → WorldEvent
+  Anew : (node boot : ℕ) (floors : List ℕ) → WorldEvent
 
 -- ---- An act
 
@@ -81,6 +93,10 @@ node_event_of sent (Deliver node k) = delivered_event (slice_get sent k)
 node_event_of sent (Ticks node) = Some Tick
 node_event_of sent (Noise node from read) = noise_event from read
 
+-- the node is a member whose store is there
+abbrev pub has_store : World → ℕ → Bool
+has_store world node = not (world.lost node) && is_member world.n node
+
 -- the place of a node among the members
 abbrev pub place_at : World → ℕ → PlaceRecord
 place_at world node = record { me = node; n = world.n }
@@ -96,7 +112,7 @@ told_reply event node reply = record { event = event; node = node; client = repl
 -- the note on what the node made of this event
 abbrev pub note_of : ℕ → ℕ → Made → Note
 note_of event node made =
-    record { event = event; node = node; began = made.began; pass = made.pass; failed = made.failed }
+    record { event = event; node = node; anew = false; began = made.began; pass = made.pass; failed = made.failed }
 
 -- the world after the node made this of this event
 unfoldable pub world_with_made : ℕ → ℕ → Made → World → World
@@ -107,11 +123,12 @@ world_with_made event node made world = record world {
   told = world.told ++ map (told_reply event node) made.replies;
 }
 
--- The world after this happened at a node in this event. What names no member changes nothing.
+-- The world after this happened at a node in this event. What names no member, or one whose store is gone, changes
+-- nothing.
 unfoldable pub world_after_turn : Config → ℕ → ℕ → Option NodeEvent → World → World
 world_after_turn config event node None world = world
 world_after_turn config event node (Some what) world =
-    if is_member world.n node
+    if has_store world node
     then world_with_made event node (made_by_event config (place_at world node) what (world.nodes node)) world
     else world
 
@@ -138,9 +155,76 @@ node_of (Noise node from read) world = Some node
 unfoldable pub world_after_restart : Option ℕ → World → World
 world_after_restart None world = world
 world_after_restart (Some node) world =
-    if is_member world.n node
+    if has_store world node
     then record world { nodes = with_state node (restarted_node (world.nodes node)) world.nodes }
     else world
+
+-- ---- Stores that are lost and made anew
+
+-- A node whose store is gone. What stays of it here is the rows that it had, and a boot that it never used.
+abbrev pub lost_node : NodeState → NodeState
+lost_node state = record {
+  content = with_next_boot state.content;
+  voter = fresh_voter;
+  owners = [];
+  answers = [];
+  running = false;
+}
+
+-- The world after this node's store is gone. The first free factors of the others are taken down: a store that is made
+-- anew has the greatest of them at least.
+unfoldable pub world_after_loss : ℕ → World → World
+world_after_loss node world =
+    if has_store world node
+    then record world {
+      nodes = with_state node (lost_node (world.nodes node)) world.nodes;
+      lost = with_node node world.lost;
+      least = λ token.
+          greatest world.n (with_node node world.lost) (λ other. (row (world.nodes other).content token).next);
+    }
+    else world
+
+-- A store may be made anew for a lost node: fewer nodes are lost than make a majority, the boot was never used by the
+-- node, and no first free factor is below those of the nodes that were not lost when last a node was lost.
+abbrev pub may_be_anew : World → ℕ → ℕ → (ℕ → ℕ) → Bool
+may_be_anew world node boot floor =
+    (is_member world.n node && world.lost node)
+    && (nat_lt (size world.n world.lost) (majority_of world.n)
+    && (nat_le (world.nodes node).content.boot boot
+    && (nat_le boot last_boot
+    && all_most (length (world.nodes node).content.rows) world.least floor)))
+
+-- a node that is open at a boot on a new store, with this number of tokens and these first free factors
+abbrev pub opening_node : ℕ → ℕ → (ℕ → ℕ) → NodeState
+opening_node boot tokens floor = record {
+  content = record { boot = boot; rows = opening_rows tokens floor; last = None };
+  voter = fresh_voter;
+  owners = [];
+  answers = [];
+  running = true;
+}
+
+-- the note on a store that was made anew for the node
+abbrev pub note_anew : ℕ → ℕ → Note
+note_anew event node =
+    record { event = event; node = node; anew = true; began = None; pass = None; failed = None }
+
+-- the first free factor of a token in a list of them, from token 0 on
+abbrev pub floor_in : List ℕ → ℕ → ℕ
+floor_in floors token = slice_index_or floors token 0
+
+-- the world after a store was made for this lost node in this event, at this boot and with these first free factors
+unfoldable pub world_after_anew : ℕ → ℕ → ℕ → (ℕ → ℕ) → World → World
+world_after_anew event node boot floor world =
+    if may_be_anew world node boot floor
+    then record world {
+      nodes = with_state node (opening_node boot (length (world.nodes node).content.rows) floor) world.nodes;
+      lost = without_node node world.lost;
+      history = note_anew event node ∷ world.history;
+    }
+    else world
+
+-- ---- Stops
 
 -- the new world, but only what the old one had sent and told
 abbrev pub with_told_of : World → World → World
@@ -153,6 +237,9 @@ world_after_event config event (Cut true act) world =
     world_after_restart (node_of act world) (with_told_of world (world_after_act config event act world))
 world_after_event config event (Cut false act) world = world_after_restart (node_of act world) world
 world_after_event config event (Restart node) world = world_after_restart (Some node) world
+world_after_event config event (Lost node) world = world_after_loss node world
+world_after_event config event (Anew node boot floors) world =
+    world_after_anew event node boot (floor_in floors) world
 
 -- ---- A run
 
@@ -164,23 +251,15 @@ world_after_events config first (event ∷ events) world =
 
 -- the first free factor of a token that a node opens with, by the lists of the nodes 1, 2 ..
 abbrev pub floor_at : List (List ℕ) → ℕ → ℕ → ℕ
-floor_at floors node token = slice_index_or (slice_index_or floors (node - 1) []) token 0
+floor_at floors node = floor_in (slice_index_or floors (node - 1) [])
 
--- a node that is open at boot 1, with these first free factors
-abbrev pub opening_node : ℕ → (ℕ → ℕ) → NodeState
-opening_node tokens floor = record {
-  content = record { boot = 1; rows = opening_rows tokens floor; last = None };
-  voter = fresh_voter;
-  owners = [];
-  answers = [];
-  running = true;
-}
-
--- the world before any event
+-- the world before any event: each node is open at boot 1
 abbrev pub opening_world : Config → List (List ℕ) → World
 opening_world config floors = record {
   n = length floors;
-  nodes = λ node. opening_node (length config.book) (floor_at floors node);
+  nodes = λ node. opening_node 1 (length config.book) (floor_at floors node);
+  lost = λ node. false;
+  least = λ token. 0;
   sent = [];
   history = [];
   told = [];

@@ -1,12 +1,13 @@
 //! What all nodes sent, began, accepted and told.
 
-ghost use Rattle.std.specs.Prelude.{◌≡◌, ◌++◌, ◌≤◌, [], IfNone, IfSome, None, OnOk, Some, length, slice_get};
-ghost use Rattle.cluster_sim.specs.Journal.{journal_with_note, journal_with_told, sent_items, start_event, told_items};
+ghost use Rattle.std.specs.Prelude.{◌≡◌, ◌++◌, ◌≤◌, IfNone, IfSome, None, OnOk, Some, length, slice_get};
+ghost use Rattle.cluster_sim.specs.Journal.{journal_with_anew, journal_with_loss, journal_with_note, journal_with_told, no_journal, sent_items, start_event, told_items, used_in};
 
 use crate::report::{WorldAnswer, WorldPass};
 use arrayvec::ArrayVec;
 use floor_store::{Pass, Proposal};
 use oath_node::{Item, Items, Outputs};
+use otp_core::Next;
 use std::alloc::{AllocError, Global};
 use std::marker::Model;
 use vote_wire::MAX_SENT_LEN;
@@ -48,13 +49,34 @@ impl Model for Start {
     ghost inverse = { λ start. record { proposal = start.proposal; event = start.event } };
 }
 
-/// What all nodes sent, began, accepted and told, each in order.
+/// That a node's store is gone, with the last boot that the node used; or, without one, that a store was made for it
+/// anew.
+#[derive(Clone, Copy, Debug)]
+pub(crate) struct Loss {
+    pub(crate) node: u64,
+    pub(crate) used: Option<u64>,
+}
+
+impl Model for Loss {
+    ghost use Rattle.cluster_sim.specs.Journal.{LossRecord};
+
+    ghost Value = { LossRecord };
+
+    ghost view = { λ loss. record { node = loss.node; used = loss.used } };
+
+    ghost inverse = { λ loss. record { node = loss.node; used = loss.used } };
+}
+
+/// What all nodes sent, began, accepted and told, and which stores were lost and made anew, each in order; and of each
+/// token the first free factor that a store made anew has at least.
 #[derive(Debug, Drop)]
 pub(crate) struct Journal {
     pub(crate) sent: Vec<Datagram>,
     pub(crate) starts: Vec<Start>,
     pub(crate) passes: Vec<WorldPass>,
     pub(crate) answers: Vec<WorldAnswer>,
+    pub(crate) losses: Vec<Loss>,
+    pub(crate) least: Vec<Next>,
 }
 
 impl Model for Journal {
@@ -67,7 +89,22 @@ impl Model for Journal {
       starts = journal.starts.items;
       passes = journal.passes.items;
       answers = journal.answers.items;
+      losses = journal.losses.items;
+      least = journal.least.items;
     } };
+}
+
+/// The last boot that a node used whose store is gone, by these losses.
+fn used_in(losses: &[Loss], node: u64) -> Option<u64>
+    ensures { result ≡ used_in losses.now node }
+{
+    let mut used = None;
+    for loss in losses {
+        if node == loss.node {
+            used = loss.used;
+        }
+    }
+    used
 }
 
 /// The event in which a proposal was begun last, or 0. It looks at the newest first.
@@ -86,14 +123,44 @@ fn start_event_of(starts: &[Start], proposal: Proposal) -> u64
 impl Journal {
     /// With nothing in it.
     pub(crate) fn new(alloc: Global) -> Self
-        ensures { result ≡ record { sent = []; starts = []; passes = []; answers = [] } }
+        ensures { result ≡ no_journal }
     {
         Journal {
             sent: Vec::new(alloc),
             starts: Vec::new(alloc),
             passes: Vec::new(alloc),
             answers: Vec::new(alloc),
+            losses: Vec::new(alloc),
+            least: Vec::new(alloc),
         }
+    }
+
+    /// The last boot that a node used whose store is gone; `None` where its store is there.
+    pub(crate) fn used_boot(&self, node: u64) -> Option<u64>
+        ensures { result ≡ used_in self.now.losses node }
+    {
+        used_in(self.losses.as_slice(), node)
+    }
+
+    /// Takes in that a node's store is gone, the last boot that the node used, and the greatest first free factors of
+    /// the others.
+    pub(crate) fn lose(&mut self, node: u64, used: u64, least: Vec<Next>) -> Result<(), AllocError>
+        ensures { OnOk result (self.new ≡ journal_with_loss node used least.items self.old) }
+    {
+        self.losses.push(Loss {
+            node,
+            used: Some(used),
+        })?;
+        self.least = least;
+        Ok(())
+    }
+
+    /// Takes in that a store was made anew for a node.
+    pub(crate) fn renew(&mut self, node: u64) -> Result<(), AllocError>
+        ensures { OnOk result (self.new ≡ journal_with_anew node self.old) }
+    {
+        self.losses.push(Loss { node, used: None })?;
+        Ok(())
     }
 
     /// The datagram that was sent as number `k`, from 0 on.

@@ -30,6 +30,7 @@ mod fault;
 mod hosting;
 mod journal;
 mod laws;
+mod losses;
 mod report;
 mod rounds;
 mod run;

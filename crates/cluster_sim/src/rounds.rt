@@ -3,18 +3,18 @@
 ghost use Rattle.std.specs.Prelude.{[], ◌≡◌, ◌≤◌, ◌∷◌, ◌&&◌, ℕ, List, IfOk, Some, length, map, slice_get};
 ghost use Rattle.std.specs.Global.{Vec};
 ghost use Rattle.cluster_sim.specs.Journal.{simulation_of};
-ghost use Rattle.cluster_sim.specs.Run.{event_of, run_of, round_line, round_lines};
+ghost use Rattle.cluster_sim.specs.Run.{act_of, event_of, run_of, round_line, round_lines};
 ghost use Rattle.cluster_sim.specs.RoundRun.{PlaysEvents, deliveries_from, delivery_of};
 ghost use Rattle.cluster_sim.specs.Rounds.{AreAtLive, AreServable, AreServed, EndInSweep, HaveNumbers, events_with_rounds, is_live, round_events, rounds_events};
-ghost use Rattle.cluster_sim.specs.World.{report_of, world_of};
+ghost use Rattle.cluster_sim.specs.World.{Happens, report_of, world_of};
 
 use crate::fault::SimFault;
 use crate::journal::{Datagram, Journal};
 use crate::laws::{rounds_are_the_reference, sweep_levels};
 use crate::report::Report;
-use crate::run::{floors_are_in_range, open_nodes, play, report_of_journal};
+use crate::run::{events_are_in_range, floors_are_in_range, open_nodes, play, report_of_journal};
 use crate::script::{Act, WorldEvent};
-use crate::simulation::happen;
+use crate::simulation::{Shared, perform};
 use floor_store::MemStore;
 use oath_node::{Node, rulings_have_grounds};
 use otp_core::{Next, Settings};
@@ -62,16 +62,16 @@ fn is_between_live(live: &[u8], datagram: &Datagram) -> bool
     is_among(live, datagram.from) && is_among(live, datagram.to)
 }
 
-/// Lets one event happen, and gives the number of the next one.
+/// Does one act, and gives the number of the next event.
 fn play_one(
     nodes: &mut [Node<'_, MemStore>],
     journal: &mut Journal,
     key: &ClusterKey,
     number: u64,
-    event: WorldEvent<'_>,
+    act: Act<'_>,
 ) -> Result<u64, SimFault>
     requires { length nodes.old ≤ 9 }
-    ensures plays { PlaysEvents key.now number (λ config world. event_of key.now event.entry ∷ [])
+    ensures plays { PlaysEvents key.now number (λ config world. Happens (act_of key.now act.entry) ∷ [])
         (simulation_of nodes.old journal.old) (simulation_of nodes.new journal.new) result }
     ensures len { length nodes.new ≡ length nodes.old }
 {
@@ -79,7 +79,7 @@ fn play_one(
     let Some(next) = number.checked_add(1) else {
         return Err(SimFault::Memory);
     };
-    happen(nodes, journal, key, number, event)?;
+    perform(nodes, journal, key, number, act, true)?;
     Ok(next)
 }
 
@@ -105,8 +105,7 @@ fn hand_on_one(
         return Ok(number);
     }
     let node = u64::from(datagram.to);
-    let event = WorldEvent::Happens(Act::Deliver { node, k });
-    play_one(nodes, journal, key, number, event)
+    play_one(nodes, journal, key, number, Act::Deliver { node, k })
 }
 
 /// Hands on the datagrams from a number up to the last one that was sent before this call, of which each goes from a
@@ -160,7 +159,7 @@ fn play_round(
         line,
     };
     let first = journal.sent_count();
-    let asked = play_one(nodes, journal, key, number, WorldEvent::Happens(act))?;
+    let asked = play_one(nodes, journal, key, number, act)?;
     let second = journal.sent_count();
     let answered = hand_on(nodes, journal, key, live, first, asked)?;
     hand_on(nodes, journal, key, live, second, answered)
@@ -210,10 +209,17 @@ fn run_script_and_rounds(
     let _tokens = book.len();
     rulings_have_grounds();
     floors_are_in_range(floors);
+    events_are_in_range(before);
     let mut nodes = open_nodes(alloc, book, settings, key, floors)?;
     let mut journal = Journal::new(alloc);
+    let shared = Shared {
+        alloc,
+        book,
+        settings,
+        key,
+    };
     let cluster: &mut [Node<'_, MemStore>] = &mut nodes;
-    play(cluster, &mut journal, key, before)?;
+    play(cluster, &mut journal, &shared, before)?;
     let _next = play_rounds(cluster, &mut journal, key, live, before.len() as u64, lines)?;
     Ok(report_of_journal(journal))
 }

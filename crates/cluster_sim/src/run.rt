@@ -9,7 +9,7 @@ ghost use Rattle.vote_core.specs.Safety.{HaveMajority};
 ghost use Rattle.oath_node.specs.Machine.{Config};
 ghost use Rattle.cluster_sim.specs.Answered.{AreAnswered, NamePasses, TellTruth};
 ghost use Rattle.cluster_sim.specs.Journal.{AreSpelledAlong, IsRun, no_journal, simulation_of};
-ghost use Rattle.cluster_sim.specs.Run.{event_of, floor_lists, run_of};
+ghost use Rattle.cluster_sim.specs.Run.{HaveFloorsInRange, event_of, floor_lists, run_of};
 ghost use Rattle.cluster_sim.specs.Justified.{AreJustified};
 ghost use Rattle.cluster_sim.specs.Results.{results_of};
 ghost use Rattle.cluster_sim.specs.Rounds.{AreRounds, AreServable, AreServed, RoundLine};
@@ -23,7 +23,7 @@ use crate::laws::{
 };
 use crate::report::Report;
 use crate::script::WorldEvent;
-use crate::simulation::happen;
+use crate::simulation::{Shared, happen};
 use floor_store::MemStore;
 use oath_node::{Node, rulings_have_grounds};
 use otp_core::{Next, Settings};
@@ -77,24 +77,37 @@ pub(crate) fn open_nodes<'b>(
 }
 
 /// Lets these events happen, in their order.
-pub(crate) fn play(
-    nodes: &mut [Node<'_, MemStore>],
+pub(crate) fn play<'b>(
+    nodes: &mut [Node<'b, MemStore>],
     journal: &mut Journal,
-    key: &ClusterKey,
+    shared: &Shared<'b>,
     events: &[WorldEvent<'_>],
 ) -> Result<(), AllocError>
     requires { length nodes.old ≤ 9 }
-    ensures { (config : Config) (world : World) →
-        let happens = map (event_of key.now) events.now in
+    ensures { (world : World) →
+        let config : Config = record { book = shared.now.book.now; limits = shared.now.settings } in
+        let key = shared.now.key.now in
+        let happens = map (event_of key) events.now in
         AreSpelledAlong config happens world
-        → IsRun config key.now world (simulation_of nodes.old journal.old)
-        → OnOk result (IsRun config key.now (world_after_events config 0 happens world)
+        → IsRun config key world (simulation_of nodes.old journal.old)
+        → OnOk result (IsRun config key (world_after_events config 0 happens world)
         (simulation_of nodes.new journal.new)) }
 {
     for (number, event) in events.iter().enumerate() {
-        happen(nodes, journal, key, number as u64, *event)?;
+        happen(nodes, journal, shared, number as u64, *event)?;
     }
     Ok(())
+}
+
+/// Each first free factor with which a store is made anew is in range.
+pub(crate) fn events_are_in_range(events: &[WorldEvent<'_>])
+    ensures { (key : List ℕ) → HaveFloorsInRange (map (event_of key) events.now) }
+{
+    for event in events {
+        if let WorldEvent::Anew { floors, .. } = event {
+            list_is_in_range(floors);
+        }
+    }
 }
 
 /// Runs a script: opens the nodes, lets the events happen, and makes the report.
@@ -116,9 +129,16 @@ fn run_script(
     let _tokens = book.len();
     rulings_have_grounds();
     floors_are_in_range(floors);
+    events_are_in_range(events);
     let mut nodes = open_nodes(alloc, book, settings, key, floors)?;
     let mut journal = Journal::new(alloc);
-    play(&mut nodes, &mut journal, key, events)?;
+    let shared = Shared {
+        alloc,
+        book,
+        settings,
+        key,
+    };
+    play(&mut nodes, &mut journal, &shared, events)?;
     Ok(report_of_journal(journal))
 }
 
@@ -135,6 +155,8 @@ pub(crate) fn report_of_journal(journal: Journal) -> Report
         starts: _,
         passes,
         answers,
+        losses: _,
+        least: _,
     } = journal;
     Report::new(passes, answers, sent.len() as u64)
 }

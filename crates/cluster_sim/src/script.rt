@@ -1,3 +1,4 @@
+use otp_core::Next;
 use std::fmt;
 
 /// What is done at a node. Nodes are counted from 1 on. What names no node of the run, or no datagram that
@@ -69,4 +70,15 @@ pub enum WorldEvent<'a> {
     Cut { kept: bool, act: Act<'a> },
     /// A node restarts: what waits there and the answers that it keeps are lost.
     Restart { node: u64 },
+    /// A node's store is gone, and the node does nothing more.
+    Lost { node: u64 },
+    /// A store is made for a lost node at a boot, with a first free factor for each token, from 0 on (0 for those that
+    /// the list doesn't have), and the node opens on it at that boot. It does nothing where as many nodes are lost as
+    /// make a majority, where the node used that boot or a later one before or the boot is above 2^62 - 1, and where a
+    /// first free factor is below one that another node had when last a node was lost.
+    Anew {
+        node: u64,
+        boot: u64,
+        floors: &'a [Next],
+    },
 }

@@ -1,24 +1,36 @@
 //! Nodes over stores in memory, and what each event makes of them.
 
-ghost use Rattle.std.specs.Prelude.{◌≡◌, ◌+◌, ◌<◌, ◌≤◌, ℕ, List, IfNone, IfSome, OnOk, Some, false, length, map, slice_get, true};
+ghost use Rattle.std.specs.Prelude.{◌≡◌, ◌+◌, ◌<◌, ◌≤◌, ℕ, Bool, List, IfNone, IfSome, OnOk, Some, false, length, map, slice_get, true};
 ghost use Rattle.vote_core.specs.Schedule.{is_member};
 ghost use Rattle.oath_node.specs.Hosted.{envelope_at, event_of as node_event_of};
 ghost use Rattle.oath_node.specs.Machine.{Config, NodeState};
-ghost use Rattle.cluster_sim.specs.Journal.{AreHosts, IsAsked, IsRun, JournalRecord, Plays, journal_with_outputs, letter_of, simulation_of, told_act, told_turn, world_by_event};
+ghost use Rattle.cluster_sim.specs.Journal.{AreHosts, IsAsked, IsRun, Plays, PlaysAt, journal_with_outputs, letter_of, simulation_of, told_act, told_turn, world_by_event};
 ghost use Rattle.cluster_sim.specs.Run.{act_of, event_of};
 ghost use Rattle.cluster_sim.specs.World as spec;
 ghost use Rattle.cluster_sim.specs.World.{Cut, Deliver, Noise, World, node_of, world_after_restart};
 
 use crate::hosting::{hand, reopen};
 use crate::journal::Journal;
+use crate::losses::{lose, renew};
 use crate::script::{Act, WorldEvent};
 use floor_store::MemStore;
 use oath_node::{Event, Node, Outputs, Scratch};
-use std::alloc::AllocError;
+use otp_core::Settings;
+use std::alloc::{AllocError, Global};
+use token_file::Book;
 use vote_wire::{ClusterKey, one_spelling, read_message};
 
+/// What all nodes of a cluster share, and where their memory comes from.
+#[derive(Clone, Copy)]
+pub(crate) struct Shared<'b> {
+    pub(crate) alloc: Global,
+    pub(crate) book: &'b Book,
+    pub(crate) settings: Settings,
+    pub(crate) key: &'b ClusterKey,
+}
+
 /// The place of a node among so many.
-fn index_of(len: usize, node: u64) -> Option<usize>
+pub(crate) fn index_of(len: usize, node: u64) -> Option<usize>
     ensures place { IfSome result (λ k. k + 1 ≡ node) }
     ensures within { IfSome result (λ k. k < len) }
     ensures member { IfSome result (λ k. is_member len node ≡ true) }
@@ -31,16 +43,16 @@ fn index_of(len: usize, node: u64) -> Option<usize>
     }
 }
 
-/// Hands an event to a node, if there is that one.
+/// Hands an event to a node, if there is that one. Its store is there.
 fn ask<'b: 'k, 'k>(
     nodes: &mut [Node<'b, MemStore>],
     node: u64,
     event: Event<'_>,
     scratch: &'k mut Scratch,
 ) -> Option<Outputs<'k>>
-    ensures asks { (config : Config) (key : List ℕ) (n : ℕ) (x : ℕ → NodeState)
-        → n ≡ length nodes.old → AreHosts config key n x nodes.old
-        → IsAsked config key n x node (node_event_of key event.entry) nodes.new result }
+    ensures asks { (config : Config) (key : List ℕ) (n : ℕ) (lost : ℕ → Bool) (x : ℕ → NodeState)
+        → n ≡ length nodes.old → lost node ≡ false → AreHosts config key n lost x nodes.old
+        → IsAsked config key n lost x node (node_event_of key event.entry) nodes.new result }
     ensures len { length nodes.new ≡ length nodes.old }
     ensures member { IfSome result (λ _. is_member (length nodes.old) node ≡ true) }
 {
@@ -83,6 +95,9 @@ fn turn(
         (simulation_of nodes.old journal.old) (simulation_of nodes.new journal.new) result }
     ensures len { length nodes.new ≡ length nodes.old }
 {
+    if journal.used_boot(node).is_some() {
+        return Ok(());
+    }
     let mut scratch = Scratch::new();
     let outputs = ask(nodes, node, what, &mut scratch);
     take(journal, event, node, is_told, &outputs)
@@ -103,6 +118,9 @@ fn deliver(
     ensures len { length nodes.new ≡ length nodes.old }
 {
     one_spelling();
+    if journal.used_boot(node).is_some() {
+        return Ok(());
+    }
     let Some(datagram) = journal.datagram(k) else {
         return Ok(());
     };
@@ -158,7 +176,7 @@ fn disturb(
 }
 
 /// Does an act in an event. What the node sends and replies is told, or lost.
-fn perform(
+pub(crate) fn perform(
     nodes: &mut [Node<'_, MemStore>],
     journal: &mut Journal,
     key: &ClusterKey,
@@ -210,27 +228,30 @@ fn target_of(journal: &Journal, act: Act<'_>) -> Option<u64>
     }
 }
 
-/// Restarts a node, if there is that one.
-fn reopen_at(nodes: &mut [Node<'_, MemStore>], node: u64)
-    ensures restarts { (config : Config) (key : List ℕ) (world : World) (journal : JournalRecord)
-        → IsRun config key world (simulation_of nodes.old journal)
-        → IsRun config key (world_after_restart (Some node) world) (simulation_of nodes.new journal) }
+/// Restarts a node, if there is that one and its store is there.
+fn reopen_at(nodes: &mut [Node<'_, MemStore>], journal: &Journal, node: u64)
+    ensures restarts { (config : Config) (key : List ℕ) (world : World)
+        → IsRun config key world (simulation_of nodes.old journal.now)
+        → IsRun config key (world_after_restart (Some node) world) (simulation_of nodes.new journal.now) }
     ensures len { length nodes.new ≡ length nodes.old }
 {
+    if journal.used_boot(node).is_some() {
+        return;
+    }
     if let Some(index) = index_of(nodes.len(), node) {
         reopen(&mut nodes[index]);
     }
 }
 
 /// Restarts a node, if one is named.
-fn reopen_if(nodes: &mut [Node<'_, MemStore>], node: Option<u64>)
-    ensures restarts { (config : Config) (key : List ℕ) (world : World) (journal : JournalRecord)
-        → IsRun config key world (simulation_of nodes.old journal)
-        → IsRun config key (world_after_restart node world) (simulation_of nodes.new journal) }
+fn reopen_if(nodes: &mut [Node<'_, MemStore>], journal: &Journal, node: Option<u64>)
+    ensures restarts { (config : Config) (key : List ℕ) (world : World)
+        → IsRun config key world (simulation_of nodes.old journal.now)
+        → IsRun config key (world_after_restart node world) (simulation_of nodes.new journal.now) }
     ensures len { length nodes.new ≡ length nodes.old }
 {
     if let Some(node) = node {
-        reopen_at(nodes, node);
+        reopen_at(nodes, journal, node);
     }
 }
 
@@ -252,34 +273,36 @@ fn cut(
     let target = target_of(journal, act);
     if kept {
         perform(nodes, journal, key, event, act, false)?;
-        reopen_if(nodes, target);
+        reopen_if(nodes, journal, target);
         Ok(())
     } else {
-        reopen_if(nodes, target);
+        reopen_if(nodes, journal, target);
         Ok(())
     }
 }
 
 /// Lets the event of a number happen.
-pub(crate) fn happen(
-    nodes: &mut [Node<'_, MemStore>],
+pub(crate) fn happen<'b>(
+    nodes: &mut [Node<'b, MemStore>],
     journal: &mut Journal,
-    key: &ClusterKey,
+    shared: &Shared<'b>,
     number: u64,
     event: WorldEvent<'_>,
 ) -> Result<(), AllocError>
     requires { length nodes.old ≤ 9 }
-    ensures plays { Plays key.now
-        (world_by_event number (event_of key.now event.entry))
+    ensures plays { let config : Config = record { book = shared.now.book.now; limits = shared.now.settings } in
+        PlaysAt config shared.now.key.now (world_by_event number (event_of shared.now.key.now event.entry) config)
         (simulation_of nodes.old journal.old) (simulation_of nodes.new journal.new) result }
     ensures len { length nodes.new ≡ length nodes.old }
 {
     match event {
-        WorldEvent::Happens(act) => perform(nodes, journal, key, number, act, true),
-        WorldEvent::Cut { kept, act } => cut(nodes, journal, key, number, kept, act),
+        WorldEvent::Happens(act) => perform(nodes, journal, shared.key, number, act, true),
+        WorldEvent::Cut { kept, act } => cut(nodes, journal, shared.key, number, kept, act),
         WorldEvent::Restart { node } => {
-            reopen_at(nodes, node);
+            reopen_at(nodes, journal, node);
             Ok(())
         }
+        WorldEvent::Lost { node } => lose(nodes, journal, shared.alloc, node),
+        WorldEvent::Anew { node, boot, floors } => renew(nodes, journal, shared, node, boot, floors),
     }
 }

@@ -1,5 +1,5 @@
 ghost use Rattle.std.specs.Prelude.{◌≡◌, ◌+◌, ◌^◌, ◌<◌, ◌≤◌, ◌↔◌, length, slice_get, false, Some, Ok, IsOk, IsErr, IsOkAnd, IfOk, IfErr, OnOk, OnErr};
-ghost use Rattle.floor_store.specs.Content.{opening_content, with_row, with_next_boot};
+ghost use Rattle.floor_store.specs.Content.{opening_content, opening_content_at, with_row, with_next_boot};
 ghost use Rattle.floor_store.specs.Range.{IsCount};
 ghost use Rattle.floor_store.specs.declared.fault.StoreFault.TheVariants.{Memory, Spent};
 
@@ -38,6 +38,16 @@ impl MemStore {
         ensures opening { IfOk result (λ store. store ≡ opening_content floors.now) }
         ensures refusal { IfErr result (λ e. e ≡ StoreFault.Memory) }
     {
+        MemStore::new_at(alloc, 0, floors)
+    }
+
+    /// The same at another boot, below 2^62: so a store begins that takes the place of a lost one.
+    pub fn new_at(alloc: Global, boot: u64, floors: &[Next]) -> Result<Self, StoreFault>
+        requires boot { boot < 2 ^ 62 }
+        requires tokens { length floors.now ≤ 10000 }
+        ensures opening { IfOk result (λ store. store ≡ opening_content_at boot floors.now) }
+        ensures refusal { IfErr result (λ e. e ≡ StoreFault.Memory) }
+    {
         let Ok(mut rows) = Vec::with_capacity(alloc, floors.len()) else {
             return Err(StoreFault::Memory);
         };
@@ -48,7 +58,7 @@ impl MemStore {
         }
         Ok(MemStore {
             rows,
-            boot: 0,
+            boot,
             last: None,
         })
     }

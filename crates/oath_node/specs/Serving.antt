@@ -2,7 +2,7 @@
 use Rattle.std.specs.Prelude.{◌≡◌, ℕ, ◌+◌, ◌^◌, ◌≤◌, List, Result, IfErr, IfOk, OnOk}
 use Rattle.otp_core.specs.Limits.{Limits}
 use Rattle.token_file.specs.Credential.{Credential}
-use Rattle.floor_store.specs.Content.{Content, opening_content}
+use Rattle.floor_store.specs.Content.{Content, opening_content_at}
 use Rattle.vote_core.specs.NodeSet.{PlaceRecord}
 use Rattle.vote_core.specs.State.{voter_of}
 use Rattle.oath_node.specs.Alone.{IsAlone, alone_place}
@@ -25,14 +25,18 @@ state_in_memory node = record {
   running = node.running;
 }
 
--- a node of that place over a fresh store in memory with these first free factors
-pub record IsInMemory (book : List Credential) (limits : Limits) (place : PlaceRecord) (key floors : List ℕ)
+-- a node of that place, open on a store in memory that was made at this boot with these first free factors
+pub record IsInMemoryAt (boot : ℕ) (book : List Credential) (limits : Limits) (place : PlaceRecord) (key floors : List ℕ)
     (node : Serving) : Type 0 where
-  pub state : state_in_memory node ≡ opened_node (opening_content floors)
+  pub state : state_in_memory node ≡ opened_node (opening_content_at boot floors)
   pub book_is : node.book ≡ book
   pub limits_are : node.limits ≡ limits
   pub key_is : node.key ≡ key
   pub place_is : node.voter.place ≡ place
+
+-- a node of that place over a fresh store in memory with these first free factors
+abbrev pub IsInMemory : List Credential → Limits → PlaceRecord → List ℕ → List ℕ → Serving → Type 0
+IsInMemory = IsInMemoryAt 0
 
 -- the node, which is alone, is this state of the reference server over a book, after so many lines
 pub record IsServing (node : Serving) (book : List Credential) (limits : Limits) (count : ℕ)

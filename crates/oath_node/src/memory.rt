@@ -1,7 +1,7 @@
 //! Nodes over stores in memory.
 
-ghost use Rattle.std.specs.Prelude.{◌≡◌, length, IfOk};
-ghost use Rattle.oath_node.specs.Serving.{IsInMemory};
+ghost use Rattle.std.specs.Prelude.{◌≡◌, ◌+◌, ◌<◌, ◌^◌, length, IfOk};
+ghost use Rattle.oath_node.specs.Serving.{IsInMemory, IsInMemoryAt};
 
 use crate::fault::OpenFault;
 use crate::node::Node;
@@ -26,15 +26,33 @@ impl<'b> Node<'b, MemStore> {
         requires { length floors.now ≡ length book.now }
         ensures { IfOk result (IsInMemory book.now settings place key.now floors.now) }
     {
+        Node::in_memory_at(alloc, book, settings, place, key, 0, floors)
+    }
+
+    /// The same over a store of another boot, which is not the last: so a node opens that takes the place of one whose
+    /// store was lost.
+    pub fn in_memory_at(
+        alloc: Global,
+        book: &'b Book,
+        settings: Settings,
+        place: Place,
+        key: &'b ClusterKey,
+        boot: u64,
+        floors: &[Next],
+    ) -> Result<Self, AllocError>
+        requires boot { boot + 1 < 2 ^ 62 }
+        requires tokens { length floors.now ≡ length book.now }
+        ensures { IfOk result (IsInMemoryAt boot book.now settings place key.now floors.now) }
+    {
         // At most 10,000, as a store has rows.
         let _tokens = book.len();
-        let Ok(store) = MemStore::new(alloc, floors) else {
+        let Ok(store) = MemStore::new_at(alloc, boot, floors) else {
             return Err(AllocError);
         };
         match Node::open(alloc, book, settings, place, key, store) {
             Ok(node) => Ok(node),
             Err((_, OpenFault::Memory)) => Err(AllocError),
-            // A fresh store in memory can raise its boot.
+            // Such a store in memory can raise its boot.
             Err((_, OpenFault::Store(_))) => unreachable!(),
         }
     }

@@ -272,6 +272,14 @@ impl<'b, S: FloorStore> Node<'b, S> {
         parts.store
     }
 
+    /// The store, to look at. It has a row for each token of the book.
+    pub fn store(&self) -> &S
+        ensures store { result.now ≡ self.now.store }
+        ensures tokens { length (S.held self.now.store).content.rows ≡ length self.now.book }
+    {
+        &self.parts.store
+    }
+
     /// Whether it runs: no fault has stopped it since it was opened or restarted.
     pub fn is_running(&self) -> bool
         ensures { result ≡ self.now.running }

@@ -1,10 +1,10 @@
-use Rattle.std.proofs.Common.{[], ◌∷◌}
+use Rattle.std.proofs.Common.{[], ◌∷◌, drop}
 use Rattle.std.proofs.lemmas.Result.{IfOk-weaker}
 use Rattle.cluster_sim.specs.RoundRun.{HaveHappened, deliveries_from}
 use Rattle.cluster_sim.specs.Run.{round_line}
-use Rattle.cluster_sim.specs.Rounds.{line_event, round_events}
+use Rattle.cluster_sim.specs.Rounds.{is_between, line_event, round_events}
 use Rattle.cluster_sim.specs.World.{world_after_events}
-use Rattle.cluster_sim.proofs.RoundPlay.{round_happened, spelled_on}
+use Rattle.cluster_sim.proofs.RoundPlay.{deliveries_are_acts, round_happened, spelled_on}
 use Rattle.cluster_sim.proofs.rounds.play_round.Goals as goal
 
 pub returns-clause-plays : goal.returns-clause-plays
@@ -19,10 +19,10 @@ returns-clause-plays c config w h spelled =
     let m2 = c.in_ok-answered.answered in
     let asked = c.in_ok-asked.ensures.plays config w h spelled in
     let w1 = world_after_events config n (line_event line ∷ []) w in
-    let spelled1 = spelled_on config n m1 (line_event line ∷ []) w asked.count spelled in
+    let spelled1 = spelled_on config n m1 (line_event line ∷ []) w tt asked.count spelled in
     let answered = c.in_ok-answered.ensures.plays config w1 asked.run spelled1 in
     let w2 = world_after_events config m1 (deliveries_from live first w1) w1 in
-    let spelled2 = spelled_on config m1 m2 (deliveries_from live first w1) w1 answered.count spelled1 in
+    let spelled2 = spelled_on config m1 m2 (deliveries_from live first w1) w1 (deliveries_are_acts (is_between live) first (drop first w1.sent)) answered.count spelled1 in
     IfOk-weaker c.hand_on-2.result
     (λ next. HaveHappened config key m2 (deliveries_from live second w2) w2 (record { nodes = c.hand_on-2.new.nodes; journal = c.hand_on-2.new.journal }) next)
     (λ next. HaveHappened config key n (round_events config live n w line) w (record { nodes = c.hand_on-2.new.nodes; journal = c.hand_on-2.new.journal }) next)

@@ -9,6 +9,8 @@ use Rattle.cluster_sim.proofs.run.play.Given as goal
 -- from whatever world it began, so many events have happened
 abbrev pub invariant-loop-number : goal.invariant-loop-number
 invariant-loop-number l =
-    (config : Config) (world : World) → AreSpelledAlong config (map (event_of l.key) l.events) world
-    → IsRun config l.key world (record { nodes = l.initial.nodes; journal = l.initial.journal })
-    → IsPlayed config l.key (map (event_of l.key) l.events) world l.number (record { nodes = l.nodes; journal = l.journal })
+    let config : Config = record { book = l.shared.book.now; limits = l.shared.settings } in
+    let key = l.shared.key.now in
+    (world : World) → AreSpelledAlong config (map (event_of key) l.events) world
+    → IsRun config key world (record { nodes = l.initial.nodes; journal = l.initial.journal })
+    → IsPlayed config key (map (event_of key) l.events) world l.number (record { nodes = l.nodes; journal = l.journal })

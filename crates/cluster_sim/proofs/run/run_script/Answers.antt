@@ -21,5 +21,5 @@ returns c =
     let few : length c.args.book.now ≤ 10000 = omega (arith, c.len-tokens.ensures.value, c.len-tokens.ensures.range) in
     let opened = subst (λ (j : JournalRecord). IsRun config key opening (record { nodes = c.deref_mut.result.now; journal = j })) (sym c.new-journal.ensures)
     (subst (λ (l : List (Hosted Content)). IsRun config key opening (record { nodes = l; journal = no_journal })) (sym c.deref_mut.ensures.value) c.in_ok-nodes.ensures) in
-    let spelled = all_spelled c.rulings_have_grounds.ensures.grounds config floors events few (subst (λ n. n ≤ 9) (sym (length-map c.args.floors.now (λ (v : Vec ℕ). v.items))) c.requires.last) c.floors_are_in_range.ensures in
-    c.report_of_journal.ensures ∙ recorded_report key (world_after_events config 0 events opening) c.play.new.journal (c.in_ok-play.ensures config opening spelled opened).recorded
+    let spelled = all_spelled c.rulings_have_grounds.ensures.grounds config floors events few (subst (λ n. n ≤ 9) (sym (length-map c.args.floors.now (λ (v : Vec ℕ). v.items))) c.requires.last) c.floors_are_in_range.ensures (c.events_are_in_range.ensures key) in
+    c.report_of_journal.ensures ∙ recorded_report key (world_after_events config 0 events opening) c.play.new.journal (c.in_ok-play.ensures opening spelled opened).recorded

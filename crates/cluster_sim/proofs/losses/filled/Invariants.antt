@@ -1,0 +1,8 @@
+use Rattle.std.proofs.Common.{◌≡◌}
+use Rattle.cluster_sim.specs.Losses.{list_of}
+use Rattle.cluster_sim.specs.World.{floor_in}
+use Rattle.cluster_sim.proofs.losses.filled.Given as goal
+
+-- those of the tokens so far
+abbrev pub invariant-loop-token : goal.invariant-loop-token
+invariant-loop-token l = l.list.items ≡ list_of l.token (floor_in l.floors)

@@ -1,0 +1,8 @@
+use Rattle.std.proofs.Common.{◌≡◌, ◌≤◌}
+use Rattle.otp_core.specs.Acceptance.{size}
+use Rattle.cluster_sim.specs.Losses.{are_lost}
+use Rattle.cluster_sim.proofs.losses.lost_count.Given as goal
+
+-- those of the nodes so far
+abbrev pub invariant-loop-index : goal.invariant-loop-index
+invariant-loop-index l = (l.count ≡ size l.index (are_lost l.journal.losses)) × (l.count ≤ l.index)
