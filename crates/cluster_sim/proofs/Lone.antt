@@ -360,7 +360,6 @@ happens_lone law config b q e (Cut false a) w s low few goes h =
 happens_lone law config b q e (Restart i) w s low few goes h =
     let back = restart_lone b q i w s low h in
     record { lone = lone_weaker (b + 1) q (b + 1) (q + 1) (world_after_restart (Some i) w) (server_after_restart i s) (omega arith) (omega arith) back.lone; tells = back.tells ∙ sym (right_nil w.told) }
-
 happens_lone law config b q e (Lost i) w s low few goes h = same_lone b q w (world_after_loss i w) s (no_loss i w h.alone goes) h
 happens_lone law config b q e (Anew i boot floors) w s low few goes h =
     same_lone b q w (world_after_anew e i boot (floor_in floors) w) s (no_anew e i boot (floor_in floors) w h.alone h.here) h

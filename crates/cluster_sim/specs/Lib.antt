@@ -4,8 +4,9 @@ pub mod Drifts
 pub mod Examples
 pub mod FrontEnds
 pub mod Journal
-pub mod Losses
 pub mod Justified
+pub mod LossExamples
+pub mod Losses
 pub mod Results
 pub mod RoundExamples
 pub mod RoundRun

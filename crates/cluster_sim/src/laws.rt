@@ -9,13 +9,14 @@ ghost use Rattle.cluster_sim.specs.Answered.{AreAnswered, NamePasses, TellTruth}
 ghost use Rattle.cluster_sim.specs.Broken.{first_ok, first_two, no_line_at_1, ok_given, raised, round_line, second_spent, second_stopped, second_waiting, start_world};
 ghost use Rattle.cluster_sim.specs.Examples.{IsAnsweredBy, IsJustifiedAlone, IsJustifiedAmong, IsJustifiedByClock, IsToldTruly, NamesItsPass, alone, clock_alone, clock_among, clock_config, clock_line_stopped, clock_lines, clock_stopped, clock_three, config, drift_of_passes, eight_ticks, exhausted, five, four, fresh_token, gate_survives_restart, letter_lines, many_floors, many_users, moments_of_others, nothing_happens, old_grants, one_voter_twice, acceptance, password_column, refusal_again, report_with, resynchronization, line_at, second_factor_elsewhere, span_against_one, split_two_to_two, stop_after_the_commit, stop_before_accepting, stop_in_a_line, stop_in_a_tick, stop_in_noise, stop_of_nothing, three, told_outcome, told_bad_line, two_submissions, with_password};
 ghost use Rattle.cluster_sim.specs.Drifts.{drift_before};
+ghost use Rattle.cluster_sim.specs.LossExamples.{after_loss, alone_lost, answered_before, both_accepted, drifted_before, failed_before, first_accepted, one_of_two, two_lost, without_a_store};
 ghost use Rattle.cluster_sim.specs.Justified.{AreJustified};
 ghost use Rattle.cluster_sim.specs.Results.{results_before, results_of};
 ghost use Rattle.oath_node.specs.ReferenceServer.{server_at};
 ghost use Rattle.cluster_sim.specs.RoundExamples.{clock_rounds, fronted_at, line_after_sweep, lines_after_failure, lines_after_loss, lines_again, lines_of_a_clock, not_level, one_line, one_lost, rounds_from_start, server_after_rounds, swept, three_lines, told_at_fronts, two_lines};
 ghost use Rattle.cluster_sim.specs.Rounds.{AreServable, AreServed, IsAnswerTo, IsSettled, ServesAsOne, RoundsAreTheReference, RoundsAreThese, RoundsByCount, RoundsReported, SweepEndSettles, SweepLevels, SweepSettles, TurnLevels, events_with_rounds};
 ghost use Rattle.cluster_sim.specs.SingleNode.{reference_answers, opening_server};
-ghost use Rattle.cluster_sim.specs.World.{WorldEvent, floor_before, opening_world, passes_of, report_of};
+ghost use Rattle.cluster_sim.specs.World.{Anew, Restart, WorldEvent, floor_before, opening_world, passes_of, report_of};
 
 use admit_core::{failures_are_spaced, gate_keeps_throttle};
 use oath_node::{one_node_answers_as_the_server, rulings_have_grounds};
@@ -158,6 +159,40 @@ pub fn busy_script_is_worked()
         ≡ report_with [] (told_outcome 32 1 7 (codes "n") (Refused Busy) ∷ []) 64 }
 {}
 
+/// Stores that are lost and made anew, worked through. A store is made anew where fewer nodes are lost than make a
+/// majority, at a boot that its node never used, with no first free factor below those of the others; else nothing
+/// changes. Gates, drifts and kept answers begin again with it.
+pub fn losses_are_worked()
+    ensures made_anew { report_of config three (after_loss (Anew 2 2 (1 ∷ []))) ≡ both_accepted }
+    ensures at_the_last_boot { report_of config three (after_loss (Anew 2 4611686018427387903 (1 ∷ [])))
+        ≡ both_accepted }
+    ensures too_low { report_of config three (after_loss (Anew 2 2 (0 ∷ []))) ≡ first_accepted }
+    ensures no_floors { report_of config three (after_loss (Anew 2 2 [])) ≡ first_accepted }
+    ensures at_a_used_boot { report_of config three (after_loss (Anew 2 1 (1 ∷ []))) ≡ first_accepted }
+    ensures past_the_last_boot { report_of config three (after_loss (Anew 2 4611686018427387904 (1 ∷ [])))
+        ≡ first_accepted }
+    ensures not_lost { report_of config three (after_loss (Anew 3 2 (1 ∷ []))) ≡ first_accepted }
+    ensures no_member { report_of config three (after_loss (Anew 4 2 (1 ∷ []))) ≡ first_accepted }
+    ensures two_of_three { report_of config three two_lost ≡ first_accepted }
+    ensures one_of_two { report_of config ((0 ∷ []) ∷ (0 ∷ []) ∷ []) one_of_two
+        ≡ report_with (acceptance 2 4 1 0 0 ∷ []) (told_outcome 4 1 7 (codes "a") (Accepted 0) ∷ []) 2 }
+    ensures without_a_store { report_of config three without_a_store ≡ report_with [] [] 0 }
+    ensures alone { report_of config alone alone_lost
+        ≡ report_with (acceptance 0 0 1 0 0 ∷ []) (told_outcome 0 1 7 (codes "a") (Accepted 0) ∷ []) 0 }
+    ensures alone_as_the_server { reference_answers config 0 alone_lost (opening_server config (0 ∷ []))
+        ≡ told_outcome 0 1 7 (codes "a") (Accepted 0) ∷ [] }
+    ensures answers { report_of config three answered_before
+        ≡ report_with (acceptance 0 2 1 0 0 ∷ []) (told_outcome 2 1 7 (codes "a") (Accepted 0)
+        ∷ told_outcome 5 1 7 (codes "a") (Refused Invalid) ∷ []) 3 }
+    ensures gates { report_of config three failed_before
+        ≡ report_with [] (told_outcome 0 1 7 (codes "a") (Refused Invalid) ∷ []) 2 }
+    ensures results { results_before config three failed_before 1 0 2 ≡ Failed 1000 ∷ [] }
+    ensures results_anew { results_of config three failed_before 1 0 ≡ [] }
+    ensures drift { drift_before (clock_config 10) clock_three (drifted_before 1) 1 0 4 ≡ negsuc 0 }
+    ensures drift_anew { drift_before (clock_config 10) clock_three (drifted_before 1) 1 0 5 ≡ pos 0 }
+    ensures other_drift { drift_before (clock_config 10) clock_three (drifted_before 2) 1 0 5 ≡ negsuc 0 }
+{}
+
 /// The results of a token at a node, the newest first: its failures and its acceptances there, and nothing else.
 pub fn results_are_worked()
     ensures all { results_of config alone fresh_token 1 0
@@ -216,6 +251,8 @@ pub fn justifications_can_be_broken()
     ensures noise { IsJustifiedAmong nothing_happens (acceptance 2 2 2 0 0) → ⊥ }
     ensures restart { IsJustifiedAmong old_grants (acceptance 2 2 1 0 0) → ⊥ }
     ensures lost { IsJustifiedAmong (stop_in_a_line false) (acceptance 0 0 1 0 0) → ⊥ }
+    ensures store_lost { IsJustifiedAmong (after_loss (Restart 0)) (acceptance 3 3 2 1 1) → ⊥ }
+    ensures store_anew { IsJustifiedAmong (after_loss (Anew 2 2 (1 ∷ []))) (acceptance 4 4 2 1 1) → ⊥ }
     ensures token { IsJustifiedAlone (record (acceptance 0 0 1 0 0) { token = 1 }) → ⊥ }
     ensures factor { IsJustifiedAlone (acceptance 0 0 1 1 1) → ⊥ }
     ensures used_up { IsJustifiedAlone (acceptance 1 1 1 0 0) → ⊥ }

@@ -1,6 +1,6 @@
 //! Every schedule of a cluster: nodes that answer clients' lines and vote, all datagrams that they send each other,
-//! and what happens to them: lines, deliveries in any order and number, ticks, noise, restarts, and stops inside a
-//! step.
+//! and what happens to them: lines, deliveries in any order and number, ticks, noise, restarts, stops inside a step,
+//! stores that are lost, and stores that are made anew in their place.
 //!
 //! [`run_world`] runs a script and gives its report. Its contract says what holds of every script: no factor of a
 //! token is accepted twice, each acceptance is justified by the line with which it began, and each `OK` belongs to
@@ -40,7 +40,7 @@ mod simulation;
 pub use fault::SimFault;
 pub use laws::{
     answers_belong_to_passes, answers_can_be_broken, busy_script_is_worked, drifts_are_worked,
-    justifications_can_be_broken, one_node_is_the_reference, results_are_worked,
+    justifications_can_be_broken, losses_are_worked, one_node_is_the_reference, results_are_worked,
     rounds_are_the_reference, rounds_are_worked, scripts_are_worked, servers_are_worked,
     services_can_be_broken, stops_are_worked, sweep_levels, world_is_safe,
 };

@@ -67,11 +67,18 @@ pub enum WorldEvent<'a> {
     Happens(Act<'a>),
     /// A stop inside the act: what it writes is kept or lost, what it sends and replies is lost, and
     /// the node restarts.
-    Cut { kept: bool, act: Act<'a> },
+    Cut {
+        kept: bool,
+        act: Act<'a>,
+    },
     /// A node restarts: what waits there and the answers that it keeps are lost.
-    Restart { node: u64 },
+    Restart {
+        node: u64,
+    },
     /// A node's store is gone, and the node does nothing more.
-    Lost { node: u64 },
+    Lost {
+        node: u64,
+    },
     /// A store is made for a lost node at a boot, with a first free factor for each token, from 0 on (0 for those that
     /// the list doesn't have), and the node opens on it at that boot. It does nothing where as many nodes are lost as
     /// make a majority, where the node used that boot or a later one before or the boot is above 2^62 - 1, and where a

@@ -303,6 +303,8 @@ pub(crate) fn happen<'b>(
             Ok(())
         }
         WorldEvent::Lost { node } => lose(nodes, journal, shared.alloc, node),
-        WorldEvent::Anew { node, boot, floors } => renew(nodes, journal, shared, node, boot, floors),
+        WorldEvent::Anew { node, boot, floors } => renew(
+            nodes, journal, shared, node, boot, floors,
+        ),
     }
 }

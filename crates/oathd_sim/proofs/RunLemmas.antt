@@ -21,7 +21,7 @@ use Rattle.cluster_sim.specs.World.{ReportValue, report_of}
 use Rattle.cluster_sim.specs.declared.script.Act as acts
 use Rattle.cluster_sim.specs.declared.script.Act.TheVariants.{Client, Deliver, Tick, Noise}
 use Rattle.cluster_sim.specs.declared.script.WorldEvent as events
-use Rattle.cluster_sim.specs.declared.script.WorldEvent.TheVariants.{Happens, Cut, Restart}
+use Rattle.cluster_sim.specs.declared.script.WorldEvent.TheVariants.{Happens, Cut, Restart, Lost, Anew}
 use Rattle.sim_script.specs.Event.{ScriptRecord, act_of, event_of, script_value}
 use Rattle.sim_script.specs.declared.script.Script.{Script}
 use Rattle.sim_script.specs.ReportText.{report_text}
@@ -44,6 +44,8 @@ event_same : (key : List ℕ) (event : events.WorldEvent) → event_under key (e
 event_same key (Happens act) = ap world.Happens (act_same key act)
 event_same key (Cut kept act) = ap (world.Cut kept) (act_same key act)
 event_same key (Restart node) = refl
+event_same key (Lost node) = refl
+event_same key (Anew node boot floors) = refl
 
 events_same : (key : List ℕ) (all : List events.WorldEvent) → map (event_under key) (map event_of all) ≡ map (code.event_of key) all
 events_same key [] = refl

@@ -11,7 +11,7 @@ use Rattle.oath_node.specs.Machine.{Config}
 use Rattle.cluster_sim.specs.World as world
 use Rattle.cluster_sim.specs.World.{ReportValue, report_of}
 use Rattle.cluster_sim.specs.Rounds.{events_with_rounds}
-use Rattle.sim_script.specs.Event.{Act, Says, Deliver, Ticks, Noise, Event, Happens, Cut, Restart, ScriptRecord, empty_script}
+use Rattle.sim_script.specs.Event.{Act, Says, Deliver, Ticks, Noise, Event, Happens, Cut, Restart, Lost, Anew, ScriptRecord, empty_script}
 use Rattle.sim_script.specs.ReportText.{report_text}
 use Rattle.sim_script.specs.Script.{with_line}
 use Rattle.sim_script.specs.Turns.{state_after}
@@ -48,6 +48,8 @@ abbrev pub event_under : List ℕ → Event → world.WorldEvent
 event_under key (Happens act) = world.Happens (act_under key act)
 event_under key (Cut kept act) = world.Cut kept (act_under key act)
 event_under key (Restart node) = world.Restart node
+event_under key (Lost node) = world.Lost node
+event_under key (Anew node boot floors) = world.Anew node boot floors
 
 -- all that a script says of nodes with this configuration and these first free factors: its events, and then a round
 -- for each further line among its live members

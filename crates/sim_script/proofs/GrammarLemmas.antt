@@ -1,5 +1,5 @@
 -- The line grammar, and the reader of lines as a function.
-use Rattle.std.proofs.Common.{◌≡◌, ℕ, suc, add-one, ◌+◌, ◌*◌, ◌<◌, ◌≤◌, Bool, true, false, cond, List, [], ◌∷◌, ◌++◌, length, take, drop, Option, Some, None, refl, sym, ap, subst, ◌∙◌, arith, get_or, ◌⊎◌, inl, inr, nat_lt}
+use Rattle.std.proofs.Common.{◌≡◌, ℕ, suc, add-one, ◌+◌, ◌*◌, ◌^◌, ◌<◌, ◌≤◌, Bool, true, false, cond, List, [], ◌∷◌, ◌++◌, length, take, drop, Option, Some, None, refl, sym, ap, subst, ◌∙◌, arith, get_or, ◌⊎◌, inl, inr, nat_lt}
 use Rattle.std.specs.Prelude.{Result, Ok, Err, ◌==◌, ◌&&◌, nat_le, codes, not, position}
 use Rattle.std.specs.Char.{is_ascii_digit}
 use Rattle.std.specs.List.{list_all, position_or_len}
@@ -16,9 +16,9 @@ use Rattle.field_text.specs.Cut.{Halves, halves_at, halves_of}
 use Rattle.field_text.specs.Number.{number_of}
 use Rattle.cluster_sim.specs.Rounds.{IsAscending, RoundLine, is_live}
 use Rattle.sim_script.specs.Lines.{fields_of}
-use Rattle.sim_script.specs.Event.{Act, Says, Deliver, Ticks, Noise, Event, Happens, Cut, Restart}
-use Rattle.sim_script.specs.Grammar.{AreNumbers, AreUpTo, IsActLine, IsDeliverLine, IsEventLine, IsHex, IsLiveLine, IsNoiseLine, IsRoundLine, IsSaidLine, IsTickLine, kept_word}
-use Rattle.sim_script.specs.Script.{◌>>=◌, act_line, act_of_word, bytes_of, client_act, cut_event, deliver_act, event_line, event_of_word, kept_of_word, line_among, live_line, live_members, member_above, members_above, noise_act, restart_event, round_among, said_line, tick_act}
+use Rattle.sim_script.specs.Event.{Act, Says, Deliver, Ticks, Noise, Event, Happens, Cut, Restart, Lost, Anew}
+use Rattle.sim_script.specs.Grammar.{AreNumbers, AreUpTo, IsActLine, IsAnewLine, IsDeliverLine, IsEventLine, IsHex, IsLiveLine, IsNoiseLine, IsRoundLine, IsSaidLine, IsTickLine, kept_word}
+use Rattle.sim_script.specs.Script.{◌>>=◌, act_line, act_of_word, anew_event, lost_event, next_of, nexts_of, bytes_of, client_act, cut_event, deliver_act, event_line, event_of_word, kept_of_word, line_among, live_line, live_members, member_above, members_above, noise_act, restart_event, round_among, said_line, tick_act}
 
 -- ---- A text cut at its first space
 
@@ -173,12 +173,31 @@ act_again line (Deliver node k) h = deliver_again line node k h
 act_again line (Ticks node) h = tick_again line node h
 act_again line (Noise node from bytes) h = noise_again line node from bytes h
 
+-- first free factors, field by field
+next_again : (text : List ℕ) (next : ℕ) → number_of text ≡ Some next → next ≤ 2 ^ 62 → next_of text ≡ Some next
+next_again text next e within =
+    ap (λ o. o >>= (λ number. cond (nat_le number (2 ^ 62)) (Some number) None)) e ∙ ap (λ b. cond b (Some next) None) (le-leb next (2 ^ 62) within)
+
+nexts_again : (fields : List (List ℕ)) (floors : List ℕ) → AreNumbers fields floors → AreUpTo (2 ^ 62) floors → nexts_of fields ≡ Some floors
+nexts_again [] [] are within = refl
+nexts_again [] (next ∷ floors) are within = absurd are
+nexts_again (field ∷ fields) [] are within = absurd are
+nexts_again (field ∷ fields) (next ∷ floors) are within =
+    ap (λ o. o >>= (λ first. nexts_of fields >>= (λ more. Some (first ∷ more)))) (next_again field next are.0 within.0)
+    ∙ ap (λ o. o >>= (λ more. Some (next ∷ more))) (nexts_again fields floors are.1 within.1)
+
 -- the word of an act is no other word of an event
 act_event : (word rest : List ℕ) (act : Act) → act_of_word word rest ≡ Some act → event_of_word word rest ≡ Some (Happens act)
 act_event word rest act e =
     let other : (name : List ℕ) → act_of_word name rest ≡ None → bytes_eq word name ≡ false =
     λ name none. (let d = bytes_eq-Decides word name in not_true (bytes_eq word name) (λ t. (let same : act_of_word name rest ≡ Some act = subst (λ w. act_of_word w rest ≡ Some act) (d.0 t) e in absurd cc))) in
-    ap (λ b. cond b (restart_event rest) (cond (bytes_eq word (codes "cut")) (cut_event rest) (act_of_word word rest >>= (λ a. Some (Happens a))))) (other (codes "restart") refl)
+    let happens_or : Option Event = act_of_word word rest >>= (λ a. Some (Happens a)) in
+    let cut_or : Option Event = cond (bytes_eq word (codes "cut")) (cut_event rest) happens_or in
+    let anew_or : Option Event = cond (bytes_eq word (codes "anew")) (anew_event rest) cut_or in
+    let lost_or : Option Event = cond (bytes_eq word (codes "lost")) (lost_event rest) anew_or in
+    ap (λ b. cond b (restart_event rest) lost_or) (other (codes "restart") refl)
+    ∙ ap (λ b. cond b (lost_event rest) anew_or) (other (codes "lost") refl)
+    ∙ ap (λ b. cond b (anew_event rest) cut_or) (other (codes "anew") refl)
     ∙ ap (λ b. cond b (cut_event rest) (act_of_word word rest >>= (λ a. Some (Happens a)))) (other (codes "cut") refl)
     ∙ ap (λ o. o >>= (λ a. Some (Happens a))) e
   where
@@ -208,6 +227,17 @@ event_again line (Cut kept act) h =
       act_again h.act_text act h.is_act,
     )
 event_again line (Restart node) h = rw (h.fields, cut_again (codes "restart") _ (word_lacks (codes "restart") refl), h.is_node)
+event_again line (Lost node) h = rw (h.fields, cut_again (codes "lost") _ (word_lacks (codes "lost") refl), h.is_node)
+event_again line (Anew node boot floors) h =
+    rw (
+      h.fields,
+      cut_again (codes "anew") _ (word_lacks (codes "anew") refl),
+      cut_again h.node_text _ (number_lacks h.node_text node h.is_node),
+      cut_again h.boot_text _ (number_lacks h.boot_text boot h.is_boot),
+      h.is_node,
+      h.is_boot,
+      nexts_again (fields_of h.text) floors h.are_numbers h.within,
+    )
 
 -- ---- What is read is in the grammar
 
@@ -312,6 +342,51 @@ restart_is line rest event form e =
     let is : Restart node.0 ≡ event = cc in
     subst (IsEventLine line) is (record { node_text = rest; fields = form; is_node = node.1 })
 
+lost_is : (line rest : List ℕ) (event : Event) → line ≡ codes "lost" ++ 32 ∷ rest → lost_event rest ≡ Some event → IsEventLine line event
+lost_is line rest event form e =
+    let node = both_steps (number_of rest) _ event e in
+    let is : Lost node.0 ≡ event = cc in
+    subst (IsEventLine line) is (record { node_text = rest; fields = form; is_node = node.1 })
+
+next_is : (text : List ℕ) (next : ℕ) → next_of text ≡ Some next → (number_of text ≡ Some next) × (next ≤ 2 ^ 62)
+next_is text next e =
+    let number = both_steps (number_of text) _ next e in
+    let test = some_if (nat_le number.0 (2 ^ 62)) number.0 next number.2 in
+    let most = leb-true number.0 (2 ^ 62) test.0 in
+    (number.1 ∙ ap Some test.1, omega (arith, most, test.1))
+
+nexts_are : (fields : List (List ℕ)) (floors : List ℕ) → nexts_of fields ≡ Some floors → AreNumbers fields floors × AreUpTo (2 ^ 62) floors
+nexts_are [] floors e =
+    let is : [] ≡ floors = cc in subst (λ l. AreNumbers [] l × AreUpTo (2 ^ 62) l) is (tt, tt)
+nexts_are (field ∷ fields) floors e =
+    let next = both_steps (next_of field) _ floors e in
+    let more = both_steps (nexts_of fields) _ floors next.2 in
+    let is : next.0 ∷ more.0 ≡ floors = cc in
+    let first = next_is field next.0 next.1 in
+    let rest = nexts_are fields more.0 more.1 in
+    subst (λ l. AreNumbers (field ∷ fields) l × AreUpTo (2 ^ 62) l) is ((first.0, rest.0), (first.1, rest.1))
+
+anew_is : (line rest : List ℕ) (event : Event) → line ≡ codes "anew" ++ 32 ∷ rest → anew_event rest ≡ Some event → IsEventLine line event
+anew_is line rest event form e =
+    let first = both_steps (halves_of 32 rest) _ event e in
+    let second = both_steps (halves_of 32 first.0.behind) _ event first.2 in
+    let node = both_steps (number_of first.0.before) _ event second.2 in
+    let boot = both_steps (number_of second.0.before) _ event node.2 in
+    let floors = both_steps (nexts_of (fields_of second.0.behind)) _ event boot.2 in
+    let is : Anew node.0 boot.0 floors.0 ≡ event = cc in
+    let said = nexts_are (fields_of second.0.behind) floors.0 floors.1 in
+    subst (IsEventLine line) {x = Anew node.0 boot.0 floors.0} is (record {
+      node_text = first.0.before;
+      boot_text = second.0.before;
+      text = second.0.behind;
+      fields = form ∙ ap (λ x. codes "anew" ++ 32 ∷ x) (cut_joins rest first.0 first.1
+          ∙ ap (λ x. first.0.before ++ 32 ∷ x) (cut_joins first.0.behind second.0 second.1));
+      is_node = node.1;
+      is_boot = boot.1;
+      are_numbers = said.0;
+      within = said.1;
+    })
+
 kept_is : (word : List ℕ) (kept : Bool) → kept_of_word word ≡ Some kept → word ≡ kept_word kept
 kept_is word kept e =
     let lost_or : Option Bool = cond (bytes_eq word (codes "lost")) (Some false) None in
@@ -352,11 +427,19 @@ event_is line event e =
     let form = cut_joins line steps.0 steps.1 in
     let happens_or : Option Event = act_of_word word rest >>= (λ act. Some (Happens act)) in
     let cut_or : Option Event = cond (bytes_eq word (codes "cut")) (cut_event rest) happens_or in
-    elim (either (bytes_eq word (codes "restart")) (restart_event rest) cut_or event steps.2) [
+    let anew_or : Option Event = cond (bytes_eq word (codes "anew")) (anew_event rest) cut_or in
+    let lost_or : Option Event = cond (bytes_eq word (codes "lost")) (lost_event rest) anew_or in
+    elim (either (bytes_eq word (codes "restart")) (restart_event rest) lost_or event steps.2) [
       | inl h ↦ restart_is line rest event (worded line word rest (codes "restart") form h.0) h.1
-      | inr h ↦ elim (either (bytes_eq word (codes "cut")) (cut_event rest) happens_or event h.1) [
-        | inl h ↦ cut_is line rest event (worded line word rest (codes "cut") form h.0) h.1
-        | inr h ↦ happens_is line word rest event form h.1
+      | inr h ↦ elim (either (bytes_eq word (codes "lost")) (lost_event rest) anew_or event h.1) [
+        | inl h ↦ lost_is line rest event (worded line word rest (codes "lost") form h.0) h.1
+        | inr h ↦ elim (either (bytes_eq word (codes "anew")) (anew_event rest) cut_or event h.1) [
+          | inl h ↦ anew_is line rest event (worded line word rest (codes "anew") form h.0) h.1
+          | inr h ↦ elim (either (bytes_eq word (codes "cut")) (cut_event rest) happens_or event h.1) [
+            | inl h ↦ cut_is line rest event (worded line word rest (codes "cut") form h.0) h.1
+            | inr h ↦ happens_is line word rest event form h.1
+          ]
+        ]
       ]
     ]
 

@@ -1,3 +1,4 @@
+mod FloorLemmas
 mod GrammarLemmas
 mod LineLemmas
 mod ReportLemmas

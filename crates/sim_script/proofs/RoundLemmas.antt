@@ -14,11 +14,11 @@ members_before live more = option_map (λ others. live ++ others) more
 pub record HasMembers (nodes : ℕ) (fields : List (List ℕ)) (live : List ℕ) (last number : ℕ) : Type 0 where
   pub so_far : members_above nodes 0 fields ≡ members_before live (members_above nodes last (drop number fields))
 
-before_nothing : (more : Option (List ℕ)) → more ≡ members_before [] more
+pub before_nothing : (more : Option (List ℕ)) → more ≡ members_before [] more
 before_nothing None = refl
 before_nothing (Some live) = refl
 
-before_one : (live : List ℕ) (node : ℕ) (more : Option (List ℕ))
+pub before_one : (live : List ℕ) (node : ℕ) (more : Option (List ℕ))
     → members_before live (more >>= (λ others. Some (node ∷ others))) ≡ members_before (live ++ node ∷ []) more
 before_one live node None = refl
 before_one live node (Some others) = ap Some (sym (append_assoc live (node ∷ []) others))

@@ -17,11 +17,13 @@ pub data Act : Type 0 where
   Noise : (node from : ℕ) (bytes : List ℕ) → Act
 
 -- What happens: something is done at a node; a node stops in the midst of it, and what it writes is kept or lost; a
--- node restarts.
+-- node restarts; a node's store is lost; a store is made for it anew, at a boot and with these first free factors.
 pub data Event : Type 0 where
   Happens : (act : Act) → Event
   Cut : (kept : Bool) (act : Act) → Event
   Restart : (node : ℕ) → Event
+  Lost : (node : ℕ) → Event
+  Anew : (node boot : ℕ) (floors : List ℕ) → Event
 
 -- what an act of the code says
 abbrev pub act_of : SimAct → Act
@@ -35,6 +37,8 @@ abbrev pub event_of : WorldEvent → Event
 event_of (event.Happens act) = Happens (act_of act)
 event_of (event.Cut kept act) = Cut kept (act_of act)
 event_of (event.Restart node) = Restart node
+event_of (event.Lost node) = Lost node
+event_of (event.Anew node boot floors) = Anew node boot floors.now
 
 -- What a script says: what happens first, then the members that are live, and the lines that come among them, each
 -- in a round of its own. A script without rounds may name no live members.

@@ -1,11 +1,11 @@
 -- The grammar of scripts. A line is fields with single spaces between.
-use Rattle.std.specs.Prelude.{◌≡◌, ℕ, ◌+◌, ◌*◌, ◌<◌, ◌≤◌, Bool, true, false, List, [], ◌∷◌, ◌++◌, length, Some, Ok, codes}
+use Rattle.std.specs.Prelude.{◌≡◌, ℕ, ◌+◌, ◌*◌, ◌^◌, ◌<◌, ◌≤◌, Bool, true, false, List, [], ◌∷◌, ◌++◌, length, Some, Ok, codes}
 use Rattle.std.specs.List.{join_with_byte}
 use Rattle.hex.specs.Hex.{decode_of}
 use Rattle.field_text.specs.Number.{number_of}
 use Rattle.cluster_sim.specs.Rounds.{IsAscending, RoundLine, is_live}
 use Rattle.sim_script.specs.Lines.{fields_of, lines_of, telling_lines}
-use Rattle.sim_script.specs.Event.{Act, Says, Deliver, Ticks, Noise, Event, Happens, Cut, Restart, ScriptRecord}
+use Rattle.sim_script.specs.Event.{Act, Says, Deliver, Ticks, Noise, Event, Happens, Cut, Restart, Lost, Anew, ScriptRecord}
 
 -- a line of these fields, with a space between each and the next
 abbrev pub HasFields : List ℕ → List (List ℕ) → Type 0
@@ -68,6 +68,34 @@ pub record IsRestartLine (line : List ℕ) (node : ℕ) : Type 0 where
   pub fields : HasFields line (codes "restart" ∷ node_text ∷ [])
   pub is_node : IsNumber node_text node
 
+-- `lost NODE`
+pub record IsLostLine (line : List ℕ) (node : ℕ) : Type 0 where
+  pub node_text : List ℕ
+  pub fields : HasFields line (codes "lost" ∷ node_text ∷ [])
+  pub is_node : IsNumber node_text node
+
+-- texts of these numbers, one each
+abbrev pub AreNumbers : List (List ℕ) → List ℕ → Type 0
+AreNumbers [] [] = Unit {0}
+AreNumbers (text ∷ texts) (number ∷ numbers) = IsNumber text number × AreNumbers texts numbers
+AreNumbers _ _ = ⊥
+
+-- each of these is at most that number
+abbrev pub AreUpTo : ℕ → List ℕ → Type 0
+AreUpTo most [] = Unit {0}
+AreUpTo most (number ∷ numbers) = (number ≤ most) × AreUpTo most numbers
+
+-- `anew NODE BOOT NEXT ..`: a first free factor for each token, from 0 on, and none above 2^62
+pub record IsAnewLine (line : List ℕ) (node boot : ℕ) (floors : List ℕ) : Type 0 where
+  pub node_text : List ℕ
+  pub boot_text : List ℕ
+  pub text : List ℕ
+  pub fields : HasFields line (codes "anew" ∷ node_text ∷ boot_text ∷ text ∷ [])
+  pub is_node : IsNumber node_text node
+  pub is_boot : IsNumber boot_text boot
+  pub are_numbers : AreNumbers (fields_of text) floors
+  pub within : AreUpTo (2 ^ 62) floors
+
 -- what says whether the change of a cut is kept
 abbrev pub kept_word : Bool → List ℕ
 kept_word true = codes "kept"
@@ -84,23 +112,14 @@ abbrev pub IsEventLine : List ℕ → Event → Type 0
 IsEventLine line (Happens act) = IsActLine line act
 IsEventLine line (Cut kept act) = IsCutLine line kept act
 IsEventLine line (Restart node) = IsRestartLine line node
+IsEventLine line (Lost node) = IsLostLine line node
+IsEventLine line (Anew node boot floors) = IsAnewLine line node boot floors
 
 -- lines that say these events, in order
 abbrev pub SayEvents : List (List ℕ) → List Event → Type 0
 SayEvents [] [] = Unit {0}
 SayEvents (line ∷ lines) (event ∷ events) = IsEventLine line event × SayEvents lines events
 SayEvents _ _ = ⊥
-
--- texts of these numbers, one each
-abbrev pub AreNumbers : List (List ℕ) → List ℕ → Type 0
-AreNumbers [] [] = Unit {0}
-AreNumbers (text ∷ texts) (number ∷ numbers) = IsNumber text number × AreNumbers texts numbers
-AreNumbers _ _ = ⊥
-
--- each is the number of one of so many nodes, or 0
-abbrev pub AreUpTo : ℕ → List ℕ → Type 0
-AreUpTo nodes [] = Unit {0}
-AreUpTo nodes (node ∷ more) = (node ≤ nodes) × AreUpTo nodes more
 
 -- `live A B ..`: a strict majority of so many nodes, each above the one before it, and the first above 0
 pub record IsLiveLine (nodes : ℕ) (line live : List ℕ) : Type 0 where

@@ -1,5 +1,5 @@
 -- What a script and its lines say, as functions. Grammar.antt has the same by what is said.
-use Rattle.std.specs.Prelude.{ℕ, ◌*◌, ◌==◌, ◌&&◌, nat_le, nat_lt, Bool, true, false, if◌then◌else◌, List, [], ◌∷◌, ◌++◌, length, Option, Some, None, option_map, Result, codes}
+use Rattle.std.specs.Prelude.{ℕ, ◌*◌, ◌^◌, ◌==◌, ◌&&◌, nat_le, nat_lt, Bool, true, false, if◌then◌else◌, List, [], ◌∷◌, ◌++◌, length, Option, Some, None, option_map, Result, codes}
 use Rattle.std.specs.Option.{option_or}
 use Rattle.std.specs.Result.{result_ok}
 use Rattle.std.specs.Str.{bytes_eq}
@@ -8,7 +8,7 @@ use Rattle.field_text.specs.Cut.{halves_of}
 use Rattle.field_text.specs.Number.{number_of}
 use Rattle.cluster_sim.specs.Rounds.{RoundLine, is_live}
 use Rattle.sim_script.specs.Lines.{fields_of, is_remark, lines_of}
-use Rattle.sim_script.specs.Event.{Act, Says, Deliver, Ticks, Noise, Event, Happens, Cut, Restart, ScriptRecord, empty_script}
+use Rattle.sim_script.specs.Event.{Act, Says, Deliver, Ticks, Noise, Event, Happens, Cut, Restart, Lost, Anew, ScriptRecord, empty_script}
 use Rattle.sim_script.specs.Turns.{state_after}
 
 -- the next step, where there is something to take it with
@@ -98,10 +98,42 @@ restart_event text = do
   node ← number_of text
   Some (Restart node)
 
+-- `NODE`, whose store is lost
+abbrev pub lost_event : List ℕ → Option Event
+lost_event text = do
+  node ← number_of text
+  Some (Lost node)
+
+-- a first free factor, which is at most 2^62
+abbrev pub next_of : List ℕ → Option ℕ
+next_of text = do
+  number ← number_of text
+  if nat_le number (2 ^ 62) then Some number else None
+
+-- a first free factor for each of these fields
+abbrev pub nexts_of : List (List ℕ) → Option (List ℕ)
+nexts_of [] = Some []
+nexts_of (field ∷ fields) = do
+  next ← next_of field
+  more ← nexts_of fields
+  Some (next ∷ more)
+
+-- `NODE BOOT NEXT ..`
+abbrev pub anew_event : List ℕ → Option Event
+anew_event text = do
+  first ← halves_of 32 text
+  second ← halves_of 32 first.behind
+  node ← number_of first.before
+  boot ← number_of second.before
+  floors ← nexts_of (fields_of second.behind)
+  Some (Anew node boot floors)
+
 -- the event of a word, and of what stands behind the space behind it
 abbrev pub event_of_word : List ℕ → List ℕ → Option Event
 event_of_word word rest =
     if bytes_eq word (codes "restart") then restart_event rest
+    else if bytes_eq word (codes "lost") then lost_event rest
+    else if bytes_eq word (codes "anew") then anew_event rest
     else if bytes_eq word (codes "cut") then cut_event rest
     else do
       act ← act_of_word word rest

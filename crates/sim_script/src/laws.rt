@@ -1,7 +1,7 @@
 ghost use Rattle.std.specs.Prelude.{◌≡◌, ◌↔◌, ℕ, List, [], ◌∷◌, ◌++◌, None, Some, Ok, Err};
 ghost use Rattle.std.specs.Prelude.{codes, false, replicate, true};
 ghost use Rattle.cluster_sim.specs.Rounds.{RoundLine};
-ghost use Rattle.sim_script.specs.Event.{Cut, Deliver, Happens, Noise, Restart, Says, Ticks, Event};
+ghost use Rattle.sim_script.specs.Event.{Anew, Cut, Deliver, Event, Happens, Lost, Noise, Restart, Says, Ticks};
 ghost use Rattle.sim_script.specs.Event.{ScriptRecord, empty_script, eventful};
 ghost use Rattle.sim_script.specs.Grammar.{HasFirstBad, IsEventLine, IsLiveLine, IsRoundLine, IsScript};
 ghost use Rattle.sim_script.specs.Reading.{IsRefused};
@@ -33,6 +33,9 @@ pub fn lines_are_worked()
     ensures tick { event_line (codes "tick 1") ≡ Some (Happens (Ticks 1)) }
     ensures noise { event_line (codes "noise 1 2 00fF") ≡ Some (Happens (Noise 1 2 (0 ∷ 255 ∷ []))) }
     ensures restart { event_line (codes "restart 3") ≡ Some (Restart 3) }
+    ensures store_lost { event_line (codes "lost 3") ≡ Some (Lost 3) }
+    ensures store_anew { event_line (codes "anew 3 5 12 0 7") ≡ Some (Anew 3 5 (12 ∷ 0 ∷ 7 ∷ [])) }
+    ensures last_next { event_line (codes "anew 1 2 4611686018427387904") ≡ Some (Anew 1 2 (4611686018427387904 ∷ [])) }
     ensures kept { event_line (codes "cut kept tick 1") ≡ Some (Cut true (Ticks 1)) }
     ensures lost { event_line (codes "cut lost deliver 3 0") ≡ Some (Cut false (Deliver 3 0)) }
     ensures kept_line { event_line (codes "cut kept client 1 2 3 x") ≡ Some (Cut true (Says 1 2 3 (codes "x"))) }
@@ -65,6 +68,13 @@ pub fn lines_are_worked()
     ensures no_digit { event_line (codes "noise 1 2 0g") ≡ None }
     ensures two_noises { event_line (codes "noise 1 2 ab cd") ≡ None }
     ensures too_long { bytes_of (replicate 1026 48) ≡ None }
+    ensures lost_two { event_line (codes "lost 1 2") ≡ None }
+    ensures anew_no_next { event_line (codes "anew 1 2") ≡ None }
+    ensures anew_empty_next { event_line (codes "anew 1 2 ") ≡ None }
+    ensures anew_two_spaces { event_line (codes "anew 1 2 3  4") ≡ None }
+    ensures anew_great_next { event_line (codes "anew 1 2 4611686018427387905") ≡ None }
+    ensures anew_bad_next { event_line (codes "anew 1 2 3 x") ≡ None }
+    ensures cut_lost { event_line (codes "cut kept lost 1") ≡ None }
     ensures cut_restart { event_line (codes "cut kept restart 1") ≡ None }
     ensures cut_cut { event_line (codes "cut kept cut lost tick 1") ≡ None }
     ensures cut_else { event_line (codes "cut off tick 1") ≡ None }

@@ -3,16 +3,18 @@ ghost use Rattle.std.specs.Option.{option_map};
 ghost use Rattle.cluster_sim.specs.Run.{round_line};
 ghost use Rattle.sim_script.specs.Event.{act_of, event_of};
 ghost use Rattle.sim_script.specs.Reading.{Reads};
-ghost use Rattle.sim_script.specs.Script.{act_of_word, bytes_of, client_act, cut_event, deliver_act, event_line};
-ghost use Rattle.sim_script.specs.Lines.{is_remark};
-ghost use Rattle.sim_script.specs.Script.{kept_of_word, noise_act, restart_event, said_line, tick_act};
+ghost use Rattle.sim_script.specs.Script.{act_of_word, anew_event, bytes_of, client_act, cut_event, deliver_act, event_line};
+ghost use Rattle.sim_script.specs.Lines.{fields_of, is_remark};
+ghost use Rattle.sim_script.specs.Script.{kept_of_word, lost_event, next_of, nexts_of, noise_act, restart_event, said_line, tick_act};
 
 use crate::fault::LineFault;
+use crate::rounds::is_field_end;
 use bumpalo::Bump;
 use bumpalo::collections::into_bump_slice;
 use cluster_sim::{Act, RoundLine, WorldEvent};
 use field_text::{cut_at, read_number};
 use hex::FromHexError;
+use otp_core::Next;
 
 /// The most digits of a noise.
 const MAX_DIGITS: usize = 1_024;
@@ -157,6 +159,49 @@ fn read_restart(text: &[u8]) -> Option<WorldEvent<'_>>
     })
 }
 
+/// A store that is lost: `NODE`.
+fn read_lost(text: &[u8]) -> Option<WorldEvent<'_>>
+    ensures { option_map event_of result ≡ lost_event text.now }
+{
+    Some(WorldEvent::Lost {
+        node: read_number(text)?,
+    })
+}
+
+/// A first free factor, which is at most 2^62.
+fn read_next(text: &[u8]) -> Option<Next>
+    ensures { result ≡ next_of text.now }
+{
+    Next::new(read_number(text)?)
+}
+
+/// First free factors: `NEXT ..`. They are placed in the arena.
+fn read_floors<'a>(arena: &'a Bump, text: &[u8]) -> Result<&'a [Next], LineFault>
+    ensures { Reads (λ floors. floors.now) (nexts_of (fields_of text.now)) result }
+{
+    let mut floors = Vec::new(arena);
+    for field in text.split(is_field_end) {
+        let Some(next) = read_next(field) else {
+            return Err(LineFault::Form);
+        };
+        floors.push(next)?;
+    }
+    Ok(into_bump_slice(floors))
+}
+
+/// A store that is made anew: `NODE BOOT NEXT ..`.
+fn read_anew<'a>(arena: &'a Bump, text: &[u8]) -> Result<WorldEvent<'a>, LineFault>
+    ensures { Reads event_of (anew_event text.now) result }
+{
+    let (node, rest) = cut_at(text, b' ').ok_or(LineFault::Form)?;
+    let (boot, floors) = cut_at(rest, b' ').ok_or(LineFault::Form)?;
+    Ok(WorldEvent::Anew {
+        node: read_number(node).ok_or(LineFault::Form)?,
+        boot: read_number(boot).ok_or(LineFault::Form)?,
+        floors: read_floors(arena, floors)?,
+    })
+}
+
 /// The event that a line says.
 pub(crate) fn read_event<'a>(arena: &'a Bump, line: &'a [u8]) -> Result<WorldEvent<'a>, LineFault>
     ensures { Reads event_of (event_line line.now) result }
@@ -164,6 +209,10 @@ pub(crate) fn read_event<'a>(arena: &'a Bump, line: &'a [u8]) -> Result<WorldEve
     let (word, rest) = cut_at(line, b' ').ok_or(LineFault::Form)?;
     if word == b"restart".as_slice() {
         read_restart(rest).ok_or(LineFault::Form)
+    } else if word == b"lost".as_slice() {
+        read_lost(rest).ok_or(LineFault::Form)
+    } else if word == b"anew".as_slice() {
+        read_anew(arena, rest)
     } else if word == b"cut".as_slice() {
         read_cut(arena, rest)
     } else {

@@ -16,7 +16,7 @@ use field_text::{cut_at, read_number};
 pub const MAX_NODES: usize = 9;
 
 /// Whether a byte stands between two fields.
-fn is_field_end(byte: &u8) -> bool
+pub(crate) fn is_field_end(byte: &u8) -> bool
     ensures { result ≡ (byte.now == 32) }
 {
     *byte == b' '

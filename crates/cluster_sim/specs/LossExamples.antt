@@ -1,0 +1,56 @@
+-- Scripts that the law `losses_are_worked` computes: stores that are lost, and stores that are made anew.
+use Rattle.std.specs.Prelude.{ℕ, true, List, [], ◌∷◌, codes}
+use Rattle.vote_wire.specs.declared.answer.Outcome.TheVariants.{Accepted}
+use Rattle.cluster_sim.specs.Examples.{acceptance, delivery, first_at_1, line_at, one_behind, report_with, told_outcome}
+use Rattle.cluster_sim.specs.World.{Cut, Lost, Anew, ReportValue, Restart, Ticks, WorldEvent}
+
+-- node 1 accepts factor 0, which node 2 granted; the store of node 2 is lost, and this happens; then node 3 asks node 2
+-- for factor 1
+abbrev pub after_loss : WorldEvent → List WorldEvent
+after_loss event =
+    first_at_1 ∷ delivery 2 0 ∷ delivery 1 2 ∷ Lost 2 ∷ event ∷ line_at 3 8 1010 (codes "CHECK b silver 287082 -")
+    ∷ delivery 2 4 ∷ delivery 3 5 ∷ []
+
+-- node 2 grants it on its new store
+abbrev pub both_accepted : ReportValue
+both_accepted =
+    report_with (acceptance 0 2 1 0 0 ∷ acceptance 5 7 3 1 1 ∷ [])
+    (told_outcome 2 1 7 (codes "a") (Accepted 0) ∷ told_outcome 7 3 8 (codes "b") (Accepted 1) ∷ []) 6
+
+-- node 2 has no store
+abbrev pub first_accepted : ReportValue
+first_accepted =
+    report_with (acceptance 0 2 1 0 0 ∷ []) (told_outcome 2 1 7 (codes "a") (Accepted 0) ∷ []) 5
+
+-- the stores of nodes 2 and 3 are lost, which make a majority
+abbrev pub two_lost : List WorldEvent
+two_lost =
+    first_at_1 ∷ delivery 2 0 ∷ delivery 1 2 ∷ Lost 2 ∷ Lost 3 ∷ Anew 2 2 (1 ∷ [])
+    ∷ line_at 1 8 1010 (codes "CHECK b silver 287082 -") ∷ delivery 2 3 ∷ []
+
+-- of two nodes one is made anew, and grants
+abbrev pub one_of_two : List WorldEvent
+one_of_two = Lost 2 ∷ Anew 2 2 (0 ∷ []) ∷ first_at_1 ∷ delivery 2 0 ∷ delivery 1 1 ∷ []
+
+-- at a node whose store is lost nothing happens, and it is lost once
+abbrev pub without_a_store : List WorldEvent
+without_a_store = Lost 1 ∷ first_at_1 ∷ Restart 1 ∷ Cut true (Ticks 1) ∷ Lost 1 ∷ Lost 9 ∷ []
+
+-- a node that is alone loses its store, and none is made anew
+abbrev pub alone_lost : List WorldEvent
+alone_lost = first_at_1 ∷ Lost 1 ∷ Anew 1 2 (1 ∷ []) ∷ line_at 1 7 1010 (codes "CHECK b silver 287082 -") ∷ []
+
+-- node 1 is made anew after it answered a line, which comes again
+abbrev pub answered_before : List WorldEvent
+answered_before =
+    first_at_1 ∷ delivery 2 0 ∷ delivery 1 2 ∷ Lost 1 ∷ Anew 1 2 (1 ∷ []) ∷ first_at_1 ∷ []
+
+-- node 1 is made anew after a failure, and a line comes in the same second
+abbrev pub failed_before : List WorldEvent
+failed_before =
+    line_at 1 7 1000 (codes "CHECK a silver 000000 -") ∷ Lost 1 ∷ Anew 1 2 (0 ∷ [])
+    ∷ line_at 1 7 1000 (codes "CHECK b silver 755224 -") ∷ []
+
+-- a node is made anew after node 1 kept a drift
+abbrev pub drifted_before : ℕ → List WorldEvent
+drifted_before node = one_behind ∷ delivery 2 0 ∷ delivery 1 2 ∷ Lost node ∷ Anew node 2 (4 ∷ []) ∷ []
