@@ -10,10 +10,11 @@ use Rattle.vote_wire.specs.Datagram.{datagram_at, datagram_bytes}
 use Rattle.oath_node.specs.Hosted.{envelope_at}
 use Rattle.cluster_sim.proofs.BelowLaws.{GroundLaw}
 use Rattle.cluster_sim.proofs.Spelled.{IsFineWorld, IsSpelled, happens_fine, start_fine}
+use Rattle.cluster_sim.specs.Run.{HasFloorsInRange}
 use Rattle.cluster_sim.specs.World.{World, opening_world, world_after_event}
 use Rattle.cluster_law.specs.Bytes.{AreUnforged, IsSized, IsUnforged, IsUnforgedDeed, IsUnforgedHistory}
 use Rattle.cluster_law.specs.Lives.{AreGenuine, Deed, Opens, FailsToOpen, Takes, Offers, Stops, StopsIn, Handout, Post, Input, Line, Datagram, Time, IsGenuine, IsGenuineDeed, IsHistory, Scene, Setting, first_scene, scene_after_deed}
-use Rattle.cluster_law.proofs.Follow.{IsKnown, Matches, follows}
+use Rattle.cluster_law.proofs.Follow.{IsKnown, Matches, follows, of_event}
 use Rattle.cluster_law.proofs.Histories.{starts}
 
 -- what is spelled reads as it was meant
@@ -48,7 +49,8 @@ all_genuine again grounds setting e [] scene w few m fine h = tt
 all_genuine again grounds setting e (x ∷ xs) scene w few m fine h =
     let g = genuine_deed again setting scene w x m fine h.0 in
     let f = follows setting e x scene w m g in
-    (g, all_genuine again grounds setting (suc e) xs (scene_after_deed setting e x scene) (world_after_event setting.config e f.event w) few f.matches (happens_fine grounds setting.config e f.event w few fine) h.1)
+    let range : HasFloorsInRange f.event = of_event HasFloorsInRange setting.key x f.event f.is_event (λ act. tt) (λ act. tt) (λ i. tt) in
+    (g, all_genuine again grounds setting (suc e) xs (scene_after_deed setting e x scene) (world_after_event setting.config e f.event w) few f.matches (happens_fine grounds setting.config e f.event w few range fine) h.1)
 
 pub unforged : AgainLaw → GroundLaw → (setting : Setting) (history : List Deed) → IsSized setting → IsUnforgedHistory setting history → IsHistory setting history
 unforged again grounds setting history sized h =

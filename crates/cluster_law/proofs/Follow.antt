@@ -1,5 +1,5 @@
 -- Each deed is an event of the world.
-use Rattle.std.proofs.Common.{◌≡◌, ℕ, zero, suc, ◌⊎◌, inl, inr, ⊎_elim, Bool, true, false, cond, List, [], ◌∷◌, ◌++◌, map, Option, Some, None, refl, sym, ap, ◌∙◌, subst, eqb, ltb}
+use Rattle.std.proofs.Common.{◌≡◌, ℕ, zero, suc, ◌⊎◌, inl, inr, ⊎_elim, Bool, true, false, not, ◌&&◌, cond, List, [], ◌∷◌, ◌++◌, map, Option, Some, None, refl, sym, ap, ◌∙◌, subst, eqb, ltb}
 use Rattle.std.specs.List.{slice_get}
 use Rattle.std.proofs.lemmas.Bool.{cond_both, cond-true, cond-false, eqb-true, eq-eqb, cases_Bool}
 use Rattle.std.proofs.lemmas.List.{append-nil}
@@ -9,7 +9,7 @@ use Rattle.vote_core.specs.Schedule.{Envelope, envelope_from, is_member, last_bo
 use Rattle.oath_node.specs.Hosted.{envelope_at}
 use Rattle.oath_node.specs.Machine.{Config, Made, NodeState, Peer, made_by_event, opened_node, restarted_node, stopped_node}
 use Rattle.cluster_sim.proofs.Owners.{get_more}
-use Rattle.cluster_sim.specs.World.{Note, Act, Says, Deliver, Ticks, Noise, Told, World, WorldEvent, Happens, Cut, Restart, acting_node, delivered_event, is_from, node_event_of, node_if_sent, node_of, note_of, place_at, told_reply, with_state, with_told_of, world_after_act, world_after_event, world_after_restart, world_after_turn, world_with_made}
+use Rattle.cluster_sim.specs.World.{Note, Act, Says, Deliver, Ticks, Noise, Told, World, WorldEvent, Happens, Cut, Restart, acting_node, delivered_event, has_store, is_from, node_event_of, node_if_sent, node_of, note_of, place_at, told_reply, with_state, with_told_of, world_after_act, world_after_event, world_after_restart, world_after_turn, world_with_made}
 use Rattle.cluster_law.specs.Lives.{Deed, Opens, FailsToOpen, Takes, Offers, Stops, StopsIn, Input, Line, Datagram, Time, Handout, Post, Answer, Scene, Setting, Site, Down, Up, IsGenuine, IsGenuineDeed, event_of, handouts_of, made_by_input, node_of_deed, nodes_of, place_in, scene_after_deed, first_of_these, scene_at, site_cut, site_half_opened, site_offered, site_opened, site_taken, with_site}
 use Rattle.cluster_law.specs.Promises.{HasAct, IsActOf, IsEventOf, nothing}
 
@@ -26,6 +26,7 @@ IsSiteIn w (Up s waiting) x = (x ≡ s) × Each (IsKnown w) waiting
 
 pub record Matches (setting : Setting) (scene : Scene) (w : World) : Type 0 where
   pub n : w.n ≡ nodes_of setting
+  pub lost : (j : ℕ) → w.lost j ≡ false
   pub sites : (j : ℕ) → IsSiteIn w (scene.sites j) (w.nodes j)
   pub offered : Each (IsKnown w) scene.offered
   pub notes : w.history ≡ scene.notes
@@ -64,20 +65,27 @@ state_at i x nodes = cond-true (eqb i i) x (nodes i) (eq-eqb i i refl)
 
 -- ---- the world at a member
 
+-- a member whose store isn't gone has it; there is no node 0
+pub has_it : (w : World) (i : ℕ) → w.lost i ≡ false → is_member w.n i ≡ true → has_store w i ≡ true
+has_it w i kept member = ap (λ b. not b && is_member w.n i) kept ∙ member
+
+none_has : (w : World) → has_store w 0 ≡ false
+none_has w = elim (w.lost 0) as (λ b. (not b && false) ≡ false) [ true ↦ refl | false ↦ refl ]
+
 quiet : (config : Config) (e : ℕ) (w : World) → world_after_event config e nothing w ≡ w
 unfolding world_after_event world_after_restart
-quiet config e w = refl
+quiet config e w = cond-false (has_store w 0) (record w { nodes = with_state 0 (restarted_node (w.nodes 0)) w.nodes }) w (none_has w)
 
-restarts : (config : Config) (e i : ℕ) (w : World) → is_member w.n i ≡ true
+restarts : (config : Config) (e i : ℕ) (w : World) → has_store w i ≡ true
     → world_after_event config e (Restart i) w ≡ record w { nodes = with_state i (restarted_node (w.nodes i)) w.nodes }
 unfolding world_after_event world_after_restart
-restarts config e i w member = cond-true (is_member w.n i) (record w { nodes = with_state i (restarted_node (w.nodes i)) w.nodes }) w member
+restarts config e i w member = cond-true (has_store w i) (record w { nodes = with_state i (restarted_node (w.nodes i)) w.nodes }) w member
 
 restarted_is : (w : World) (x : NodeState) → IsSiteIn w (Down x.content) (restarted_node x)
 restarted_is w x =
     cond_both (ltb x.content.boot last_boot) (opened_node x.content) (stopped_node x) (λ y. (y.content ≡ x.content) ⊎ (y ≡ opened_node x.content)) (λ _. inr refl) (λ _. inl refl)
 
-pub acts : (setting : Setting) (e i : ℕ) (act : Act) (input : Input) (s : NodeState) (w : World) → w.n ≡ nodes_of setting → is_member w.n i ≡ true → w.nodes i ≡ s
+pub acts : (setting : Setting) (e i : ℕ) (act : Act) (input : Input) (s : NodeState) (w : World) → w.n ≡ nodes_of setting → has_store w i ≡ true → w.nodes i ≡ s
     → acting_node act ≡ i → node_event_of w.sent act ≡ Some (event_of setting.key input)
     → world_after_act setting.config e act w ≡ world_with_made e i (made_by_input setting i input s) w
 unfolding world_after_act world_after_turn
@@ -86,7 +94,7 @@ acts setting e i act input s w n member state at what =
     let x = event_of setting.key input in
     ap (λ m. world_after_turn config e m (node_event_of w.sent act) w) at
     ∙ ap (λ o. world_after_turn config e i o w) what
-    ∙ cond-true (is_member w.n i) (world_with_made e i (made_by_event config (place_at w i) x (w.nodes i)) w) w member
+    ∙ cond-true (has_store w i) (world_with_made e i (made_by_event config (place_at w i) x (w.nodes i)) w) w member
     ∙ ap (λ m. world_with_made e i (made_by_event config (record { me = i; n = m }) x (w.nodes i)) w) n
     ∙ ap (λ z. world_with_made e i (made_by_event config (place_in setting i) x z) w) state
 
@@ -171,6 +179,7 @@ taken setting e i input s waiting scene w m known =
     let grows = made_grows e i made w in
     record {
       n = m.n;
+      lost = m.lost;
       sites = both_set (IsSiteIn v) i (Up made.state (waiting ++ handouts_of e i made)) made.state scene.sites w.nodes
           (refl, each_append (IsKnown v) waiting (handouts_of e i made) (each_weaker (IsKnown w) (IsKnown v) grows waiting known) (made_known e i made w))
           (λ j. site_grows w v grows (scene.sites j) (w.nodes j) (m.sites j));
@@ -185,7 +194,7 @@ same_known : (v w : World) → v.sent ≡ w.sent → v.told ≡ w.told → (h : 
 same_known v w sent told (Post l) p = (p.0, subst (λ ls. slice_get ls p.0 ≡ Some l) (sym sent) p.1)
 same_known v w sent told (Answer t) p = (p.0, subst (λ ts. slice_get ts p.0 ≡ Some t) (sym told) p.1)
 
-cut_matches : (setting : Setting) (e i : ℕ) (input : Input) (s : NodeState) (scene : Scene) (w : World) → is_member w.n i ≡ true → Matches setting scene w
+cut_matches : (setting : Setting) (e i : ℕ) (input : Input) (s : NodeState) (scene : Scene) (w : World) → has_store w i ≡ true → Matches setting scene w
     → Matches setting (scene_with i (site_cut setting i true input s) [] (note_of e i (made_by_input setting i input s) ∷ []) scene) (world_after_restart (Some i) (cut_world e i (made_by_input setting i input s) w))
 unfolding world_with_made world_after_restart
 cut_matches setting e i input s scene w member m =
@@ -195,9 +204,10 @@ cut_matches setting e i input s scene w member m =
     let u : World = record v { nodes = with_state i y v.nodes } in
     let grows = same_known u w refl refl in
     let here : IsSiteIn u (Down made.state.content) y = subst (λ (x : NodeState). IsSiteIn u (Down made.state.content) (restarted_node x)) (sym (state_at i made.state w.nodes)) (restarted_is u made.state) in
-    subst (λ z. Matches setting (scene_with i (site_cut setting i true input s) [] (note_of e i made ∷ []) scene) z) (sym (cond-true (is_member w.n i) u v member))
+    subst (λ z. Matches setting (scene_with i (site_cut setting i true input s) [] (note_of e i made ∷ []) scene) z) (sym (cond-true (has_store w i) u v member))
     (record {
       n = m.n;
+      lost = m.lost;
       sites = twice_set (IsSiteIn u) i (Down made.state.content) made.state y scene.sites w.nodes here
           (λ j. site_grows w u grows (scene.sites j) (w.nodes j) (m.sites j));
       offered = each_append (IsKnown u) scene.offered [] (each_weaker (IsKnown w) (IsKnown u) grows scene.offered m.offered) tt;
@@ -207,21 +217,22 @@ cut_matches setting e i input s scene w member m =
 site_changes : (setting : Setting) (i : ℕ) (a : Site) (scene : Scene) (w : World) → Matches setting scene w → IsSiteIn w a (w.nodes i) → Matches setting (scene_with i a [] [] scene) w
 site_changes setting i a scene w m here = record {
   n = m.n;
+  lost = m.lost;
   sites = site_set (IsSiteIn w) i a scene.sites w.nodes here m.sites;
   offered = each_append (IsKnown w) scene.offered [] m.offered tt;
   notes = m.notes;
 }
 
-restart_told : (config : Config) (e i : ℕ) (w : World) → is_member w.n i ≡ true → (world_after_event config e (Restart i) w).told ≡ w.told ++ []
+restart_told : (config : Config) (e i : ℕ) (w : World) → has_store w i ≡ true → (world_after_event config e (Restart i) w).told ≡ w.told ++ []
 restart_told config e i w member = ap (λ (z : World). z.told) (restarts config e i w member) ∙ sym (append-nil w.told)
 
-cut_told : (e i : ℕ) (made : Made) (w : World) → is_member w.n i ≡ true → (world_after_restart (Some i) (cut_world e i made w)).told ≡ w.told
+cut_told : (e i : ℕ) (made : Made) (w : World) → has_store w i ≡ true → (world_after_restart (Some i) (cut_world e i made w)).told ≡ w.told
 unfolding world_with_made world_after_restart
 cut_told e i made w member =
     let v = cut_world e i made w in
-    ap (λ (z : World). z.told) (cond-true (is_member w.n i) (record v { nodes = with_state i (restarted_node (v.nodes i)) v.nodes }) v member)
+    ap (λ (z : World). z.told) (cond-true (has_store w i) (record v { nodes = with_state i (restarted_node (v.nodes i)) v.nodes }) v member)
 
-restart_matches : (setting : Setting) (e i : ℕ) (a : Site) (scene : Scene) (w : World) → is_member w.n i ≡ true → Matches setting scene w → ((v : World) → IsSiteIn v a (restarted_node (w.nodes i)))
+restart_matches : (setting : Setting) (e i : ℕ) (a : Site) (scene : Scene) (w : World) → has_store w i ≡ true → Matches setting scene w → ((v : World) → IsSiteIn v a (restarted_node (w.nodes i)))
     → Matches setting (scene_with i a [] [] scene) (world_after_event setting.config e (Restart i) w)
 restart_matches setting e i a scene w member m here =
     let u : World = record w { nodes = with_state i (restarted_node (w.nodes i)) w.nodes } in
@@ -229,6 +240,7 @@ restart_matches setting e i a scene w member m here =
     subst (λ z. Matches setting (scene_with i a [] [] scene) z) (sym (restarts setting.config e i w member))
     (record {
       n = m.n;
+      lost = m.lost;
       sites = both_set (IsSiteIn u) i a (restarted_node (w.nodes i)) scene.sites w.nodes (here u)
           (λ j. site_grows w u grows (scene.sites j) (w.nodes j) (m.sites j));
       offered = each_append (IsKnown u) scene.offered [] (each_weaker (IsKnown w) (IsKnown u) grows scene.offered m.offered) tt;
@@ -296,7 +308,7 @@ opens_site c x w same low =
     cond-true (ltb x.content.boot last_boot) (opened_node x.content) (stopped_node x) (subst (λ (d : Content). ltb d.boot last_boot ≡ true) (sym same) low)
     ∙ ap (λ (d : Content). opened_node d) same
 
-opened_up : (setting : Setting) (e i : ℕ) (c : Content) (scene : Scene) (w : World) → is_member w.n i ≡ true → Matches setting scene w → IsSiteIn w (Down c) (w.nodes i) → ltb c.boot last_boot ≡ true
+opened_up : (setting : Setting) (e i : ℕ) (c : Content) (scene : Scene) (w : World) → has_store w i ≡ true → Matches setting scene w → IsSiteIn w (Down c) (w.nodes i) → ltb c.boot last_boot ≡ true
     → Follows setting e (Opens i) (Down c) (scene_with i (Up (opened_node c) []) [] [] scene) w
 opened_up setting e i c scene w member m here low =
     ⊎_elim
@@ -309,14 +321,14 @@ opened_up setting e i c scene w member m here low =
     (λ (is : w.nodes i ≡ opened_node c). stays setting e (Opens i) (Down c) (scene_with i (Up (opened_node c) []) [] [] scene) w (inl refl) refl (site_changes setting i (Up (opened_node c) []) scene w m (is, tt)))
     here
 
-opens : (setting : Setting) (e i : ℕ) (c : Content) (scene : Scene) (w : World) → is_member w.n i ≡ true → Matches setting scene w → IsSiteIn w (Down c) (w.nodes i)
+opens : (setting : Setting) (e i : ℕ) (c : Content) (scene : Scene) (w : World) → has_store w i ≡ true → Matches setting scene w → IsSiteIn w (Down c) (w.nodes i)
     → Follows setting e (Opens i) (Down c) (scene_with i (site_opened c) [] [] scene) w
 opens setting e i c scene w member m here =
     cond_both (ltb c.boot last_boot) (Up (opened_node c) []) (Down c) (λ a. Follows setting e (Opens i) (Down c) (scene_with i a [] [] scene) w)
     (λ low. opened_up setting e i c scene w member m here low)
     (λ _. stays setting e (Opens i) (Down c) (scene_with i (Down c) [] [] scene) w (inl refl) refl (site_changes setting i (Down c) scene w m here))
 
-raised_up : (setting : Setting) (e i : ℕ) (c : Content) (scene : Scene) (w : World) → is_member w.n i ≡ true → Matches setting scene w → IsSiteIn w (Down c) (w.nodes i) → ltb c.boot last_boot ≡ true
+raised_up : (setting : Setting) (e i : ℕ) (c : Content) (scene : Scene) (w : World) → has_store w i ≡ true → Matches setting scene w → IsSiteIn w (Down c) (w.nodes i) → ltb c.boot last_boot ≡ true
     → Follows setting e (FailsToOpen i true) (Down c) (scene_with i (Down (with_next_boot c)) [] [] scene) w
 raised_up setting e i c scene w member m here low =
     let a = Down (with_next_boot c) in
@@ -330,7 +342,7 @@ raised_up setting e i c scene w member m here low =
     (λ (is : w.nodes i ≡ opened_node c). stays setting e (FailsToOpen i true) (Down c) (scene_with i a [] [] scene) w (inl refl) refl (site_changes setting i a scene w m (inl (ap (λ (x : NodeState). x.content) is))))
     here
 
-half_opens : (setting : Setting) (e i : ℕ) (raised : Bool) (c : Content) (scene : Scene) (w : World) → is_member w.n i ≡ true → Matches setting scene w → IsSiteIn w (Down c) (w.nodes i)
+half_opens : (setting : Setting) (e i : ℕ) (raised : Bool) (c : Content) (scene : Scene) (w : World) → has_store w i ≡ true → Matches setting scene w → IsSiteIn w (Down c) (w.nodes i)
     → Follows setting e (FailsToOpen i raised) (Down c) (scene_with i (site_half_opened raised c) [] [] scene) w
 half_opens setting e i false c scene w member m here = stays setting e (FailsToOpen i false) (Down c) (scene_with i (Down c) [] [] scene) w (inl refl) refl (site_changes setting i (Down c) scene w m here)
 half_opens setting e i true c scene w member m here =
@@ -339,7 +351,7 @@ half_opens setting e i true c scene w member m here =
     (λ _. stays setting e (FailsToOpen i true) (Down c) (scene_with i (Down c) [] [] scene) w (inl refl) refl (site_changes setting i (Down c) scene w m here))
 
 -- a process takes an input
-takes : (setting : Setting) (e i : ℕ) (input : Input) (s : NodeState) (waiting : List Handout) (scene : Scene) (w : World) → is_member w.n i ≡ true → Matches setting scene w → IsSiteIn w (Up s waiting) (w.nodes i)
+takes : (setting : Setting) (e i : ℕ) (input : Input) (s : NodeState) (waiting : List Handout) (scene : Scene) (w : World) → has_store w i ≡ true → Matches setting scene w → IsSiteIn w (Up s waiting) (w.nodes i)
     → IsGenuine setting.key scene.offered input → Follows setting e (Takes i input) (Up s waiting) (scene_with i (site_taken setting e i input s waiting) [] (note_of e i (made_by_input setting i input s) ∷ []) scene) w
 unfolding world_after_event world_with_made
 takes setting e i input s waiting scene w member m here genuine =
@@ -353,7 +365,7 @@ takes setting e i input s waiting scene w member m here genuine =
     }
 
 -- it ends inside the step, and the change is kept
-cut_kept : (setting : Setting) (e i : ℕ) (input : Input) (s : NodeState) (waiting : List Handout) (scene : Scene) (w : World) → is_member w.n i ≡ true → Matches setting scene w → IsSiteIn w (Up s waiting) (w.nodes i)
+cut_kept : (setting : Setting) (e i : ℕ) (input : Input) (s : NodeState) (waiting : List Handout) (scene : Scene) (w : World) → has_store w i ≡ true → Matches setting scene w → IsSiteIn w (Up s waiting) (w.nodes i)
     → IsGenuine setting.key scene.offered input → Follows setting e (StopsIn i true input) (Up s waiting) (scene_with i (site_cut setting i true input s) [] (note_of e i (made_by_input setting i input s) ∷ []) scene) w
 unfolding world_after_event
 cut_kept setting e i input s waiting scene w member m here genuine =
@@ -377,6 +389,7 @@ offers setting e i s (h ∷ waiting) scene w m here =
     stays setting e (Offers i) (Up s (h ∷ waiting)) (scene_with i (Up s waiting) (h ∷ []) [] scene) w refl refl
     (record {
       n = m.n;
+      lost = m.lost;
       sites = site_set (IsSiteIn w) i (Up s waiting) scene.sites w.nodes (here.0, here.1.1) m.sites;
       offered = each_append (IsKnown w) scene.offered (h ∷ []) m.offered (here.1.0, tt);
       notes = m.notes;
@@ -386,7 +399,7 @@ offers setting e i s (h ∷ waiting) scene w m here =
 alone : (setting : Setting) (e : ℕ) (deed : Deed) (old : Site) (i : ℕ) (a : Site) (scene : Scene) (w : World) → IsFull setting.key deed old nothing → answers_made setting e deed old ≡ [] → Matches setting scene w → IsSiteIn w a (w.nodes i) → Follows setting e deed old (scene_with i a [] [] scene) w
 alone setting e deed old i a scene w is none m here = stays setting e deed old (scene_with i a [] [] scene) w is none (site_changes setting i a scene w m here)
 
-at_site : (setting : Setting) (e : ℕ) (deed : Deed) (a : Site) (scene : Scene) (w : World) → is_member w.n (node_of_deed deed) ≡ true → Matches setting scene w → IsSiteIn w a (w.nodes (node_of_deed deed))
+at_site : (setting : Setting) (e : ℕ) (deed : Deed) (a : Site) (scene : Scene) (w : World) → has_store w (node_of_deed deed) ≡ true → Matches setting scene w → IsSiteIn w a (w.nodes (node_of_deed deed))
     → IsGenuineDeed setting scene deed → Follows setting e deed a (scene_at setting e deed a scene) w
 at_site setting e (Opens i) (Down c) scene w member m here g = opens setting e i c scene w member m here
 at_site setting e (Opens i) (Up s waiting) scene w member m here g = alone setting e (Opens i) (Up s waiting) i (Up s waiting) scene w refl refl m here
@@ -413,6 +426,18 @@ may_be_nothing key (Stops i) = refl
 may_be_nothing key (StopsIn i false input) = refl
 may_be_nothing key (StopsIn i true input) = inl refl
 
+-- what is so of each act, each stop that keeps its change and each restart is so of the event of a deed
+pub of_event : (P : WorldEvent → Type 0) (key : List ℕ) (deed : Deed) (x : WorldEvent) → IsEventOf key deed x → ((act : Act) → P (Happens act)) → ((act : Act) → P (Cut true act)) → ((i : ℕ) → P (Restart i)) → P x
+of_event P key (Opens i) x is act cut restart = ⊎_elim (λ (q : x ≡ nothing). subst P (sym q) (restart 0)) (λ (q : x ≡ Restart i). subst P (sym q) (restart i)) is
+of_event P key (FailsToOpen i raised) x is act cut restart = ⊎_elim (λ (q : x ≡ nothing). subst P (sym q) (restart 0)) (λ (q : x ≡ Restart i). subst P (sym q) (restart i)) is
+of_event P key (Takes i input) x is act cut restart =
+    ⊎_elim (λ (q : x ≡ nothing). subst P (sym q) (restart 0)) (λ (h : HasAct key i input (λ a. Happens a) x). subst P (sym h.event_is) (act h.act)) is
+of_event P key (Offers i) x is act cut restart = subst P (sym is) (restart 0)
+of_event P key (Stops i) x is act cut restart = subst P (sym is) (restart 0)
+of_event P key (StopsIn i false input) x is act cut restart = subst P (sym is) (restart 0)
+of_event P key (StopsIn i true input) x is act cut restart =
+    ⊎_elim (λ (q : x ≡ nothing). subst P (sym q) (restart 0)) (λ (h : HasAct key i input (λ a. Cut true a) x). subst P (sym h.event_is) (cut h.act)) is
+
 -- at a member a deed is what its site says, and elsewhere nothing
 abbrev pub IsOneAt : Setting → Deed → Scene → Bool → WorldEvent → Type 0
 IsOneAt setting deed scene true event = IsFull setting.key deed (scene.sites (node_of_deed deed)) event
@@ -434,7 +459,7 @@ followed : (setting : Setting) (e : ℕ) (deed : Deed) (scene : Scene) (w : Worl
     → IsFollowed setting e deed scene (cond member (scene_at setting e deed (scene.sites (node_of_deed deed)) scene) scene) w (cond member (answers_made setting e deed (scene.sites (node_of_deed deed))) []) member
 followed setting e deed scene w true is m g =
     let i = node_of_deed deed in
-    let f = at_site setting e deed (scene.sites i) scene w (ap (λ n. is_member n i) m.n ∙ is) m (m.sites i) g in
+    let f = at_site setting e deed (scene.sites i) scene w (has_it w i (m.lost i) (ap (λ n. is_member n i) m.n ∙ is)) m (m.sites i) g in
     record { event = f.event; is_event = full_is_event setting.key deed (scene.sites i) f.event f.is_full; is_one = f.is_full; matches = f.matches; told = f.told }
 followed setting e deed scene w false is m g = record {
   event = nothing;

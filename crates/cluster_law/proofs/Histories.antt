@@ -88,7 +88,7 @@ runs setting e (x ∷ xs) scene w m g =
     }
 
 pub starts : (setting : Setting) → Matches setting (first_scene setting) (opening_world setting.config setting.floors)
-starts setting = record { n = refl; sites = λ j. inr refl; offered = tt; notes = refl }
+starts setting = record { n = refl; lost = λ j. refl; sites = λ j. inr refl; offered = tt; notes = refl }
 
 -- ---- what is to be seen
 

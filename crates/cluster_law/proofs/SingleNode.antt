@@ -9,12 +9,12 @@ use Rattle.oath_node.specs.Machine.{Config, Made, NodeState, opened_node}
 use Rattle.cluster_sim.proofs.BelowLaws.{AloneLaw}
 use Rattle.cluster_sim.proofs.Lone.{Lone, LoneStep, happens_lone, start_lone}
 use Rattle.oath_node.specs.ReferenceServer.{Server, restarted_server}
-use Rattle.cluster_sim.specs.SingleNode.{answers_to_event, opening_server, server_after_event, server_after_restart, service_to, told_of_line}
+use Rattle.cluster_sim.specs.SingleNode.{answers_to_event, is_end, opening_server, server_after_event, server_after_restart, service_to, told_of_line}
 use Rattle.cluster_sim.specs.World.{Act, Deliver, Noise, Told, World, WorldEvent, Happens, Cut, Restart, opening_world, told_reply, world_after_event}
 use Rattle.cluster_law.specs.Lives.{AreGenuine, Deed, Opens, FailsToOpen, Takes, Offers, Stops, StopsIn, Input, Line, Datagram, Time, Handout, Post, Answer, IsHistory, Scene, Setting, Site, Down, Up, answered_in, answers_among, first_scene, handouts_of, made_by_input, node_of_deed, nodes_of, offers_by, scene_after, scene_after_deed, scene_at, scene_of, site_after}
 use Rattle.cluster_law.specs.Promises.{IsActOf, nothing}
 use Rattle.cluster_law.specs.SingleNode.{IsPartOf, answers_to_deed, answers_to_deeds, reference_of, server_after_deed, setting_of_one}
-use Rattle.cluster_law.proofs.Follow.{IsFollowed, IsFull, IsOneAt, IsSiteIn, Matches, answers_by, answers_made, follows}
+use Rattle.cluster_law.proofs.Follow.{IsFollowed, IsFull, IsOneAt, IsSiteIn, Matches, answers_by, answers_made, follows, of_event}
 use Rattle.cluster_law.proofs.Histories.{answers_in, starts}
 use Rattle.cluster_law.proofs.Serving.{deed_at}
 
@@ -232,7 +232,8 @@ unfolding AreGenuine answers_to_deeds
 deeds_are law setting b q e [] one low few = λ scene w sw sh m g h same. refl
 deeds_are law setting b q e (d ∷ ds) one low few = λ scene w sw sh m g h same.
     let f = follows setting e d scene w m g.0 in
-    let k = happens_lone law setting.config b q e f.event w sw (omega (arith, low)) (omega (arith, few)) h in
+    let goes : is_end f.event ≡ false = of_event (λ x. is_end x ≡ false) setting.key d f.event f.is_event (λ act. refl) (λ act. refl) (λ i. refl) in
+    let k = happens_lone law setting.config b q e f.event w sw (omega (arith, low)) (omega (arith, few)) goes h in
     deed_is setting (b + 1) (q + 1) e d ds scene w sw sh one m g.1 same f k
     (deeds_are law setting (b + 1) (q + 1) (suc e) ds one (omega (arith, low)) (omega (arith, few))) (eqb 1 (node_of_deed d)) refl
 

@@ -11,10 +11,10 @@ use Rattle.vote_core.specs.declared.message.Message.{Message}
 use Rattle.oath_node.specs.Machine.{Config, NodeState, Peer}
 use Rattle.cluster_sim.proofs.Owners.{get_more}
 use Rattle.cluster_sim.specs.Rounds.{AreUp, SweepLevels, deliveries, greatest, is_floor, is_floor_to, is_live, sweep_events, tick_events, turn_events, turns_events}
-use Rattle.cluster_sim.specs.World.{Act, Deliver, Ticks, World, WorldEvent, Happens, acting_node, delivered_event, node_event_of, world_after_act, world_after_event, world_after_events, world_of, world_with_made}
+use Rattle.cluster_sim.specs.World.{Act, Deliver, Ticks, World, WorldEvent, Happens, acting_node, delivered_event, has_store, node_event_of, world_after_act, world_after_event, world_after_events, world_of, world_with_made}
 use Rattle.cluster_law.specs.Lives.{Deed, Opens, FailsToOpen, Takes, Offers, Stops, StopsIn, Handout, Input, Datagram, Time, Scene, Setting, Site, Down, Up, content_at, event_of, first_scene, made_by_input, node_of_deed, nodes_of, scene_after, scene_after_deed, scene_of, site_after, site_half_opened, site_opened}
 use Rattle.cluster_law.specs.Sweeps.{AreTaken, AreTurns, IsTick, IsTurn, SweepsLevel, greatest_in, is_offer, is_step_of, next_in, sent_by_tick}
-use Rattle.cluster_law.proofs.Follow.{IsSiteIn, acts}
+use Rattle.cluster_law.proofs.Follow.{IsSiteIn, acts, has_it}
 use Rattle.cluster_law.proofs.Histories.{whole_run}
 use Rattle.cluster_law.proofs.Serving.{deed_at}
 
@@ -140,6 +140,7 @@ Holds (Up s w) x = s ≡ x
 record Beside (setting : Setting) (live : List ℕ) (w : World) (scene : Scene) : Type 0 where
   n : w.n ≡ nodes_of setting
   members : Members setting live
+  kept : (j : ℕ) → is_live live j ≡ true → w.lost j ≡ false
   sites : (j : ℕ) → is_live live j ≡ true → Holds (scene.sites j) (w.nodes j)
 
 takes_holds : (setting : Setting) (e i : ℕ) (input : Input) (a : Site) (x : NodeState) → Holds a x → Holds (site_after setting e (Takes i input) a) (made_by_input setting i input x).state
@@ -155,12 +156,13 @@ take_beside : (setting : Setting) (live : List ℕ) (e e' i : ℕ) (act : Act) (
 unfolding world_with_made
 take_beside setting live e e' i act input w scene b is at what =
     let made = made_by_input setting i input (w.nodes i) in
-    let member = ap (λ n. is_member n i) b.n ∙ b.members i is in
+    let member = has_it w i (b.kept i is) (ap (λ n. is_member n i) b.n ∙ b.members i is) in
     let v : World = world_with_made e i made w in
     subst (λ z. Beside setting live z (scene_after_deed setting e' (Takes i input) scene)) (sym (acts setting e i act input (w.nodes i) w b.n member refl at what))
     (record {
       n = b.n;
       members = b.members;
+      kept = b.kept;
       sites = λ j live_j.
           subst (λ a. Holds a (v.nodes j)) (sym (deed_at setting e' j (Takes i input) scene (b.members j live_j)))
           (holds_either (eqb j i) (site_after setting e' (Takes i input) (scene.sites j)) (scene.sites j) made.state (w.nodes j)
@@ -175,7 +177,7 @@ WereSent k es w = (m : ℕ) (y : Envelope) → slice_get es m ≡ Some y → sli
 sent_rest : (k : ℕ) (x : Envelope) (es : List Envelope) (w : World) → WereSent k (x ∷ es) w → WereSent (suc k) es w
 sent_rest k x es w h = λ m y at. subst (λ n. slice_get w.sent n ≡ Some y) (omega arith) (h (suc m) y at)
 
-sent_grows : (setting : Setting) (e i : ℕ) (act : Act) (input : Input) (k : ℕ) (es : List Envelope) (w : World) → w.n ≡ nodes_of setting → is_member w.n i ≡ true → acting_node act ≡ i → node_event_of w.sent act ≡ Some (event_of setting.key input)
+sent_grows : (setting : Setting) (e i : ℕ) (act : Act) (input : Input) (k : ℕ) (es : List Envelope) (w : World) → w.n ≡ nodes_of setting → has_store w i ≡ true → acting_node act ≡ i → node_event_of w.sent act ≡ Some (event_of setting.key input)
     → WereSent k es w → WereSent k es (world_after_act setting.config e act w)
 unfolding world_with_made
 sent_grows setting e i act input k es w n member at what h = λ m y there.
@@ -199,7 +201,7 @@ deliver_one setting live node x es e e' k w scene taken true is own rest b sent 
     let act = Deliver r k in
     let input = Datagram node t.0 in
     let is_at : is_live live r ≡ true = (and_parts (is_floor x.message) (is_live live r) is).1 in
-    let member = ap (λ n. is_member n r) b.n ∙ b.members r is_at in
+    let member = has_it w r (b.kept r is_at) (ap (λ n. is_member n r) b.n ∙ b.members r is_at) in
     let there : slice_get w.sent k ≡ Some x = subst (λ n. slice_get w.sent n ≡ Some x) (omega arith) (sent zero x refl) in
     let what : node_event_of w.sent act ≡ Some (event_of setting.key input) = ap delivered_event there ∙ ap (λ s. Some (Peer s (Some x))) own ∙ ap (λ o. Some (Peer node o)) (sym t.2) in
     let v = world_after_act setting.config e act w in
@@ -230,7 +232,7 @@ tick_beside setting live e e' node w scene deeds b is t =
     let made = made_by_input setting node Time (w.nodes node) in
     let es = map (envelope_from node) made.sends in
     let v = world_after_act config e (Ticks node) w in
-    let member = ap (λ n. is_member n node) b.n ∙ b.members node is in
+    let member = has_it w node (b.kept node is) (ap (λ n. is_member n node) b.n ∙ b.members node is) in
     let ticked : v ≡ world_with_made e node made w = acts setting e node (Ticks node) Time (w.nodes node) w b.n member refl refl refl in
     let sent : v.sent ≡ w.sent ++ es = ap (λ (z : World). z.sent) ticked in
     let fresh : drop (length w.sent) v.sent ≡ es = ap (λ s. drop (length w.sent) s) sent ∙ drop-append_seam w.sent es in
@@ -312,13 +314,14 @@ sweeps_level law setting before stretch live g are sweep node is =
     let start : Beside setting live w old = record {
       n = x.matches.n;
       members = λ j live_j. (are j live_j).member;
+      kept = λ j live_j. x.matches.lost j;
       sites = λ j live_j. site_holds w (old.sites j) (are j live_j).state (are j live_j).waiting (w.nodes j) (are j live_j).is_up (x.matches.sites j);
     } in
     let up : AreUp live w = λ j live_j.
     let l = are j live_j in
     let h = held (old.sites j) (w.nodes j) (start.sites j live_j) in
     let same : l.state ≡ w.nodes j = same_up l.state l.waiting (w.nodes j) h.0 (sym l.is_up ∙ h.1) in
-    (ap (λ n. is_member n j) x.matches.n ∙ l.member, subst (λ (s : NodeState). s.running ≡ true) same l.running) in
+    (has_it w j (x.matches.lost j) (ap (λ n. is_member n j) x.matches.n ∙ l.member), subst (λ (s : NodeState). s.running ≡ true) same l.running) in
     let v = world_after_events config first (sweep_events config live first w) w in
     let steps = filter (is_step_of live) stretch in
     let after : Beside setting live v (scene_after setting 0 steps old) = turns_beside setting live live first 0 w old steps start (each_live live live (λ i h. h)) sweep in
