@@ -28,13 +28,14 @@ pub record StartRecord : Type 0 where
   pub proposal : ProposalRecord
   pub event : ℕ
 
--- that a node's store is gone, with the last boot that the node used; or, without one, that a store was made for it anew
+-- that a node's store is gone, with the last boot that the node used; or, without one, that a store was made for it
+-- anew
 pub record LossRecord : Type 0 where
   pub node : ℕ
   pub used : Option ℕ
 
--- all that was sent, begun, accepted and told, which stores were lost and made anew, each in order, and of each token the
--- first free factor that a store made anew has at least
+-- all that was sent, begun, accepted and told, which stores were lost and made anew, each in order; and of each token
+-- the first free factor that a store made anew has at least
 pub record JournalRecord : Type 0 where
   pub sent : List Letter
   pub starts : List StartRecord
@@ -259,8 +260,8 @@ AreSpelled world =
 abbrev pub AreSpelledAlong : Config → List Event → World → Type 0
 AreSpelledAlong config events world = (k : ℕ) → AreSpelled (world_after_events config 0 (take k events) world)
 
--- A call on a simulation of nodes with this configuration. Whatever world it was, in which each datagram reads as it was
--- meant, it is afterwards what the call makes of that world, unless memory ran out.
+-- A call on a simulation of nodes with this configuration. Whatever world it was, in which each datagram reads as it
+-- was meant, it is afterwards what the call makes of that world, unless memory ran out.
 abbrev pub PlaysAt : {A E : Type 0} → Config → List ℕ → (World → World) → SimulationRecord → SimulationRecord
     → Result A E → Type 0
 PlaysAt config key makes old new result =

@@ -53,8 +53,8 @@ pub data Act : Type 0 where
 
 -- A Cut is a stop inside a step: its change of content is kept or dropped, its outputs are lost, and the node restarts.
 -- Lost: the node's store is gone, and the node does nothing more. Anew: a store is made for it at this boot and with
--- these first free factors (0 for a token that the list doesn't have), and the node is open on it: nothing of its former
--- life is there, neither gates, drifts nor answers.
+-- these first free factors (0 for a token that the list doesn't have), and the node is open on it: nothing of its
+-- former life is there, neither gates, drifts nor answers.
 pub data WorldEvent : Type 0 where
   Happens : (act : Act) → WorldEvent
   Cut : (kept : Bool) (act : Act) → WorldEvent

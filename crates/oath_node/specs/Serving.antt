@@ -26,8 +26,8 @@ state_in_memory node = record {
 }
 
 -- a node of that place, open on a store in memory that was made at this boot with these first free factors
-pub record IsInMemoryAt (boot : ℕ) (book : List Credential) (limits : Limits) (place : PlaceRecord) (key floors : List ℕ)
-    (node : Serving) : Type 0 where
+pub record IsInMemoryAt (boot : ℕ) (book : List Credential) (limits : Limits) (place : PlaceRecord)
+    (key floors : List ℕ) (node : Serving) : Type 0 where
   pub state : state_in_memory node ≡ opened_node (opening_content_at boot floors)
   pub book_is : node.book ≡ book
   pub limits_are : node.limits ≡ limits

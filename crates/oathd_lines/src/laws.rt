@@ -74,8 +74,8 @@ pub fn runs_are_worked()
     ensures text { (status_of NotText ≡ 2) × (outside_fault_of outside.NotText ≡ NotText) }
 {}
 
-/// What is promised of the end of a run, and of a fault in the midst of its users file, is broken by an end that differs
-/// the least.
+/// What is promised of the end of a run, and of a fault in the midst of its users file, is broken by an end that
+/// differs the least.
 pub fn promises_can_be_broken()
     ensures kept { EndsSo answered (Err (InputLine 7)) (Some []) (Some (codes "OK 1 0\nNO 2 INVALID\n")) }
     ensures lost_answer { EndsSo answered (Err (InputLine 7)) (Some []) (Some (codes "OK 1 0\n")) → ⊥ }

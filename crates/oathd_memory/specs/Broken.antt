@@ -21,10 +21,11 @@ use Rattle.oathd_memory.specs.declared.fault.Fault.TheVariants.{Run, ClusterFile
 
 -- ---- Faults and ends
 
--- a command that went well, and one that this fault ended
+-- a command that went well
 abbrev pub done : Result Unit Fault
 done = Ok tt
 
+-- one that this fault ended
 abbrev pub ended_by : Fault → Result Unit Fault
 ended_by fault = Err fault
 
@@ -46,10 +47,11 @@ word text = record { ref_ptr = (0, 0); now = text }
 abbrev pub no_path : Option (List ℕ)
 no_path = None
 
--- so many nodes are given, without a key or with that of a file
+-- so many nodes are given, without a key
 abbrev pub given_nodes : ℕ → NodesWords
 given_nodes count = Given count default_limits None
 
+-- two with the key of a file
 abbrev pub nodes_with_key : NodesWords
 nodes_with_key = Given 2 default_limits (Some (word []))
 
@@ -59,10 +61,11 @@ named_nodes = Named (word [])
 
 -- ---- Setups
 
--- what nodes are run with: so many, with these limits and this moment, under 32 zeros or another key
+-- what nodes are run with: so many, with these limits and this moment, under 32 zeros
 abbrev pub setup_of : ℕ → Limits → ℕ → Setup
 setup_of nodes limits moment = record { nodes = nodes; limits = limits; moment = moment; key = replicate 32 0 }
 
+-- the same under another key
 abbrev pub keyed : List ℕ → Setup → Setup
 keyed key setup = record setup { key = key }
 
@@ -74,10 +77,11 @@ usual_setup = setup_of 2 default_limits 5
 abbrev pub narrow_limits : Limits
 narrow_limits = limits_of 10 0 100
 
--- a command over two nodes that are given, or that a cluster file with a text says, at moment 5
+-- a command over two nodes that are given, at moment 5
 abbrev pub EndsGiven : (Setup → Type 0) → Result Unit Fault → List ℕ → Type 0
 EndsGiven EndsWith result new = EndsWithSetup (given_nodes 2) 5 [] EndsWith result (Some []) (Some new)
 
+-- a command over nodes that a cluster file with this text says, at moment 5
 abbrev pub EndsNamed : List ℕ → (Setup → Type 0) → Result Unit Fault → List ℕ → Type 0
 EndsNamed text EndsWith result new = EndsWithSetup named_nodes 5 text EndsWith result (Some []) (Some new)
 
