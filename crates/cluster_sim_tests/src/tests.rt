@@ -280,6 +280,52 @@ fn second_factor_elsewhere(rt: HostRuntime) {
     assert!(rt; comes_to(rt.alloc(), 3, EVENTS, TOLD));
 }
 
+/// What comes of a store of node 2 that is lost and made anew with this first free factor, after node 1 accepted factor
+/// 0: node 3 asks it for factor 1.
+fn made_anew_from(alloc: Global, next: u64, told: &Told) -> bool {
+    let Some(next) = Next::new(next) else {
+        return false;
+    };
+    let floors = [next];
+    let events = [
+        FIRST_AT_1,
+        WorldEvent::Happens(Act::Deliver { node: 2, k: 0 }),
+        WorldEvent::Happens(Act::Deliver { node: 1, k: 2 }),
+        WorldEvent::Lost { node: 2 },
+        WorldEvent::Anew {
+            node: 2,
+            boot: 2,
+            floors: &floors,
+        },
+        WorldEvent::Happens(Act::Client {
+            node: 3,
+            client: 8,
+            moment: 1000,
+            line: b"CHECK b silver 287082 -",
+        }),
+        WorldEvent::Happens(Act::Deliver { node: 2, k: 4 }),
+        WorldEvent::Happens(Act::Deliver { node: 3, k: 5 }),
+    ];
+    comes_to(alloc, 3, &events, told)
+}
+
+/// Its node grants what lies above all that the others had, and a store that would begin below isn't made.
+#[test]
+fn lost_store_made_anew(rt: HostRuntime) {
+    const GRANTED: &Told = &Told {
+        passes: &[(0, 2, 1, 0, 0), (5, 7, 3, 1, 1)],
+        answers: &[(2, 1, 7, b"OK a 0"), (7, 3, 8, b"OK b 1")],
+        sent: 6,
+    };
+    const NOT_MADE: &Told = &Told {
+        passes: &[(0, 2, 1, 0, 0)],
+        answers: &[(2, 1, 7, b"OK a 0")],
+        sent: 5,
+    };
+    assert!(rt; made_anew_from(rt.alloc(), 1, GRANTED));
+    assert!(rt; made_anew_from(rt.alloc(), 0, NOT_MADE));
+}
+
 /// Node 1 is lost, and a tick of node 2 levels the floors of the other two, which serve on.
 #[test]
 fn rounds_after_a_loss(rt: HostRuntime) {

@@ -65,6 +65,9 @@ that begins with # are none. Events are counted from 0.
     tick NODE                           some time passes
     noise NODE FROM HEX                 bytes come from FROM's address
     restart NODE                        the node restarts
+    lost NODE                           the node's store is gone
+    anew NODE BOOT NEXT ..              a store is made anew for it: at a boot,
+                                        with a first free factor for each token
     cut kept EVENT, cut lost EVENT      the node stops inside one of the first
                                         four: what it writes is kept or lost,
                                         what it sends is lost, and it restarts
