@@ -1,16 +1,16 @@
 -- What becomes of an answer that was made.
-use Rattle.std.proofs.Common.{◌≡◌, ℕ, zero, suc, ◌⊎◌, inl, inr, ⊎_elim, Bool, true, false, cond, List, [], ◌∷◌, ◌++◌, map, take, Option, Some, refl, sym, ap, ◌∙◌, subst, eqb}
+use Rattle.std.proofs.Common.{◌≡◌, ℕ, zero, suc, ◌+◌, ◌⊎◌, inl, inr, ⊎_elim, Bool, true, false, cond, List, [], ◌∷◌, ◌++◌, map, take, Option, Some, refl, sym, ap, ◌∙◌, subst, eqb}
 use Rattle.std.specs.List.{slice_get}
 use Rattle.std.proofs.lemmas.Bool.{cond-true, cond-false, cases_Bool, eqb-true, eq-eqb}
 use Rattle.std.proofs.lemmas.Option.{same_Some, none-some}
 use Rattle.otp_core.specs.Acceptance.{Acceptance}
-use Rattle.vote_core.specs.Schedule.{Envelope, envelope_from, is_member}
+use Rattle.vote_core.specs.Schedule.{Envelope, envelope_from}
 use Rattle.oath_node.specs.Machine.{NodeState, Reply}
 use Rattle.cluster_sim.proofs.Owners.{get_more}
 use Rattle.cluster_sim.specs.Answered.{HasAnswer, IsAnsweredIn, IsAskedIn}
-use Rattle.cluster_sim.specs.World.{Told, WorldEvent, Happens, Restart, told_reply, world_of}
+use Rattle.cluster_sim.specs.World.{Told, WorldEvent, Happens, Restart, Lost as LostEvent, Anew, told_reply, world_of}
 use Rattle.cluster_law.specs.Answered.{AnswersAll, EndsProcess, HasOk, HasYetToOffer, IsAnsweredInDeed, IsLost, IsOfferedOrEnds}
-use Rattle.cluster_law.specs.Lives.{Deed, Opens, FailsToOpen, Takes, Offers, Stops, StopsIn, Handout, Post, Answer, IsHistory, Scene, Setting, Site, Down, Up, answers_among, first_scene, handouts_of, made_by_input, node_of_deed, nodes_of, offers_by, scene_after, scene_after_deed, scene_at, site_after}
+use Rattle.cluster_law.specs.Lives.{Deed, Opens, FailsToOpen, Takes, Offers, Stops, StopsIn, Loses, Remakes, Handout, Post, Answer, IsHistory, Scene, Setting, Site, Down, Up, answers_among, can_be, first_scene, handouts_of, made_by_input, node_of_deed, offers_by, scene_after, scene_after_deed, scene_at, site_after}
 use Rattle.cluster_law.specs.Promises.{HasAct, IsAskedInDeed, IsEventOf, IsToldAmong, nothing}
 use Rattle.cluster_law.proofs.Follow.{answers_by, answers_made, get_after}
 use Rattle.cluster_law.proofs.Histories.{AnsweredLaw, Whole, answers_in, whole_run}
@@ -72,10 +72,12 @@ at_up setting e (Offers i) s (h ∷ waiting) t zero at = inl (inl (zero, at))
 at_up setting e (Offers i) s (h ∷ waiting) t (suc place) at = inl (inr (record { state = s; waiting = waiting; is_up = refl; place = place; is_there = at }))
 at_up setting e (Stops i) s waiting t place at = inr refl
 at_up setting e (StopsIn i kept input) s waiting t place at = inr refl
+at_up setting e (Loses i) s waiting t place at = inr refl
+at_up setting e (Remakes i boot floors) s waiting t place at = inl (inr (record { state = s; waiting = waiting; is_up = refl; place = place; is_there = at }))
 
 -- at the site of its own node
-own_deed : (setting : Setting) (e : ℕ) (d : Deed) (scene : Scene) (t : Told) (member : Bool) → t.node ≡ node_of_deed d → HasYetToOffer t (scene.sites t.node)
-    → Lives (cond member (scene_at setting e d (scene.sites (node_of_deed d)) scene) scene) t ⊎ Dies d scene t
+own_deed : (setting : Setting) (e : ℕ) (d : Deed) (scene : Scene) (t : Told) (can : Bool) → t.node ≡ node_of_deed d → HasYetToOffer t (scene.sites t.node)
+    → Lives (cond can (scene_at setting e d (scene.sites (node_of_deed d)) scene) scene) t ⊎ Dies d scene t
 own_deed setting e d scene t false own y = inl (inr y)
 own_deed setting e d scene t true own y =
     let i = node_of_deed d in
@@ -94,26 +96,26 @@ own_deed setting e d scene t true own y =
     (λ (p : EndsProcess i (Some d)). inr (subst (λ m. EndsProcess m (Some d)) (sym own) p, y))
     (at_up setting e d y.state y.waiting t y.place y.is_there)
 
-other_deed : (setting : Setting) (e : ℕ) (d : Deed) (scene : Scene) (t : Told) (member : Bool) → eqb t.node (node_of_deed d) ≡ false → HasYetToOffer t (scene.sites t.node)
-    → Lives (cond member (scene_at setting e d (scene.sites (node_of_deed d)) scene) scene) t
+other_deed : (setting : Setting) (e : ℕ) (d : Deed) (scene : Scene) (t : Told) (can : Bool) → eqb t.node (node_of_deed d) ≡ false → HasYetToOffer t (scene.sites t.node)
+    → Lives (cond can (scene_at setting e d (scene.sites (node_of_deed d)) scene) scene) t
 other_deed setting e d scene t false other y = inr y
 other_deed setting e d scene t true other y =
     inr (subst (λ a. HasYetToOffer t a) (sym (cond-false (eqb t.node (node_of_deed d)) (site_after setting e d (scene.sites (node_of_deed d))) (scene.sites t.node) other)) y)
 
-offered_deed : (setting : Setting) (e : ℕ) (d : Deed) (scene : Scene) (t : Told) (member : Bool) → IsIn (Answer t) scene.offered → Lives (cond member (scene_at setting e d (scene.sites (node_of_deed d)) scene) scene) t
+offered_deed : (setting : Setting) (e : ℕ) (d : Deed) (scene : Scene) (t : Told) (can : Bool) → IsIn (Answer t) scene.offered → Lives (cond can (scene_at setting e d (scene.sites (node_of_deed d)) scene) scene) t
 offered_deed setting e d scene t false p = inl p
 offered_deed setting e d scene t true p = inl (p.0, get_more scene.offered (offers_by d (scene.sites (node_of_deed d))) p.0 (Answer t) p.1)
 
 deed_lives : (setting : Setting) (e : ℕ) (d : Deed) (scene : Scene) (t : Told) → Lives scene t → Lives (scene_after_deed setting e d scene) t ⊎ Dies d scene t
 unfolding scene_after_deed
 deed_lives setting e d scene t h =
-    let member = is_member (nodes_of setting) (node_of_deed d) in
+    let can = can_be setting scene d in
     ⊎_elim
-    (λ (p : IsIn (Answer t) scene.offered). inl (offered_deed setting e d scene t member p))
+    (λ (p : IsIn (Answer t) scene.offered). inl (offered_deed setting e d scene t can p))
     (λ (y : HasYetToOffer t (scene.sites t.node)).
     ⊎_elim
-    (λ (own : eqb t.node (node_of_deed d) ≡ true). own_deed setting e d scene t member (eqb-true t.node (node_of_deed d) own) y)
-    (λ (other : eqb t.node (node_of_deed d) ≡ false). inl (other_deed setting e d scene t member other y))
+    (λ (own : eqb t.node (node_of_deed d) ≡ true). own_deed setting e d scene t can (eqb-true t.node (node_of_deed d) own) y)
+    (λ (other : eqb t.node (node_of_deed d) ≡ false). inl (other_deed setting e d scene t can other y))
     (cases_Bool (eqb t.node (node_of_deed d))))
     h
 
@@ -164,9 +166,11 @@ made_at setting e (Takes i input) (Up s waiting) k t h =
 made_at setting e (Offers i) a k t h = absurd (none-some t h)
 made_at setting e (Stops i) a k t h = absurd (none-some t h)
 made_at setting e (StopsIn i kept input) a k t h = absurd (none-some t h)
+made_at setting e (Loses i) a k t h = absurd (none-some t h)
+made_at setting e (Remakes i boot floors) a k t h = absurd (none-some t h)
 
-waits_at : (setting : Setting) (e : ℕ) (d : Deed) (scene : Scene) (k : ℕ) (t : Told) (member : Bool) → slice_get (cond member (answers_made setting e d (scene.sites (node_of_deed d))) []) k ≡ Some t
-    → HasYetToOffer t ((cond member (scene_at setting e d (scene.sites (node_of_deed d)) scene) scene).sites t.node)
+waits_at : (setting : Setting) (e : ℕ) (d : Deed) (scene : Scene) (k : ℕ) (t : Told) (can : Bool) → slice_get (cond can (answers_made setting e d (scene.sites (node_of_deed d))) []) k ≡ Some t
+    → HasYetToOffer t ((cond can (scene_at setting e d (scene.sites (node_of_deed d)) scene) scene).sites t.node)
 waits_at setting e d scene k t false h = absurd (none-some t h)
 waits_at setting e d scene k t true h =
     let i = node_of_deed d in
@@ -175,7 +179,7 @@ waits_at setting e d scene k t true h =
 
 made_waits : (setting : Setting) (e : ℕ) (d : Deed) (scene : Scene) (k : ℕ) (t : Told) → slice_get (answers_by setting e d scene) k ≡ Some t → Lives (scene_after_deed setting e d scene) t
 unfolding scene_after_deed
-made_waits setting e d scene k t h = inr (waits_at setting e d scene k t (is_member (nodes_of setting) (node_of_deed d)) h)
+made_waits setting e d scene k t h = inr (waits_at setting e d scene k t (can_be setting scene d) h)
 
 fated : (setting : Setting) (e : ℕ) (ds : List Deed) (scene : Scene) (k : ℕ) (t : Told) → slice_get (answers_in setting e ds scene) k ≡ Some t → Fate setting e ds scene t
 fated setting e [] scene k t h = absurd (none-some t h)
@@ -231,6 +235,10 @@ answered_deed setting history x p (Offers i) e is h = absurd (subst (λ z. InWor
 answered_deed setting history x p (Stops i) e is h = absurd (subst (λ z. InWorld setting history x p (Some z)) is h)
 answered_deed setting history x p (StopsIn i false input) e is h = absurd (subst (λ z. InWorld setting history x p (Some z)) is h)
 answered_deed setting history x p (StopsIn i true input) e is h = tt
+answered_deed setting history x p (Loses i) e is h =
+    ⊎_elim (λ (q : e ≡ nothing). absurd (subst (λ z. InWorld setting history x p (Some z)) q h)) (λ (q : e ≡ LostEvent i). absurd (subst (λ z. InWorld setting history x p (Some z)) q h)) is
+answered_deed setting history x p (Remakes i boot floors) e is h =
+    ⊎_elim (λ (q : e ≡ nothing). absurd (subst (λ z. InWorld setting history x p (Some z)) q h)) (λ (q : e ≡ Anew i (boot + 1) floors). absurd (subst (λ z. InWorld setting history x p (Some z)) q h)) is
 
 pub answers_all : AnsweredLaw → (setting : Setting) (history : List Deed) → IsHistory setting history → AnswersAll setting history
 answers_all law setting history g = λ i p at.

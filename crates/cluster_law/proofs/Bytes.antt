@@ -13,8 +13,8 @@ use Rattle.cluster_sim.proofs.Spelled.{IsFineWorld, IsSpelled, happens_fine, sta
 use Rattle.cluster_sim.specs.Run.{HasFloorsInRange}
 use Rattle.cluster_sim.specs.World.{World, opening_world, world_after_event}
 use Rattle.cluster_law.specs.Bytes.{AreUnforged, IsSized, IsUnforged, IsUnforgedDeed, IsUnforgedHistory}
-use Rattle.cluster_law.specs.Lives.{AreGenuine, Deed, Opens, FailsToOpen, Takes, Offers, Stops, StopsIn, Handout, Post, Input, Line, Datagram, Time, IsGenuine, IsGenuineDeed, IsHistory, Scene, Setting, first_scene, scene_after_deed}
-use Rattle.cluster_law.proofs.Follow.{IsKnown, Matches, follows, of_event}
+use Rattle.cluster_law.specs.Lives.{AreGenuine, Deed, Opens, FailsToOpen, Takes, Offers, Stops, StopsIn, Loses, Remakes, Handout, Post, Input, Line, Datagram, Time, IsGenuine, IsGenuineDeed, IsHistory, Scene, Setting, first_scene, scene_after_deed}
+use Rattle.cluster_law.proofs.Follow.{IsKnown, Matches, OfStore, follows, of_event}
 use Rattle.cluster_law.proofs.Histories.{starts}
 
 -- what is spelled reads as it was meant
@@ -42,6 +42,18 @@ genuine_deed again setting scene w (Takes i input) m fine h = genuine again sett
 genuine_deed again setting scene w (Offers i) m fine h = tt
 genuine_deed again setting scene w (Stops i) m fine h = tt
 genuine_deed again setting scene w (StopsIn i kept input) m fine h = genuine again setting.key scene.offered w input m.offered fine h
+genuine_deed again setting scene w (Loses i) m fine h = tt
+genuine_deed again setting scene w (Remakes i boot floors) m fine h = tt
+
+in_range : (setting : Setting) (scene : Scene) (deed : Deed) → IsUnforgedDeed setting scene deed → OfStore HasFloorsInRange deed
+in_range setting scene (Opens i) h = tt
+in_range setting scene (FailsToOpen i raised) h = tt
+in_range setting scene (Takes i input) h = tt
+in_range setting scene (Offers i) h = tt
+in_range setting scene (Stops i) h = tt
+in_range setting scene (StopsIn i kept input) h = tt
+in_range setting scene (Loses i) h = tt
+in_range setting scene (Remakes i boot floors) h = h
 
 all_genuine : AgainLaw → GroundLaw → (setting : Setting) (e : ℕ) (deeds : List Deed) (scene : Scene) (w : World) → length setting.config.book ≤ 10000 → Matches setting scene w → IsFineWorld w → AreUnforged setting e deeds scene → AreGenuine setting e deeds scene
 unfolding AreUnforged AreGenuine
@@ -49,7 +61,7 @@ all_genuine again grounds setting e [] scene w few m fine h = tt
 all_genuine again grounds setting e (x ∷ xs) scene w few m fine h =
     let g = genuine_deed again setting scene w x m fine h.0 in
     let f = follows setting e x scene w m g in
-    let range : HasFloorsInRange f.event = of_event HasFloorsInRange setting.key x f.event f.is_event (λ act. tt) (λ act. tt) (λ i. tt) in
+    let range : HasFloorsInRange f.event = of_event HasFloorsInRange setting.key x f.event f.is_event (λ act. tt) (λ act. tt) (λ i. tt) (in_range setting scene x h.0) in
     (g, all_genuine again grounds setting (suc e) xs (scene_after_deed setting e x scene) (world_after_event setting.config e f.event w) few f.matches (happens_fine grounds setting.config e f.event w few range fine) h.1)
 
 pub unforged : AgainLaw → GroundLaw → (setting : Setting) (history : List Deed) → IsSized setting → IsUnforgedHistory setting history → IsHistory setting history

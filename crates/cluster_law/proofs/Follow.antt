@@ -1,16 +1,21 @@
 -- Each deed is an event of the world.
-use Rattle.std.proofs.Common.{◌≡◌, ℕ, zero, suc, ◌⊎◌, inl, inr, ⊎_elim, Bool, true, false, not, ◌&&◌, cond, List, [], ◌∷◌, ◌++◌, map, Option, Some, None, refl, sym, ap, ◌∙◌, subst, eqb, ltb}
+use Rattle.std.proofs.Common.{◌≡◌, ℕ, zero, suc, ◌+◌, ◌≤◌, ◌⊎◌, inl, inr, ⊎_elim, Bool, true, false, not, ◌&&◌, ◌||◌, cond, List, [], ◌∷◌, ◌++◌, map, Option, Some, None, refl, sym, ap, ◌∙◌, subst, arith, eqb, get_or, leb, length, ltb}
+use mathlib.Core.Path.{fun_ext}
 use Rattle.std.specs.List.{slice_get}
-use Rattle.std.proofs.lemmas.Bool.{cond_both, cond-true, cond-false, eqb-true, eq-eqb, cases_Bool}
+use Rattle.std.proofs.lemmas.Bool.{cond_both, cond-true, cond-false, eqb-true, eq-eqb, cases_Bool, and_from, and_parts, false≢true, leb-true, le-leb, ltb-true}
 use Rattle.std.proofs.lemmas.List.{append-nil}
 use Rattle.floor_store.specs.Content.{Content, with_next_boot}
+use Rattle.floor_store.specs.Records.{RowRecord}
+use Rattle.otp_core.specs.Acceptance.{majority_of, size}
 use Rattle.vote_core.proofs.Basics.{Each, each_append, each_get, each_map, each_weaker}
-use Rattle.vote_core.specs.Schedule.{Envelope, envelope_from, is_member, last_boot}
+use Rattle.vote_core.specs.NodeSet.{with_node}
+use Rattle.vote_core.specs.Rows.{no_row, row}
+use Rattle.vote_core.specs.Schedule.{Envelope, all_most, envelope_from, greatest, is_member, last_boot, without_node}
 use Rattle.oath_node.specs.Hosted.{envelope_at}
 use Rattle.oath_node.specs.Machine.{Config, Made, NodeState, Peer, made_by_event, opened_node, restarted_node, stopped_node}
 use Rattle.cluster_sim.proofs.Owners.{get_more}
-use Rattle.cluster_sim.specs.World.{Note, Act, Says, Deliver, Ticks, Noise, Told, World, WorldEvent, Happens, Cut, Restart, acting_node, delivered_event, has_store, is_from, node_event_of, node_if_sent, node_of, note_of, place_at, told_reply, with_state, with_told_of, world_after_act, world_after_event, world_after_restart, world_after_turn, world_with_made}
-use Rattle.cluster_law.specs.Lives.{Deed, Opens, FailsToOpen, Takes, Offers, Stops, StopsIn, Input, Line, Datagram, Time, Handout, Post, Answer, Scene, Setting, Site, Down, Up, IsGenuine, IsGenuineDeed, event_of, handouts_of, made_by_input, node_of_deed, nodes_of, place_in, scene_after_deed, first_of_these, scene_at, site_cut, site_half_opened, site_offered, site_opened, site_taken, with_site}
+use Rattle.cluster_sim.specs.World.{Note, Act, Says, Deliver, Ticks, Noise, Told, World, WorldEvent, Happens, Cut, Restart, Lost, Anew, acting_node, delivered_event, floor_in, has_store, is_from, lost_node, may_be_anew, note_anew, opening_node, world_after_anew, world_after_loss, node_event_of, node_if_sent, node_of, note_of, place_at, told_reply, with_state, with_told_of, world_after_act, world_after_event, world_after_restart, world_after_turn, world_with_made}
+use Rattle.cluster_law.specs.Lives.{Deed, Opens, FailsToOpen, Takes, Offers, Stops, StopsIn, Loses, Remakes, Input, Line, Datagram, Time, Handout, Post, Answer, Scene, Setting, Site, Down, Up, IsGenuine, IsGenuineDeed, can_be, content_at, event_of, has_store as has_own_store, handouts_of, made_by_input, may_be_remade, node_of_deed, nodes_of, place_in, remade_content, scene_after_deed, first_of_these, scene_at, site_cut, site_half_opened, site_offered, site_opened, site_taken, with_site}
 use Rattle.cluster_law.specs.Promises.{HasAct, IsActOf, IsEventOf, nothing}
 
 -- ---- What a scene is in a world
@@ -24,10 +29,20 @@ abbrev pub IsSiteIn : World → Site → NodeState → Type 0
 IsSiteIn w (Down c) x = (x.content ≡ c) ⊎ (x ≡ opened_node c)
 IsSiteIn w (Up s waiting) x = (x ≡ s) × Each (IsKnown w) waiting
 
+-- of a node whose store is gone the rows that it had stay, and a boot that it never used
+abbrev pub IsGone : Site → NodeState → Type 0
+IsGone (Down c) x = (x.content.rows ≡ c.rows) × (x.content.boot ≤ c.boot + 1)
+IsGone (Up s waiting) x = ⊥
+
+abbrev pub IsSiteAt : World → Bool → Site → NodeState → Type 0
+IsSiteAt w false a x = IsSiteIn w a x
+IsSiteAt w true a x = IsGone a x
+
 pub record Matches (setting : Setting) (scene : Scene) (w : World) : Type 0 where
   pub n : w.n ≡ nodes_of setting
-  pub lost : (j : ℕ) → w.lost j ≡ false
-  pub sites : (j : ℕ) → IsSiteIn w (scene.sites j) (w.nodes j)
+  pub lost : w.lost ≡ scene.lost
+  pub least : w.least ≡ scene.least
+  pub sites : (j : ℕ) → IsSiteAt w (scene.lost j) (scene.sites j) (w.nodes j)
   pub offered : Each (IsKnown w) scene.offered
   pub notes : w.history ≡ scene.notes
 
@@ -48,17 +63,62 @@ all_after {A} xs ys =
 
 -- ---- what changes at one node
 
-both_set : (P : Site → NodeState → Type 0) (i : ℕ) (a : Site) (x : NodeState) (sites : ℕ → Site) (nodes : ℕ → NodeState) → P a x → ((j : ℕ) → P (sites j) (nodes j)) → (j : ℕ) → P (with_site i a sites j) (with_state i x nodes j)
+either_set : (P : Site → NodeState → Type 0) (b : Bool) (a c : Site) (x y : NodeState) → (b ≡ true → P a x) → (b ≡ false → P c y) → P (cond b a c) (cond b x y)
+either_set P true a c x y h k = h refl
+either_set P false a c x y h k = k refl
+
+both_set : (P : ℕ → Site → NodeState → Type 0) (i : ℕ) (a : Site) (x : NodeState) (sites : ℕ → Site) (nodes : ℕ → NodeState) → P i a x → ((j : ℕ) → P j (sites j) (nodes j)) → (j : ℕ) → P j (with_site i a sites j) (with_state i x nodes j)
 both_set P i a x sites nodes here h j =
-    elim (eqb j i) as (λ b. P (cond b a (sites j)) (cond b x (nodes j))) [ true ↦ here | false ↦ h j ]
+    either_set (P j) (eqb j i) a (sites j) x (nodes j) (λ q. subst (λ m. P m a x) (sym (eqb-true j i q)) here) (λ _. h j)
 
-twice_set : (P : Site → NodeState → Type 0) (i : ℕ) (a : Site) (x y : NodeState) (sites : ℕ → Site) (nodes : ℕ → NodeState) → P a y → ((j : ℕ) → P (sites j) (nodes j)) → (j : ℕ) → P (with_site i a sites j) (with_state i y (with_state i x nodes) j)
+either_twice : (P : Site → NodeState → Type 0) (b : Bool) (a c : Site) (x y z : NodeState) → (b ≡ true → P a y) → (b ≡ false → P c z) → P (cond b a c) (cond b y (cond b x z))
+either_twice P true a c x y z h k = h refl
+either_twice P false a c x y z h k = k refl
+
+twice_set : (P : ℕ → Site → NodeState → Type 0) (i : ℕ) (a : Site) (x y : NodeState) (sites : ℕ → Site) (nodes : ℕ → NodeState) → P i a y → ((j : ℕ) → P j (sites j) (nodes j)) → (j : ℕ) → P j (with_site i a sites j) (with_state i y (with_state i x nodes) j)
 twice_set P i a x y sites nodes here h j =
-    elim (eqb j i) as (λ b. P (cond b a (sites j)) (cond b y (cond b x (nodes j)))) [ true ↦ here | false ↦ h j ]
+    either_twice (P j) (eqb j i) a (sites j) x y (nodes j) (λ q. subst (λ m. P m a y) (sym (eqb-true j i q)) here) (λ _. h j)
 
-site_set : (P : Site → NodeState → Type 0) (i : ℕ) (a : Site) (sites : ℕ → Site) (nodes : ℕ → NodeState) → P a (nodes i) → ((j : ℕ) → P (sites j) (nodes j)) → (j : ℕ) → P (with_site i a sites j) (nodes j)
+site_set : (P : ℕ → Site → NodeState → Type 0) (i : ℕ) (a : Site) (sites : ℕ → Site) (nodes : ℕ → NodeState) → P i a (nodes i) → ((j : ℕ) → P j (sites j) (nodes j)) → (j : ℕ) → P j (with_site i a sites j) (nodes j)
 site_set P i a sites nodes here h j =
-    cond_both (eqb j i) a (sites j) (λ s. P s (nodes j)) (λ q. subst (λ m. P a (nodes m)) (sym (eqb-true j i q)) here) (λ _. h j)
+    cond_both (eqb j i) a (sites j) (λ s. P j s (nodes j)) (λ q. subst (λ m. P m a (nodes m)) (sym (eqb-true j i q)) here) (λ _. h j)
+
+-- one store more is gone, or one less
+lost_set : (w : World) (i : ℕ) (a : Site) (x : NodeState) (lost : ℕ → Bool) (sites : ℕ → Site) (nodes : ℕ → NodeState) → IsGone a x → ((j : ℕ) → IsSiteAt w (lost j) (sites j) (nodes j))
+    → (j : ℕ) → IsSiteAt w (with_node i lost j) (with_site i a sites j) (with_state i x nodes j)
+lost_set w i a x lost sites nodes here h j =
+    elim (eqb j i) as (λ b. IsSiteAt w (b || lost j) (cond b a (sites j)) (cond b x (nodes j))) [ true ↦ here | false ↦ h j ]
+
+remade_set : (w : World) (i : ℕ) (a : Site) (x : NodeState) (lost : ℕ → Bool) (sites : ℕ → Site) (nodes : ℕ → NodeState) → IsSiteIn w a x → ((j : ℕ) → IsSiteAt w (lost j) (sites j) (nodes j))
+    → (j : ℕ) → IsSiteAt w (without_node i lost j) (with_site i a sites j) (with_state i x nodes j)
+remade_set w i a x lost sites nodes here h j =
+    elim (eqb j i) as (λ b. IsSiteAt w (not b && lost j) (cond b a (sites j)) (cond b x (nodes j))) [ true ↦ here | false ↦ h j ]
+
+-- a node whose store is there
+abbrev pub IsStored : Scene → World → ℕ → Type 0
+IsStored scene w i = (scene.lost i ≡ false) × (has_store w i ≡ true)
+
+site_at : (w : World) (b : Bool) (a : Site) (x : NodeState) → b ≡ false → IsSiteIn w a x → IsSiteAt w b a x
+site_at w b a x kept h = subst (λ z. IsSiteAt w z a x) (sym kept) h
+
+-- what a node's store holds
+pub same_rows : (w : World) (b : Bool) (a : Site) (x : NodeState) → IsSiteAt w b a x → x.content.rows ≡ (content_at a).rows
+same_rows w false (Down c) x h =
+    ⊎_elim (λ (q : x.content ≡ c). ap (λ (d : Content). d.rows) q) (λ (q : x ≡ opened_node c). ap (λ (y : NodeState). y.content.rows) q) h
+same_rows w false (Up s waiting) x h = ap (λ (y : NodeState). y.content.rows) h.0
+same_rows w true (Down c) x h = h.0
+same_rows w true (Up s waiting) x h = absurd h
+
+pub same_next : (w : World) (b : Bool) (a : Site) (x : NodeState) (token : ℕ) → IsSiteAt w b a x → (row x.content token).next ≡ (row (content_at a) token).next
+same_next w b a x token h = ap (λ (rs : List RowRecord). (get_or rs token no_row).next) (same_rows w b a x h)
+
+near_boot : (w : World) (a : Site) (x : NodeState) → IsSiteIn w a x → x.content.boot ≤ (content_at a).boot + 1
+near_boot w (Down c) x h =
+    ⊎_elim
+    (λ (q : x.content ≡ c). (let same : x.content.boot ≡ c.boot = ap (λ (d : Content). d.boot) q in omega (arith, same)))
+    (λ (q : x ≡ opened_node c). (let same : x.content.boot ≡ c.boot + 1 = ap (λ (y : NodeState). y.content.boot) q in omega (arith, same)))
+    h
+near_boot w (Up s waiting) x h = let same : x.content.boot ≡ s.content.boot = ap (λ (y : NodeState). y.content.boot) h.0 in omega (arith, same)
 
 state_at : (i : ℕ) (x : NodeState) (nodes : ℕ → NodeState) → with_state i x nodes i ≡ x
 state_at i x nodes = cond-true (eqb i i) x (nodes i) (eq-eqb i i refl)
@@ -149,6 +209,10 @@ site_grows : (v w : World) → ((h : Handout) → IsKnown v h → IsKnown w h) �
 site_grows v w grows (Down c) x p = p
 site_grows v w grows (Up s waiting) x p = (p.0, each_weaker (IsKnown v) (IsKnown w) grows waiting p.1)
 
+at_grows : (v w : World) → ((h : Handout) → IsKnown v h → IsKnown w h) → (b : Bool) (s : Site) (x : NodeState) → IsSiteAt v b s x → IsSiteAt w b s x
+at_grows v w grows false s x p = site_grows v w grows s x p
+at_grows v w grows true s x p = p
+
 made_grows : (e i : ℕ) (m : Made) (w : World) (h : Handout) → IsKnown w h → IsKnown (world_with_made e i m w) h
 unfolding world_with_made
 made_grows e i m w (Post l) p = (p.0, get_more w.sent (map (envelope_from i) m.sends) p.0 l p.1)
@@ -168,21 +232,22 @@ made_known e i m w =
 
 -- the scene with another site of one node, and with these offers and notes more
 abbrev scene_with : ℕ → Site → List Handout → List Note → Scene → Scene
-scene_with i a hs ns scene = record { sites = with_site i a scene.sites; offered = scene.offered ++ hs; notes = ns ++ scene.notes }
+scene_with i a hs ns scene = record { sites = with_site i a scene.sites; lost = scene.lost; least = scene.least; offered = scene.offered ++ hs; notes = ns ++ scene.notes }
 
-taken : (setting : Setting) (e i : ℕ) (input : Input) (s : NodeState) (waiting : List Handout) (scene : Scene) (w : World) → Matches setting scene w → Each (IsKnown w) waiting
+taken : (setting : Setting) (e i : ℕ) (input : Input) (s : NodeState) (waiting : List Handout) (scene : Scene) (w : World) → IsStored scene w i → Matches setting scene w → Each (IsKnown w) waiting
     → Matches setting (scene_with i (site_taken setting e i input s waiting) [] (note_of e i (made_by_input setting i input s) ∷ []) scene) (world_with_made e i (made_by_input setting i input s) w)
 unfolding world_with_made
-taken setting e i input s waiting scene w m known =
+taken setting e i input s waiting scene w stored m known =
     let made = made_by_input setting i input s in
     let v = world_with_made e i made w in
     let grows = made_grows e i made w in
     record {
       n = m.n;
       lost = m.lost;
-      sites = both_set (IsSiteIn v) i (Up made.state (waiting ++ handouts_of e i made)) made.state scene.sites w.nodes
-          (refl, each_append (IsKnown v) waiting (handouts_of e i made) (each_weaker (IsKnown w) (IsKnown v) grows waiting known) (made_known e i made w))
-          (λ j. site_grows w v grows (scene.sites j) (w.nodes j) (m.sites j));
+      least = m.least;
+      sites = both_set (λ j. IsSiteAt v (scene.lost j)) i (Up made.state (waiting ++ handouts_of e i made)) made.state scene.sites w.nodes
+          (site_at v (scene.lost i) (Up made.state (waiting ++ handouts_of e i made)) made.state stored.0 (refl, each_append (IsKnown v) waiting (handouts_of e i made) (each_weaker (IsKnown w) (IsKnown v) grows waiting known) (made_known e i made w)))
+          (λ j. at_grows w v grows (scene.lost j) (scene.sites j) (w.nodes j) (m.sites j));
       offered = each_append (IsKnown v) scene.offered [] (each_weaker (IsKnown w) (IsKnown v) grows scene.offered m.offered) tt;
       notes = ap (λ h. note_of e i made ∷ h) m.notes;
     }
@@ -194,31 +259,33 @@ same_known : (v w : World) → v.sent ≡ w.sent → v.told ≡ w.told → (h : 
 same_known v w sent told (Post l) p = (p.0, subst (λ ls. slice_get ls p.0 ≡ Some l) (sym sent) p.1)
 same_known v w sent told (Answer t) p = (p.0, subst (λ ts. slice_get ts p.0 ≡ Some t) (sym told) p.1)
 
-cut_matches : (setting : Setting) (e i : ℕ) (input : Input) (s : NodeState) (scene : Scene) (w : World) → has_store w i ≡ true → Matches setting scene w
+cut_matches : (setting : Setting) (e i : ℕ) (input : Input) (s : NodeState) (scene : Scene) (w : World) → IsStored scene w i → Matches setting scene w
     → Matches setting (scene_with i (site_cut setting i true input s) [] (note_of e i (made_by_input setting i input s) ∷ []) scene) (world_after_restart (Some i) (cut_world e i (made_by_input setting i input s) w))
 unfolding world_with_made world_after_restart
-cut_matches setting e i input s scene w member m =
+cut_matches setting e i input s scene w stored m =
     let made = made_by_input setting i input s in
     let v = cut_world e i made w in
     let y = restarted_node (v.nodes i) in
     let u : World = record v { nodes = with_state i y v.nodes } in
     let grows = same_known u w refl refl in
     let here : IsSiteIn u (Down made.state.content) y = subst (λ (x : NodeState). IsSiteIn u (Down made.state.content) (restarted_node x)) (sym (state_at i made.state w.nodes)) (restarted_is u made.state) in
-    subst (λ z. Matches setting (scene_with i (site_cut setting i true input s) [] (note_of e i made ∷ []) scene) z) (sym (cond-true (has_store w i) u v member))
+    subst (λ z. Matches setting (scene_with i (site_cut setting i true input s) [] (note_of e i made ∷ []) scene) z) (sym (cond-true (has_store w i) u v stored.1))
     (record {
       n = m.n;
       lost = m.lost;
-      sites = twice_set (IsSiteIn u) i (Down made.state.content) made.state y scene.sites w.nodes here
-          (λ j. site_grows w u grows (scene.sites j) (w.nodes j) (m.sites j));
+      least = m.least;
+      sites = twice_set (λ j. IsSiteAt u (scene.lost j)) i (Down made.state.content) made.state y scene.sites w.nodes (site_at u (scene.lost i) (Down made.state.content) y stored.0 here)
+          (λ j. at_grows w u grows (scene.lost j) (scene.sites j) (w.nodes j) (m.sites j));
       offered = each_append (IsKnown u) scene.offered [] (each_weaker (IsKnown w) (IsKnown u) grows scene.offered m.offered) tt;
       notes = ap (λ h. note_of e i made ∷ h) m.notes;
     })
 
-site_changes : (setting : Setting) (i : ℕ) (a : Site) (scene : Scene) (w : World) → Matches setting scene w → IsSiteIn w a (w.nodes i) → Matches setting (scene_with i a [] [] scene) w
-site_changes setting i a scene w m here = record {
+site_changes : (setting : Setting) (i : ℕ) (a : Site) (scene : Scene) (w : World) → IsStored scene w i → Matches setting scene w → IsSiteIn w a (w.nodes i) → Matches setting (scene_with i a [] [] scene) w
+site_changes setting i a scene w stored m here = record {
   n = m.n;
   lost = m.lost;
-  sites = site_set (IsSiteIn w) i a scene.sites w.nodes here m.sites;
+  least = m.least;
+  sites = site_set (λ j. IsSiteAt w (scene.lost j)) i a scene.sites w.nodes (site_at w (scene.lost i) a (w.nodes i) stored.0 here) m.sites;
   offered = each_append (IsKnown w) scene.offered [] m.offered tt;
   notes = m.notes;
 }
@@ -232,17 +299,18 @@ cut_told e i made w member =
     let v = cut_world e i made w in
     ap (λ (z : World). z.told) (cond-true (has_store w i) (record v { nodes = with_state i (restarted_node (v.nodes i)) v.nodes }) v member)
 
-restart_matches : (setting : Setting) (e i : ℕ) (a : Site) (scene : Scene) (w : World) → has_store w i ≡ true → Matches setting scene w → ((v : World) → IsSiteIn v a (restarted_node (w.nodes i)))
+restart_matches : (setting : Setting) (e i : ℕ) (a : Site) (scene : Scene) (w : World) → IsStored scene w i → Matches setting scene w → ((v : World) → IsSiteIn v a (restarted_node (w.nodes i)))
     → Matches setting (scene_with i a [] [] scene) (world_after_event setting.config e (Restart i) w)
-restart_matches setting e i a scene w member m here =
+restart_matches setting e i a scene w stored m here =
     let u : World = record w { nodes = with_state i (restarted_node (w.nodes i)) w.nodes } in
     let grows = same_known u w refl refl in
-    subst (λ z. Matches setting (scene_with i a [] [] scene) z) (sym (restarts setting.config e i w member))
+    subst (λ z. Matches setting (scene_with i a [] [] scene) z) (sym (restarts setting.config e i w stored.1))
     (record {
       n = m.n;
       lost = m.lost;
-      sites = both_set (IsSiteIn u) i a (restarted_node (w.nodes i)) scene.sites w.nodes (here u)
-          (λ j. site_grows w u grows (scene.sites j) (w.nodes j) (m.sites j));
+      least = m.least;
+      sites = both_set (λ j. IsSiteAt u (scene.lost j)) i a (restarted_node (w.nodes i)) scene.sites w.nodes (site_at u (scene.lost i) a (restarted_node (w.nodes i)) stored.0 (here u))
+          (λ j. at_grows w u grows (scene.lost j) (scene.sites j) (w.nodes j) (m.sites j));
       offered = each_append (IsKnown u) scene.offered [] (each_weaker (IsKnown w) (IsKnown u) grows scene.offered m.offered) tt;
       notes = m.notes;
     })
@@ -262,6 +330,8 @@ IsFull key (Stops i) old event = event ≡ nothing
 IsFull key (StopsIn i kept input) (Down c) event = event ≡ nothing
 IsFull key (StopsIn i false input) (Up s waiting) event = event ≡ nothing
 IsFull key (StopsIn i true input) (Up s waiting) event = HasAct key i input (λ act. Cut true act) event
+IsFull key (Loses i) old event = event ≡ Lost i
+IsFull key (Remakes i boot floors) old event = event ≡ Anew i (boot + 1) floors
 
 full_is_event : (key : List ℕ) (deed : Deed) (old : Site) (event : WorldEvent) → IsFull key deed old event → IsEventOf key deed event
 full_is_event key (Opens i) (Down c) event h = h
@@ -276,6 +346,8 @@ full_is_event key (StopsIn i false input) (Down c) event h = h
 full_is_event key (StopsIn i true input) (Down c) event h = inl h
 full_is_event key (StopsIn i false input) (Up s waiting) event h = h
 full_is_event key (StopsIn i true input) (Up s waiting) event h = inr h
+full_is_event key (Loses i) old event h = inr h
+full_is_event key (Remakes i boot floors) old event h = inr h
 
 -- the answers that a deed at that site makes
 abbrev pub answers_made : Setting → ℕ → Deed → Site → List Told
@@ -286,6 +358,8 @@ answers_made setting e (FailsToOpen i raised) old = []
 answers_made setting e (Offers i) old = []
 answers_made setting e (Stops i) old = []
 answers_made setting e (StopsIn i kept input) old = []
+answers_made setting e (Loses i) old = []
+answers_made setting e (Remakes i boot floors) old = []
 
 -- the event of a deed at a site, and the scene after it
 record Follows (setting : Setting) (e : ℕ) (deed : Deed) (old : Site) (scene : Scene) (w : World) : Type 0 where
@@ -308,7 +382,7 @@ opens_site c x w same low =
     cond-true (ltb x.content.boot last_boot) (opened_node x.content) (stopped_node x) (subst (λ (d : Content). ltb d.boot last_boot ≡ true) (sym same) low)
     ∙ ap (λ (d : Content). opened_node d) same
 
-opened_up : (setting : Setting) (e i : ℕ) (c : Content) (scene : Scene) (w : World) → has_store w i ≡ true → Matches setting scene w → IsSiteIn w (Down c) (w.nodes i) → ltb c.boot last_boot ≡ true
+opened_up : (setting : Setting) (e i : ℕ) (c : Content) (scene : Scene) (w : World) → IsStored scene w i → Matches setting scene w → IsSiteIn w (Down c) (w.nodes i) → ltb c.boot last_boot ≡ true
     → Follows setting e (Opens i) (Down c) (scene_with i (Up (opened_node c) []) [] [] scene) w
 opened_up setting e i c scene w member m here low =
     ⊎_elim
@@ -316,19 +390,19 @@ opened_up setting e i c scene w member m here low =
       event = Restart i;
       is_full = inr refl;
       matches = restart_matches setting e i (Up (opened_node c) []) scene w member m (λ v. (opens_site c (w.nodes i) w same low, tt));
-      told = restart_told setting.config e i w member;
+      told = restart_told setting.config e i w member.1;
     })
-    (λ (is : w.nodes i ≡ opened_node c). stays setting e (Opens i) (Down c) (scene_with i (Up (opened_node c) []) [] [] scene) w (inl refl) refl (site_changes setting i (Up (opened_node c) []) scene w m (is, tt)))
+    (λ (is : w.nodes i ≡ opened_node c). stays setting e (Opens i) (Down c) (scene_with i (Up (opened_node c) []) [] [] scene) w (inl refl) refl (site_changes setting i (Up (opened_node c) []) scene w member m (is, tt)))
     here
 
-opens : (setting : Setting) (e i : ℕ) (c : Content) (scene : Scene) (w : World) → has_store w i ≡ true → Matches setting scene w → IsSiteIn w (Down c) (w.nodes i)
+opens : (setting : Setting) (e i : ℕ) (c : Content) (scene : Scene) (w : World) → IsStored scene w i → Matches setting scene w → IsSiteIn w (Down c) (w.nodes i)
     → Follows setting e (Opens i) (Down c) (scene_with i (site_opened c) [] [] scene) w
 opens setting e i c scene w member m here =
     cond_both (ltb c.boot last_boot) (Up (opened_node c) []) (Down c) (λ a. Follows setting e (Opens i) (Down c) (scene_with i a [] [] scene) w)
     (λ low. opened_up setting e i c scene w member m here low)
-    (λ _. stays setting e (Opens i) (Down c) (scene_with i (Down c) [] [] scene) w (inl refl) refl (site_changes setting i (Down c) scene w m here))
+    (λ _. stays setting e (Opens i) (Down c) (scene_with i (Down c) [] [] scene) w (inl refl) refl (site_changes setting i (Down c) scene w member m here))
 
-raised_up : (setting : Setting) (e i : ℕ) (c : Content) (scene : Scene) (w : World) → has_store w i ≡ true → Matches setting scene w → IsSiteIn w (Down c) (w.nodes i) → ltb c.boot last_boot ≡ true
+raised_up : (setting : Setting) (e i : ℕ) (c : Content) (scene : Scene) (w : World) → IsStored scene w i → Matches setting scene w → IsSiteIn w (Down c) (w.nodes i) → ltb c.boot last_boot ≡ true
     → Follows setting e (FailsToOpen i true) (Down c) (scene_with i (Down (with_next_boot c)) [] [] scene) w
 raised_up setting e i c scene w member m here low =
     let a = Down (with_next_boot c) in
@@ -337,21 +411,21 @@ raised_up setting e i c scene w member m here low =
       event = Restart i;
       is_full = inr refl;
       matches = restart_matches setting e i a scene w member m (λ v. inl (ap (λ (x : NodeState). x.content) (opens_site c (w.nodes i) w same low)));
-      told = restart_told setting.config e i w member;
+      told = restart_told setting.config e i w member.1;
     })
-    (λ (is : w.nodes i ≡ opened_node c). stays setting e (FailsToOpen i true) (Down c) (scene_with i a [] [] scene) w (inl refl) refl (site_changes setting i a scene w m (inl (ap (λ (x : NodeState). x.content) is))))
+    (λ (is : w.nodes i ≡ opened_node c). stays setting e (FailsToOpen i true) (Down c) (scene_with i a [] [] scene) w (inl refl) refl (site_changes setting i a scene w member m (inl (ap (λ (x : NodeState). x.content) is))))
     here
 
-half_opens : (setting : Setting) (e i : ℕ) (raised : Bool) (c : Content) (scene : Scene) (w : World) → has_store w i ≡ true → Matches setting scene w → IsSiteIn w (Down c) (w.nodes i)
+half_opens : (setting : Setting) (e i : ℕ) (raised : Bool) (c : Content) (scene : Scene) (w : World) → IsStored scene w i → Matches setting scene w → IsSiteIn w (Down c) (w.nodes i)
     → Follows setting e (FailsToOpen i raised) (Down c) (scene_with i (site_half_opened raised c) [] [] scene) w
-half_opens setting e i false c scene w member m here = stays setting e (FailsToOpen i false) (Down c) (scene_with i (Down c) [] [] scene) w (inl refl) refl (site_changes setting i (Down c) scene w m here)
+half_opens setting e i false c scene w member m here = stays setting e (FailsToOpen i false) (Down c) (scene_with i (Down c) [] [] scene) w (inl refl) refl (site_changes setting i (Down c) scene w member m here)
 half_opens setting e i true c scene w member m here =
     cond_both (ltb c.boot last_boot) (Down (with_next_boot c)) (Down c) (λ a. Follows setting e (FailsToOpen i true) (Down c) (scene_with i a [] [] scene) w)
     (λ low. raised_up setting e i c scene w member m here low)
-    (λ _. stays setting e (FailsToOpen i true) (Down c) (scene_with i (Down c) [] [] scene) w (inl refl) refl (site_changes setting i (Down c) scene w m here))
+    (λ _. stays setting e (FailsToOpen i true) (Down c) (scene_with i (Down c) [] [] scene) w (inl refl) refl (site_changes setting i (Down c) scene w member m here))
 
 -- a process takes an input
-takes : (setting : Setting) (e i : ℕ) (input : Input) (s : NodeState) (waiting : List Handout) (scene : Scene) (w : World) → has_store w i ≡ true → Matches setting scene w → IsSiteIn w (Up s waiting) (w.nodes i)
+takes : (setting : Setting) (e i : ℕ) (input : Input) (s : NodeState) (waiting : List Handout) (scene : Scene) (w : World) → IsStored scene w i → Matches setting scene w → IsSiteIn w (Up s waiting) (w.nodes i)
     → IsGenuine setting.key scene.offered input → Follows setting e (Takes i input) (Up s waiting) (scene_with i (site_taken setting e i input s waiting) [] (note_of e i (made_by_input setting i input s) ∷ []) scene) w
 unfolding world_after_event world_with_made
 takes setting e i input s waiting scene w member m here genuine =
@@ -359,13 +433,13 @@ takes setting e i input s waiting scene w member m here genuine =
     record {
       event = Happens found.act;
       is_full = record { act = found.act; event_is = refl; is_act = found.is_act };
-      matches = subst (λ z. Matches setting (scene_with i (site_taken setting e i input s waiting) [] (note_of e i (made_by_input setting i input s) ∷ []) scene) z) (sym (acts setting e i found.act input s w m.n member here.0 found.acting found.event))
-          (taken setting e i input s waiting scene w m here.1);
-      told = ap (λ (z : World). z.told) (acts setting e i found.act input s w m.n member here.0 found.acting found.event);
+      matches = subst (λ z. Matches setting (scene_with i (site_taken setting e i input s waiting) [] (note_of e i (made_by_input setting i input s) ∷ []) scene) z) (sym (acts setting e i found.act input s w m.n member.1 here.0 found.acting found.event))
+          (taken setting e i input s waiting scene w member m here.1);
+      told = ap (λ (z : World). z.told) (acts setting e i found.act input s w m.n member.1 here.0 found.acting found.event);
     }
 
 -- it ends inside the step, and the change is kept
-cut_kept : (setting : Setting) (e i : ℕ) (input : Input) (s : NodeState) (waiting : List Handout) (scene : Scene) (w : World) → has_store w i ≡ true → Matches setting scene w → IsSiteIn w (Up s waiting) (w.nodes i)
+cut_kept : (setting : Setting) (e i : ℕ) (input : Input) (s : NodeState) (waiting : List Handout) (scene : Scene) (w : World) → IsStored scene w i → Matches setting scene w → IsSiteIn w (Up s waiting) (w.nodes i)
     → IsGenuine setting.key scene.offered input → Follows setting e (StopsIn i true input) (Up s waiting) (scene_with i (site_cut setting i true input s) [] (note_of e i (made_by_input setting i input s) ∷ []) scene) w
 unfolding world_after_event
 cut_kept setting e i input s waiting scene w member m here genuine =
@@ -373,48 +447,166 @@ cut_kept setting e i input s waiting scene w member m here genuine =
     let made = made_by_input setting i input s in
     let is : world_after_restart (node_of found.act w) (with_told_of w (world_after_act setting.config e found.act w)) ≡ world_after_restart (Some i) (cut_world e i made w) =
     ap (λ o. world_after_restart o (with_told_of w (world_after_act setting.config e found.act w))) found.cut
-    ∙ ap (λ z. world_after_restart (Some i) (with_told_of w z)) (acts setting e i found.act input s w m.n member here.0 found.acting found.event) in
+    ∙ ap (λ z. world_after_restart (Some i) (with_told_of w z)) (acts setting e i found.act input s w m.n member.1 here.0 found.acting found.event) in
     record {
       event = Cut true found.act;
       is_full = record { act = found.act; event_is = refl; is_act = found.is_act };
       matches = subst (λ z. Matches setting (scene_with i (site_cut setting i true input s) [] (note_of e i made ∷ []) scene) z) (sym is) (cut_matches setting e i input s scene w member m);
-      told = ap (λ (z : World). z.told) is ∙ cut_told e i made w member ∙ sym (append-nil w.told);
+      told = ap (λ (z : World). z.told) is ∙ cut_told e i made w member.1 ∙ sym (append-nil w.told);
     }
 
 -- it offers the next
-offers : (setting : Setting) (e i : ℕ) (s : NodeState) (waiting : List Handout) (scene : Scene) (w : World) → Matches setting scene w → IsSiteIn w (Up s waiting) (w.nodes i)
+offers : (setting : Setting) (e i : ℕ) (s : NodeState) (waiting : List Handout) (scene : Scene) (w : World) → IsStored scene w i → Matches setting scene w → IsSiteIn w (Up s waiting) (w.nodes i)
     → Follows setting e (Offers i) (Up s waiting) (scene_with i (site_offered s waiting) (first_of_these waiting) [] scene) w
-offers setting e i s [] scene w m here = stays setting e (Offers i) (Up s []) (scene_with i (Up s []) [] [] scene) w refl refl (site_changes setting i (Up s []) scene w m here)
-offers setting e i s (h ∷ waiting) scene w m here =
+offers setting e i s [] scene w member m here = stays setting e (Offers i) (Up s []) (scene_with i (Up s []) [] [] scene) w refl refl (site_changes setting i (Up s []) scene w member m here)
+offers setting e i s (h ∷ waiting) scene w member m here =
     stays setting e (Offers i) (Up s (h ∷ waiting)) (scene_with i (Up s waiting) (h ∷ []) [] scene) w refl refl
     (record {
       n = m.n;
       lost = m.lost;
-      sites = site_set (IsSiteIn w) i (Up s waiting) scene.sites w.nodes (here.0, here.1.1) m.sites;
+      least = m.least;
+      sites = site_set (λ j. IsSiteAt w (scene.lost j)) i (Up s waiting) scene.sites w.nodes (site_at w (scene.lost i) (Up s waiting) (w.nodes i) member.0 (here.0, here.1.1)) m.sites;
       offered = each_append (IsKnown w) scene.offered (h ∷ []) m.offered (here.1.0, tt);
       notes = m.notes;
     })
 
 -- its site changes alone
-alone : (setting : Setting) (e : ℕ) (deed : Deed) (old : Site) (i : ℕ) (a : Site) (scene : Scene) (w : World) → IsFull setting.key deed old nothing → answers_made setting e deed old ≡ [] → Matches setting scene w → IsSiteIn w a (w.nodes i) → Follows setting e deed old (scene_with i a [] [] scene) w
-alone setting e deed old i a scene w is none m here = stays setting e deed old (scene_with i a [] [] scene) w is none (site_changes setting i a scene w m here)
+alone : (setting : Setting) (e : ℕ) (deed : Deed) (old : Site) (i : ℕ) (a : Site) (scene : Scene) (w : World) → IsFull setting.key deed old nothing → answers_made setting e deed old ≡ [] → IsStored scene w i → Matches setting scene w → IsSiteIn w a (w.nodes i) → Follows setting e deed old (scene_with i a [] [] scene) w
+alone setting e deed old i a scene w is none member m here = stays setting e deed old (scene_with i a [] [] scene) w is none (site_changes setting i a scene w member m here)
 
-at_site : (setting : Setting) (e : ℕ) (deed : Deed) (a : Site) (scene : Scene) (w : World) → has_store w (node_of_deed deed) ≡ true → Matches setting scene w → IsSiteIn w a (w.nodes (node_of_deed deed))
+-- its store is lost
+loses : (setting : Setting) (e i : ℕ) (a : Site) (scene : Scene) (w : World) → IsStored scene w i → Matches setting scene w → IsSiteIn w a (w.nodes i) → Follows setting e (Loses i) a (scene_at setting e (Loses i) a scene) w
+unfolding world_after_event world_after_loss
+loses setting e i a scene w stored m here =
+    let n = nodes_of setting in
+    let x = w.nodes i in
+    let next : ℕ → ℕ → ℕ = λ token other. (row (w.nodes other).content token).next in
+    let u : World = record w { nodes = with_state i (lost_node x) w.nodes; lost = with_node i w.lost; least = λ token. greatest w.n (with_node i w.lost) (next token) } in
+    let is : world_after_event setting.config e (Lost i) w ≡ u = cond-true (has_store w i) u w stored.1 in
+    let grows = same_known u w refl refl in
+    let boot : x.content.boot + 1 ≤ (content_at a).boot + 1 + 1 = (let near = near_boot w a x here in omega (arith, near)) in
+    record {
+      event = Lost i;
+      is_full = refl;
+      matches = subst (λ z. Matches setting (scene_at setting e (Loses i) a scene) z) (sym is)
+          (record {
+            n = m.n;
+            lost = ap (λ l. with_node i l) m.lost;
+            least = fun_ext (λ token.
+                ap (λ k. greatest k (with_node i w.lost) (next token)) m.n
+                ∙ ap (λ l. greatest n (with_node i l) (next token)) m.lost
+                ∙ ap (λ f. greatest n (with_node i scene.lost) f) (fun_ext (λ j. same_next w (scene.lost j) (scene.sites j) (w.nodes j) token (m.sites j))));
+            sites = lost_set u i (Down (with_next_boot (content_at a))) (lost_node x) scene.lost scene.sites w.nodes
+                (same_rows w false a x here, boot)
+                (λ j. at_grows w u grows (scene.lost j) (scene.sites j) (w.nodes j) (m.sites j));
+            offered = each_append (IsKnown u) scene.offered [] (each_weaker (IsKnown w) (IsKnown u) grows scene.offered m.offered) tt;
+            notes = m.notes;
+          });
+      told = ap (λ (z : World). z.told) is ∙ sym (append-nil w.told);
+    }
+
+-- where a store may be made anew in the scene, it may be in the world, to be open in the next boot
+remade_may : (setting : Setting) (scene : Scene) (w : World) (i boot : ℕ) (floor : ℕ → ℕ) → Matches setting scene w → (w.nodes i).content.rows ≡ (content_at (scene.sites i)).rows → (w.nodes i).content.boot ≤ (content_at (scene.sites i)).boot + 1
+    → may_be_remade setting scene i boot floor ≡ true → may_be_anew w i (boot + 1) floor ≡ true
+remade_may setting scene w i boot floor m sized near can =
+    let n = nodes_of setting in
+    let x = w.nodes i in
+    let before = (content_at (scene.sites i)).boot in
+    let tokens = length (content_at (scene.sites i)).rows in
+    let few = leb before boot && (ltb boot last_boot && all_most tokens scene.least floor) in
+    let p = and_parts (is_member n i && scene.lost i) (ltb (size n scene.lost) (majority_of n) && few) can in
+    let q = and_parts (ltb (size n scene.lost) (majority_of n)) few p.1 in
+    let r = and_parts (leb before boot) (ltb boot last_boot && all_most tokens scene.least floor) q.1 in
+    let s = and_parts (ltb boot last_boot) (all_most tokens scene.least floor) r.1 in
+    let fresh : x.content.boot ≤ boot + 1 = omega (arith, near, leb-true before boot r.0) in
+    let low : boot + 1 ≤ last_boot = omega (arith, ltb-true boot last_boot s.0) in
+    let most = all_most (length x.content.rows) w.least floor in
+    let fresh_low = leb (boot + 1) last_boot && most in
+    let fresh_most = leb x.content.boot (boot + 1) && fresh_low in
+    and_from (is_member w.n i && w.lost i) (ltb (size w.n w.lost) (majority_of w.n) && fresh_most)
+    (ap (λ k. is_member k i && w.lost i) m.n ∙ ap (λ (l : ℕ → Bool). is_member n i && l i) m.lost ∙ p.0)
+    (and_from (ltb (size w.n w.lost) (majority_of w.n)) fresh_most
+    (ap (λ k. ltb (size k w.lost) (majority_of k)) m.n ∙ ap (λ l. ltb (size n l) (majority_of n)) m.lost ∙ q.0)
+    (and_from (leb x.content.boot (boot + 1)) fresh_low (le-leb x.content.boot (boot + 1) fresh)
+    (and_from (leb (boot + 1) last_boot) most (le-leb (boot + 1) last_boot low)
+    (ap (λ (rs : List RowRecord). all_most (length rs) w.least floor) sized ∙ ap (λ l. all_most tokens l floor) m.least ∙ s.1))))
+
+remakes : (setting : Setting) (e i boot : ℕ) (floors : List ℕ) (a : Site) (scene : Scene) (w : World) → Matches setting scene w → IsGone a (w.nodes i) → may_be_anew w i (boot + 1) (floor_in floors) ≡ true → Follows setting e (Remakes i boot floors) a (scene_at setting e (Remakes i boot floors) a scene) w
+unfolding world_after_event world_after_anew
+remakes setting e i boot floors (Up s waiting) scene w m gone may = absurd gone
+remakes setting e i boot floors (Down c) scene w m gone may =
+    let floor = floor_in floors in
+    let new = opening_node (boot + 1) (length (w.nodes i).content.rows) floor in
+    let site = Down (remade_content c boot floor) in
+    let u : World = record w { nodes = with_state i new w.nodes; lost = without_node i w.lost; history = note_anew e i ∷ w.history } in
+    let is : world_after_event setting.config e (Anew i (boot + 1) floors) w ≡ u = cond-true (may_be_anew w i (boot + 1) floor) u w may in
+    let grows = same_known u w refl refl in
+    record {
+      event = Anew i (boot + 1) floors;
+      is_full = refl;
+      matches = subst (λ z. Matches setting (scene_at setting e (Remakes i boot floors) (Down c) scene) z) (sym is)
+          (record {
+            n = m.n;
+            lost = ap (λ l. without_node i l) m.lost;
+            least = m.least;
+            sites = remade_set u i site new scene.lost scene.sites w.nodes (inr (ap (λ (rs : List RowRecord). opening_node (boot + 1) (length rs) floor) gone.0))
+                (λ j. at_grows w u grows (scene.lost j) (scene.sites j) (w.nodes j) (m.sites j));
+            offered = each_append (IsKnown u) scene.offered [] (each_weaker (IsKnown w) (IsKnown u) grows scene.offered m.offered) tt;
+            notes = ap (λ h. note_anew e i ∷ h) m.notes;
+          });
+      told = ap (λ (z : World). z.told) is ∙ sym (append-nil w.told);
+    }
+
+-- what a deed finds that can be
+abbrev IsReady : Setting → Scene → World → Deed → Site → Type 0
+IsReady setting scene w (Remakes i boot floors) a = IsGone a (w.nodes i) × (may_be_anew w i (boot + 1) (floor_in floors) ≡ true)
+IsReady setting scene w deed a = IsStored scene w (node_of_deed deed) × IsSiteIn w a (w.nodes (node_of_deed deed))
+
+not_lost : (b c : Bool) → (not b && c) ≡ true → b ≡ false
+not_lost false c h = refl
+not_lost true c h = absurd (false≢true h)
+
+is_stored : (setting : Setting) (scene : Scene) (w : World) (i : ℕ) → Matches setting scene w → has_own_store setting scene i ≡ true → IsStored scene w i × IsSiteIn w (scene.sites i) (w.nodes i)
+is_stored setting scene w i m can =
+    let kept = not_lost (scene.lost i) (is_member (nodes_of setting) i) can in
+    let store : has_store w i ≡ true = ap (λ k. not (w.lost i) && is_member k i) m.n ∙ ap (λ (l : ℕ → Bool). not (l i) && is_member (nodes_of setting) i) m.lost ∙ can in
+    ((kept, store), subst (λ b. IsSiteAt w b (scene.sites i) (w.nodes i)) kept (m.sites i))
+
+gone_near : (a : Site) (x : NodeState) → IsGone a x → x.content.boot ≤ (content_at a).boot + 1
+gone_near (Down c) x h = h.1
+gone_near (Up s waiting) x h = absurd h
+
+is_ready : (setting : Setting) (scene : Scene) (w : World) (deed : Deed) → Matches setting scene w → can_be setting scene deed ≡ true → IsReady setting scene w deed (scene.sites (node_of_deed deed))
+is_ready setting scene w (Opens i) m can = is_stored setting scene w i m can
+is_ready setting scene w (FailsToOpen i raised) m can = is_stored setting scene w i m can
+is_ready setting scene w (Takes i input) m can = is_stored setting scene w i m can
+is_ready setting scene w (Offers i) m can = is_stored setting scene w i m can
+is_ready setting scene w (Stops i) m can = is_stored setting scene w i m can
+is_ready setting scene w (StopsIn i kept input) m can = is_stored setting scene w i m can
+is_ready setting scene w (Loses i) m can = is_stored setting scene w i m can
+is_ready setting scene w (Remakes i boot floors) m can =
+    let lost = (and_parts (is_member (nodes_of setting) i) (scene.lost i) (and_parts (is_member (nodes_of setting) i && scene.lost i) _ can).0).1 in
+    let gone : IsGone (scene.sites i) (w.nodes i) = subst (λ b. IsSiteAt w b (scene.sites i) (w.nodes i)) lost (m.sites i) in
+    (gone, remade_may setting scene w i boot (floor_in floors) m (same_rows w true (scene.sites i) (w.nodes i) gone) (gone_near (scene.sites i) (w.nodes i) gone) can)
+
+at_site : (setting : Setting) (e : ℕ) (deed : Deed) (a : Site) (scene : Scene) (w : World) → Matches setting scene w → IsReady setting scene w deed a
     → IsGenuineDeed setting scene deed → Follows setting e deed a (scene_at setting e deed a scene) w
-at_site setting e (Opens i) (Down c) scene w member m here g = opens setting e i c scene w member m here
-at_site setting e (Opens i) (Up s waiting) scene w member m here g = alone setting e (Opens i) (Up s waiting) i (Up s waiting) scene w refl refl m here
-at_site setting e (FailsToOpen i raised) (Down c) scene w member m here g = half_opens setting e i raised c scene w member m here
-at_site setting e (FailsToOpen i raised) (Up s waiting) scene w member m here g = alone setting e (FailsToOpen i raised) (Up s waiting) i (Up s waiting) scene w refl refl m here
-at_site setting e (Takes i input) (Down c) scene w member m here g = alone setting e (Takes i input) (Down c) i (Down c) scene w refl refl m here
-at_site setting e (Takes i input) (Up s waiting) scene w member m here g = takes setting e i input s waiting scene w member m here g
-at_site setting e (Offers i) (Down c) scene w member m here g = alone setting e (Offers i) (Down c) i (Down c) scene w refl refl m here
-at_site setting e (Offers i) (Up s waiting) scene w member m here g = offers setting e i s waiting scene w m here
-at_site setting e (Stops i) (Down c) scene w member m here g = alone setting e (Stops i) (Down c) i (Down c) scene w refl refl m here
-at_site setting e (Stops i) (Up s waiting) scene w member m here g = alone setting e (Stops i) (Up s waiting) i (Down s.content) scene w refl refl m (inl (ap (λ (x : NodeState). x.content) here.0))
-at_site setting e (StopsIn i false input) (Down c) scene w member m here g = alone setting e (StopsIn i false input) (Down c) i (Down c) scene w refl refl m here
-at_site setting e (StopsIn i true input) (Down c) scene w member m here g = alone setting e (StopsIn i true input) (Down c) i (Down c) scene w refl refl m here
-at_site setting e (StopsIn i false input) (Up s waiting) scene w member m here g = alone setting e (StopsIn i false input) (Up s waiting) i (Down s.content) scene w refl refl m (inl (ap (λ (x : NodeState). x.content) here.0))
-at_site setting e (StopsIn i true input) (Up s waiting) scene w member m here g = cut_kept setting e i input s waiting scene w member m here g
+at_site setting e (Opens i) (Down c) scene w m ready g = opens setting e i c scene w ready.0 m ready.1
+at_site setting e (Opens i) (Up s waiting) scene w m ready g = alone setting e (Opens i) (Up s waiting) i (Up s waiting) scene w refl refl ready.0 m ready.1
+at_site setting e (FailsToOpen i raised) (Down c) scene w m ready g = half_opens setting e i raised c scene w ready.0 m ready.1
+at_site setting e (FailsToOpen i raised) (Up s waiting) scene w m ready g = alone setting e (FailsToOpen i raised) (Up s waiting) i (Up s waiting) scene w refl refl ready.0 m ready.1
+at_site setting e (Takes i input) (Down c) scene w m ready g = alone setting e (Takes i input) (Down c) i (Down c) scene w refl refl ready.0 m ready.1
+at_site setting e (Takes i input) (Up s waiting) scene w m ready g = takes setting e i input s waiting scene w ready.0 m ready.1 g
+at_site setting e (Offers i) (Down c) scene w m ready g = alone setting e (Offers i) (Down c) i (Down c) scene w refl refl ready.0 m ready.1
+at_site setting e (Offers i) (Up s waiting) scene w m ready g = offers setting e i s waiting scene w ready.0 m ready.1
+at_site setting e (Stops i) (Down c) scene w m ready g = alone setting e (Stops i) (Down c) i (Down c) scene w refl refl ready.0 m ready.1
+at_site setting e (Stops i) (Up s waiting) scene w m ready g = alone setting e (Stops i) (Up s waiting) i (Down s.content) scene w refl refl ready.0 m (inl (ap (λ (x : NodeState). x.content) ready.1.0))
+at_site setting e (StopsIn i false input) (Down c) scene w m ready g = alone setting e (StopsIn i false input) (Down c) i (Down c) scene w refl refl ready.0 m ready.1
+at_site setting e (StopsIn i true input) (Down c) scene w m ready g = alone setting e (StopsIn i true input) (Down c) i (Down c) scene w refl refl ready.0 m ready.1
+at_site setting e (StopsIn i false input) (Up s waiting) scene w m ready g = alone setting e (StopsIn i false input) (Up s waiting) i (Down s.content) scene w refl refl ready.0 m (inl (ap (λ (x : NodeState). x.content) ready.1.0))
+at_site setting e (StopsIn i true input) (Up s waiting) scene w m ready g = cut_kept setting e i input s waiting scene w ready.0 m ready.1 g
+at_site setting e (Loses i) a scene w m ready g = loses setting e i a scene w ready.0 m ready.1
+at_site setting e (Remakes i boot floors) a scene w m ready g = remakes setting e i boot floors a scene w m ready.0 ready.1
 
 -- nothing may be the event of any deed
 may_be_nothing : (key : List ℕ) (deed : Deed) → IsEventOf key deed nothing
@@ -425,42 +617,58 @@ may_be_nothing key (Offers i) = refl
 may_be_nothing key (Stops i) = refl
 may_be_nothing key (StopsIn i false input) = refl
 may_be_nothing key (StopsIn i true input) = inl refl
+may_be_nothing key (Loses i) = inl refl
+may_be_nothing key (Remakes i boot floors) = inl refl
 
--- what is so of each act, each stop that keeps its change and each restart is so of the event of a deed
-pub of_event : (P : WorldEvent → Type 0) (key : List ℕ) (deed : Deed) (x : WorldEvent) → IsEventOf key deed x → ((act : Act) → P (Happens act)) → ((act : Act) → P (Cut true act)) → ((i : ℕ) → P (Restart i)) → P x
-of_event P key (Opens i) x is act cut restart = ⊎_elim (λ (q : x ≡ nothing). subst P (sym q) (restart 0)) (λ (q : x ≡ Restart i). subst P (sym q) (restart i)) is
-of_event P key (FailsToOpen i raised) x is act cut restart = ⊎_elim (λ (q : x ≡ nothing). subst P (sym q) (restart 0)) (λ (q : x ≡ Restart i). subst P (sym q) (restart i)) is
-of_event P key (Takes i input) x is act cut restart =
+-- what is so where a deed takes a store away or makes one anew
+abbrev pub OfStore : (WorldEvent → Type 0) → Deed → Type 0
+OfStore P (Loses i) = P (Lost i)
+OfStore P (Remakes i boot floors) = P (Anew i (boot + 1) floors)
+OfStore P _ = Unit {0}
+
+-- what is so of each act, each stop that keeps its change, each restart and that is so of the event of a deed
+pub of_event : (P : WorldEvent → Type 0) (key : List ℕ) (deed : Deed) (x : WorldEvent) → IsEventOf key deed x → ((act : Act) → P (Happens act)) → ((act : Act) → P (Cut true act)) → ((i : ℕ) → P (Restart i)) → OfStore P deed → P x
+of_event P key (Opens i) x is act cut restart store = ⊎_elim (λ (q : x ≡ nothing). subst P (sym q) (restart 0)) (λ (q : x ≡ Restart i). subst P (sym q) (restart i)) is
+of_event P key (FailsToOpen i raised) x is act cut restart store = ⊎_elim (λ (q : x ≡ nothing). subst P (sym q) (restart 0)) (λ (q : x ≡ Restart i). subst P (sym q) (restart i)) is
+of_event P key (Takes i input) x is act cut restart store =
     ⊎_elim (λ (q : x ≡ nothing). subst P (sym q) (restart 0)) (λ (h : HasAct key i input (λ a. Happens a) x). subst P (sym h.event_is) (act h.act)) is
-of_event P key (Offers i) x is act cut restart = subst P (sym is) (restart 0)
-of_event P key (Stops i) x is act cut restart = subst P (sym is) (restart 0)
-of_event P key (StopsIn i false input) x is act cut restart = subst P (sym is) (restart 0)
-of_event P key (StopsIn i true input) x is act cut restart =
+of_event P key (Offers i) x is act cut restart store = subst P (sym is) (restart 0)
+of_event P key (Stops i) x is act cut restart store = subst P (sym is) (restart 0)
+of_event P key (StopsIn i false input) x is act cut restart store = subst P (sym is) (restart 0)
+of_event P key (StopsIn i true input) x is act cut restart store =
     ⊎_elim (λ (q : x ≡ nothing). subst P (sym q) (restart 0)) (λ (h : HasAct key i input (λ a. Cut true a) x). subst P (sym h.event_is) (cut h.act)) is
+of_event P key (Loses i) x is act cut restart store = ⊎_elim (λ (q : x ≡ nothing). subst P (sym q) (restart 0)) (λ (q : x ≡ Lost i). subst P (sym q) store) is
+of_event P key (Remakes i boot floors) x is act cut restart store = ⊎_elim (λ (q : x ≡ nothing). subst P (sym q) (restart 0)) (λ (q : x ≡ Anew i (boot + 1) floors). subst P (sym q) store) is
 
--- at a member a deed is what its site says, and elsewhere nothing
+-- where a deed can be it is what its site says, and elsewhere nothing
 abbrev pub IsOneAt : Setting → Deed → Scene → Bool → WorldEvent → Type 0
 IsOneAt setting deed scene true event = IsFull setting.key deed (scene.sites (node_of_deed deed)) event
 IsOneAt setting deed scene false event = event ≡ nothing
 
 -- the answers that a deed makes
 abbrev pub answers_by : Setting → ℕ → Deed → Scene → List Told
-answers_by setting e deed scene = cond (is_member (nodes_of setting) (node_of_deed deed)) (answers_made setting e deed (scene.sites (node_of_deed deed))) []
+answers_by setting e deed scene = cond (can_be setting scene deed) (answers_made setting e deed (scene.sites (node_of_deed deed))) []
 
 -- the event of a deed, and the scene after it
-pub record IsFollowed (setting : Setting) (e : ℕ) (deed : Deed) (scene new : Scene) (w : World) (made : List Told) (member : Bool) : Type 0 where
+pub record IsFollowed (setting : Setting) (e : ℕ) (deed : Deed) (scene new : Scene) (w : World) (made : List Told) (can : Bool) : Type 0 where
   pub event : WorldEvent
   pub is_event : IsEventOf setting.key deed event
-  pub is_one : IsOneAt setting deed scene member event
+  pub is_one : IsOneAt setting deed scene can event
   pub matches : Matches setting new (world_after_event setting.config e event w)
   pub told : (world_after_event setting.config e event w).told ≡ w.told ++ made
 
-followed : (setting : Setting) (e : ℕ) (deed : Deed) (scene : Scene) (w : World) (member : Bool) → is_member (nodes_of setting) (node_of_deed deed) ≡ member → Matches setting scene w → IsGenuineDeed setting scene deed
-    → IsFollowed setting e deed scene (cond member (scene_at setting e deed (scene.sites (node_of_deed deed)) scene) scene) w (cond member (answers_made setting e deed (scene.sites (node_of_deed deed))) []) member
+followed : (setting : Setting) (e : ℕ) (deed : Deed) (scene : Scene) (w : World) (can : Bool) → can_be setting scene deed ≡ can → Matches setting scene w → IsGenuineDeed setting scene deed
+    → IsFollowed setting e deed scene (cond can (scene_at setting e deed (scene.sites (node_of_deed deed)) scene) scene) w (cond can (answers_made setting e deed (scene.sites (node_of_deed deed))) []) can
 followed setting e deed scene w true is m g =
-    let i = node_of_deed deed in
-    let f = at_site setting e deed (scene.sites i) scene w (has_it w i (m.lost i) (ap (λ n. is_member n i) m.n ∙ is)) m (m.sites i) g in
-    record { event = f.event; is_event = full_is_event setting.key deed (scene.sites i) f.event f.is_full; is_one = f.is_full; matches = f.matches; told = f.told }
+    let a = scene.sites (node_of_deed deed) in
+    let f = at_site setting e deed a scene w m (is_ready setting scene w deed m is) g in
+    record {
+      event = f.event;
+      is_event = full_is_event setting.key deed a f.event f.is_full;
+      is_one = f.is_full;
+      matches = f.matches;
+      told = f.told;
+    }
 followed setting e deed scene w false is m g = record {
   event = nothing;
   is_event = may_be_nothing setting.key deed;
@@ -470,6 +678,6 @@ followed setting e deed scene w false is m g = record {
 }
 
 pub follows : (setting : Setting) (e : ℕ) (deed : Deed) (scene : Scene) (w : World) → Matches setting scene w → IsGenuineDeed setting scene deed
-    → IsFollowed setting e deed scene (scene_after_deed setting e deed scene) w (answers_by setting e deed scene) (is_member (nodes_of setting) (node_of_deed deed))
+    → IsFollowed setting e deed scene (scene_after_deed setting e deed scene) w (answers_by setting e deed scene) (can_be setting scene deed)
 unfolding scene_after_deed
-follows setting e deed scene w m g = followed setting e deed scene w (is_member (nodes_of setting) (node_of_deed deed)) refl m g
+follows setting e deed scene w m g = followed setting e deed scene w (can_be setting scene deed) refl m g

@@ -1,24 +1,21 @@
 -- A history is a run of the world, and what is promised of every run is so of it.
-use Rattle.std.proofs.Common.{◌≡◌, ℕ, zero, suc, ⊎_elim, inr, List, [], ◌∷◌, ◌++◌, length, take, Some, refl, sym, ap, ◌∙◌, subst}
+use Rattle.std.proofs.Common.{◌≡◌, ℕ, zero, suc, inr, List, [], ◌∷◌, ◌++◌, length, take, Some, refl, sym, ap, ◌∙◌, subst}
 use mathlib.Core.Path.{fun_ext}
 use Rattle.std.specs.List.{slice_get}
 use Rattle.std.proofs.lemmas.List.{append-nil, append_assoc}
 use Rattle.std.proofs.lemmas.Option.{none-some, same_Some}
-use Rattle.floor_store.specs.Content.{Content}
 use Rattle.otp_core.specs.Acceptance.{HaveSingleUse, KeepRealTimeOrder}
 use Rattle.vote_core.proofs.Basics.{Each, each_get}
-use Rattle.vote_core.specs.Rows.{row}
-use Rattle.vote_core.specs.Schedule.{is_member}
 use Rattle.vote_core.specs.Safety.{HaveMajority}
-use Rattle.oath_node.specs.Machine.{Config, NodeState, opened_node}
+use Rattle.oath_node.specs.Machine.{Config}
 use Rattle.cluster_sim.specs.Answered.{AreAnswered, NamePasses, TellTruth}
 use Rattle.admit_core.specs.Throttle.{SpacesFailures}
 use Rattle.cluster_sim.specs.Results.{results_in, results_of}
 use Rattle.cluster_sim.specs.Justified.{AreJustified}
 use Rattle.cluster_sim.specs.World.{Told, World, WorldEvent, floor_before, opening_world, passes_in, passes_of, world_after_event, world_after_events, world_of}
-use Rattle.cluster_law.specs.Lives.{Deed, Handout, Post, Answer, Scene, Setting, Site, Down, Up, AreGenuine, IsHistory, accepted_in, answered_in, answers_among, content_at, first_scene, floor_in, node_of_deed, nodes_of, scene_after, scene_after_deed, scene_of}
+use Rattle.cluster_law.specs.Lives.{Deed, Handout, Post, Answer, Scene, Setting, AreGenuine, IsHistory, accepted_in, answered_in, answers_among, can_be, first_scene, floor_in, nodes_of, scene_after, scene_after_deed, scene_of}
 use Rattle.cluster_law.specs.Promises.{HasEvent, IsEventOf, IsExplained, IsRunOf, IsToldAmong}
-use Rattle.cluster_law.proofs.Follow.{IsKnown, IsOneAt, IsSiteIn, Matches, answers_by, follows}
+use Rattle.cluster_law.proofs.Follow.{IsKnown, IsOneAt, Matches, answers_by, follows, same_next}
 
 -- the answers that these deeds make
 abbrev pub answers_in : Setting → ℕ → List Deed → Scene → List Told
@@ -30,7 +27,7 @@ abbrev pub AreOnes : Setting → ℕ → List Deed → Scene → List WorldEvent
 AreOnes setting e [] scene [] = Unit {0}
 AreOnes setting e [] scene (x ∷ xs) = ⊥
 AreOnes setting e (d ∷ ds) scene [] = ⊥
-AreOnes setting e (d ∷ ds) scene (x ∷ xs) = IsOneAt setting d scene (is_member (nodes_of setting) (node_of_deed d)) x × AreOnes setting (suc e) ds (scene_after_deed setting e d scene) xs
+AreOnes setting e (d ∷ ds) scene (x ∷ xs) = IsOneAt setting d scene (can_be setting scene d) x × AreOnes setting (suc e) ds (scene_after_deed setting e d scene) xs
 
 -- the events of these deeds, and the world after each of them
 record Runs (setting : Setting) (e : ℕ) (deeds : List Deed) (scene : Scene) (w : World) : Type 0 where
@@ -88,14 +85,9 @@ runs setting e (x ∷ xs) scene w m g =
     }
 
 pub starts : (setting : Setting) → Matches setting (first_scene setting) (opening_world setting.config setting.floors)
-starts setting = record { n = refl; lost = λ j. refl; sites = λ j. inr refl; offered = tt; notes = refl }
+starts setting = record { n = refl; lost = refl; least = refl; sites = λ j. inr refl; offered = tt; notes = refl }
 
 -- ---- what is to be seen
-
-same_row : (w : World) (s : Site) (x : NodeState) (token : ℕ) → IsSiteIn w s x → (row (content_at s) token).next ≡ (row x.content token).next
-same_row w (Up state waiting) x token p = ap (λ (y : NodeState). (row y.content token).next) (sym p.0)
-same_row w (Down c) x token p =
-    ⊎_elim (λ (q : x.content ≡ c). ap (λ (d : Content). (row d token).next) (sym q)) (λ (q : x ≡ opened_node c). ap (λ (y : NodeState). (row y.content token).next) (sym q)) p
 
 all_told : (w : World) (hs : List Handout) → Each (IsKnown w) hs → Each (λ (t : Told). IsToldAmong t w.told) (answers_among hs)
 all_told w [] p = tt
@@ -121,7 +113,10 @@ whole_run setting history g =
       notes = sym r.whole.notes;
       notes_before = λ event. sym (r.parts event).notes;
       accepted = ap passes_in (sym r.whole.notes);
-      floors = λ node token event. same_row (world_after_events setting.config 0 (take event r.events) start) ((scene_of setting (take event history)).sites node) _ token ((r.parts event).sites node);
+      floors = λ node token event.
+          let v = world_after_events setting.config 0 (take event r.events) start in
+          let x = scene_of setting (take event history) in
+          sym (same_next v (x.lost node) (x.sites node) (v.nodes node) token ((r.parts event).sites node));
       answered = λ place told at. each_get (λ (t : Told). IsToldAmong t w.told) (answered_in setting history) place told (all_told w (scene_of setting history).offered r.whole.offered) at;
     } in
     record { events = r.events; run = of_run; ones = r.ones; told = r.told; matches = r.whole }

@@ -1,19 +1,18 @@
 -- What justifies an acceptance in the world, in the words of the history.
-use Rattle.std.proofs.Common.{◌≡◌, ℕ, zero, suc, ⊎_elim, true, false, cond, ◌&&◌, List, [], ◌∷◌, ◌++◌, take, Option, Some, None, refl, sym, ap, ◌∙◌, subst, eqb}
+use Rattle.std.proofs.Common.{◌≡◌, ℕ, zero, suc, ◌+◌, ⊎_elim, true, false, cond, ◌&&◌, List, [], ◌∷◌, ◌++◌, take, Option, Some, None, refl, sym, ap, ◌∙◌, subst, eqb}
 use Rattle.std.specs.Prelude.{ℤ, pos}
 use Rattle.std.specs.List.{slice_get}
-use Rattle.std.proofs.lemmas.Bool.{cond_both, cond-false}
+use Rattle.std.proofs.lemmas.Bool.{cond_both}
 use Rattle.otp_core.specs.Acceptance.{Acceptance}
 use Rattle.admit_core.specs.Throttle.{Result}
 use Rattle.vote_core.proofs.Basics.{Each, each_append}
-use Rattle.vote_core.specs.Schedule.{is_member}
 use Rattle.oath_node.specs.Machine.{Config}
 use Rattle.cluster_sim.specs.Drifts.{drift_after, drift_before, drift_by, moment_in, moment_of, passes_since}
 use Rattle.cluster_sim.specs.Justified.{IsGroundIn, IsGroundOf}
 use Rattle.cluster_sim.specs.Results.{results_before, results_in}
-use Rattle.cluster_sim.specs.World.{Act, Note, WorldEvent, Happens, Cut, Restart, acceptance_in, begun_in, floor_before, passes_in, passes_of, world_of}
+use Rattle.cluster_sim.specs.World.{Act, Note, WorldEvent, Happens, Cut, Restart, Lost, Anew, acceptance_in, begun_in, floor_before, passes_in, passes_of, world_of}
 use Rattle.cluster_law.specs.Justified.{IsGroundInDeed, JustifiesAll, drift_in, drift_of_pass, drift_with, moment_in_deed, results_held}
-use Rattle.cluster_law.specs.Lives.{Deed, Opens, FailsToOpen, Takes, Offers, Stops, StopsIn, IsHistory, Scene, Setting, Site, Down, Up, first_scene, node_of_deed, nodes_of, notes_by, scene_after, scene_after_deed, scene_at}
+use Rattle.cluster_law.specs.Lives.{Deed, Opens, FailsToOpen, Takes, Offers, Stops, StopsIn, Loses, Remakes, IsHistory, Setting}
 use Rattle.cluster_law.specs.Promises.{HasAct, IsEventOf, IsRunOf, nothing}
 use Rattle.cluster_law.proofs.Histories.{JustifiedLaw, is_run}
 use Rattle.cluster_law.proofs.Told.{at_place, by_line}
@@ -47,6 +46,10 @@ ground_deed key config next drift results p moment (StopsIn i true input) e is g
     (λ (h : HasAct key i input (λ act. Cut true act) e).
     let r = by_line (λ a. GroundBy config next drift results p moment a) key i input h.act h.is_act (subst (λ x. Ground config next drift results p moment (Some x)) h.event_is g) (λ k z. z.0) (λ from bytes z. z.0) (λ z. z.0) in
     subst (λ x. Deeded config next drift results p moment (Some (StopsIn i true x))) (sym r.3) r.4) is
+ground_deed key config next drift results p moment (Loses i) e is g =
+    ⊎_elim (λ (q : e ≡ nothing). absurd (subst (λ x. Ground config next drift results p moment (Some x)) q g).0) (λ (q : e ≡ Lost i). absurd (subst (λ x. Ground config next drift results p moment (Some x)) q g).0) is
+ground_deed key config next drift results p moment (Remakes i boot floors) e is g =
+    ⊎_elim (λ (q : e ≡ nothing). absurd (subst (λ x. Ground config next drift results p moment (Some x)) q g).0) (λ (q : e ≡ Anew i (boot + 1) floors). absurd (subst (λ x. Ground config next drift results p moment (Some x)) q g).0) is
 
 -- what stands in a front part stands in the whole
 taken_there : {A : Type 0} (P : Option A → Type 0) (n : ℕ) (xs : List A) (k : ℕ) → (P None → ⊥) → P (slice_get (take n xs) k) → P (slice_get xs k)
@@ -91,49 +94,25 @@ same_drift setting history events node token drift (p ∷ ps) h =
     ap (λ m. drift_after setting.config events node token (cond own (drift_by setting.config.limits (slice_get setting.config.book p.token) m p.hi) drift) ps) h.0
     ∙ same_drift setting history events node token (cond own (drift_of_pass setting history p) drift) ps h.1
 
--- ---- a history makes no store anew
-
-abbrev IsPlain : Note → Type 0
-IsPlain note = note.anew ≡ false
-
-plain_note : (setting : Setting) (e : ℕ) (d : Deed) (a : Site) → Each IsPlain (notes_by setting e d a)
-plain_note setting e (Opens i) a = tt
-plain_note setting e (FailsToOpen i raised) a = tt
-plain_note setting e (Takes i input) (Down c) = tt
-plain_note setting e (Takes i input) (Up s waiting) = (refl, tt)
-plain_note setting e (Offers i) a = tt
-plain_note setting e (Stops i) a = tt
-plain_note setting e (StopsIn i false input) (Down c) = tt
-plain_note setting e (StopsIn i true input) (Down c) = tt
-plain_note setting e (StopsIn i false input) (Up s waiting) = tt
-plain_note setting e (StopsIn i true input) (Up s waiting) = (refl, tt)
-
-plain_deed : (setting : Setting) (e : ℕ) (d : Deed) (scene : Scene) → Each IsPlain scene.notes → Each IsPlain (scene_after_deed setting e d scene).notes
-unfolding scene_after_deed
-plain_deed setting e d scene h =
-    let a = scene.sites (node_of_deed d) in
-    cond_both (is_member (nodes_of setting) (node_of_deed d)) (scene_at setting e d a scene) scene (λ (z : Scene). Each IsPlain z.notes)
-    (λ _. each_append IsPlain (notes_by setting e d a) scene.notes (plain_note setting e d a) h) (λ _. h)
-
-plain_notes : (setting : Setting) (e : ℕ) (ds : List Deed) (scene : Scene) → Each IsPlain scene.notes → Each IsPlain (scene_after setting e ds scene).notes
-unfolding scene_after
-plain_notes setting e [] scene h = h
-plain_notes setting e (d ∷ ds) scene h = plain_notes setting (suc e) ds (scene_after_deed setting e d scene) (plain_deed setting e d scene h)
-
-since_all : (node : ℕ) (notes : List Note) → Each IsPlain notes → passes_since node notes ≡ passes_in notes
-since_all node [] h = refl
-since_all node (x ∷ notes) h =
-    cond-false (x.anew && eqb x.node node) [] (passes_since node notes ++ acceptance_in (begun_in (x ∷ notes)) x.event x.node x.pass) (ap (λ b. b && eqb x.node node) h.0)
-    ∙ ap (λ ps. ps ++ acceptance_in (begun_in (x ∷ notes)) x.event x.node x.pass) (since_all node notes h.1)
+-- the acceptances since a store was made anew are of those of the whole history
+since_each : (P : Acceptance → Type 0) (node : ℕ) (notes : List Note) → Each P (passes_in notes) → Each P (passes_since node notes)
+since_each P node [] h = tt
+since_each P node (x ∷ notes) h =
+    let own = acceptance_in (begun_in (x ∷ notes)) x.event x.node x.pass in
+    let parts = each_parts P (passes_in notes) own h in
+    cond_both (x.anew && eqb x.node node) [] (passes_since node notes ++ own) (λ l. Each P l) (λ _. tt)
+    (λ _. each_append P (passes_since node notes) own (since_each P node notes parts.0) parts.1)
+  where
+    each_parts : (P : Acceptance → Type 0) (xs ys : List Acceptance) → Each P (xs ++ ys) → Each P xs × Each P ys
+    each_parts P [] ys h = (tt, h)
+    each_parts P (x ∷ xs) ys h = let r = each_parts P xs ys h.1 in ((h.0, r.0), r.1)
 
 drift_same : JustifiedLaw → (setting : Setting) (history : List Deed) (events : List WorldEvent) → IsRunOf setting history events → (node token event : ℕ)
     → drift_before setting.config setting.floors events node token event ≡ drift_in setting history node token event
 drift_same law setting history events run node token event =
-    let plain : Each IsPlain (world_of setting.config setting.floors (take event events)).history =
-    subst (λ ns. Each IsPlain ns) (run.notes_before event) (plain_notes setting 0 (take event history) (first_scene setting) tt) in
-    ap (λ ps. drift_after setting.config events node token (pos 0) ps) (since_all node (world_of setting.config setting.floors (take event events)).history plain)
-    ∙ same_drift setting history events node token (pos 0) (passes_of setting.config setting.floors (take event events)) (same_moments law setting history events run event)
-    ∙ ap (λ ns. drift_with setting history node token (pos 0) (passes_in ns)) (sym (run.notes_before event))
+    let notes = (world_of setting.config setting.floors (take event events)).history in
+    same_drift setting history events node token (pos 0) (passes_since node notes) (since_each (SameMoment history events) node notes (same_moments law setting history events run event))
+    ∙ ap (λ ns. drift_with setting history node token (pos 0) (passes_since node ns)) (sym (run.notes_before event))
 
 pub justifies_all : JustifiedLaw → (setting : Setting) (history : List Deed) → IsHistory setting history → JustifiesAll setting history
 justifies_all law setting history g = λ i p at.

@@ -1,6 +1,6 @@
 -- A process among all that happens, by itself: its site, and what its turns come to.
-use Rattle.std.proofs.Common.{◌≡◌, ℕ, suc, ◌≤◌, ⊎_elim, Bool, true, false, cond, List, [], ◌∷◌, ◌++◌, length, map, take, Option, Some, None, refl, sym, ap, ◌∙◌, subst, eqb}
-use Rattle.std.proofs.lemmas.Bool.{cond_both, cond-true, cond-false, cases_Bool, eq-eqb, eqb-true}
+use Rattle.std.proofs.Common.{◌≡◌, ℕ, suc, ◌≤◌, ⊎_elim, Bool, true, false, not, ◌&&◌, ◌||◌, cond, List, [], ◌∷◌, ◌++◌, length, map, take, Option, Some, None, refl, sym, ap, ◌∙◌, subst, eqb}
+use Rattle.std.proofs.lemmas.Bool.{cond_both, cond-true, cond-false, cases_Bool, eq-eqb, eqb-true, ne_eqb}
 use Rattle.std.proofs.lemmas.List.{append-nil, append_assoc, map-append}
 use Rattle.vote_core.specs.Schedule.{is_member}
 use Rattle.oath_node.specs.Machine.{Made, NodeState}
@@ -17,39 +17,67 @@ use Rattle.node_turns.specs.declared.fault.ServeFault.{ServeFault}
 use Rattle.node_turns.specs.declared.fault.ServeFault.TheVariants.{Clock, Node, Port}
 use Rattle.node_turns.specs.Port.{PortEvent}
 use Rattle.node_turns.specs.Turns.{Receipt, Run, entry_of, events_of_turns, member_of, offer_of, offers_in, receipts_in, receives_in, run_at, run_with_batches, run_with_event, run_with_events, run_with_receipts}
-use Rattle.cluster_law.specs.Lives.{Deed, Opens, FailsToOpen, Takes, Offers, Stops, StopsIn, Handout, Input, Scene, Setting, Site, Down, Up, event_of, handouts_of, made_by_input, node_of_deed, nodes_of, offers_by, own_offers, own_site, place_in, scene_after, scene_after_deed, scene_at, site_after}
+use Rattle.cluster_law.specs.Lives.{Deed, Opens, FailsToOpen, Takes, Offers, Stops, StopsIn, Loses, Remakes, Handout, Input, Scene, Setting, Site, Down, Up, LeaveStore, LeavesStore, can_be, event_of, handouts_of, has_store, lost_after, made_by_input, node_of_deed, nodes_of, offers_by, own_offers, own_site, place_in, scene_after, scene_after_deed, scene_at, site_after}
 use Rattle.cluster_law.specs.Processes.{AreServing, IsEndedNode, IsFailedNode, IsMemberIn, IsNoFaultOfNode, IsServed, IsServedNode, IsServing, IsStopped, TakesSome, TakesTurns, events_after, input_of, inputs_at, item_of, member_in, offer_of_handout, run_over}
 use Rattle.cluster_law.proofs.Calls.{put_out}
 use Rattle.cluster_law.proofs.Events.{Does, all_done, all_end, append_events, events_add, events_do, receipts_do, receipts_end}
 
 -- ---- a node's site is its own deeds'
 
-pub deed_at : (setting : Setting) (e node : ℕ) (d : Deed) (scene : Scene) → is_member (nodes_of setting) node ≡ true
+pub deed_at : (setting : Setting) (e node : ℕ) (d : Deed) (scene : Scene) → (node ≡ node_of_deed d → can_be setting scene d ≡ true)
     → (scene_after_deed setting e d scene).sites node ≡ cond (eqb node (node_of_deed d)) (site_after setting e d (scene.sites node)) (scene.sites node)
 unfolding scene_after_deed
-deed_at setting e node d scene member =
+deed_at setting e node d scene can =
+    let i = node_of_deed d in
     ⊎_elim
-    (λ (q : eqb node (node_of_deed d) ≡ true).
-    let same : node ≡ node_of_deed d = eqb-true node (node_of_deed d) q in
-    let here : is_member (nodes_of setting) (node_of_deed d) ≡ true = subst (λ m. is_member (nodes_of setting) m ≡ true) same member in
-    ap (λ (z : Scene). z.sites node) (cond-true (is_member (nodes_of setting) (node_of_deed d)) (scene_at setting e d (scene.sites (node_of_deed d)) scene) scene here)
-    ∙ cond-true (eqb node (node_of_deed d)) (site_after setting e d (scene.sites (node_of_deed d))) (scene.sites node) q
+    (λ (q : eqb node i ≡ true).
+    let same : node ≡ i = eqb-true node i q in
+    ap (λ (z : Scene). z.sites node) (cond-true (can_be setting scene d) (scene_at setting e d (scene.sites i) scene) scene (can same))
+    ∙ cond-true (eqb node i) (site_after setting e d (scene.sites i)) (scene.sites node) q
     ∙ ap (λ m. site_after setting e d (scene.sites m)) (sym same)
-    ∙ sym (cond-true (eqb node (node_of_deed d)) (site_after setting e d (scene.sites node)) (scene.sites node) q))
-    (λ (q : eqb node (node_of_deed d) ≡ false).
-    cond_both (is_member (nodes_of setting) (node_of_deed d)) (scene_at setting e d (scene.sites (node_of_deed d)) scene) scene
-    (λ (z : Scene). z.sites node ≡ cond (eqb node (node_of_deed d)) (site_after setting e d (scene.sites node)) (scene.sites node))
-    (λ _. cond-false (eqb node (node_of_deed d)) (site_after setting e d (scene.sites (node_of_deed d))) (scene.sites node) q ∙ sym (cond-false (eqb node (node_of_deed d)) (site_after setting e d (scene.sites node)) (scene.sites node) q))
-    (λ _. sym (cond-false (eqb node (node_of_deed d)) (site_after setting e d (scene.sites node)) (scene.sites node) q)))
-    (cases_Bool (eqb node (node_of_deed d)))
+    ∙ sym (cond-true (eqb node i) (site_after setting e d (scene.sites node)) (scene.sites node) q))
+    (λ (q : eqb node i ≡ false).
+    cond_both (can_be setting scene d) (scene_at setting e d (scene.sites i) scene) scene
+    (λ (z : Scene). z.sites node ≡ cond (eqb node i) (site_after setting e d (scene.sites node)) (scene.sites node))
+    (λ _. cond-false (eqb node i) (site_after setting e d (scene.sites i)) (scene.sites node) q ∙ sym (cond-false (eqb node i) (site_after setting e d (scene.sites node)) (scene.sites node) q))
+    (λ _. sym (cond-false (eqb node i) (site_after setting e d (scene.sites node)) (scene.sites node) q)))
+    (cases_Bool (eqb node i))
 
-pub site_is_own : (setting : Setting) (e node : ℕ) (ds : List Deed) (scene : Scene) → is_member (nodes_of setting) node ≡ true
+-- where a store is there, what leaves it there can be
+pub can_there : (setting : Setting) (scene : Scene) (node : ℕ) (d : Deed) → has_store setting scene node ≡ true → LeavesStore node d → node ≡ node_of_deed d → can_be setting scene d ≡ true
+can_there setting scene node (Opens i) store leaves own = subst (λ m. has_store setting scene m ≡ true) own store
+can_there setting scene node (FailsToOpen i raised) store leaves own = subst (λ m. has_store setting scene m ≡ true) own store
+can_there setting scene node (Takes i input) store leaves own = subst (λ m. has_store setting scene m ≡ true) own store
+can_there setting scene node (Offers i) store leaves own = subst (λ m. has_store setting scene m ≡ true) own store
+can_there setting scene node (Stops i) store leaves own = subst (λ m. has_store setting scene m ≡ true) own store
+can_there setting scene node (StopsIn i kept input) store leaves own = subst (λ m. has_store setting scene m ≡ true) own store
+can_there setting scene node (Loses i) store leaves own = absurd (leaves own)
+can_there setting scene node (Remakes i boot floors) store leaves own = absurd (leaves own)
+
+-- and it stays
+lost_left : (node : ℕ) (d : Deed) (lost : ℕ → Bool) → LeavesStore node d → lost_after d lost node ≡ lost node
+lost_left node (Opens i) lost leaves = refl
+lost_left node (FailsToOpen i raised) lost leaves = refl
+lost_left node (Takes i input) lost leaves = refl
+lost_left node (Offers i) lost leaves = refl
+lost_left node (Stops i) lost leaves = refl
+lost_left node (StopsIn i kept input) lost leaves = refl
+lost_left node (Loses i) lost leaves = ap (λ b. b || lost node) (ne_eqb node i leaves)
+lost_left node (Remakes i boot floors) lost leaves = ap (λ b. not b && lost node) (ne_eqb node i leaves)
+
+pub store_left : (setting : Setting) (e node : ℕ) (d : Deed) (scene : Scene) → has_store setting scene node ≡ true → LeavesStore node d → has_store setting (scene_after_deed setting e d scene) node ≡ true
+unfolding scene_after_deed
+store_left setting e node d scene store leaves =
+    cond_both (can_be setting scene d) (scene_at setting e d (scene.sites (node_of_deed d)) scene) scene (λ (z : Scene). has_store setting z node ≡ true)
+    (λ _. ap (λ b. not b && is_member (nodes_of setting) node) (lost_left node d scene.lost leaves) ∙ store) (λ _. store)
+
+pub site_is_own : (setting : Setting) (e node : ℕ) (ds : List Deed) (scene : Scene) → has_store setting scene node ≡ true → LeaveStore node ds
     → (scene_after setting e ds scene).sites node ≡ own_site setting node e ds (scene.sites node)
 unfolding scene_after own_site
-site_is_own setting e node [] scene member = refl
-site_is_own setting e node (d ∷ ds) scene member =
-    site_is_own setting (suc e) node ds (scene_after_deed setting e d scene) member
-    ∙ ap (λ s. own_site setting node (suc e) ds s) (deed_at setting e node d scene member)
+site_is_own setting e node [] scene store leave = refl
+site_is_own setting e node (d ∷ ds) scene store leave =
+    site_is_own setting (suc e) node ds (scene_after_deed setting e d scene) (store_left setting e node d scene store leave.0) leave.1
+    ∙ ap (λ s. own_site setting node (suc e) ds s) (deed_at setting e node d scene (can_there setting scene node d store leave.0))
 
 -- ---- a process that goes on
 
@@ -129,6 +157,8 @@ deed_then setting node e (Takes at input) ds s waiting done r q g rest state ent
     let made_run = rest_of setting node ds (run_with_event (member_in setting node) (event_of setting.key input) r) in
     subst (λ m. GoesThen setting node e ds (site_after setting e (Takes m input) (Up s waiting)) [] done made_run) q (taken_then setting node e input ds s waiting done r rest state entries)
 deed_then setting node e (Offers at) ds s waiting done r q g rest state entries = offered_then setting node e ds s waiting done r rest state entries
+deed_then setting node e (Loses at) ds s waiting done r q g rest state entries = absurd (g q)
+deed_then setting node e (Remakes at boot floors) ds s waiting done r q g rest state entries = absurd (g q)
 
 either_then : (setting : Setting) (node e : ℕ) (d : Deed) (ds : List Deed) (s : NodeState) (waiting : List Handout) (done : List PortEvent) (r : Run) (b : Bool) → (b ≡ true → node ≡ node_of_deed d) → IsServing node d → RestGoes setting node e ds → r.node ≡ s → r.entries ≡ done ++ map (offer_of_handout setting.key) waiting
     → GoesThen setting node e ds (cond b (site_after setting e d (Up s waiting)) (Up s waiting)) (cond b (offers_by d (Up s waiting)) []) done

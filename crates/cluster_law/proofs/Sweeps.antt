@@ -4,19 +4,19 @@ use Rattle.std.specs.List.{filter, slice_get}
 use Rattle.std.proofs.Math.Seq.{drop-append_seam}
 use Rattle.std.proofs.lemmas.Bool.{cond_both, eq-eqb, eqb-true, and_parts, false≢true, or_left, or_right}
 use Rattle.floor_store.specs.Content.{Content}
-use Rattle.vote_core.proofs.Basics.{Each, each_all, each_map}
+use Rattle.vote_core.proofs.Basics.{Each, each_all, each_append, each_map}
 use Rattle.vote_core.specs.Rows.{row}
 use Rattle.vote_core.specs.Schedule.{Envelope, envelope_from, is_member}
 use Rattle.vote_core.specs.declared.message.Message.{Message}
 use Rattle.oath_node.specs.Machine.{Config, NodeState, Peer}
 use Rattle.cluster_sim.proofs.Owners.{get_more}
 use Rattle.cluster_sim.specs.Rounds.{AreUp, SweepLevels, deliveries, greatest, is_floor, is_floor_to, is_live, sweep_events, tick_events, turn_events, turns_events}
-use Rattle.cluster_sim.specs.World.{Act, Deliver, Ticks, World, WorldEvent, Happens, acting_node, delivered_event, has_store, node_event_of, world_after_act, world_after_event, world_after_events, world_of, world_with_made}
-use Rattle.cluster_law.specs.Lives.{Deed, Opens, FailsToOpen, Takes, Offers, Stops, StopsIn, Handout, Input, Datagram, Time, Scene, Setting, Site, Down, Up, content_at, event_of, first_scene, made_by_input, node_of_deed, nodes_of, scene_after, scene_after_deed, scene_of, site_after, site_half_opened, site_opened}
+use Rattle.cluster_sim.specs.World.{Act, Deliver, Ticks, World, WorldEvent, Happens, acting_node, delivered_event, has_store as has_store_there, node_event_of, world_after_act, world_after_event, world_after_events, world_of, world_with_made}
+use Rattle.cluster_law.specs.Lives.{Deed, Opens, FailsToOpen, Takes, Offers, Stops, StopsIn, Loses, Remakes, Handout, Input, Datagram, Time, Scene, Setting, Site, Down, Up, LeavesStore, content_at, event_of, first_scene, has_store, made_by_input, node_of_deed, nodes_of, scene_after, scene_after_deed, scene_of, site_after, site_half_opened, site_opened}
 use Rattle.cluster_law.specs.Sweeps.{AreTaken, AreTurns, IsTick, IsTurn, SweepsLevel, greatest_in, is_offer, is_step_of, next_in, sent_by_tick}
-use Rattle.cluster_law.proofs.Follow.{IsSiteIn, acts, has_it}
+use Rattle.cluster_law.proofs.Follow.{IsSiteAt, acts, has_it}
 use Rattle.cluster_law.proofs.Histories.{whole_run}
-use Rattle.cluster_law.proofs.Serving.{deed_at}
+use Rattle.cluster_law.proofs.Serving.{can_there, deed_at, store_left}
 
 -- ---- sites that differ in what waits alone
 
@@ -37,6 +37,8 @@ down_after setting e e' (Takes i input) c = refl
 down_after setting e e' (Offers i) c = refl
 down_after setting e e' (Stops i) c = refl
 down_after setting e e' (StopsIn i kept input) c = refl
+down_after setting e e' (Loses i) c = refl
+down_after setting e e' (Remakes i boot floors) c = refl
 
 up_after : (setting : Setting) (e e' : ℕ) (d : Deed) (s : NodeState) (w v : List Handout) → SameSite (site_after setting e d (Up s w)) (site_after setting e' d (Up s v))
 up_after setting e e' (Opens i) s w v = refl
@@ -49,6 +51,8 @@ up_after setting e e' (Offers i) s (h ∷ w) (k ∷ v) = refl
 up_after setting e e' (Stops i) s w v = refl
 up_after setting e e' (StopsIn i false input) s w v = refl
 up_after setting e e' (StopsIn i true input) s w v = refl
+up_after setting e e' (Loses i) s w v = refl
+up_after setting e e' (Remakes i boot floors) s w v = refl
 
 same_after : (setting : Setting) (e e' : ℕ) (d : Deed) (a b : Site) → SameSite a b → SameSite (site_after setting e d a) (site_after setting e' d b)
 same_after setting e e' d (Down c) (Down c') h = subst (λ z. SameSite (site_after setting e d (Down c)) (site_after setting e' d (Down z))) h (down_after setting e e' d c)
@@ -69,11 +73,39 @@ offer_same setting e (Takes i input) a b is h = absurd (false≢true is)
 offer_same setting e (Offers i) a b is h = offered_same setting e i a b h
 offer_same setting e (Stops i) a b is h = absurd (false≢true is)
 offer_same setting e (StopsIn i kept input) a b is h = absurd (false≢true is)
+offer_same setting e (Loses i) a b is h = absurd (false≢true is)
+offer_same setting e (Remakes i boot floors) a b is h = absurd (false≢true is)
 
 -- ---- scenes that are alike at live members
 
-abbrev Members : Setting → List ℕ → Type 0
-Members setting live = (j : ℕ) → is_live live j ≡ true → is_member (nodes_of setting) j ≡ true
+abbrev Stored : Setting → List ℕ → Scene → Type 0
+Stored setting live x = (j : ℕ) → is_live live j ≡ true → has_store setting x j ≡ true
+
+-- a deed that takes something leaves the stores there
+abbrev IsTake : Deed → Type 0
+IsTake d = (i : ℕ) × (input : Input) × (d ≡ Takes i input)
+
+take_leaves : (j : ℕ) (d : Deed) → IsTake d → LeavesStore j d
+take_leaves j d t = subst (LeavesStore j) (sym t.2) tt
+
+-- so does one that is no step of a live member
+skipped_leaves : (live : List ℕ) (j : ℕ) (d : Deed) → is_step_of live d ≡ false → is_live live j ≡ true → LeavesStore j d
+skipped_leaves live j (Opens i) skipped is = tt
+skipped_leaves live j (FailsToOpen i raised) skipped is = tt
+skipped_leaves live j (Takes i input) skipped is = tt
+skipped_leaves live j (Offers i) skipped is = tt
+skipped_leaves live j (Stops i) skipped is = tt
+skipped_leaves live j (StopsIn i kept input) skipped is = tt
+skipped_leaves live j (Loses i) skipped is = λ own. none_skipped (is_live live i) (subst (λ m. is_live live m ≡ true) own is) skipped
+  where
+    none_skipped : (b : Bool) → b ≡ true → (b && true) ≡ false → ⊥
+    none_skipped true h k = false≢true (sym k)
+    none_skipped false h k = false≢true h
+skipped_leaves live j (Remakes i boot floors) skipped is = λ own. none_skipped (is_live live i) (subst (λ m. is_live live m ≡ true) own is) skipped
+  where
+    none_skipped : (b : Bool) → b ≡ true → (b && true) ≡ false → ⊥
+    none_skipped true h k = false≢true (sym k)
+    none_skipped false h k = false≢true h
 
 abbrev Like : List ℕ → Scene → Scene → Type 0
 Like live x y = (j : ℕ) → is_live live j ≡ true → SameSite (x.sites j) (y.sites j)
@@ -82,35 +114,61 @@ same_either : (b : Bool) (a a' c c' : Site) → SameSite a a' → SameSite c c' 
 same_either true a a' c c' h k = h
 same_either false a a' c c' h k = k
 
-like_kept : (setting : Setting) (live : List ℕ) (e e' : ℕ) (d : Deed) (x y : Scene) → Members setting live → Like live x y → Like live (scene_after_deed setting e d x) (scene_after_deed setting e' d y)
-like_kept setting live e e' d x y members h j is =
-    let member = members j is in
+like_kept : (setting : Setting) (live : List ℕ) (e e' : ℕ) (d : Deed) (x y : Scene) → IsTake d → Stored setting live x → Stored setting live y → Like live x y → Like live (scene_after_deed setting e d x) (scene_after_deed setting e' d y)
+like_kept setting live e e' d x y take stored there h j is =
+    let leaves = take_leaves j d take in
     let same = same_either (eqb j (node_of_deed d)) (site_after setting e d (x.sites j)) (site_after setting e' d (y.sites j)) (x.sites j) (y.sites j) (same_after setting e e' d (x.sites j) (y.sites j) (h j is)) (h j is) in
-    subst (λ a. SameSite a ((scene_after_deed setting e' d y).sites j)) (sym (deed_at setting e j d x member))
-    (subst (λ b. SameSite (cond (eqb j (node_of_deed d)) (site_after setting e d (x.sites j)) (x.sites j)) b) (sym (deed_at setting e' j d y member)) same)
+    subst (λ a. SameSite a ((scene_after_deed setting e' d y).sites j)) (sym (deed_at setting e j d x (can_there setting x j d (stored j is) leaves)))
+    (subst (λ b. SameSite (cond (eqb j (node_of_deed d)) (site_after setting e d (x.sites j)) (x.sites j)) b) (sym (deed_at setting e' j d y (can_there setting y j d (there j is) leaves))) same)
 
 is_offered : (live b : Bool) → (live && not b) ≡ false → live ≡ true → b ≡ true
 is_offered true true h is = refl
 is_offered true false h is = absurd (false≢true (sym h))
 is_offered false b h is = absurd (false≢true is)
 
-like_skipped : (setting : Setting) (live : List ℕ) (e : ℕ) (d : Deed) (x y : Scene) → is_step_of live d ≡ false → Members setting live → Like live x y → Like live (scene_after_deed setting e d x) y
-like_skipped setting live e d x y skipped members h j is =
-    subst (λ a. SameSite a (y.sites j)) (sym (deed_at setting e j d x (members j is)))
+like_skipped : (setting : Setting) (live : List ℕ) (e : ℕ) (d : Deed) (x y : Scene) → is_step_of live d ≡ false → Stored setting live x → Like live x y → Like live (scene_after_deed setting e d x) y
+like_skipped setting live e d x y skipped stored h j is =
+    subst (λ a. SameSite a (y.sites j)) (sym (deed_at setting e j d x (can_there setting x j d (stored j is) (skipped_leaves live j d skipped is))))
     (cond_both (eqb j (node_of_deed d)) (site_after setting e d (x.sites j)) (x.sites j) (λ a. SameSite a (y.sites j))
     (λ q.
     let here : is_live live (node_of_deed d) ≡ true = subst (λ m. is_live live m ≡ true) (eqb-true j (node_of_deed d) q) is in
     offer_same setting e d (x.sites j) (y.sites j) (is_offered (is_live live (node_of_deed d)) (is_offer d) skipped here) (h j is))
     (λ _. h j is))
 
-like_filter : (setting : Setting) (live : List ℕ) (e e' : ℕ) (ds : List Deed) (x y : Scene) → Members setting live → Like live x y → Like live (scene_after setting e ds x) (scene_after setting e' (filter (is_step_of live) ds) y)
+like_filter : (setting : Setting) (live : List ℕ) (e e' : ℕ) (ds : List Deed) (x y : Scene) → Each IsTake (filter (is_step_of live) ds) → Stored setting live x → Stored setting live y → Like live x y
+    → Like live (scene_after setting e ds x) (scene_after setting e' (filter (is_step_of live) ds) y)
 unfolding scene_after
-like_filter setting live e e' [] x y members h = h
-like_filter setting live e e' (d ∷ ds) x y members h =
+like_filter setting live e e' [] x y takes stored there h = h
+like_filter setting live e e' (d ∷ ds) x y takes stored there h =
     let rest = filter (is_step_of live) ds in
-    cond_both (is_step_of live d) (d ∷ rest) rest (λ l. Like live (scene_after setting (suc e) ds (scene_after_deed setting e d x)) (scene_after setting e' l y))
-    (λ _. like_filter setting live (suc e) (suc e') ds (scene_after_deed setting e d x) (scene_after_deed setting e' d y) members (like_kept setting live e e' d x y members h))
-    (λ skipped. like_filter setting live (suc e) e' ds (scene_after_deed setting e d x) y members (like_skipped setting live e d x y skipped members h))
+    let next = scene_after_deed setting e d x in
+    cond_both (is_step_of live d) (d ∷ rest) rest (λ l. Each IsTake l → Like live (scene_after setting (suc e) ds next) (scene_after setting e' l y))
+    (λ _ t. like_filter setting live (suc e) (suc e') ds next (scene_after_deed setting e' d y) t.1
+    (λ j is. store_left setting e j d x (stored j is) (take_leaves j d t.0)) (λ j is. store_left setting e' j d y (there j is) (take_leaves j d t.0)) (like_kept setting live e e' d x y t.0 stored there h))
+    (λ skipped t. like_filter setting live (suc e) e' ds next y t
+    (λ j is. store_left setting e j d x (stored j is) (skipped_leaves live j d skipped is)) there (like_skipped setting live e d x y skipped stored h))
+    takes
+
+-- what live members do in a sweep is that they take something
+taken_takes : (key : List ℕ) (node : ℕ) (es : List Envelope) (deeds : List Deed) → AreTaken key node es deeds → Each IsTake deeds
+taken_takes key node [] deeds t = subst (Each IsTake) (sym t) tt
+taken_takes key node (x ∷ es) deeds t = subst (Each IsTake) (sym t.3) ((x.receiver, Datagram node t.0, refl), taken_takes key node es t.1 t.4)
+
+tick_takes : (setting : Setting) (live : List ℕ) (scene : Scene) (node : ℕ) (deeds : List Deed) → IsTick setting live scene node deeds → Each IsTake deeds
+tick_takes setting live scene node deeds t =
+    subst (Each IsTake) (sym t.1) ((node, Time, refl), taken_takes setting.key node (filter (is_floor_to live) (sent_by_tick setting node (scene.sites node))) t.0 t.2)
+
+turn_takes : (setting : Setting) (live : List ℕ) (ticks e : ℕ) (scene : Scene) (node : ℕ) (deeds : List Deed) → IsTurn setting live ticks e scene node deeds → Each IsTake deeds
+turn_takes setting live zero e scene node deeds t = subst (Each IsTake) (sym t) tt
+turn_takes setting live (suc ticks) e scene node deeds t =
+    subst (Each IsTake) (sym t.2)
+    (each_append IsTake t.0 t.1 (tick_takes setting live scene node t.0 t.3) (turn_takes setting live ticks (length t.0 + e) (scene_after setting e t.0 scene) node t.1 t.4))
+
+turns_take : (setting : Setting) (live : List ℕ) (e : ℕ) (scene : Scene) (js : List ℕ) (deeds : List Deed) → AreTurns setting live e scene js deeds → Each IsTake deeds
+turns_take setting live e scene [] deeds t = subst (Each IsTake) (sym t) tt
+turns_take setting live e scene (j ∷ js) deeds t =
+    subst (Each IsTake) (sym t.2)
+    (each_append IsTake t.0 t.1 (turn_takes setting live (max (length setting.config.book) 8) e scene j t.0 t.3) (turns_take setting live (length t.0 + e) (scene_after setting e t.0 scene) js t.1 t.4))
 
 scenes_append : (setting : Setting) (e : ℕ) (xs ys : List Deed) (scene : Scene) → scene_after setting e (xs ++ ys) scene ≡ scene_after setting (length xs + e) ys (scene_after setting e xs scene)
 unfolding scene_after
@@ -139,8 +197,8 @@ Holds (Up s w) x = s ≡ x
 
 record Beside (setting : Setting) (live : List ℕ) (w : World) (scene : Scene) : Type 0 where
   n : w.n ≡ nodes_of setting
-  members : Members setting live
   kept : (j : ℕ) → is_live live j ≡ true → w.lost j ≡ false
+  stored : Stored setting live scene
   sites : (j : ℕ) → is_live live j ≡ true → Holds (scene.sites j) (w.nodes j)
 
 takes_holds : (setting : Setting) (e i : ℕ) (input : Input) (a : Site) (x : NodeState) → Holds a x → Holds (site_after setting e (Takes i input) a) (made_by_input setting i input x).state
@@ -151,20 +209,26 @@ holds_either : (b : Bool) (a c : Site) (x y : NodeState) → (b ≡ true → Hol
 holds_either true a c x y h k = h refl
 holds_either false a c x y h k = k refl
 
+stored_member : (setting : Setting) (scene : Scene) (j : ℕ) → has_store setting scene j ≡ true → is_member (nodes_of setting) j ≡ true
+stored_member setting scene j h = (and_parts (not (scene.lost j)) (is_member (nodes_of setting) j) h).1
+
+world_stored : (setting : Setting) (live : List ℕ) (w : World) (scene : Scene) (j : ℕ) → Beside setting live w scene → is_live live j ≡ true → has_store_there w j ≡ true
+world_stored setting live w scene j b is = has_it w j (b.kept j is) (ap (λ n. is_member n j) b.n ∙ stored_member setting scene j (b.stored j is))
+
 take_beside : (setting : Setting) (live : List ℕ) (e e' i : ℕ) (act : Act) (input : Input) (w : World) (scene : Scene) → Beside setting live w scene → is_live live i ≡ true → acting_node act ≡ i → node_event_of w.sent act ≡ Some (event_of setting.key input)
     → Beside setting live (world_after_act setting.config e act w) (scene_after_deed setting e' (Takes i input) scene)
 unfolding world_with_made
 take_beside setting live e e' i act input w scene b is at what =
     let made = made_by_input setting i input (w.nodes i) in
-    let member = has_it w i (b.kept i is) (ap (λ n. is_member n i) b.n ∙ b.members i is) in
+    let store = world_stored setting live w scene i b is in
     let v : World = world_with_made e i made w in
-    subst (λ z. Beside setting live z (scene_after_deed setting e' (Takes i input) scene)) (sym (acts setting e i act input (w.nodes i) w b.n member refl at what))
+    subst (λ z. Beside setting live z (scene_after_deed setting e' (Takes i input) scene)) (sym (acts setting e i act input (w.nodes i) w b.n store refl at what))
     (record {
       n = b.n;
-      members = b.members;
       kept = b.kept;
+      stored = λ j live_j. store_left setting e' j (Takes i input) scene (b.stored j live_j) tt;
       sites = λ j live_j.
-          subst (λ a. Holds a (v.nodes j)) (sym (deed_at setting e' j (Takes i input) scene (b.members j live_j)))
+          subst (λ a. Holds a (v.nodes j)) (sym (deed_at setting e' j (Takes i input) scene (can_there setting scene j (Takes i input) (b.stored j live_j) tt)))
           (holds_either (eqb j i) (site_after setting e' (Takes i input) (scene.sites j)) (scene.sites j) made.state (w.nodes j)
           (λ q. subst (λ m. Holds (site_after setting e' (Takes i input) (scene.sites j)) (made_by_input setting i input (w.nodes m)).state) (eqb-true j i q) (takes_holds setting e' i input (scene.sites j) (w.nodes j) (b.sites j live_j)))
           (λ _. b.sites j live_j));
@@ -177,7 +241,7 @@ WereSent k es w = (m : ℕ) (y : Envelope) → slice_get es m ≡ Some y → sli
 sent_rest : (k : ℕ) (x : Envelope) (es : List Envelope) (w : World) → WereSent k (x ∷ es) w → WereSent (suc k) es w
 sent_rest k x es w h = λ m y at. subst (λ n. slice_get w.sent n ≡ Some y) (omega arith) (h (suc m) y at)
 
-sent_grows : (setting : Setting) (e i : ℕ) (act : Act) (input : Input) (k : ℕ) (es : List Envelope) (w : World) → w.n ≡ nodes_of setting → has_store w i ≡ true → acting_node act ≡ i → node_event_of w.sent act ≡ Some (event_of setting.key input)
+sent_grows : (setting : Setting) (e i : ℕ) (act : Act) (input : Input) (k : ℕ) (es : List Envelope) (w : World) → w.n ≡ nodes_of setting → has_store_there w i ≡ true → acting_node act ≡ i → node_event_of w.sent act ≡ Some (event_of setting.key input)
     → WereSent k es w → WereSent k es (world_after_act setting.config e act w)
 unfolding world_with_made
 sent_grows setting e i act input k es w n member at what h = λ m y there.
@@ -201,7 +265,7 @@ deliver_one setting live node x es e e' k w scene taken true is own rest b sent 
     let act = Deliver r k in
     let input = Datagram node t.0 in
     let is_at : is_live live r ≡ true = (and_parts (is_floor x.message) (is_live live r) is).1 in
-    let member = has_it w r (b.kept r is_at) (ap (λ n. is_member n r) b.n ∙ b.members r is_at) in
+    let member = world_stored setting live w scene r b is_at in
     let there : slice_get w.sent k ≡ Some x = subst (λ n. slice_get w.sent n ≡ Some x) (omega arith) (sent zero x refl) in
     let what : node_event_of w.sent act ≡ Some (event_of setting.key input) = ap delivered_event there ∙ ap (λ s. Some (Peer s (Some x))) own ∙ ap (λ o. Some (Peer node o)) (sym t.2) in
     let v = world_after_act setting.config e act w in
@@ -232,7 +296,7 @@ tick_beside setting live e e' node w scene deeds b is t =
     let made = made_by_input setting node Time (w.nodes node) in
     let es = map (envelope_from node) made.sends in
     let v = world_after_act config e (Ticks node) w in
-    let member = has_it w node (b.kept node is) (ap (λ n. is_member n node) b.n ∙ b.members node is) in
+    let member = world_stored setting live w scene node b is in
     let ticked : v ≡ world_with_made e node made w = acts setting e node (Ticks node) Time (w.nodes node) w b.n member refl refl refl in
     let sent : v.sent ≡ w.sent ++ es = ap (λ (z : World). z.sent) ticked in
     let fresh : drop (length w.sent) v.sent ≡ es = ap (λ s. drop (length w.sent) s) sent ∙ drop-append_seam w.sent es in
@@ -279,10 +343,12 @@ turns_beside setting live (j ∷ js) e e' w scene deeds b are t =
 
 -- ---- a sweep
 
-site_holds : (w : World) (a : Site) (s : NodeState) (waiting : List Handout) (x : NodeState) → a ≡ Up s waiting → IsSiteIn w a x → Holds a x
-site_holds w a s waiting x up h =
-    let here : IsSiteIn w (Up s waiting) x = subst (λ z. IsSiteIn w z x) up h in
-    subst (λ z. Holds z x) (sym up) (sym here.0)
+-- a process runs where a store is
+site_holds : (w : World) (b : Bool) (a : Site) (s : NodeState) (waiting : List Handout) (x : NodeState) → a ≡ Up s waiting → IsSiteAt w b a x → (b ≡ false) × Holds a x
+site_holds w false a s waiting x up h =
+    let here : IsSiteAt w false (Up s waiting) x = subst (λ z. IsSiteAt w false z x) up h in
+    (refl, subst (λ z. Holds z x) (sym up) (sym here.0))
+site_holds w true a s waiting x up h = absurd (subst (λ z. IsSiteAt w true z x) up h)
 
 held : (a : Site) (x : NodeState) → Holds a x → (waiting : List Handout) × (a ≡ Up x waiting)
 held (Down c) x h = absurd h
@@ -311,30 +377,33 @@ sweeps_level law setting before stretch live g are sweep node is =
     let x = whole_run setting before g in
     let w = world_of config setting.floors x.events in
     let first = length x.events in
+    let runs : (j : ℕ) → is_live live j ≡ true → (old.lost j ≡ false) × Holds (old.sites j) (w.nodes j) = λ j live_j.
+    site_holds w (old.lost j) (old.sites j) (are j live_j).state (are j live_j).waiting (w.nodes j) (are j live_j).is_up (x.matches.sites j) in
+    let stored : Stored setting live old = λ j live_j. ap (λ b. not b && is_member (nodes_of setting) j) (runs j live_j).0 ∙ (are j live_j).member in
     let start : Beside setting live w old = record {
       n = x.matches.n;
-      members = λ j live_j. (are j live_j).member;
-      kept = λ j live_j. x.matches.lost j;
-      sites = λ j live_j. site_holds w (old.sites j) (are j live_j).state (are j live_j).waiting (w.nodes j) (are j live_j).is_up (x.matches.sites j);
+      kept = λ j live_j. ap (λ (l : ℕ → Bool). l j) x.matches.lost ∙ (runs j live_j).0;
+      stored = stored;
+      sites = λ j live_j. (runs j live_j).1;
     } in
     let up : AreUp live w = λ j live_j.
     let l = are j live_j in
     let h = held (old.sites j) (w.nodes j) (start.sites j live_j) in
     let same : l.state ≡ w.nodes j = same_up l.state l.waiting (w.nodes j) h.0 (sym l.is_up ∙ h.1) in
-    (has_it w j (x.matches.lost j) (ap (λ n. is_member n j) x.matches.n ∙ l.member), subst (λ (s : NodeState). s.running ≡ true) same l.running) in
+    (world_stored setting live w old j start live_j, subst (λ (s : NodeState). s.running ≡ true) same l.running) in
     let v = world_after_events config first (sweep_events config live first w) w in
     let steps = filter (is_step_of live) stretch in
     let after : Beside setting live v (scene_after setting 0 steps old) = turns_beside setting live live first 0 w old steps start (each_live live live (λ i h. h)) sweep in
     let new = scene_of setting (before ++ stretch) in
     let whole : new ≡ scene_after setting (length before + 0) stretch old = scenes_append setting 0 before stretch (first_scene setting) in
-    let like = like_filter setting live (length before + 0) 0 stretch old old start.members (λ j live_j. same_self (old.sites j)) in
+    let like = like_filter setting live (length before + 0) 0 stretch old old (turns_take setting live 0 old live steps sweep) stored stored (λ j live_j. same_self (old.sites j)) in
     let there : Holds (new.sites node) (v.nodes node) =
     subst (λ (z : Scene). Holds (z.sites node) (v.nodes node)) (sym whole) (same_holds ((scene_after setting (length before + 0) stretch old).sites node) ((scene_after setting 0 steps old).sites node) (v.nodes node) (like node is) (after.sites node is)) in
     let at = held (new.sites node) (v.nodes node) there in
     let l = law config setting.floors x.events live up in
     let none = l.1 node is in
     record {
-      is_live = record { member = start.members node is; state = v.nodes node; waiting = at.0; is_up = at.1; running = (l.0 node is).1 };
+      is_live = record { member = (are node is).member; state = v.nodes node; waiting = at.0; is_up = at.1; running = (l.0 node is).1 };
       pending = none.0.0;
       owners = none.0.1;
       next = λ token low. next_held (new.sites node) (v.nodes node) token there ∙ none.1 token low ∙ greatest_held live live w old token (each_live live live (λ i h. h)) start.sites;

@@ -1,11 +1,11 @@
 -- What the world tells of an answer, in the words of the history.
-use Rattle.std.proofs.Common.{ap, ◌∙◌, ◌≡◌, ℕ, ◌<◌, ◌≤◌, ⊎_elim, true, false, List, length, get_or, Option, Some, None, refl, sym, subst}
+use Rattle.std.proofs.Common.{ap, ◌∙◌, ◌≡◌, ℕ, ◌+◌, ◌<◌, ◌≤◌, ⊎_elim, true, false, List, length, get_or, Option, Some, None, refl, sym, subst}
 use Rattle.std.specs.List.{slice_get}
 use Rattle.std.proofs.lemmas.Option.{slice_get_cases, slice_get_past}
 use Rattle.oath_node.specs.Hosted.{envelope_at}
 use Rattle.cluster_sim.specs.Answered.{ok_bytes, IsAskedBy, IsAskedIn, IsSaidIn}
-use Rattle.cluster_sim.specs.World.{Act, Says, Deliver, Ticks, Noise, WorldEvent, Happens, Cut, Restart}
-use Rattle.cluster_law.specs.Lives.{Deed, Opens, FailsToOpen, Takes, Offers, Stops, StopsIn, Input, Line, Datagram, Time, Setting}
+use Rattle.cluster_sim.specs.World.{Act, Says, Deliver, Ticks, Noise, WorldEvent, Happens, Cut, Restart, Lost, Anew}
+use Rattle.cluster_law.specs.Lives.{Deed, Opens, FailsToOpen, Takes, Offers, Stops, StopsIn, Loses, Remakes, Input, Line, Datagram, Time, Setting}
 use Rattle.cluster_law.specs.Promises.{AnswerTruly, HasAct, IsActOf, IsAskedInDeed, IsEventOf, IsExplained, IsRunOf, IsSaidInDeed, nothing}
 
 -- what holds of an act by the line that it is
@@ -38,6 +38,9 @@ asked_deed key node client line nonce (StopsIn i false input) e is p = absurd (s
 asked_deed key node client line nonce (StopsIn i true input) e is p =
     ⊎_elim (λ (q : e ≡ nothing). absurd (subst (λ x. IsAskedIn node client line nonce (Some x)) q p))
     (λ (h : HasAct key i input (λ act. Cut true act) e). asked_cut key node client line nonce i input h.act h.is_act (subst (λ x. IsAskedIn node client line nonce (Some x)) h.event_is p)) is
+asked_deed key node client line nonce (Loses i) e is p = ⊎_elim (λ (q : e ≡ nothing). absurd (subst (λ x. IsAskedIn node client line nonce (Some x)) q p)) (λ (q : e ≡ Lost i). absurd (subst (λ x. IsAskedIn node client line nonce (Some x)) q p)) is
+asked_deed key node client line nonce (Remakes i boot floors) e is p =
+    ⊎_elim (λ (q : e ≡ nothing). absurd (subst (λ x. IsAskedIn node client line nonce (Some x)) q p)) (λ (q : e ≡ Anew i (boot + 1) floors). absurd (subst (λ x. IsAskedIn node client line nonce (Some x)) q p)) is
 
 abbrev IsSaidBy : ℕ → ℕ → List ℕ → Act → Type 0
 IsSaidBy node client line act = IsSaidIn node client line (Some (Happens act))
@@ -56,6 +59,9 @@ said_deed key node client line (StopsIn i false input) e is p = absurd (subst (�
 said_deed key node client line (StopsIn i true input) e is p =
     ⊎_elim (λ (q : e ≡ nothing). absurd (subst (λ x. IsSaidIn node client line (Some x)) q p))
     (λ (h : HasAct key i input (λ act. Cut true act) e). absurd (subst (λ x. IsSaidIn node client line (Some x)) h.event_is p)) is
+said_deed key node client line (Loses i) e is p = ⊎_elim (λ (q : e ≡ nothing). absurd (subst (λ x. IsSaidIn node client line (Some x)) q p)) (λ (q : e ≡ Lost i). absurd (subst (λ x. IsSaidIn node client line (Some x)) q p)) is
+said_deed key node client line (Remakes i boot floors) e is p =
+    ⊎_elim (λ (q : e ≡ nothing). absurd (subst (λ x. IsSaidIn node client line (Some x)) q p)) (λ (q : e ≡ Anew i (boot + 1) floors). absurd (subst (λ x. IsSaidIn node client line (Some x)) q p)) is
 
 -- at a place of the history
 pub at_place : (P : Option WorldEvent → Type 0) (Q : Option Deed → Type 0) (setting : Setting) (history : List Deed) (events : List WorldEvent) (k : ℕ) → IsRunOf setting history events

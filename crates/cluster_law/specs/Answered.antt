@@ -4,7 +4,7 @@ use Rattle.otp_core.specs.Acceptance.{Acceptance}
 use Rattle.oath_node.specs.Machine.{NodeState}
 use Rattle.cluster_sim.specs.Answered.{ok_bytes}
 use Rattle.cluster_sim.specs.World.{Told}
-use Rattle.cluster_law.specs.Lives.{Deed, Takes, Stops, StopsIn, Handout, Answer, Setting, Site, Up, accepted_in, answered_in, scene_of}
+use Rattle.cluster_law.specs.Lives.{Deed, Takes, Stops, StopsIn, Loses, Handout, Answer, Setting, Site, Up, accepted_in, answered_in, scene_of}
 use Rattle.cluster_law.specs.Promises.{IsAskedInDeed, IsToldAmong}
 
 -- a process with this site has yet to offer the answer
@@ -19,6 +19,7 @@ pub record HasYetToOffer (told : Told) (site : Site) : Type 0 where
 abbrev pub EndsProcess : ℕ → Option Deed → Type 0
 EndsProcess node (Some (Stops at)) = at ≡ node
 EndsProcess node (Some (StopsIn at kept input)) = at ≡ node
+EndsProcess node (Some (Loses at)) = at ≡ node
 EndsProcess node _ = ⊥
 
 -- the process of the node ended in a deed before which it had yet to offer the answer

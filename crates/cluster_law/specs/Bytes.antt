@@ -3,8 +3,8 @@ use Rattle.std.specs.Prelude.{◌≡◌, ℕ, suc, ◌^◌, ◌≤◌, List, [],
 use Rattle.vote_core.specs.Schedule.{Envelope}
 use Rattle.vote_wire.specs.Datagram.{datagram_bytes}
 use Rattle.oath_node.specs.Hosted.{envelope_at}
-use Rattle.cluster_sim.specs.World.{floor_at}
-use Rattle.cluster_law.specs.Lives.{Deed, Opens, FailsToOpen, Takes, Offers, Stops, StopsIn, Handout, Post, Input, Line, Datagram, Time, Scene, Setting, first_scene, nodes_of, scene_after_deed}
+use Rattle.cluster_sim.specs.World.{floor_at, floor_in}
+use Rattle.cluster_law.specs.Lives.{Deed, Opens, FailsToOpen, Takes, Offers, Stops, StopsIn, Loses, Remakes, Handout, Post, Input, Line, Datagram, Time, Scene, Setting, first_scene, nodes_of, scene_after_deed}
 
 -- the ranges of a cluster
 pub record IsSized (setting : Setting) : Type 0 where
@@ -28,7 +28,7 @@ IsUnforged key offered (Datagram from bytes) =
     (envelope : Envelope) → envelope_at key bytes ≡ Some envelope → envelope.sender ≡ from
     → WereOffered key offered bytes
 
--- the deed takes, or begins to take, such a one
+-- the deed takes, or begins to take, such a one; the first free factors of a store that is made anew are in range
 abbrev pub IsUnforgedDeed : Setting → Scene → Deed → Type 0
 IsUnforgedDeed setting scene (Opens node) = Unit {0}
 IsUnforgedDeed setting scene (FailsToOpen node raised) = Unit {0}
@@ -36,6 +36,8 @@ IsUnforgedDeed setting scene (Takes node input) = IsUnforged setting.key scene.o
 IsUnforgedDeed setting scene (Offers node) = Unit {0}
 IsUnforgedDeed setting scene (Stops node) = Unit {0}
 IsUnforgedDeed setting scene (StopsIn node kept input) = IsUnforged setting.key scene.offered input
+IsUnforgedDeed setting scene (Loses node) = Unit {0}
+IsUnforgedDeed setting scene (Remakes node boot floors) = (token : ℕ) → floor_in floors token ≤ 2 ^ 62
 
 -- each of these deeds does, the first of which has this number
 unfoldable pub AreUnforged : Setting → ℕ → List Deed → Scene → Type 0

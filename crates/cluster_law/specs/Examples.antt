@@ -1,5 +1,5 @@
 -- Histories to reckon with: one node, and three, with the one token of RFC 4226, Appendix D.
-use Rattle.std.specs.Prelude.{ℕ, Bool, true, false, List, [], ◌∷◌, replicate, Some, None, codes}
+use Rattle.std.specs.Prelude.{ℕ, Bool, true, false, List, [], ◌∷◌, ◌++◌, replicate, Some, None, codes}
 use Rattle.floor_store.specs.Content.{Content}
 use Rattle.floor_store.specs.Records.{ProposalRecord, span_of}
 use Rattle.vote_core.specs.Schedule.{Envelope}
@@ -9,9 +9,9 @@ use Rattle.oath_node.specs.Machine.{Made, NodeState, opened_node, quiet_made}
 use Rattle.otp_core.specs.Acceptance.{Acceptance}
 use Rattle.vote_wire.specs.declared.answer.Outcome.TheVariants.{Accepted}
 use Rattle.node_turns.specs.Turns.{FromClient, Receipt}
-use Rattle.cluster_sim.specs.Examples.{acceptance, alone, clock_alone, clock_config, config, three, told_outcome}
+use Rattle.cluster_sim.specs.Examples.{acceptance, alone, clock_alone, clock_config, clock_three, config, three, told_outcome}
 use Rattle.cluster_sim.specs.World.{Told}
-use Rattle.cluster_law.specs.Lives.{Answer, Datagram, Deed, FailsToOpen, Handout, Input, Line, Offers, Opens, Post, Scene, Setting, Stops, StopsIn, Takes, scene_of}
+use Rattle.cluster_law.specs.Lives.{Answer, Datagram, Deed, FailsToOpen, Handout, Input, Line, Loses, Offers, Opens, Post, Remakes, Scene, Setting, Stops, StopsIn, Takes, scene_of}
 use Rattle.cluster_law.specs.SingleNode.{reference_of}
 
 -- ---- One node
@@ -183,3 +183,69 @@ among_strangers = Opens 2 ∷ Opens 1 ∷ Takes 2 right_line ∷ Takes 1 right_l
 -- what the server tells where that token is the one of the one node
 abbrev pub told_by_reference : List Deed → List Told
 told_by_reference history = reference_of config [] (0 ∷ []) history
+
+-- ---- Stores that are lost, and made anew
+
+-- three nodes, the second of which is one factor ahead
+abbrev pub uneven_nodes : Setting
+uneven_nodes = record three_nodes { floors = (0 ∷ []) ∷ (1 ∷ []) ∷ (0 ∷ []) ∷ [] }
+
+-- the store of node 1 is lost, under a process
+abbrev pub loses_one : List Deed
+loses_one = Opens 1 ∷ Loses 1 ∷ []
+
+-- then other deeds come to that node
+abbrev pub comes_to_no_store : List Deed
+comes_to_no_store = loses_one ++ Opens 1 ∷ FailsToOpen 1 true ∷ Takes 1 right_line ∷ Loses 1 ∷ []
+
+-- then one is made for it, at this boot and with this first free factor
+abbrev pub made_anew : ℕ → ℕ → List Deed
+made_anew boot next = loses_one ++ Remakes 1 boot (next ∷ []) ∷ []
+
+-- then a second store is lost
+abbrev pub loses_two : List Deed
+loses_two = loses_one ++ Loses 2 ∷ []
+
+-- the code of factor 1
+abbrev pub second_line : Input
+second_line = Line 7 100 (codes "CHECK 2 silver 287082 -")
+
+-- the first proposal of a process that opens the new store
+abbrev pub proposal_anew : ProposalRecord
+proposal_anew = record { node = 1; boot = 3; seq = 0 }
+
+-- its Ask, and the Grant of node 2
+abbrev pub ask_anew : Envelope
+ask_anew = record { sender = 1; receiver = 2; message = Ask proposal_anew 0 (span_of 1 1) }
+
+abbrev pub grant_anew : Envelope
+grant_anew = record { sender = 2; receiver = 1; message = Grant proposal_anew 0 (span_of 1 1) }
+
+-- that process accepts factor 1
+abbrev pub accepts_anew : List Deed
+accepts_anew =
+    made_anew 2 1
+    ++ Opens 1 ∷ Opens 2 ∷ Takes 1 second_line ∷ Offers 1 ∷ Takes 2 (Datagram 1 (bytes_of ask_anew)) ∷ Offers 2
+    ∷ Takes 1 (Datagram 2 (bytes_of grant_anew)) ∷ []
+
+-- a wrong code comes to node 1, whose store is lost then, and made anew
+abbrev pub fails_and_loses : List Deed
+fails_and_loses =
+    Opens 1 ∷ Takes 1 (Line 7 100 (codes "CHECK 1 silver 000000 -")) ∷ Loses 1 ∷ Remakes 1 2 (1 ∷ []) ∷ []
+
+-- three nodes with the token that goes by a clock
+abbrev pub clock_nodes : Setting
+clock_nodes = record clock_node { key = replicate 32 1; floors = clock_three }
+
+-- node 1 asks for the step before the present one, and node 2 grants it
+abbrev pub ask_behind : Envelope
+ask_behind = record { sender = 1; receiver = 2; message = Ask first_proposal 0 (span_of 3 3) }
+
+abbrev pub grant_behind : Envelope
+grant_behind = record { sender = 2; receiver = 1; message = Grant first_proposal 0 (span_of 3 3) }
+
+-- node 1 accepts it; then its store is lost, and made anew
+abbrev pub drifts_and_loses : List Deed
+drifts_and_loses =
+    Opens 1 ∷ Opens 2 ∷ Takes 1 line_behind ∷ Offers 1 ∷ Takes 2 (Datagram 1 (bytes_of ask_behind)) ∷ Offers 2
+    ∷ Takes 1 (Datagram 2 (bytes_of grant_behind)) ∷ Loses 1 ∷ Remakes 1 2 (4 ∷ []) ∷ []

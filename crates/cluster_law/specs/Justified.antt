@@ -3,7 +3,7 @@ use Rattle.std.specs.Prelude.{◌≡◌, ℕ, ℤ, pos, ◌==◌, ◌&&◌, true
 use Rattle.otp_core.specs.Acceptance.{Acceptance}
 use Rattle.admit_core.specs.Throttle.{Result}
 use Rattle.oath_node.specs.Machine.{Config}
-use Rattle.cluster_sim.specs.Drifts.{drift_by}
+use Rattle.cluster_sim.specs.Drifts.{drift_by, passes_since}
 use Rattle.cluster_sim.specs.Justified.{IsGround}
 use Rattle.cluster_sim.specs.Results.{results_in}
 use Rattle.cluster_law.specs.Lives.{Deed, Takes, StopsIn, Input, Line, Setting, accepted_in, floor_in, scene_of}
@@ -29,10 +29,11 @@ drift_with setting history node token drift (pass ∷ passes) =
     drift_with setting history node token (if is_own then drift_of_pass setting history pass else drift) passes
 
 -- the drift of the token at the node before the deed of that number: what the last acceptance of the token that its
--- store wrote before that keeps, and 0 where there is none
+-- store wrote before that keeps, and 0 where there is none since the store was made
 abbrev pub drift_in : Setting → List Deed → ℕ → ℕ → ℕ → ℤ
 drift_in setting history node token event =
-    drift_with setting history node token (pos 0) (accepted_in setting (take event history))
+    let notes = (scene_of setting (take event history)).notes in
+    drift_with setting history node token (pos 0) (passes_since node notes)
 
 -- the results of the token at the node before the deed of that number, by the steps whose changes its store kept
 abbrev pub results_held : Setting → List Deed → ℕ → ℕ → ℕ → List Result

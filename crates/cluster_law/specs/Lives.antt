@@ -1,15 +1,16 @@
 -- The lives of the nodes of a cluster: processes that open a store, take what comes, offer what they send and reply,
--- and end at any moment; and one history of all that they do. It knows no world: what it says of a node is what the
+-- and end at any moment; and one history of all that they do. A store can be lost, and one can be made in its place
+-- between two lives. It knows no world: what it says of a node is what the
 -- contracts of `Node::open` and of the calls by which a node takes events say of a process over any store.
-use Rattle.std.specs.Prelude.{◌≡◌, ℕ, suc, ◌==◌, nat_lt, Bool, true, false, if◌then◌else◌, List, [], ◌∷◌, ◌++◌, length, map, take, Some, None, slice_get}
-use Rattle.otp_core.specs.Acceptance.{Acceptance}
+use Rattle.std.specs.Prelude.{◌≡◌, ℕ, suc, ◌==◌, nat_le, nat_lt, Bool, true, false, not, ◌&&◌, if◌then◌else◌, List, [], ◌∷◌, ◌++◌, length, map, take, Some, None, slice_get}
+use Rattle.otp_core.specs.Acceptance.{Acceptance, majority_of, size}
 use Rattle.floor_store.specs.Content.{Content, with_next_boot}
-use Rattle.vote_core.specs.NodeSet.{PlaceRecord}
+use Rattle.vote_core.specs.NodeSet.{PlaceRecord, with_node}
 use Rattle.vote_core.specs.Rows.{row}
-use Rattle.vote_core.specs.Schedule.{Envelope, envelope_from, is_member, last_boot, opening_rows}
+use Rattle.vote_core.specs.Schedule.{Envelope, all_most, envelope_from, greatest, is_member, last_boot, opening_rows, without_node}
 use Rattle.oath_node.specs.Hosted.{envelope_at}
 use Rattle.oath_node.specs.Machine.{Config, Made, NodeEvent, NodeState, Client, Peer, Tick, made_by_event, opened_node}
-use Rattle.cluster_sim.specs.World.{Note, Told, floor_at, note_of, passes_in, told_reply}
+use Rattle.cluster_sim.specs.World.{Note, Told, floor_at, floor_in as listed_floor, note_anew, note_of, passes_in, told_reply}
 
 -- what is the same at all members: the book and the limits, the key, and the first free factors that the nodes 1, 2 ..
 -- were made with
@@ -60,11 +61,20 @@ pub data Site : Type 0 where
   Up : (state : NodeState) (waiting : List Handout) → Site
 
 -- all nodes; all that was ever offered to a port, oldest first; and a note on each step of a node whose change its
--- store kept, newest first
+-- store kept, and on each store that was made anew, newest first
 pub record Scene : Type 0 where
   pub sites : ℕ → Site
+  -- the nodes whose stores are gone
+  pub lost : ℕ → Bool
+  -- of each token the first free factor that a store made in the place of a lost one has at least
+  pub least : ℕ → ℕ
   pub offered : List Handout
   pub notes : List Note
+
+-- what the store of a node holds; of a node whose store is gone, what it held, and a boot that no process there opened
+abbrev pub content_at : Site → Content
+content_at (Down content) = content
+content_at (Up state waiting) = state.content
 
 -- the sites with this one changed
 abbrev pub with_site : ℕ → Site → (ℕ → Site) → ℕ → Site
@@ -75,9 +85,21 @@ abbrev pub made_content : Setting → ℕ → Content
 made_content setting node =
     record { rows = opening_rows (length setting.config.book) (floor_at setting.floors node); boot = 0; last = None }
 
--- no process has run yet
+-- what a store that is made in the place of one which held that holds: as many tokens, with these first free factors,
+-- and this boot
+abbrev pub remade_content : Content → ℕ → (ℕ → ℕ) → Content
+remade_content content boot floor =
+    record { rows = opening_rows (length content.rows) floor; boot = boot; last = None }
+
+-- no process has run yet, and no store was lost
 abbrev pub first_scene : Setting → Scene
-first_scene setting = record { sites = λ node. Down (made_content setting node); offered = []; notes = [] }
+first_scene setting = record {
+  sites = λ node. Down (made_content setting node);
+  lost = λ node. false;
+  least = λ token. 0;
+  offered = [];
+  notes = [];
+}
 
 -- ---- What happens
 
@@ -90,6 +112,10 @@ first_scene setting = record { sites = λ node. Down (made_content setting node)
 --   Stops: its process ends, whatever it has yet to offer: killed, by a fault, or by its own end.
 --   StopsIn: its process ends inside the step that takes this input, also by a fault of the store; the change is kept
 --   or not, and nothing of the step is offered.
+--   Loses: the node's store is gone. Its process ends, whatever it has yet to offer, and no other does anything there.
+--   Remakes: a store is made for a node whose store is gone, at this boot and with these first free factors (0 for a
+--   token that the list doesn't have), where the rule of the votes allows it; else nothing happens. A process can open
+--   it, in the next boot.
 pub data Deed : Type 0 where
   Opens : (node : ℕ) → Deed
   FailsToOpen : (node : ℕ) (raised : Bool) → Deed
@@ -97,6 +123,8 @@ pub data Deed : Type 0 where
   Offers : (node : ℕ) → Deed
   Stops : (node : ℕ) → Deed
   StopsIn : (node : ℕ) (kept : Bool) (input : Input) → Deed
+  Loses : (node : ℕ) → Deed
+  Remakes : (node boot : ℕ) (floors : List ℕ) → Deed
 
 -- where it happens
 abbrev pub node_of_deed : Deed → ℕ
@@ -106,6 +134,8 @@ node_of_deed (Takes node input) = node
 node_of_deed (Offers node) = node
 node_of_deed (Stops node) = node
 node_of_deed (StopsIn node kept input) = node
+node_of_deed (Loses node) = node
+node_of_deed (Remakes node boot floors) = node
 
 -- a process that opened a store with this content, in a new boot; the last boot can't be raised, so there none opens
 abbrev pub site_opened : Content → Site
@@ -152,6 +182,10 @@ site_after setting event (Stops node) (Down content) = Down content
 site_after setting event (Stops node) (Up state waiting) = Down state.content
 site_after setting event (StopsIn node kept input) (Down content) = Down content
 site_after setting event (StopsIn node kept input) (Up state waiting) = site_cut setting node kept input state
+site_after setting event (Loses node) site = Down (with_next_boot (content_at site))
+site_after setting event (Remakes node boot floors) (Down content) =
+    Down (remade_content content boot (listed_floor floors))
+site_after setting event (Remakes node boot floors) (Up state waiting) = Up state waiting
 
 -- the first of these
 abbrev pub first_of_these : List Handout → List Handout
@@ -167,8 +201,10 @@ offers_by (Offers node) (Down content) = []
 offers_by (Offers node) (Up state waiting) = first_of_these waiting
 offers_by (Stops node) site = []
 offers_by (StopsIn node kept input) site = []
+offers_by (Loses node) site = []
+offers_by (Remakes node boot floors) site = []
 
--- the note on a step whose change is kept, in the event of that number
+-- the note on a step whose change is kept, or on a store that is made anew, in the event of that number
 abbrev pub notes_by : Setting → ℕ → Deed → Site → List Note
 notes_by setting event (Opens node) site = []
 notes_by setting event (FailsToOpen node raised) site = []
@@ -181,20 +217,61 @@ notes_by setting event (StopsIn node kept input) (Down content) = []
 notes_by setting event (StopsIn node false input) (Up state waiting) = []
 notes_by setting event (StopsIn node true input) (Up state waiting) =
     note_of event node (made_by_input setting node input state) ∷ []
+notes_by setting event (Loses node) site = []
+notes_by setting event (Remakes node boot floors) site = note_anew event node ∷ []
 
--- the scene after the deed of that number at a member: its own site changes, and no other
+-- the nodes whose stores are gone after a deed
+abbrev pub lost_after : Deed → (ℕ → Bool) → ℕ → Bool
+lost_after (Loses node) lost = with_node node lost
+lost_after (Remakes node boot floors) lost = without_node node lost
+lost_after _ lost = lost
+
+-- what a store that is made anew has at least after a deed: when a store is lost, the first free factors of the others
+-- are taken down, and the greatest of them counts
+abbrev pub least_after : Setting → Deed → Scene → ℕ → ℕ
+least_after setting (Loses node) scene = λ token.
+    greatest (nodes_of setting) (with_node node scene.lost)
+    (λ other. (row (content_at (scene.sites other)) token).next)
+least_after setting _ scene = scene.least
+
+-- the scene after the deed of that number at a node where it can be: its own site changes, and no other
 abbrev pub scene_at : Setting → ℕ → Deed → Site → Scene → Scene
 scene_at setting event deed site scene = record {
   sites = with_site (node_of_deed deed) (site_after setting event deed site) scene.sites;
+  lost = lost_after deed scene.lost;
+  least = least_after setting deed scene;
   offered = scene.offered ++ offers_by deed site;
   notes = notes_by setting event deed site ++ scene.notes;
 }
 
--- the scene after the deed of that number; what names no member changes nothing
+-- the node is a member whose store is there
+abbrev pub has_store : Setting → Scene → ℕ → Bool
+has_store setting scene node = not (scene.lost node) && is_member (nodes_of setting) node
+
+-- A store may be made anew for a node whose store is gone: fewer are gone than make a majority, no process of the node
+-- has used the boot, and no first free factor is below those of the nodes whose stores were there when last one was
+-- lost.
+abbrev pub may_be_remade : Setting → Scene → ℕ → ℕ → (ℕ → ℕ) → Bool
+may_be_remade setting scene node boot floor =
+    let content = content_at (scene.sites node) in
+    (is_member (nodes_of setting) node && scene.lost node)
+    && (nat_lt (size (nodes_of setting) scene.lost) (majority_of (nodes_of setting))
+    && (nat_le content.boot boot
+    && (nat_lt boot last_boot
+    && all_most (length content.rows) scene.least floor)))
+
+-- the deed can be at its node
+abbrev pub can_be : Setting → Scene → Deed → Bool
+can_be setting scene (Remakes node boot floors) = may_be_remade setting scene node boot (listed_floor floors)
+can_be setting scene deed = has_store setting scene (node_of_deed deed)
+
+-- The scene after the deed of that number. What names no member, or one whose store is gone, changes nothing, but that
+-- a store is made for it.
 unfoldable pub scene_after_deed : Setting → ℕ → Deed → Scene → Scene
 scene_after_deed setting event deed scene =
-    let node = node_of_deed deed in
-    if is_member (nodes_of setting) node then scene_at setting event deed (scene.sites node) scene else scene
+    if can_be setting scene deed
+    then scene_at setting event deed (scene.sites (node_of_deed deed)) scene
+    else scene
 
 -- the scene after these deeds, the first of which has this number
 unfoldable pub scene_after : Setting → ℕ → List Deed → Scene → Scene
@@ -230,6 +307,8 @@ IsGenuineDeed setting scene (Takes node input) = IsGenuine setting.key scene.off
 IsGenuineDeed setting scene (Offers node) = Unit {0}
 IsGenuineDeed setting scene (Stops node) = Unit {0}
 IsGenuineDeed setting scene (StopsIn node kept input) = IsGenuine setting.key scene.offered input
+IsGenuineDeed setting scene (Loses node) = Unit {0}
+IsGenuineDeed setting scene (Remakes node boot floors) = Unit {0}
 
 -- each of these deeds does, the first of which has this number
 unfoldable pub AreGenuine : Setting → ℕ → List Deed → Scene → Type 0
@@ -259,11 +338,6 @@ answers_among (Answer told ∷ handouts) = told ∷ answers_among handouts
 abbrev pub answered_in : Setting → List Deed → List Told
 answered_in setting history = answers_among (scene_of setting history).offered
 
--- what the store of a node holds
-abbrev pub content_at : Site → Content
-content_at (Down content) = content
-content_at (Up state waiting) = state.content
-
 -- the first free factor that the store of a node holds for a token before the deed of that number
 abbrev pub floor_in : Setting → List Deed → ℕ → ℕ → ℕ → ℕ
 floor_in setting history node token event =
@@ -271,7 +345,19 @@ floor_in setting history node token event =
 
 -- ---- A node by itself
 
--- what these deeds, the first of which has this number, make of a member: those of others make nothing
+-- the deed doesn't take the store of the node away, and makes none for it
+abbrev pub LeavesStore : ℕ → Deed → Type 0
+LeavesStore node (Loses at) = node ≡ at → ⊥
+LeavesStore node (Remakes at boot floors) = node ≡ at → ⊥
+LeavesStore node _ = Unit {0}
+
+-- none of these deeds does
+abbrev pub LeaveStore : ℕ → List Deed → Type 0
+LeaveStore node [] = Unit {0}
+LeaveStore node (deed ∷ deeds) = LeavesStore node deed × LeaveStore node deeds
+
+-- What these deeds, the first of which has this number, make of a member whose store is there all the time: those of
+-- others make nothing.
 unfoldable pub own_site : Setting → ℕ → ℕ → List Deed → Site → Site
 own_site setting node first [] site = site
 own_site setting node first (deed ∷ deeds) site =

@@ -11,7 +11,7 @@ use Rattle.node_turns.specs.Turns.{Member, Receipt, Run, entry_of, events_of_tur
 use Rattle.node_turns.specs.declared.fault.ServeFault.{ServeFault}
 use Rattle.node_turns.specs.declared.fault.ServeFault.TheVariants.{Node}
 use Rattle.node_turns.specs.declared.turns.Served.{Served}
-use Rattle.cluster_law.specs.Lives.{Deed, Opens, FailsToOpen, Takes, Offers, Stops, StopsIn, Handout, Post, Answer, Input, Setting, Down, Up, event_of, node_of_deed, own_offers, own_site, place_in, site_half_opened}
+use Rattle.cluster_law.specs.Lives.{Deed, Opens, FailsToOpen, Takes, Offers, Stops, StopsIn, Loses, Remakes, Handout, Post, Answer, Input, Setting, Down, Up, event_of, node_of_deed, own_offers, own_site, place_in, site_half_opened}
 
 -- ---- The node
 
@@ -51,6 +51,8 @@ IsServing node (Takes at input) = Unit {0}
 IsServing node (Offers at) = Unit {0}
 IsServing node (Stops at) = node ≡ at → ⊥
 IsServing node (StopsIn at kept input) = node ≡ at → ⊥
+IsServing node (Loses at) = node ≡ at → ⊥
+IsServing node (Remakes at boot floors) = node ≡ at → ⊥
 
 -- all its deeds are, in these
 abbrev pub AreServing : ℕ → List Deed → Type 0
@@ -65,6 +67,8 @@ input_of (Takes at input) = input ∷ []
 input_of (Offers at) = []
 input_of (Stops at) = []
 input_of (StopsIn at kept input) = []
+input_of (Loses at) = []
+input_of (Remakes at boot floors) = []
 
 -- what the node takes in these deeds, in order
 abbrev pub inputs_at : ℕ → List Deed → List Input

@@ -1,12 +1,12 @@
 -- What is so of every history of a cluster: it is a run of the written world, deed by deed.
-use Rattle.std.specs.Prelude.{◌≡◌, ◌⊎◌, ℕ, ◌<◌, ◌≤◌, true, false, List, length, take, Option, Some, slice_get}
+use Rattle.std.specs.Prelude.{◌≡◌, ◌⊎◌, ℕ, ◌+◌, ◌<◌, ◌≤◌, true, false, List, length, take, Option, Some, slice_get}
 use Rattle.otp_core.specs.Acceptance.{Acceptance}
 use Rattle.oath_node.specs.Hosted.{envelope_at}
 use Rattle.cluster_sim.specs.Answered.{IsOk, IsTextOf, NamePasses, TellTruth, ok_bytes}
 use Rattle.vote_wire.specs.Request.{without_lf}
 use Rattle.cluster_sim.specs.Justified.{AreJustified}
-use Rattle.cluster_sim.specs.World.{Act, Says, Deliver, Ticks, Noise, Told, WorldEvent, Happens, Cut, Restart, floor_before, passes_of, world_before, world_of}
-use Rattle.cluster_law.specs.Lives.{Deed, Opens, FailsToOpen, Takes, Offers, Stops, StopsIn, Input, Line, Datagram, Time, Setting, accepted_in, answered_in, floor_in, scene_of}
+use Rattle.cluster_sim.specs.World.{Act, Says, Deliver, Ticks, Noise, Told, WorldEvent, Happens, Cut, Restart, Lost, Anew, floor_before, passes_of, world_before, world_of}
+use Rattle.cluster_law.specs.Lives.{Deed, Opens, FailsToOpen, Takes, Offers, Stops, StopsIn, Loses, Remakes, Input, Line, Datagram, Time, Setting, accepted_in, answered_in, floor_in, scene_of}
 
 -- the event in which nothing happens: there is no node 0
 abbrev pub nothing : WorldEvent
@@ -26,7 +26,8 @@ pub record HasAct (key : List ℕ) (node : ℕ) (input : Input) (made : Act → 
   pub event_is : event ≡ made act
   pub is_act : IsActOf key node input act
 
--- The event of the world that a deed is. What an input does to a node that has no process is nothing.
+-- The event of the world that a deed is. What an input does to a node that has no process is nothing. A store that is
+-- made anew is opened in the next boot, and the world knows that boot alone.
 abbrev pub IsEventOf : List ℕ → Deed → WorldEvent → Type 0
 IsEventOf key (Opens node) event = (event ≡ nothing) ⊎ (event ≡ Restart node)
 IsEventOf key (FailsToOpen node raised) event = (event ≡ nothing) ⊎ (event ≡ Restart node)
@@ -37,6 +38,8 @@ IsEventOf key (Stops node) event = event ≡ nothing
 IsEventOf key (StopsIn node false input) event = event ≡ nothing
 IsEventOf key (StopsIn node true input) event =
     (event ≡ nothing) ⊎ HasAct key node input (λ act. Cut true act) event
+IsEventOf key (Loses node) event = (event ≡ nothing) ⊎ (event ≡ Lost node)
+IsEventOf key (Remakes node boot floors) event = (event ≡ nothing) ⊎ (event ≡ Anew node (boot + 1) floors)
 
 -- the event of a deed, at its place
 pub record HasEvent (key : List ℕ) (deed : Deed) (place : ℕ) (events : List WorldEvent) : Type 0 where

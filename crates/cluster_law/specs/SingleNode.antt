@@ -1,10 +1,10 @@
 -- A cluster of one node, and the reference server, over the same history.
-use Rattle.std.specs.Prelude.{◌≡◌, ◌⊎◌, ◌==◌, ℕ, suc, true, if◌then◌else◌, List, [], ◌∷◌, ◌++◌}
+use Rattle.std.specs.Prelude.{◌≡◌, ◌⊎◌, ◌==◌, ℕ, suc, Bool, true, false, if◌then◌else◌, List, [], ◌∷◌, ◌++◌}
 use Rattle.oath_node.specs.Machine.{Config}
 use Rattle.oath_node.specs.ReferenceServer.{Server, restarted_server}
 use Rattle.cluster_sim.specs.SingleNode.{opening_server, service_to, told_of_line}
 use Rattle.cluster_sim.specs.World.{Told}
-use Rattle.cluster_law.specs.Lives.{Deed, Opens, Takes, StopsIn, Line, Setting, Site, Down, Up, first_scene, node_of_deed, site_after}
+use Rattle.cluster_law.specs.Lives.{Deed, Opens, Takes, StopsIn, Loses, Remakes, Line, Setting, Site, Down, Up, first_scene, node_of_deed, site_after}
 
 -- The server after a deed at the node, which had this site before. What reaches it is each line that a process took and
 -- whose change was kept, also where it ended inside that step; a process that opens forgets the answers that were kept.
@@ -22,12 +22,23 @@ answers_to_deed config event (Takes node (Line client moment text)) (Up state wa
     told_of_line config event server client moment text ∷ []
 answers_to_deed config event _ site server = []
 
+-- the deed takes the store of the one node away; none is made anew for it, since it was a majority
+abbrev pub is_end : Deed → Bool
+is_end (Loses node) = node == 1
+is_end _ = false
+
+-- the deed is one of the one node; where its store is there none is made for it
+abbrev pub is_of_one : Deed → Bool
+is_of_one (Remakes node boot floors) = false
+is_of_one deed = 1 == node_of_deed deed
+
 -- what is told in these deeds, the first of which has this number, by a server that stands so where the node has this
--- site; what other nodes do reaches no one
+-- site, and none once its store is gone; what other nodes do reaches no one
 unfoldable pub answers_to_deeds : Setting → ℕ → List Deed → Site → Server → List Told
 answers_to_deeds setting first [] site server = []
 answers_to_deeds setting first (deed ∷ deeds) site server =
-    if 1 == node_of_deed deed
+    if is_end deed then []
+    else if is_of_one deed
     then answers_to_deed setting.config first deed site server
     ++ answers_to_deeds setting (suc first) deeds (site_after setting first deed site)
     (server_after_deed setting.config deed site server)

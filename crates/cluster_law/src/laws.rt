@@ -1,7 +1,7 @@
 //! What is so of every history of a cluster.
 
-ghost use Rattle.std.specs.Prelude.{pos, negsuc, ◌≡◌, ◌⊎◌, ◌+◌, ◌<◌, ◌^◌, ℕ, List, [], ◌∷◌, length, Option, Some, Result, Ok, Err, None, true, false, map, replicate, take, codes};
-ghost use Rattle.admit_core.specs.Throttle.{Accepted as Passed, SpacesFailures};
+ghost use Rattle.std.specs.Prelude.{pos, negsuc, ◌≡◌, ◌⊎◌, ◌+◌, ◌<◌, ◌^◌, ℕ, List, [], ◌∷◌, ◌++◌, length, Option, Some, Result, Ok, Err, None, true, false, map, replicate, take, codes};
+ghost use Rattle.admit_core.specs.Throttle.{Accepted as Passed, Failed, SpacesFailures};
 ghost use Rattle.cluster_sim.specs.Results.{results_in};
 ghost use Rattle.otp_core.specs.Acceptance.{HaveSingleUse, KeepRealTimeOrder};
 ghost use Rattle.vote_core.specs.Safety.{HaveMajority};
@@ -10,7 +10,6 @@ ghost use Rattle.floor_store.specs.Content.{Content};
 ghost use Rattle.floor_store.specs.Held.{IsSettled, RaisesBoot};
 ghost use Rattle.floor_store.specs.Range.{IsCount};
 ghost use Rattle.floor_store.specs.declared.fault.StoreFault.{StoreFault};
-ghost use Rattle.vote_core.specs.Schedule.{is_member};
 ghost use Rattle.oath_node.specs.Calls.{CommitsNode, Handles, IsOpened, Takes as TakesEvent};
 ghost use Rattle.oath_node.specs.Hosted.{Hosted, state_of};
 ghost use Rattle.oath_node.specs.Machine.{Config, NodeState, opened_node};
@@ -27,9 +26,9 @@ ghost use Rattle.node_turns.specs.declared.fault.ServeFault.TheVariants.{Clock, 
 ghost use Rattle.node_turns.specs.declared.turns.Served.{Served};
 ghost use Rattle.cluster_law.specs.Answered.{AnswersAll, EndsProcess, HasYetToOffer, IsAnsweredInDeed, IsLost, IsOfferedOrEnds};
 ghost use Rattle.cluster_law.specs.Bytes.{IsSized, IsUnforgedHistory};
-ghost use Rattle.cluster_law.specs.Examples.{among_strangers, answer_out, answers_once, clock_node, comes_to_nobody, content_of_boot, ends_after_the_answer, ends_before_the_answer, ends_behind, ends_in_the_step, first_ok, first_pass, floor_comes, floor_out, grant_before_its_offer, grant_from, granted_by_two, one_node, one_open, opens_twice, quiet_node, right_line, right_receipt, stop_in_a_forged_grant, strangers, takes_behind, takes_twice, tells_both, three_nodes, told_by_reference, two_open};
+ghost use Rattle.cluster_law.specs.Examples.{accepts_anew, among_strangers, answer_out, answers_once, clock_node, clock_nodes, comes_to_no_store, comes_to_nobody, content_of_boot, drifts_and_loses, ends_after_the_answer, ends_before_the_answer, ends_behind, ends_in_the_step, fails_and_loses, first_ok, first_pass, floor_comes, floor_out, grant_before_its_offer, grant_from, granted_by_two, loses_one, loses_two, made_anew, one_node, one_open, opens_twice, quiet_node, right_line, right_receipt, stop_in_a_forged_grant, strangers, takes_behind, takes_twice, tells_both, three_nodes, told_by_reference, two_open, uneven_nodes};
 ghost use Rattle.cluster_law.specs.Justified.{IsJustifiedInDeed, JustifiesAll, drift_in, moment_in_deed, results_held};
-ghost use Rattle.cluster_law.specs.Lives.{Deed, Down, Input, IsHistory, Offers, Opens, Scene, Setting, Site, Stops, StopsIn, Takes, Time, Up, accepted_in, answered_in, answers_among, content_at, event_of, first_scene, floor_in, handouts_of, made_by_input, nodes_of, offers_by, own_site, scene_after, scene_of, site_after, site_cut, site_half_opened, site_offered, site_opened};
+ghost use Rattle.cluster_law.specs.Lives.{Deed, Down, Input, IsHistory, LeaveStore, Loses, Offers, Opens, Remakes, Scene, Setting, Site, Stops, StopsIn, Takes, Time, Up, accepted_in, answered_in, answers_among, content_at, event_of, first_scene, floor_in, handouts_of, has_store, made_by_input, made_content, nodes_of, offers_by, own_site, scene_after, scene_of, site_after, site_cut, site_half_opened, site_offered, site_opened};
 ghost use Rattle.cluster_law.specs.Processes.{AreServing, CanTakeSome, CanTakeTurns, IsEndedNode, IsFailedNode, IsHalfOpened, IsMemberIn, IsNoFaultOfNode, IsServed, IsServedNode, TakesSome, TakesTurns, item_of, member_in, run_over};
 ghost use Rattle.cluster_law.specs.Promises.{AnswerTruly, IsExplained, IsRunOf};
 ghost use Rattle.cluster_law.specs.SingleNode.{IsPartOf, reference_of, setting_of_one};
@@ -158,11 +157,12 @@ pub fn calls_are_deeds<S: FloorStore>()
         → (S.held new.store).is_clean → IsSettled (S.held old.store) → IsSettled (S.held new.store) }
 {}
 
-/// Among all that happens in a history, a node is what its own deeds make of it; and where these are those of a process
-/// that goes on, it is the run of its turns, and offers what that offers, however these came in batches.
+/// Among all that happens in a history, a node whose store is there all the time is what its own deeds make of it; and
+/// where these are those of a process that goes on, it is the run of its turns, and offers what that offers, however
+/// these came in batches.
 pub fn turns_are_deeds()
     ensures own { (setting : Setting) (node first : ℕ) (deeds : List Deed) (scene : Scene)
-        → is_member (nodes_of setting) node ≡ true
+        → has_store setting scene node ≡ true → LeaveStore node deeds
         → (scene_after setting first deeds scene).sites node
         ≡ own_site setting node first deeds (scene.sites node) }
     ensures events { (setting : Setting) (node first : ℕ) (deeds : List Deed) (state : NodeState)
@@ -248,6 +248,34 @@ pub fn history_of_three_is_worked()
     ensures is_history { IsHistory three_nodes granted_by_two }
 {}
 
+/// Stores that are lost, and made anew, worked through: one is made at a boot that no process used and with the first
+/// free factors of the others, or not at all; and nothing of the node's former life is there.
+pub fn losses_are_worked()
+    ensures gone { (scene_of uneven_nodes loses_one).sites 1 ≡ Down (record (made_content uneven_nodes 1) { boot = 2 }) }
+    ensures least { (scene_of uneven_nodes loses_one).least 0 ≡ 1 }
+    ensures least_of_the_others { (scene_of uneven_nodes (Loses 2 ∷ [])).least 0 ≡ 0 }
+    // Where no store is, nothing happens.
+    ensures nothing_there { scene_of uneven_nodes comes_to_no_store ≡ scene_of uneven_nodes loses_one }
+    ensures too_low { scene_of uneven_nodes (made_anew 2 0) ≡ scene_of uneven_nodes loses_one }
+    ensures used_boot { scene_of uneven_nodes (made_anew 1 1) ≡ scene_of uneven_nodes loses_one }
+    // The last boot is 2^62 - 1, and none is opened after it.
+    ensures last_boot { scene_of uneven_nodes (made_anew 4611686018427387903 1) ≡ scene_of uneven_nodes loses_one }
+    ensures late_boot { (content_at ((scene_of uneven_nodes (made_anew 4611686018427387902 1)).sites 1)).boot
+        ≡ 4611686018427387902 }
+    ensures too_many { scene_of uneven_nodes (loses_two ++ Remakes 1 2 (1 ∷ []) ∷ []) ≡ scene_of uneven_nodes loses_two }
+    ensures not_lost { scene_of uneven_nodes (Opens 1 ∷ Remakes 1 2 (1 ∷ []) ∷ [])
+        ≡ scene_of uneven_nodes (Opens 1 ∷ []) }
+    ensures made { (scene_of uneven_nodes (made_anew 2 1)).sites 1
+        ≡ Down (record (made_content uneven_nodes 2) { boot = 2 }) }
+    ensures there_again { (scene_of uneven_nodes (made_anew 2 1)).lost 1 ≡ false }
+    // A process opens it in the next boot, and accepts the next factor.
+    ensures accepted { accepted_in uneven_nodes accepts_anew ≡ acceptance 5 9 1 1 1 ∷ [] }
+    ensures result { results_held uneven_nodes fails_and_loses 1 0 2 ≡ Failed 100 ∷ [] }
+    ensures result_is_gone { results_held uneven_nodes fails_and_loses 1 0 4 ≡ [] }
+    ensures drift { drift_in clock_nodes drifts_and_loses 1 0 8 ≡ negsuc 0 }
+    ensures drift_is_gone { drift_in clock_nodes drifts_and_loses 1 0 9 ≡ pos 0 }
+{}
+
 /// What makes no history: a datagram under the key that its sender has not offered yet, or never. Noise makes one.
 pub fn promises_can_be_broken()
     ensures forged { IsHistory three_nodes (grant_from 2) → ⊥ }
@@ -291,6 +319,9 @@ pub fn answers_are_worked()
     ensures stop_elsewhere { EndsProcess 1 (Some (Stops 2)) → ⊥ }
     ensures stop_in_a_step_elsewhere { EndsProcess 1 (Some (StopsIn 2 false right_line)) → ⊥ }
     ensures opening { EndsProcess 1 (Some (Opens 1)) → ⊥ }
+    ensures loss { EndsProcess 1 (Some (Loses 1)) }
+    ensures loss_elsewhere { EndsProcess 1 (Some (Loses 2)) → ⊥ }
+    ensures making { EndsProcess 1 (Some (Remakes 1 2 [])) → ⊥ }
     // What a stop inside a step wrote has no answer, and what was written has one otherwise.
     ensures of_a_stop { IsAnsweredInDeed one_node (ends_in_the_step true) first_pass
         (Some (StopsIn 1 true right_line)) }
@@ -315,6 +346,13 @@ pub fn reference_is_worked()
     ensures lost { told_by_reference (ends_in_the_step false) ≡ told_outcome 5 1 7 (codes "1") (Accepted 0) ∷ [] }
     ensures nobody { told_by_reference comes_to_nobody ≡ [] }
     ensures strangers { told_by_reference among_strangers ≡ record first_ok { event = 3 } ∷ [] }
+    // No store is made for it while its own is there, nor after that.
+    ensures loss { told_by_reference (Opens 1 ∷ Takes 1 right_line ∷ Loses 1 ∷ Opens 1 ∷ Takes 1 right_line ∷ [])
+        ≡ first_ok ∷ [] }
+    ensures loss_elsewhere { told_by_reference (Loses 2 ∷ Opens 1 ∷ Takes 1 right_line ∷ [])
+        ≡ record first_ok { event = 2 } ∷ [] }
+    ensures store_there { told_by_reference (Remakes 1 4611686018427387903 [] ∷ Opens 1 ∷ Takes 1 right_line ∷ [])
+        ≡ record first_ok { event = 2 } ∷ [] }
     ensures part { IsPartOf (record first_ok { event = 2 } ∷ []) (first_ok ∷ record first_ok { event = 2 } ∷ []) }
     ensures order { IsPartOf (record first_ok { event = 2 } ∷ first_ok ∷ [])
         (first_ok ∷ record first_ok { event = 2 } ∷ []) → ⊥ }
@@ -336,6 +374,12 @@ pub fn takes_are_worked()
     ensures stops { AreServing 1 (Takes 1 Time ∷ Stops 1 ∷ []) → ⊥ }
     ensures stops_in_a_step { AreServing 1 (StopsIn 1 false Time ∷ []) → ⊥ }
     ensures opens { AreServing 1 (Opens 1 ∷ []) → ⊥ }
+    ensures loses { AreServing 1 (Loses 1 ∷ []) → ⊥ }
+    ensures makes { AreServing 1 (Remakes 1 2 [] ∷ []) → ⊥ }
+    // A store stays where nothing takes it away or makes it anew.
+    ensures leaves { LeaveStore 1 (Opens 1 ∷ StopsIn 1 true right_line ∷ Loses 2 ∷ Remakes 2 2 [] ∷ []) }
+    ensures loses_the_store { LeaveStore 1 (Loses 1 ∷ []) → ⊥ }
+    ensures makes_the_store { LeaveStore 1 (Remakes 1 2 [] ∷ []) → ⊥ }
 {}
 
 /// Parts of a sweep, worked through: a tick whose first free factor the other live member takes is one, and one that it

@@ -153,3 +153,12 @@ returns-clause-at_another_node c h =
     let same = is_first h.answer none h.becomes in
     let node : 1 ≡ 2 = sym (ap (λ (told : Told). told.node) same) ∙ h.node in
     omega (arith, node)
+
+pub returns-clause-loss : goal.returns-clause-loss
+returns-clause-loss c = refl
+
+pub returns-clause-loss_elsewhere : goal.returns-clause-loss_elsewhere
+returns-clause-loss_elsewhere c h = let node : 2 ≡ 1 = h in omega (arith, node)
+
+pub returns-clause-making : goal.returns-clause-making
+returns-clause-making c h = h

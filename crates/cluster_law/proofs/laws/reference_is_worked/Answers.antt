@@ -39,6 +39,18 @@ pub returns-clause-strangers : goal.returns-clause-strangers
 unfolding code_at first_words schedule rounds compress hash_after digest_bytes sha1 scene_after scene_after_deed made_by_event made_while_running made_by_datagram made_by_ruling made_by_proposal propose propose_alone propose_among tick answers_to_deeds
 returns-clause-strangers c = refl
 
+pub returns-clause-loss : goal.returns-clause-loss
+unfolding code_at first_words schedule rounds compress hash_after digest_bytes sha1 scene_after scene_after_deed made_by_event made_while_running made_by_datagram made_by_ruling made_by_proposal propose propose_alone propose_among tick answers_to_deeds
+returns-clause-loss c = refl
+
+pub returns-clause-loss_elsewhere : goal.returns-clause-loss_elsewhere
+unfolding code_at first_words schedule rounds compress hash_after digest_bytes sha1 scene_after scene_after_deed made_by_event made_while_running made_by_datagram made_by_ruling made_by_proposal propose propose_alone propose_among tick answers_to_deeds
+returns-clause-loss_elsewhere c = refl
+
+pub returns-clause-store_there : goal.returns-clause-store_there
+unfolding code_at first_words schedule rounds compress hash_after digest_bytes sha1 scene_after scene_after_deed made_by_event made_while_running made_by_datagram made_by_ruling made_by_proposal propose propose_alone propose_among tick answers_to_deeds
+returns-clause-store_there c = refl
+
 pub returns-clause-part : goal.returns-clause-part
 returns-clause-part c = inr (inl (refl, tt))
 

@@ -36,3 +36,18 @@ returns-clause-stops_in_a_step c h = h.0 refl
 
 pub returns-clause-opens : goal.returns-clause-opens
 returns-clause-opens c h = h.0 refl
+
+pub returns-clause-loses : goal.returns-clause-loses
+returns-clause-loses c h = h.0 refl
+
+pub returns-clause-makes : goal.returns-clause-makes
+returns-clause-makes c h = h.0 refl
+
+pub returns-clause-leaves : goal.returns-clause-leaves
+returns-clause-leaves c = (tt, (tt, ((λ (at : 1 ≡ 2). absurd (omega (arith, at))), ((λ (at : 1 ≡ 2). absurd (omega (arith, at))), tt))))
+
+pub returns-clause-loses_the_store : goal.returns-clause-loses_the_store
+returns-clause-loses_the_store c h = h.0 refl
+
+pub returns-clause-makes_the_store : goal.returns-clause-makes_the_store
+returns-clause-makes_the_store c h = h.0 refl
