@@ -1,7 +1,7 @@
 -- The lives of the nodes of a cluster: processes that open a store, take what comes, offer what they send and reply,
 -- and end at any moment; and one history of all that they do. A store can be lost, and one can be made in its place
--- between two lives. It knows no world: what it says of a node is what the
--- contracts of `Node::open` and of the calls by which a node takes events say of a process over any store.
+-- between two lives. It knows no world: what it says of a node is what the contracts of `Node::open` and of the calls
+-- by which a node takes events say of a process over any store.
 use Rattle.std.specs.Prelude.{◌≡◌, ℕ, suc, ◌==◌, nat_le, nat_lt, Bool, true, false, not, ◌&&◌, if◌then◌else◌, List, [], ◌∷◌, ◌++◌, length, map, take, Some, None, slice_get}
 use Rattle.otp_core.specs.Acceptance.{Acceptance, majority_of, size}
 use Rattle.floor_store.specs.Content.{Content, with_next_boot}

@@ -251,7 +251,8 @@ pub fn history_of_three_is_worked()
 /// Stores that are lost, and made anew, worked through: one is made at a boot that no process used and with the first
 /// free factors of the others, or not at all; and nothing of the node's former life is there.
 pub fn losses_are_worked()
-    ensures gone { (scene_of uneven_nodes loses_one).sites 1 ≡ Down (record (made_content uneven_nodes 1) { boot = 2 }) }
+    ensures gone { (scene_of uneven_nodes loses_one).sites 1
+        ≡ Down (record (made_content uneven_nodes 1) { boot = 2 }) }
     ensures least { (scene_of uneven_nodes loses_one).least 0 ≡ 1 }
     ensures least_of_the_others { (scene_of uneven_nodes (Loses 2 ∷ [])).least 0 ≡ 0 }
     // Where no store is, nothing happens.
@@ -262,7 +263,8 @@ pub fn losses_are_worked()
     ensures last_boot { scene_of uneven_nodes (made_anew 4611686018427387903 1) ≡ scene_of uneven_nodes loses_one }
     ensures late_boot { (content_at ((scene_of uneven_nodes (made_anew 4611686018427387902 1)).sites 1)).boot
         ≡ 4611686018427387902 }
-    ensures too_many { scene_of uneven_nodes (loses_two ++ Remakes 1 2 (1 ∷ []) ∷ []) ≡ scene_of uneven_nodes loses_two }
+    ensures too_many { scene_of uneven_nodes (loses_two ++ Remakes 1 2 (1 ∷ []) ∷ [])
+        ≡ scene_of uneven_nodes loses_two }
     ensures not_lost { scene_of uneven_nodes (Opens 1 ∷ Remakes 1 2 (1 ∷ []) ∷ [])
         ≡ scene_of uneven_nodes (Opens 1 ∷ []) }
     ensures made { (scene_of uneven_nodes (made_anew 2 1)).sites 1
