@@ -137,7 +137,7 @@ fn comes_to(alloc: Global, n: usize, events: &[WorldEvent<'_>], told: &Told) -> 
 /// Two submissions of one code at two nodes: one is accepted.
 #[test]
 fn two_submissions(rt: HostRuntime) {
-    const EVENTS: &[WorldEvent<'static>] = &[
+    let events = [
         FIRST_AT_1,
         FIRST_AT_2,
         WorldEvent::Happens(Act::Deliver { node: 3, k: 1 }),
@@ -152,13 +152,13 @@ fn two_submissions(rt: HostRuntime) {
         answers: &[(4, 1, 7, b"OK a 0"), (7, 2, 8, b"NO b SPENT")],
         sent: 7,
     };
-    assert!(rt; comes_to(rt.alloc(), 3, EVENTS, TOLD));
+    assert!(rt; comes_to(rt.alloc(), 3, &events, TOLD));
 }
 
 /// Of four nodes two grant one submission, and two the other: none is accepted.
 #[test]
 fn split_two_to_two(rt: HostRuntime) {
-    const EVENTS: &[WorldEvent<'static>] = &[
+    let events = [
         FIRST_AT_1,
         FIRST_AT_2,
         WorldEvent::Happens(Act::Deliver { node: 3, k: 1 }),
@@ -179,7 +179,7 @@ fn split_two_to_two(rt: HostRuntime) {
         answers: &[(9, 1, 7, b"NO a SPENT"), (13, 2, 8, b"NO b SPENT")],
         sent: 12,
     };
-    assert!(rt; comes_to(rt.alloc(), 4, EVENTS, TOLD));
+    assert!(rt; comes_to(rt.alloc(), 4, &events, TOLD));
 }
 
 /// Whether two submissions come to this where node 3 stops inside the step in which it grants, and is asked again.
@@ -212,7 +212,7 @@ fn stop_after_the_commit(rt: HostRuntime) {
 /// A Grant of an old boot doesn't count.
 #[test]
 fn old_grants(rt: HostRuntime) {
-    const EVENTS: &[WorldEvent<'static>] = &[
+    let events = [
         FIRST_AT_1,
         WorldEvent::Happens(Act::Deliver { node: 2, k: 0 }),
         WorldEvent::Restart { node: 1 },
@@ -238,13 +238,13 @@ fn old_grants(rt: HostRuntime) {
         answers: &[(5, 1, 7, b"NO a INVALID"), (8, 1, 7, b"OK c 1")],
         sent: 6,
     };
-    assert!(rt; comes_to(rt.alloc(), 3, EVENTS, TOLD));
+    assert!(rt; comes_to(rt.alloc(), 3, &events, TOLD));
 }
 
 /// Nothing comes: after eight ticks the line is given up.
 #[test]
 fn eight_ticks(rt: HostRuntime) {
-    const EVENTS: &[WorldEvent<'static>] = &[
+    let events = [
         FIRST_AT_1, TICK_OF_1, TICK_OF_1, TICK_OF_1, TICK_OF_1, TICK_OF_1, TICK_OF_1, TICK_OF_1,
         TICK_OF_1,
     ];
@@ -253,13 +253,13 @@ fn eight_ticks(rt: HostRuntime) {
         answers: &[(8, 1, 7, b"NO a TIMEOUT")],
         sent: 32,
     };
-    assert!(rt; comes_to(rt.alloc(), 3, EVENTS, TOLD));
+    assert!(rt; comes_to(rt.alloc(), 3, &events, TOLD));
 }
 
 /// The next factor is accepted at another node.
 #[test]
 fn second_factor_elsewhere(rt: HostRuntime) {
-    const EVENTS: &[WorldEvent<'static>] = &[
+    let events = [
         FIRST_AT_1,
         WorldEvent::Happens(Act::Deliver { node: 2, k: 0 }),
         WorldEvent::Happens(Act::Deliver { node: 1, k: 2 }),
@@ -277,7 +277,7 @@ fn second_factor_elsewhere(rt: HostRuntime) {
         answers: &[(2, 1, 7, b"OK a 0"), (5, 2, 8, b"OK b 1")],
         sent: 6,
     };
-    assert!(rt; comes_to(rt.alloc(), 3, EVENTS, TOLD));
+    assert!(rt; comes_to(rt.alloc(), 3, &events, TOLD));
 }
 
 /// What comes of a store of node 2 that is lost and made anew with this first free factor, after node 1 accepted factor
@@ -329,7 +329,7 @@ fn lost_store_made_anew(rt: HostRuntime) {
 /// Node 1 is lost, and a tick of node 2 levels the floors of the other two, which serve on.
 #[test]
 fn rounds_after_a_loss(rt: HostRuntime) {
-    const BEFORE: &[WorldEvent<'static>] = &[
+    let before = [
         FIRST_AT_1,
         WorldEvent::Happens(Act::Deliver { node: 2, k: 0 }),
         WorldEvent::Happens(Act::Tick { node: 2 }),
@@ -354,7 +354,7 @@ fn rounds_after_a_loss(rt: HostRuntime) {
         answers: &[(4, 3, 8, b"NO b INVALID"), (7, 3, 8, b"OK c 1")],
         sent: 8,
     };
-    assert!(rt; tells(&report_of_rounds(rt.alloc(), BEFORE, &[2, 3], LINES), TOLD));
+    assert!(rt; tells(&report_of_rounds(rt.alloc(), &before, &[2, 3], LINES), TOLD));
 }
 
 /// What is shown of a line for a round has no byte of it.
