@@ -1,3 +1,4 @@
+pub mod Broken
 pub mod Examples
 pub mod Gates
 pub mod Unlock

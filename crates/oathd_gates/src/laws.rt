@@ -1,9 +1,16 @@
-ghost use Rattle.std.specs.Prelude.{◌≡◌, ◌∷◌, [], codes};
+ghost use Rattle.std.specs.Prelude.{◌≡◌, ◌∷◌, ℕ, List, [], Some, codes, map};
+ghost use Rattle.otp_core.specs.Limits.{default_limits};
 ghost use Rattle.token_file.specs.Examples.{event_token};
 ghost use Rattle.admit_core.specs.Gate.{clear_gate};
+ghost use Rattle.floor_store.specs.declared.fault.StoreFault.TheVariants.{Disk};
+ghost use Rattle.floor_sql.specs.Broken.{tables_at};
+ghost use Rattle.oathd_database.specs.Broken.{IsOfOne, fallen, new_store, no_users, still};
+ghost use Rattle.oathd_database.specs.declared.fault.Fault.TheVariants.{CannotWrite, Memory, Socket, Store};
+ghost use Rattle.oathd_gates.specs.Broken.{no_user};
 ghost use Rattle.oathd_gates.specs.Examples.{gate_with, row_with, store_with, two_closed};
-ghost use Rattle.oathd_gates.specs.Gates.{gate_line, gate_text, gates_text};
-ghost use Rattle.oathd_gates.specs.Unlock.{unlocked_content};
+ghost use Rattle.oathd_gates.specs.Gates.{HasToldGates, WritesGate, gate_line, gate_text, gates_text};
+ghost use Rattle.oathd_gates.specs.Unlock.{HasUser, IsNotUnlocked, LacksUser, Unlocks, unlock_status, unlocked_content};
+ghost use Rattle.oathd_gates.specs.declared.unlock.UnlockFault.TheVariants.{Command};
 
 /// Gates as text, worked through: a token without failures has no line, whatever moment stands with it.
 pub fn gates_are_worked()
@@ -26,4 +33,59 @@ pub fn unlocking_is_worked()
     ensures open_one { unlocked_content (store_with (row_with clear_gate ∷ [])) 0
         ≡ store_with (row_with clear_gate ∷ []) }
     ensures no_token { unlocked_content (store_with two_closed) 2 ≡ store_with two_closed }
+{}
+
+/// What is promised of both commands holds of the least that keeps it, and each field is broken by the least that keeps
+/// all others.
+pub fn promises_can_be_broken()
+    // the user of a users file, and one that it lacks
+    ensures user { (users : List ℕ) → IsOfOne 0 11 users → HasUser default_limits 11 (codes "a") users }
+    ensures user_import { HasUser default_limits 11 (codes "a") no_users → ⊥ }
+    ensures user_of_nobody { (users : List ℕ) → IsOfOne 0 11 users → HasUser default_limits 11 (codes "b") users → ⊥ }
+    ensures lacks { LacksUser default_limits 11 (codes "a") [] }
+    ensures lacks_import { LacksUser default_limits 11 (codes "a") no_users → ⊥ }
+    ensures lacks_longest { LacksUser default_limits 5 (codes "a") (codes "# none") → ⊥ }
+    ensures lacks_known { (users : List ℕ) → IsOfOne 0 11 users → LacksUser default_limits 11 (codes "a") users → ⊥ }
+
+    // a user's token is unlocked, or none is
+    ensures unlocks { (users : List ℕ) → IsOfOne 0 11 users
+        → Unlocks fallen default_limits 11 1 (codes "a") (new_store 4 (0 ∷ [])) users }
+    ensures unlocks_known { (users : List ℕ) → IsOfOne 0 11 users
+        → Unlocks fallen default_limits 11 1 (codes "b") (new_store 4 (0 ∷ [])) users → ⊥ }
+    ensures unlocks_opened { (users : List ℕ) → IsOfOne 0 11 users
+        → Unlocks (still (tables_at 4 [])) default_limits 11 1 (codes "a") (new_store 4 []) users → ⊥ }
+    ensures unlocks_writes { (users : List ℕ) → IsOfOne 0 11 users → Unlocks fallen default_limits 11 1 (codes "a")
+        (record (new_store 4 (0 ∷ [])) { fault = Some Disk }) users → ⊥ }
+    ensures not_unlocked { (users : List ℕ) → IsOfOne 0 11 users
+        → IsNotUnlocked default_limits 11 (codes "a") (Command (Store Disk)) users }
+    ensures not_unlocked_output { IsNotUnlocked default_limits 11 (codes "a") (Command CannotWrite) [] → ⊥ }
+    ensures not_unlocked_before_import { IsNotUnlocked default_limits 11 (codes "a") (Command (Store Disk)) no_users
+        → ⊥ }
+    ensures nobody { IsNotUnlocked default_limits 11 (codes "b") (no_user (codes "b")) [] }
+    ensures nobody_else { IsNotUnlocked default_limits 11 (codes "c") (no_user (codes "b")) [] → ⊥ }
+    ensures nobody_known { (users : List ℕ) → IsOfOne 0 11 users
+        → IsNotUnlocked default_limits 11 (codes "a") (no_user (codes "a")) users → ⊥ }
+    ensures statuses { map unlock_status (Command Memory ∷ Command (Store Disk) ∷ Command Socket ∷ no_user (codes "b")
+        ∷ []) ≡ 1 ∷ 3 ∷ 4 ∷ 1 ∷ [] }
+
+    // the gate of a token is written
+    ensures gate { WritesGate (event_token (codes "a") ∷ []) (row_with (gate_with 2 10) ∷ []) 0 (Some [])
+        (Some (codes "gate a 2 10\n")) }
+    ensures gate_token { WritesGate (event_token (codes "a") ∷ []) (row_with (gate_with 2 10) ∷ []) 0 (Some [])
+        (Some (codes "gate b 2 10\n")) → ⊥ }
+    ensures gate_row { WritesGate (event_token (codes "a") ∷ []) (row_with (gate_with 2 10) ∷ []) 0 (Some [])
+        (Some (codes "gate a 3 10\n")) → ⊥ }
+    ensures gate_written { WritesGate (event_token (codes "a") ∷ []) (row_with clear_gate ∷ []) 0 (Some [])
+        (Some (codes "x")) → ⊥ }
+
+    // the gates of a store are
+    ensures told { (users : List ℕ) → IsOfOne 0 11 users
+        → HasToldGates fallen default_limits 11 1 (Some []) (Some []) users }
+    ensures told_import { HasToldGates fallen default_limits 11 1 (Some []) (Some []) no_users → ⊥ }
+    ensures told_longest { HasToldGates fallen default_limits 5 1 (Some []) (Some []) (codes "# none") → ⊥ }
+    ensures told_opened { HasToldGates (still (tables_at 4 [])) default_limits 11 2 (Some []) (Some []) [] → ⊥ }
+    ensures told_tokens { (users : List ℕ) → IsOfOne 0 11 users
+        → HasToldGates (still (tables_at 4 [])) default_limits 11 1 (Some []) (Some []) users → ⊥ }
+    ensures told_written { HasToldGates (still (tables_at 4 [])) default_limits 11 1 (Some []) (Some (codes "x")) []
+        → ⊥ }
 {}

@@ -10,5 +10,5 @@ mod laws;
 mod unlock;
 
 pub use gates::{gates_file, gates_store, write_gates};
-pub use laws::{gates_are_worked, unlocking_is_worked};
+pub use laws::{gates_are_worked, promises_can_be_broken, unlocking_is_worked};
 pub use unlock::{UnlockFault, open_gate, unlock_file, unlock_store};
