@@ -1,6 +1,10 @@
--- Worked cases: the keys of the standards' tables, and acceptances and witnesses that break what the theorems promise.
+-- Worked cases: the keys of the standards' tables, the codes of a key, and acceptances and witnesses that break what the
+-- theorems promise.
 use Rattle.std.specs.Prelude.{ℕ, ◌==◌, ◌||◌, not, nat_le, if◌then◌else◌, List, codes}
+use Rattle.hmac_core.specs.Broken.{empty_key}
 use Rattle.otp_core.specs.Acceptance.{Acceptance}
+use Rattle.otp_core.specs.declared.digits.Digits.TheVariants.{Six}
+use Rattle.otp_core.specs.declared.hotp.Codes.{Codes}
 
 -- the secret of RFC 4226, appendix D, and for SHA-1 of RFC 6238, appendix B
 abbrev pub secret_of_20 : List ℕ
@@ -14,6 +18,10 @@ secret_of_32 = codes "12345678901234567890123456789012"
 abbrev pub secret_of_64 : List ℕ
 secret_of_64 = codes "1234567890123456789012345678901234567890123456789012345678901234"
 
+-- the codes of the empty key, of six digits
+abbrev pub codes_of_empty_key : Codes
+codes_of_empty_key = record { key = empty_key; digits = Six }
+
 -- ---- acceptances
 
 -- one of token 0 at node 1, by the events in which it began and ended and its factors
@@ -24,7 +32,11 @@ accepted began ended lo hi = record { began = began; ended = ended; node = 1; to
 abbrev pub accepted_at : ℕ → ℕ → Acceptance
 accepted_at event factor = accepted event event factor factor
 
--- the same of token 1
+-- the same at another node
+abbrev pub accepted_at_node : ℕ → ℕ → ℕ → Acceptance
+accepted_at_node node event factor = record (accepted_at event factor) { node = node }
+
+-- one factor of token 1, at node 1
 abbrev pub accepted_of_other : ℕ → ℕ → Acceptance
 accepted_of_other event factor =
     record { began = event; ended = event; node = 1; token = 1; lo = factor; hi = factor }

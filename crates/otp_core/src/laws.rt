@@ -3,13 +3,15 @@ ghost use Rattle.std.specs.List.{range_with_len};
 ghost use Rattle.hmac_core.specs.declared.hash.Hash.{Hash};
 ghost use Rattle.otp_core.specs.Acceptance.{HasMajority, HaveSingleUse, KeepRealTimeOrder, LetsGo, majority_of, size};
 ghost use Rattle.otp_core.specs.Code.{IsCode, decimal_digits};
+ghost use Rattle.otp_core.specs.Codes.{AreCodesOf};
 ghost use Rattle.otp_core.specs.Digits.{count_of};
-ghost use Rattle.otp_core.specs.Examples.{accepted, accepted_at, accepted_of_other, floor_back_in, floor_of_first, floor_until, secret_of_20, secret_of_32, secret_of_64, witnessed};
+ghost use Rattle.otp_core.specs.Examples.{accepted, accepted_at, accepted_at_node, accepted_of_other, codes_of_empty_key, floor_back_in, floor_of_first, floor_until, secret_of_20, secret_of_32, secret_of_64, witnessed};
 ghost use Rattle.otp_core.specs.Hotp.{code_of, factor_mac, truncation_of};
 ghost use Rattle.otp_core.specs.Limits.{AreLimits, allowed_drift, default_limits, limits_of};
 ghost use Rattle.otp_core.specs.Range.{IsDrift, IsFactor, IsMoment, IsNext, IsSecret};
 ghost use Rattle.otp_core.specs.Totp.{step_of};
 ghost use Rattle.otp_core.specs.declared.digits.Digits.{Digits};
+ghost use Rattle.otp_core.specs.declared.hotp.Codes.{Codes};
 
 /// The codes of RFC 4226, appendix D, and of RFC 6238, appendix B, worked through.
 pub fn codes_are_worked()
@@ -58,12 +60,17 @@ pub fn drifts_are_worked()
 {}
 
 /// What the theorems promise of acceptances is broken by one code twice and by an older code after a newer one,
-/// also where they overlap at one end alone; and it is kept where they don't.
+/// also where they overlap at one end alone, at any two nodes and with another acceptance between them; and it is kept
+/// where they don't. What is said of codes is broken by those of another key, or of another length.
 pub fn promises_can_be_broken()
     ensures twice { HaveSingleUse (accepted_at 0 5 ∷ accepted_at 1 5 ∷ []) → ⊥ }
     ensures twice_at_hi { HaveSingleUse (accepted 0 0 4 5 ∷ accepted_at 1 5 ∷ []) → ⊥ }
     ensures twice_at_lo { HaveSingleUse (accepted 0 0 4 5 ∷ accepted_at 1 4 ∷ []) → ⊥ }
     ensures both_at_once { HaveSingleUse (accepted_at 0 5 ∷ accepted_of_other 0 6 ∷ []) → ⊥ }
+    ensures both_at_once_at_nodes { (node : ℕ) →
+        HaveSingleUse (accepted_at 0 5 ∷ accepted_of_other 1 9 ∷ accepted_at_node node 0 6 ∷ []) → ⊥ }
+    ensures twice_at_nodes { (node : ℕ) →
+        HaveSingleUse (accepted_at 0 5 ∷ accepted_of_other 1 9 ∷ accepted_at_node node 2 5 ∷ []) → ⊥ }
     ensures two_tokens { HaveSingleUse (accepted_at 0 5 ∷ accepted_of_other 1 5 ∷ []) }
     ensures two_factors { HaveSingleUse (accepted 0 0 4 5 ∷ accepted_at 1 6 ∷ []) }
     ensures older { KeepRealTimeOrder (accepted_at 0 5 ∷ accepted_at 1 4 ∷ []) → ⊥ }
@@ -71,8 +78,15 @@ pub fn promises_can_be_broken()
     ensures again { KeepRealTimeOrder (accepted_at 0 5 ∷ accepted_at 1 5 ∷ []) → ⊥ }
     ensures again_at_hi { KeepRealTimeOrder (accepted 0 0 4 5 ∷ accepted_at 1 5 ∷ []) → ⊥ }
     ensures again_at_lo { KeepRealTimeOrder (accepted_at 0 5 ∷ accepted 1 1 5 6 ∷ []) → ⊥ }
+    ensures older_at_nodes { (node : ℕ) →
+        KeepRealTimeOrder (accepted_at 0 5 ∷ accepted_of_other 1 9 ∷ accepted_at_node node 2 4 ∷ []) → ⊥ }
     ensures at_once { KeepRealTimeOrder (accepted 0 1 5 5 ∷ accepted 1 2 4 4 ∷ []) }
     ensures older_of_other { KeepRealTimeOrder (accepted_at 0 5 ∷ accepted_of_other 1 4 ∷ []) }
+    ensures codes_of_a_key { AreCodesOf codes_of_empty_key Hash.Sha1 [] 6 }
+    ensures codes_of_two_keys { (codes : Codes) → AreCodesOf codes Hash.Sha1 [] 6 →
+        AreCodesOf codes Hash.Sha1 (7 ∷ []) 6 → ⊥ }
+    ensures codes_of_two_lengths { (codes : Codes) → AreCodesOf codes Hash.Sha1 [] 6 →
+        AreCodesOf codes Hash.Sha1 [] 7 → ⊥ }
 {}
 
 /// Witnesses of an acceptance are refused where they let its factors go too early, too late or not for good, and
@@ -82,7 +96,8 @@ pub fn witnesses_can_be_refused()
     ensures early { LetsGo (floor_until 0) witnessed 1 0 → ⊥ }
     ensures late { LetsGo (floor_until 4) witnessed 1 4 → ⊥ }
     ensures let_go_before { LetsGo (floor_until 1) witnessed 1 2 → ⊥ }
-    ensures one_too_low { LetsGo (λ node token event. 5) witnessed 1 2 → ⊥ }
+    ensures one_not_free { LetsGo (λ node token event. if nat_le event 2 then (if node == 1 then 4 else 5) else 6)
+        witnessed 2 2 → ⊥ }
     ensures one_too_few { LetsGo (λ node token event. if nat_le event 2 then 4 else 5) witnessed 1 2 → ⊥ }
     ensures back { (later : ℕ) → 2 < later → LetsGo (floor_back_in later) witnessed 1 2 → ⊥ }
     ensures majorities { map majority_of (range_with_len 1 9)

@@ -24,8 +24,8 @@ returns-clause-late c h = let e : 4 ≤ 3 = h.before_it_ended in omega (arith, e
 pub returns-clause-let_go_before : goal.returns-clause-let_go_before
 returns-clause-let_go_before c h = let e : 6 ≤ 4 = h.free in omega (arith, e)
 
-pub returns-clause-one_too_low : goal.returns-clause-one_too_low
-returns-clause-one_too_low c h = let e : 5 ≤ 4 = h.free in omega (arith, e)
+pub returns-clause-one_not_free : goal.returns-clause-one_not_free
+returns-clause-one_not_free c h = let e : 5 ≤ 4 = h.free in omega (arith, e)
 
 pub returns-clause-one_too_few : goal.returns-clause-one_too_few
 returns-clause-one_too_few c h = let e : 5 < 5 = h.used 3 (omega arith) in omega (arith, e)
