@@ -8,11 +8,13 @@ ghost use Rattle.token_file.specs.Credential.{Credential, is_blank, is_hash_of, 
 ghost use Rattle.token_file.specs.Examples.{appendix_token, at_59, columns, comment_of, event_token, faults, many_tokens, named, password, row, row_of_line, time_token, token_of, two_rows, word_of, written_rows};
 ghost use Rattle.token_file.specs.Fields.{fields_of, lines_of};
 ghost use Rattle.token_file.specs.Row.{Faulty, Holds, Ignored, first_free, password_of, row_of, secret_of};
+ghost use Rattle.token_file.specs.Source.{OfText, Pulls, Stays, is_failure};
 ghost use Rattle.token_file.specs.TypeWord.{type_of};
-ghost use Rattle.token_file.specs.UsersFile.{Import, Instant, IsCutOff, after_last, after_line, after_token, book_of, is_of_text, is_read, outcome_of};
+ghost use Rattle.token_file.specs.UsersFile.{Import, Instant, IsCutOff, after_last, after_line, after_token, book_of, is_of_text, is_read, is_read_result, outcome_of};
 ghost use Rattle.token_file.specs.Writing.{IsCredential, row_line, row_text, written_counter};
 ghost use Rattle.token_file.specs.WrittenFile.{AreRows, WrittenRow, credentials_of, file_text, read_floor};
 ghost use Rattle.token_file.specs.declared.fault.LineFault.{LineFault};
+ghost use Rattle.token_file.specs.declared.source.Pulled.{Pulled};
 ghost use Rattle.token_file.specs.declared.token.Password.{Password};
 
 use crate::book::MAX_TOKENS;
@@ -131,7 +133,8 @@ pub fn rows_are_worked()
     ensures periods { map period_of (Kind.Event ∷ Kind.Time30 ∷ Kind.Time60 ∷ []) ≡ None ∷ Some 30 ∷ Some 60 ∷ [] }
 {}
 
-/// The first free factors of an import, what a users file gives, and how rows are written, worked through.
+/// The first free factors of an import, what a users file gives, what a failed pull is, and how rows are written,
+/// worked through.
 pub fn files_are_worked()
     ensures event_floors { first_free 1 59 (appendix_token Digits.Six) 0 None
         ∷ first_free 1 59 (appendix_token Digits.Six) 0 (Some (codes "755224"))
@@ -182,6 +185,9 @@ pub fn files_are_worked()
         ≡ true ∷ true ∷ true ∷ true ∷ true ∷ true ∷ true ∷ true ∷ false ∷ false ∷ [] }
     ensures faults_of_pulls { map is_read faults
         ≡ false ∷ false ∷ false ∷ false ∷ false ∷ false ∷ false ∷ false ∷ true ∷ false ∷ [] }
+    ensures failed_pulls { map is_failure (Pulled.Failed ∷ Pulled.Bytes 0 ∷ []) ≡ true ∷ false ∷ [] }
+    ensures results_of_pulls { map (is_read_result {A = ℕ}) (Ok 0 ∷ Err (record { line = 1; kind = LineFault.Memory })
+        ∷ Err (record { line = 1; kind = LineFault.Read }) ∷ []) ≡ false ∷ false ∷ true ∷ [] }
     ensures written_event { row_text (event_token (codes "u")) 7
         ≡ codes "HOTP/E/6" ++ 9 ∷ codes "u" ++ 9 ∷ codes "-" ++ 9 ∷ codes "31" ++ 9 ∷ codes "7" ++ 10 ∷ [] }
     ensures written_time { row_text
@@ -201,4 +207,24 @@ pub fn files_are_worked()
     ensures not_cut_off { IsCutOff LineFault.Read 24 at_59 [] 2 → ⊥ }
     ensures written_counters { map (λ kind. written_counter kind 7) (Kind.Event ∷ Kind.Time30 ∷ Kind.Time60 ∷ [])
         ≡ 7 ∷ 0 ∷ 0 ∷ [] }
+{}
+
+/// What is said of a pull, of what stays and of a text holds of the least that keeps it, and each part of it is broken
+/// by the least that keeps all others.
+pub fn promises_can_be_broken()
+    ensures pulls { Pulls (Some (5 ∷ 6 ∷ [])) (Some (6 ∷ [])) (Pulled.Bytes 1) (5 ∷ 9 ∷ []) }
+    ensures pulls_at_the_end { Pulls (Some []) (Some []) (Pulled.Bytes 0) (9 ∷ []) }
+    ensures pulls_more_than_the_buffer { Pulls (Some (9 ∷ [])) (Some []) (Pulled.Bytes 2) (9 ∷ []) → ⊥ }
+    ensures pulls_other_bytes { Pulls (Some (5 ∷ [])) (Some []) (Pulled.Bytes 1) (6 ∷ []) → ⊥ }
+    ensures pulls_none_before_the_end { Pulls (Some (5 ∷ [])) (Some (5 ∷ [])) (Pulled.Bytes 0) (9 ∷ []) → ⊥ }
+    ensures pull_fails { Pulls (Some (5 ∷ 6 ∷ [])) (Some (6 ∷ [])) Pulled.Failed (9 ∷ []) }
+    ensures pull_fails_and_adds { Pulls (Some []) (Some (5 ∷ [])) Pulled.Failed (9 ∷ []) → ⊥ }
+
+    ensures stays { Stays {A = ℕ} (Some 5) (Some 5) × Stays {A = ℕ} None (Some 5) }
+    ensures stays_untold { Stays {A = ℕ} (Some 5) None → ⊥ }
+    ensures stays_another { Stays {A = ℕ} (Some 5) (Some 6) → ⊥ }
+
+    ensures text { OfText (Some (5 ∷ [])) (λ text. text ≡ 5 ∷ []) × OfText None (λ text. text ≡ 5 ∷ []) }
+    ensures another_text { OfText (Some []) (λ text. text ≡ 5 ∷ []) → ⊥ }
+    ensures no_text { OfText None (λ text. ⊥) → ⊥ }
 {}

@@ -17,7 +17,8 @@ mod write;
 pub use book::{Book, MAX_TOKENS, TokenId};
 pub use fault::{FileFault, LineFault};
 pub use laws::{
-    files_are_worked, files_read_back, rows_are_worked, rows_read_back, tokens_are_credentials,
+    files_are_worked, files_read_back, promises_can_be_broken, rows_are_worked, rows_read_back,
+    tokens_are_credentials,
 };
 pub use reading::{MAX_FILE_LEN, MAX_LINE_LEN, read_book};
 pub use source::{FromRead, Pulled, Source};

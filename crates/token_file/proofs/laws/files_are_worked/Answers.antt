@@ -81,6 +81,12 @@ returns-clause-faults_of_text c = refl
 pub returns-clause-faults_of_pulls : goal.returns-clause-faults_of_pulls
 returns-clause-faults_of_pulls c = refl
 
+pub returns-clause-failed_pulls : goal.returns-clause-failed_pulls
+returns-clause-failed_pulls c = refl
+
+pub returns-clause-results_of_pulls : goal.returns-clause-results_of_pulls
+returns-clause-results_of_pulls c = refl
+
 pub returns-clause-written_event : goal.returns-clause-written_event
 unfolding digits encode_with
 returns-clause-written_event c = refl
