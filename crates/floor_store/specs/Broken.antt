@@ -2,9 +2,10 @@
 use Rattle.std.specs.Prelude.{◌≡◌, ◌⊎◌, ℕ, Bool, true, false, IsTrue, [], Option, Some, None, Result, Ok, Err}
 use Rattle.floor_store.specs.Content.{Content}
 use Rattle.floor_store.specs.Examples.{content_at}
+use Rattle.floor_store.specs.Fuse.{FuseRecord, fuse_held}
 use Rattle.floor_store.specs.Held.{Held}
 use Rattle.floor_store.specs.declared.fault.StoreFault.{StoreFault}
-use Rattle.floor_store.specs.declared.fault.StoreFault.TheVariants.{Disk, Spent}
+use Rattle.floor_store.specs.declared.fault.StoreFault.TheVariants.{Disk, Memory, Spent}
 
 -- a store: a stop leaves what it holds, or this other content
 pub record SmallStore : Type 0 where
@@ -48,12 +49,28 @@ broken_at boot = record (store_at boot) { fault = Some Disk; failures = 1 }
 abbrev pub fallen_at : ℕ → SmallStore
 fallen_at boot = record (store_at boot) { is_clean = false }
 
+-- a store at boot 0 behind a fuse of one write, after so many, which loses the write that blows it
+abbrev pub fuse : ℕ → Bool → FuseRecord SmallStore
+fuse passed is_blown = record { inner = store_at 0; writes = 1; passed = passed; after = false; is_blown = is_blown }
+
+-- the same, where the write that blows it is kept
+abbrev pub keeping_fuse : ℕ → Bool → FuseRecord SmallStore
+keeping_fuse passed is_blown = record (fuse passed is_blown) { after = true }
+
+-- what is to be seen of it
+abbrev pub small_fuse : FuseRecord SmallStore → Held
+small_fuse = fuse_held small_held
+
 -- a call that went well, and one that met a failure of the disk
 abbrev pub done : Result ℕ StoreFault
 done = Ok 0
 
 abbrev pub failed : Result ℕ StoreFault
 failed = Err Disk
+
+-- one that found no memory
+abbrev pub out_of_memory : Result ℕ StoreFault
+out_of_memory = Err Memory
 
 -- an opening that finds no boot left
 abbrev pub spent : Result ℕ StoreFault

@@ -1,8 +1,9 @@
 ghost use Rattle.std.specs.Prelude.{◌≡◌, ℕ, pos, negsuc, List, [], ◌∷◌, Some, None, Ok, Err, length, true, false};
-ghost use Rattle.floor_store.specs.Broken.{IsBootOf, booted, broken_at, done, failed, fallen_at, holding, small_held, spent, store_at, unsettled_at};
+ghost use Rattle.floor_store.specs.Broken.{IsBootOf, booted, broken_at, done, failed, fallen_at, fuse, holding, keeping_fuse, out_of_memory, small_fuse, small_held, spent, store_at, unsettled_at};
 ghost use Rattle.floor_store.specs.Content.{IsContent, accepted_row, opening_content, opening_content_at, opening_row, with_next_boot, with_row};
 ghost use Rattle.floor_store.specs.Examples.{content_at, free_row, granted_row, later_row, new_pass, old_pass, pass, proposal, two_rows};
 ghost use Rattle.floor_store.specs.Fault.{IsBrokenBy, IsCounted, is_failure};
+ghost use Rattle.floor_store.specs.Fuse.{Blows, Burns, IsAtEnd, Passes};
 ghost use Rattle.floor_store.specs.Held.{Breaks, Commits, IsSettled, Makes, MayPut, MayWrite, OldOrNew, Puts, RaisesBoot, Reads, Writes};
 ghost use Rattle.floor_store.specs.Range.{IsPass, IsProposal, IsSpan};
 ghost use Rattle.floor_store.specs.Records.{RowRecord, span_of};
@@ -142,4 +143,46 @@ pub fn promises_can_be_broken()
         (broken_at 4611686018427387903)
         spent → ⊥ }
     ensures raises_boot_last { RaisesBoot small_held (store_at 0) (store_at 0) spent → ⊥ }
+{}
+
+/// What is promised of a store behind a fuse holds of the least that keeps it, and each field but `ends`, which follows
+/// from `passes`, is broken by the least that keeps all others.
+pub fn fuses_can_be_broken()
+    // what is seen of the store: a blown fuse answers Disk, and is one failure more
+    ensures seen_fault { (small_fuse (fuse 1 false)).fault ≡ None }
+    ensures seen_failures { (small_fuse (fuse 1 false)).failures ≡ 0 }
+    ensures seen_content { (small_fuse (record (fuse 1 true) { inner = store_at 3 })).content ≡ booted 3 }
+    ensures blown_fault { (small_fuse (fuse 1 true)).fault ≡ Some Disk }
+    ensures blown_failures { (small_fuse (fuse 1 true)).failures ≡ 1 }
+    ensures broken_fault { (small_fuse (record (fuse 1 false) { inner = broken_at 0 })).fault ≡ Some Disk }
+    ensures broken_failures { (small_fuse (record (fuse 1 false) { inner = broken_at 0 })).failures ≡ 1 }
+    ensures broken_and_blown { (small_fuse (record (fuse 1 true) { inner = broken_at 0 })).failures ≡ 2 }
+
+    ensures at_end { IsAtEnd small_fuse (fuse 1 false) }
+    ensures at_end_blown { IsAtEnd small_fuse (fuse 1 true) → ⊥ }
+    ensures at_end_broken { IsAtEnd small_fuse (record (fuse 1 false) { inner = broken_at 0 }) → ⊥ }
+    ensures at_end_one_left { IsAtEnd small_fuse (fuse 0 false) → ⊥ }
+
+    ensures passes { Passes (fuse 0 false) (fuse 1 false) }
+    ensures passes_none_left { Passes (fuse 1 false) (fuse 2 false) → ⊥ }
+    ensures passes_not_counted { Passes (fuse 0 false) (fuse 0 false) → ⊥ }
+
+    ensures blows { Blows (fuse 1 false) (fuse 1 true) }
+    ensures blows_again { Blows (fuse 1 true) (fuse 1 true) → ⊥ }
+    ensures blows_not { Blows (fuse 1 false) (fuse 1 false) → ⊥ }
+
+    ensures burns { Burns small_fuse (fuse 0 false) (fuse 1 false) (booted 0) done }
+    ensures burns_blown { Burns small_fuse (fuse 1 false) (fuse 1 true) (booted 0) failed }
+    ensures burns_kept { Burns small_fuse (keeping_fuse 1 false) (record (keeping_fuse 1 true) { inner = store_at 1 })
+        (booted 1) failed }
+    ensures burns_passes { Burns small_fuse (fuse 0 false) (fuse 0 false) (booted 0) done → ⊥ }
+    ensures burns_fails { Burns small_fuse (fuse 0 false) (fuse 1 false) (booted 0) failed → ⊥ }
+    ensures burns_before_its_end { Burns small_fuse (fuse 0 false) (fuse 0 true) (booted 0) failed → ⊥ }
+    ensures burns_by_another_fault { Burns small_fuse (fuse 1 false) (fuse 1 true) (booted 0) out_of_memory → ⊥ }
+    ensures burns_not_blown { Burns small_fuse (fuse 1 false) (fuse 1 false) (booted 0) failed → ⊥ }
+    ensures burns_not_lost { Burns small_fuse (fuse 1 false) (record (fuse 1 true) { inner = store_at 1 }) (booted 1)
+        failed → ⊥ }
+    ensures burns_not_kept { Burns small_fuse (keeping_fuse 1 false) (keeping_fuse 1 true) (booted 1) failed → ⊥ }
+    ensures burns_writes { Burns small_fuse (fuse 0 false) (record (fuse 1 false) { writes = 2 }) (booted 0) done → ⊥ }
+    ensures burns_after { Burns small_fuse (fuse 0 false) (keeping_fuse 1 false) (booted 0) done → ⊥ }
 {}

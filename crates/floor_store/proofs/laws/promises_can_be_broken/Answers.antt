@@ -2,7 +2,6 @@
 use Rattle.std.proofs.Common.{◌≡◌, ◌⊎◌, inl, inr, ℕ, refl, ap, arith}
 use Rattle.floor_store.specs.Broken.{booted}
 use Rattle.floor_store.specs.Content.{Content}
-use Rattle.floor_store.specs.Held.{IsSettled}
 use Rattle.floor_store.proofs.laws.promises_can_be_broken.Goals as goal
 
 -- contents without tokens are told apart by their boots
