@@ -1,11 +1,11 @@
--- Small calls of a voter, each of which breaks one field of what a call does. No contract cites them.
-use Rattle.std.specs.Prelude.{ℕ, pos, [], Option, Some, None, Result, Ok, Err}
+-- Small calls of a voter, openings and events, each of which breaks one field of what is promised. No contract cites them.
+use Rattle.std.specs.Prelude.{ℕ, pos, List, [], Option, Some, None, Result, Ok, Err}
 use Rattle.floor_store.specs.Content.{Content, with_next_boot}
 use Rattle.floor_store.specs.Records.{ProposalRecord}
 use Rattle.floor_store.specs.declared.fault.StoreFault.{StoreFault}
 use Rattle.floor_store.specs.declared.fault.StoreFault.TheVariants.{Disk}
-use Rattle.vote_core.specs.Cases.{place, proposal}
-use Rattle.vote_core.specs.NodeSet.{PlaceRecord}
+use Rattle.vote_core.specs.Cases.{own_floors, place, proposal}
+use Rattle.vote_core.specs.Schedule.{Envelope, Event, Opening, Replaced}
 use Rattle.vote_core.specs.State.{BallotRecord, VoterRecord}
 use Rattle.vote_core.specs.Voting.{VoterState, Voted}
 use Rattle.vote_core.specs.declared.step.Step.{Step}
@@ -41,3 +41,11 @@ begun_one = Some (proposal 1 0 0)
 -- a call that met a failure of the disk
 abbrev pub disk_failed : Result (Step 1 1) StoreFault
 disk_failed = Err Disk
+
+-- nodes that open, each at the boot of its number, while these messages are on their way
+abbrev pub opening_with : List Envelope → Opening
+opening_with old = record { boot = λ node. node; floor = own_floors; old = old }
+
+-- a store is made for the node
+abbrev pub replaced : ℕ → Event
+replaced node = Replaced node 2 (λ token. 0)
