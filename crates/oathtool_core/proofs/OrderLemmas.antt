@@ -15,7 +15,7 @@ use Rattle.oathtool_core.proofs.TimeLemmas.{one_either}
 
 -- ---- the times are known from the words
 
-one_given : (given : Option (List ℕ)) (a b : Option ℕ) → IsTimeGiven given a → IsTimeGiven given b → a ≡ b
+pub one_given : (given : Option (List ℕ)) (a b : Option ℕ) → IsTimeGiven given a → IsTimeGiven given b → a ≡ b
 one_given None a b p q = p ∙ sym q
 one_given (Some text) None b p q = absurd p
 one_given (Some text) (Some s) None p q = absurd q
@@ -33,7 +33,7 @@ one_times words a b p q =
     ap (λ (n : ℕ). times_of n a.time a.step_size) start ∙ ap (λ (t : Option ℕ). times_of b.start t a.step_size) time
     ∙ ap (λ (n : ℕ). times_of b.start b.time n) step_size
 
-no_bad_times : (words : Words) (times : Times) → HasTimes words times → HasBadTime words → ⊥
+pub no_bad_times : (words : Words) (times : Times) → HasTimes words times → HasBadTime words → ⊥
 no_bad_times words times has = no_bad_time words words.start.now times.start times.time refl has.start has.time
 
 -- good times are no fault
@@ -81,7 +81,7 @@ at_bad_step_size words Memory good f = inr refl
 at_bad_step_size words CannotWrite good f = absurd f
 at_bad_step_size words NotText good f = absurd f
 
-no_step_size : (words : Words) (times : Times) → step_size_of words.step_size.now ≡ None → HasTimes words times → ⊥
+pub no_step_size : (words : Words) (times : Times) → step_size_of words.step_size.now ≡ None → HasTimes words times → ⊥
 no_step_size words times none has = let both : None ≡ Some times.step_size = sym none ∙ has.step_size in cc both
 
 pub bad_step_size_next : (words : Words) (clock : Option ℕ) (fault : Fault) → (HasBadTime words → ⊥)

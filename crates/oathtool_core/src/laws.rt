@@ -1,4 +1,4 @@
-ghost use Rattle.std.specs.Prelude.{◌≡◌, ◌+◌, ◌<◌, ◌≤◌, ◌^◌, ◌++◌, ℕ, pos, negsuc, true, false, List, [], ◌∷◌, map, codes, Option, Some, None, Ok, Err};
+ghost use Rattle.std.specs.Prelude.{◌≡◌, ◌+◌, ◌<◌, ◌≤◌, ◌^◌, ◌⊎◌, ◌++◌, ℕ, pos, negsuc, true, false, List, [], ◌∷◌, map, codes, Option, Some, None, Ok, Err};
 ghost use Rattle.command_line.specs.declared.fault.OutsideFault.TheVariants.{Memory as OutsideMemory, CannotWrite as OutsideCannotWrite, NotText as OutsideNotText};
 ghost use Rattle.command_line.specs.Line.{line_of};
 ghost use Rattle.hmac_core.specs.declared.hash.Hash.TheVariants.{Sha1, Sha256, Sha512};
@@ -11,8 +11,8 @@ ghost use Rattle.oathtool_core.specs.Examples.{GivesOnly, IsOr, all_lack_marks, 
 ghost use Rattle.oathtool_core.specs.Fault.{outside_fault_of, status_of};
 ghost use Rattle.oathtool_core.specs.Key.{IsKeyOf, key_refusal};
 ghost use Rattle.oathtool_core.specs.Offset.{HasNoNearest, HasNoOffset, IsLeastOffset, IsNearestOffset};
-ghost use Rattle.oathtool_core.specs.Plan.{HasBadTime, HasKey, HasTimes, IsGenerator, IsNoTime, IsReady, IsTimeGiven, Stops, first_of, hash_of, moment_of, step_at};
-ghost use Rattle.oathtool_core.specs.Run.{EndsSo, Fails, FindsNone, IsPrinted};
+ghost use Rattle.oathtool_core.specs.Plan.{HasBadTime, HasKey, HasTimes, IsGenerator, IsNoTime, IsReady, IsTimeGiven, Stops, first_of, hash_of, moment_of, step_at, time_text};
+ghost use Rattle.oathtool_core.specs.Run.{EndsSo, FindsNone, IsPrinted, IsUnmatched, otp_text};
 ghost use Rattle.oathtool_core.specs.StepSize.{step_size_of};
 ghost use Rattle.oathtool_core.specs.Time.{fields_of};
 ghost use Rattle.oathtool_core.specs.TimeFault.{fault_of};
@@ -60,6 +60,7 @@ pub fn plans_are_worked()
         ∷ key_refusal false (codes "ME") ∷ key_refusal true (codes "M") ∷ key_refusal false (codes "6") ∷ []
         ≡ None ∷ None ∷ Some (BadCharacter 1) ∷ Some (BadCharacter 0) ∷ Some BadLength ∷ Some BadLength ∷ [] }
     ensures key_in_base32 { IsKeyOf true (codes "ME") (97 ∷ []) }
+    ensures no_other_key { IsKeyOf true (codes "ME") (98 ∷ []) → ⊥ }
     ensures key_in_hexadecimal { IsKeyOf false (codes "61") (97 ∷ []) }
     ensures moments { moment_of (Some 7) None ∷ moment_of (Some 7) (Some 5) ∷ moment_of None None
         ∷ moment_of None (Some 1099511627775) ∷ moment_of None (Some 1099511627776) ∷ []
@@ -74,11 +75,21 @@ pub fn plans_are_worked()
         ≡ Ok 2 }
     ensures first_step_of_clock { (words : Words) →
         first_of (record words { mode = Totp Sha1; counter = 7; window = 3 }) (times_from_100 None) (Some 130) ≡ Ok 1 }
+    ensures no_times { (words : Words) (clock : Option ℕ) (plan : Plan) → HasBadTime words
+        → IsReady words clock plan → ⊥ }
+    ensures no_step_size { (words : Words) (clock : Option ℕ) (plan : Plan)
+        → step_size_of words.step_size.now ≡ None → IsReady words clock plan → ⊥ }
+    ensures one_step { (words : Words) (plan : Plan) → words.start.now ≡ codes "@0"
+        → time_text words ≡ Some (codes "@59") → words.step_size.now ≡ codes "30"
+        → IsReady (record words { mode = Totp Sha1; window = 0 }) None plan → plan.first ≡ 1 }
     ensures last_factor { (words : Words) (clock : Option ℕ) (plan : Plan) →
         IsReady (record words { window = 1 }) clock (record plan { first = 4611686018427387903 }) → ⊥ }
     ensures given_times { (text : List ℕ) (seconds : ℕ) →
         IsTimeGiven None None × (IsTimeGiven None (Some seconds) → ⊥) × (IsTimeGiven (Some text) None → ⊥) }
     ensures given_time { IsTimeGiven (Some (codes "@7")) (Some 7) }
+    ensures bad_start { (words : Words) → IsNoTime words.start.now → HasBadTime words }
+    ensures bad_now { (words : Words) (text : List ℕ) → time_text words ≡ Some text → IsNoTime text
+        → HasBadTime words }
     ensures hashes { map hash_of (Hotp ∷ Totp Sha1 ∷ Totp Sha256 ∷ Totp Sha512 ∷ [])
         ≡ Sha1 ∷ Sha1 ∷ Sha256 ∷ Sha512 ∷ [] }
     ensures generator { (words : Words) (secret : List ℕ) (generator : Generator) →
@@ -130,7 +141,7 @@ pub fn offsets_are_worked()
     ensures counter_none { (generator : Generator) (otp : List ℕ) → (Matches generator otp 9 → ⊥)
         → (Matches generator otp 10 → ⊥) → HasNoOffset generator otp 9 1 }
     ensures counter_some { (generator : Generator) (otp : List ℕ) → HasNoOffset generator otp 9 1
-        → Matches generator otp 10 → ⊥ }
+        → (Matches generator otp 9 → ⊥) × (Matches generator otp 10 → ⊥) }
 
     // Around step 9, with a window of 1: the nearest, and of two the one before.
     ensures before { (generator : Generator) (otp : List ℕ) → (Matches generator otp 9 → ⊥) → Matches generator otp 8
@@ -145,6 +156,11 @@ pub fn offsets_are_worked()
     ensures step_unmatched { (generator : Generator) (otp : List ℕ) → (Matches generator otp 8 → ⊥)
         → (Matches generator otp 10 → ⊥) → (IsNearestOffset generator otp 9 1 (pos 1) → ⊥)
         × (IsNearestOffset generator otp 9 1 (negsuc 0) → ⊥) }
+    ensures nearer { (generator : Generator) (otp : List ℕ)
+        → (Matches generator otp 8 → (IsNearestOffset generator otp 9 3 (pos 2) → ⊥)
+        × (IsNearestOffset generator otp 9 3 (negsuc 1) → ⊥))
+        × (Matches generator otp 10 → (IsNearestOffset generator otp 9 3 (pos 2) → ⊥)
+        × (IsNearestOffset generator otp 9 3 (negsuc 1) → ⊥)) }
     ensures step_beyond { (generator : Generator) (otp : List ℕ) → (IsNearestOffset generator otp 9 1 (pos 2) → ⊥)
         × (IsNearestOffset generator otp 9 1 (negsuc 1) → ⊥) }
     ensures below_0 { (generator : Generator) (otp : List ℕ) → IsNearestOffset generator otp 1 5 (negsuc 1) → ⊥ }
@@ -153,7 +169,8 @@ pub fn offsets_are_worked()
     ensures step_some { (generator : Generator) (otp : List ℕ) → HasNoNearest generator otp 9 1
         → (Matches generator otp 8 → ⊥) × (Matches generator otp 9 → ⊥) × (Matches generator otp 10 → ⊥) }
 
-    // What is printed.
+    // What is printed, and which OTP is none of the codes.
+    ensures matches { (generator : Generator) (otp : List ℕ) → Matches generator otp 9 → code_at generator 9 ≡ otp }
     ensures code { (generator : Generator) → code_at (record generator { hash = Sha256; digits = Eight }) 5
         ≡ code_of Sha256 generator.key.now 5 8 }
     ensures codes { (generator : Generator) (text : List ℕ) → IsPrinted Hotp None generator 5 1 text
@@ -164,17 +181,39 @@ pub fn offsets_are_worked()
         → IsPrinted (Totp Sha1) (Some otp) generator 9 20 (codes "-3" ++ 10 ∷ []) }
     ensures nearest_after_printed { (generator : Generator) (otp : List ℕ) → IsNearestOffset generator otp 9 20 (pos 3)
         → IsPrinted (Totp Sha1) (Some otp) generator 9 20 (codes "3" ++ 10 ∷ []) }
+    ensures least_alone { (generator : Generator) (otp text : List ℕ) → Matches generator otp 9
+        → IsPrinted Hotp (Some otp) generator 9 1 text → text ≡ codes "0" ++ 10 ∷ [] }
+    ensures nearest_alone { (generator : Generator) (otp text : List ℕ) → Matches generator otp 9
+        → IsPrinted (Totp Sha1) (Some otp) generator 9 1 text → text ≡ codes "0" ++ 10 ∷ [] }
+    ensures unmatched { (generator : Generator) (otp : List ℕ) → Matches generator otp 9
+        → (IsUnmatched Hotp (Some otp) generator 9 1 → ⊥) × (IsUnmatched (Totp Sha1) (Some otp) generator 9 1 → ⊥) }
 {}
 
-/// What is promised of a run's end: a run that fails has written nothing, but where the output failed; it finds no
-/// match where an OTP was given; and one that prints, prints what its words ask for and nothing else.
+/// What is promised of a run's end: a run that fails has written nothing, but where the output failed; where the words
+/// give their times, a key and a first factor, and its window is in range, it fails by memory, by the output or for
+/// want of a match alone; it fails for want of a match where an OTP was given, and that is no code that was asked for;
+/// and one that prints, prints what its words ask for and nothing else.
 pub fn ends_are_told()
     ensures nothing_written { (words : Words) (clock : Option ℕ) (fault : Fault) (text : List ℕ)
-        → Fails words clock fault (Some []) (Some text) → (fault ≡ CannotWrite → ⊥) → text ≡ [] }
+        → EndsSo words clock (Err fault) (Some []) (Some text) → (fault ≡ CannotWrite → ⊥) → text ≡ [] }
     ensures nothing_known { (words : Words) (clock : Option ℕ) (fault : Fault)
-        → Fails words clock fault (Some []) None → fault ≡ CannotWrite }
+        → EndsSo words clock (Err fault) (Some []) None → fault ≡ CannotWrite }
+    ensures nothing_stops { (words : Words) (clock : Option ℕ) (fault : Fault) (times : Times) (secret : List ℕ)
+        (first : ℕ) (old new : Option (List ℕ))
+        → HasTimes words times → HasKey words secret → first_of words times clock ≡ Ok first
+        → first + words.window < 2 ^ 62 → EndsSo words clock (Err fault) old new
+        → (fault ≡ Memory) ⊎ ((fault ≡ NoMatch) ⊎ (fault ≡ CannotWrite)) }
     ensures no_otp { (words : Words) (clock : Option ℕ) (old new : Option (List ℕ))
         → FindsNone (record words { otp = None }) clock old new → ⊥ }
+    ensures matched { (words : Words) (clock : Option ℕ) (old new : Option (List ℕ)) → words.key.now ≡ codes "61"
+        → otp_text words ≡ Some (code_of Sha1 (97 ∷ []) 7 8)
+        → FindsNone (record words {
+          mode = Hotp;
+          counter = 7;
+          window = 0;
+          digits = Eight;
+          is_base32 = false;
+        }) clock old new → ⊥ }
     ensures one_code { (words : Words) (clock : Option ℕ) (text : List ℕ) → words.key.now ≡ codes "61"
         → EndsSo (record words {
           mode = Hotp;

@@ -1,9 +1,14 @@
 -- Each offset is told from the ones beside it.
-use Rattle.std.proofs.Common.{ℕ, ◌+◌, List, ◌++◌, pos, negsuc, refl, ap, ◌∙◌, append-nil, arith}
+use Rattle.std.proofs.Common.{◌≡◌, ℕ, zero, suc, ◌+◌, List, [], ◌∷◌, ◌++◌, Some, pos, negsuc, refl, ap, ◌∙◌, append-nil, arith}
 use Rattle.std.specs.Fmt.{digits}
+use Rattle.std.specs.Prelude.{codes}
 use Rattle.command_line.specs.Line.{line_of}
+use Rattle.hmac_core.specs.declared.hash.Hash.TheVariants.{Sha1}
 use Rattle.oathtool_core.specs.Codes.{Matches, code_at}
 use Rattle.oathtool_core.specs.Offset.{NoneAt}
+use Rattle.oathtool_core.specs.Run.{IsPrinted}
+use Rattle.oathtool_core.specs.declared.codes.Generator.{Generator}
+use Rattle.oathtool_core.specs.declared.words.Mode.TheVariants.{Hotp, Totp}
 use Rattle.oathtool_core.proofs.WorkedOffsets.{none_at_9, only_0, up_to_1}
 use Rattle.oathtool_core.proofs.laws.offsets_are_worked.Goals as goal
 
@@ -27,7 +32,7 @@ pub returns-clause-counter_none : goal.returns-clause-counter_none
 returns-clause-counter_none c = λ generator otp no_9 no_10. up_to_1 (λ k. Matches generator otp (9 + k) → ⊥) no_9 no_10
 
 pub returns-clause-counter_some : goal.returns-clause-counter_some
-returns-clause-counter_some c = λ generator otp none at_10. none 1 (omega arith) at_10
+returns-clause-counter_some c = λ generator otp none. (none 0 (omega arith), none 1 (omega arith))
 
 pub returns-clause-before : goal.returns-clause-before
 returns-clause-before c = λ generator otp no_9 at_8. record {
@@ -63,6 +68,18 @@ returns-clause-at_the_step c = λ generator otp at_9. (
 pub returns-clause-step_unmatched : goal.returns-clause-step_unmatched
 returns-clause-step_unmatched c = λ generator otp no_8 no_10. (λ o. no_10 o.matches, λ o. no_8 o.matches)
 
+pub returns-clause-nearer : goal.returns-clause-nearer
+returns-clause-nearer c = λ generator otp. (
+  λ at_8. (
+    λ o. (o.nearest 1 (omega arith)).before_it (omega arith) at_8,
+    λ o. (o.nearest 1 (omega arith)).before_it (omega arith) at_8,
+  ),
+  λ at_10. (
+    λ o. (o.nearest 1 (omega arith)).after_it at_10,
+    λ o. (o.nearest 1 (omega arith)).after_it at_10,
+  ),
+)
+
 pub returns-clause-step_beyond : goal.returns-clause-step_beyond
 returns-clause-step_beyond c =
     λ generator otp. (λ o. absurd (omega (arith, o.within)), λ o. absurd (omega (arith, o.within)))
@@ -82,6 +99,9 @@ returns-clause-step_some c = λ generator otp none. (
   (none 1 (omega arith)).after_it,
 )
 
+pub returns-clause-matches : goal.returns-clause-matches
+returns-clause-matches c = λ generator otp at_9. at_9
+
 pub returns-clause-code : goal.returns-clause-code
 returns-clause-code c = λ generator. refl
 
@@ -100,3 +120,26 @@ returns-clause-nearest_printed c = λ generator otp o. (negsuc 2, o, refl)
 pub returns-clause-nearest_after_printed : goal.returns-clause-nearest_after_printed
 unfolding digits
 returns-clause-nearest_after_printed c = λ generator otp o. (pos 3, o, refl)
+
+least_alone : (generator : Generator) (otp text : List ℕ) → Matches generator otp 9
+    → IsPrinted Hotp (Some otp) generator 9 1 text → text ≡ codes "0" ++ 10 ∷ []
+unfolding digits
+least_alone generator otp text at_9 (zero, o, e) = e
+least_alone generator otp text at_9 (suc n, o, e) = absurd (o.least 0 (omega arith) at_9)
+
+pub returns-clause-least_alone : goal.returns-clause-least_alone
+returns-clause-least_alone c = least_alone
+
+nearest_alone : (generator : Generator) (otp text : List ℕ) → Matches generator otp 9
+    → IsPrinted (Totp Sha1) (Some otp) generator 9 1 text → text ≡ codes "0" ++ 10 ∷ []
+unfolding digits
+nearest_alone generator otp text at_9 (pos zero, o, e) = e
+nearest_alone generator otp text at_9 (pos (suc n), o, e) = absurd ((o.nearest 0 (omega arith)).after_it at_9)
+nearest_alone generator otp text at_9 (negsuc n, o, e) = absurd ((o.nearest 0 (omega arith)).after_it at_9)
+
+pub returns-clause-nearest_alone : goal.returns-clause-nearest_alone
+returns-clause-nearest_alone c = nearest_alone
+
+pub returns-clause-unmatched : goal.returns-clause-unmatched
+returns-clause-unmatched c = λ generator otp at_9.
+    (λ none. none 0 (omega arith) at_9, λ none. (none 0 (omega arith)).after_it at_9)
