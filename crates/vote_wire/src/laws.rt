@@ -9,7 +9,7 @@ ghost use Rattle.vote_wire.specs.Body.{HasSpelling, body_at, body_bytes};
 ghost use Rattle.vote_wire.specs.Bytes.{AreBytes};
 ghost use Rattle.vote_wire.specs.Datagram.{IsDatagramOf, datagram_at, datagram_bytes};
 ghost use Rattle.vote_wire.specs.Examples.{ask, ask_body, ask_of, ask_tag, ask_with, check_request, check_text, check_with, deny, deny_body, floor, floor_body, grant, grant_body, letters, read_again, tag_of_the_standard};
-ghost use Rattle.vote_wire.specs.Key.{key_refusal_of, tag_of};
+ghost use Rattle.vote_wire.specs.Key.{IsClusterKey, key_refusal_of, tag_of};
 ghost use Rattle.vote_wire.specs.Request.{IsLine, Request, request_at};
 ghost use Rattle.vote_wire.specs.declared.answer.Answer.TheVariants.{BadLine, Reply};
 ghost use Rattle.vote_wire.specs.declared.answer.Outcome.TheVariants.{Accepted, Refused};
@@ -96,10 +96,12 @@ pub fn bodies_are_worked()
     ensures lo { read_again 1 2 (ask_of 0 0 0 4611686018427387904 4611686018427387904) ≡ None }
     ensures none_free { read_again 1 3 (Floor 0 4611686018427387904) ≡ Some (1, 3, Floor 0 4611686018427387904) }
     ensures next { read_again 1 3 (Floor 0 4611686018427387905) ≡ None }
+    ensures denied_boot { read_again 3 2 (Deny (record { node = 2; boot = 4611686018427387904; seq = 0 }) 0 1) ≡ None }
     ensures denied_next { read_again 3 2 (Deny (record { node = 2; boot = 1; seq = 0 }) 0 4611686018427387905) ≡ None }
 {}
 
-/// Texts of keys that are refused, and the shortest and the longest that are not.
+/// Texts of keys that are refused, and the shortest and the longest that are not; keys of the fewest and the most
+/// bytes, and of one byte less and more.
 pub fn keys_are_worked()
     ensures empty { key_refusal_of [] ≡ Some SecretFault.Empty }
     ensures digit { key_refusal_of (codes "0g") ≡ Some (SecretFault.BadCharacter 1) }
@@ -108,6 +110,10 @@ pub fn keys_are_worked()
     ensures shortest { key_refusal_of (replicate 32 0x30) ≡ None }
     ensures longest { key_refusal_of (replicate 128 0x30) ≡ None }
     ensures long { key_refusal_of (replicate 130 0x30) ≡ Some SecretFault.TooLong }
+    ensures fewest_bytes { IsClusterKey (replicate 16 0) }
+    ensures few_bytes { IsClusterKey (replicate 15 0) → ⊥ }
+    ensures most_bytes { IsClusterKey (replicate 64 0) }
+    ensures many_bytes { IsClusterKey (replicate 65 0) → ⊥ }
 {}
 
 /// A line is in the grammar exactly where it is read so.
@@ -165,6 +171,9 @@ pub fn lines_are_worked()
     ensures form_feed { request_at (check_text (codes "1") (97 ∷ 12 ∷ []) (codes "755224") (codes "pw"))
         ≡ check_request (codes "1") (97 ∷ 12 ∷ []) (codes "755224") (codes "pw") }
     ensures tab_in_user { request_at (check_text (codes "1") (97 ∷ 9 ∷ []) (codes "755224") (codes "pw")) ≡ None }
+    ensures resync_nonce { request_at (codes "RESYNC 1_ silver 755224 287082 -") ≡ None }
+    ensures resync_user { request_at (codes "RESYNC 1 " ++ letters 65 ++ codes " 755224 287082 -") ≡ None }
+    ensures resync_password { request_at (codes "RESYNC 1 silver 755224 287082 " ++ letters 65) ≡ None }
 {}
 
 /// The text of each answer.

@@ -190,3 +190,7 @@ returns-clause-next c = refl
 pub returns-clause-denied_next : goal.returns-clause-denied_next
 unfolding body_at message_at vote_at denial_at floor_at proposal_at factor_at next_at
 returns-clause-denied_next c = refl
+
+pub returns-clause-denied_boot : goal.returns-clause-denied_boot
+unfolding body_at message_at vote_at denial_at floor_at proposal_at factor_at next_at
+returns-clause-denied_boot c = refl

@@ -1,5 +1,5 @@
 -- Each case is computed.
-use Rattle.std.proofs.Common.{refl}
+use Rattle.std.proofs.Common.{refl, arith}
 use Rattle.hex.specs.Hex.{decode_pairs}
 use Rattle.vote_wire.proofs.laws.keys_are_worked.Goals as goal
 
@@ -30,3 +30,15 @@ returns-clause-longest c = refl
 pub returns-clause-long : goal.returns-clause-long
 unfolding decode_pairs
 returns-clause-long c = refl
+
+pub returns-clause-fewest_bytes : goal.returns-clause-fewest_bytes
+returns-clause-fewest_bytes c = (omega arith, omega arith)
+
+pub returns-clause-few_bytes : goal.returns-clause-few_bytes
+returns-clause-few_bytes c = λ key. absurd (omega (arith, key.0))
+
+pub returns-clause-most_bytes : goal.returns-clause-most_bytes
+returns-clause-most_bytes c = (omega arith, omega arith)
+
+pub returns-clause-many_bytes : goal.returns-clause-many_bytes
+returns-clause-many_bytes c = λ key. absurd (omega (arith, key.1))

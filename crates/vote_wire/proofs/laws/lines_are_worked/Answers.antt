@@ -103,3 +103,12 @@ returns-clause-empty_user c = refl
 
 pub returns-clause-empty_password : goal.returns-clause-empty_password
 returns-clause-empty_password c = refl
+
+pub returns-clause-resync_nonce : goal.returns-clause-resync_nonce
+returns-clause-resync_nonce c = refl
+
+pub returns-clause-resync_user : goal.returns-clause-resync_user
+returns-clause-resync_user c = refl
+
+pub returns-clause-resync_password : goal.returns-clause-resync_password
+returns-clause-resync_password c = refl
