@@ -93,6 +93,16 @@ three_shared =
       book = event_token (codes "a") ∷ time_token Time60 ∷ [];
     }
 
+-- nothing but a life
+abbrev pub least_shared : Shared
+least_shared =
+    record {
+      life = codes "a";
+      members = [];
+      settings = record { look_ahead = 0; skew = 0; range = 0; drift = 0 };
+      book = [];
+    }
+
 -- the bytes 0 to 31
 abbrev pub key_of_32 : List ℕ
 key_of_32 =

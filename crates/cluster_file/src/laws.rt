@@ -1,15 +1,16 @@
-ghost use Rattle.std.specs.Prelude.{◌≡◌, ◌++◌, ◌∷◌, [], codes, length, map, replicate, true, false, Some, None, Ok, Err};
+ghost use Rattle.std.specs.Prelude.{◌≡◌, ◌<◌, ◌^◌, ◌++◌, ◌∷◌, [], codes, length, map, replicate, true, false, Some, None, Ok, Err};
 ghost use Rattle.std.specs.Net.Grammar.{IsSocketV4Text};
 ghost use Rattle.std.specs.declared.net.socket_addr.SocketAddrV4.{SocketAddrV4 as AnyAddress};
 ghost use Rattle.std.specs.Prelude.{List, ℕ, ◌↔◌};
-ghost use Rattle.cluster_file.specs.Address.{address_of, address_text, address_value, is_among};
+ghost use Rattle.cluster_file.specs.Address.{IsAddress, address_of, address_text, address_value, is_among};
 ghost use Rattle.token_file.specs.Credential.{Credential};
+ghost use Rattle.token_file.specs.Examples.{event_token};
 ghost use Rattle.token_file.specs.Writing.{IsCredential};
 ghost use Rattle.std.specs.List.{AllByRecursion};
 ghost use Rattle.token_file.specs.declared.token.Kind.TheVariants.{Event, Time30, Time60};
 ghost use Rattle.cluster_file.specs.Check.{check_text, is_kind, summary_text};
 ghost use Rattle.cluster_file.specs.ClusterFile.{ClusterRecord, cluster_of, is_memory, outcome_of};
-ghost use Rattle.cluster_file.specs.Examples.{address_at, after_each, after_text, all_given, faults, key_of_32, small_cluster, small_file, text_of, three_cluster, three_file, three_key, three_shared, with_members, word_of, zeros};
+ghost use Rattle.cluster_file.specs.Examples.{address_at, after_each, after_text, all_given, faults, key_of_32, least_shared, small_cluster, small_file, text_of, three_cluster, three_file, three_key, three_shared, with_members, word_of, zeros};
 ghost use Rattle.cluster_file.specs.Fields.{key_of, life_of, word_of as spec_word_of};
 ghost use Rattle.cluster_file.specs.Key.{IsCollision, fingerprint_of, shared_key_of};
 ghost use Rattle.cluster_file.specs.Said.{Given, InFile, nothing_said};
@@ -141,6 +142,29 @@ pub fn keys_are_worked()
         ∷ (codes "HOTP/T60/6" ++ 9 ∷ codes "u" ++ 9 ∷ codes "-" ++ 9 ∷ codes "31") ∷ []) }
     ensures key { shared_key_of key_of_32 three_shared ≡ three_key }
     ensures fingerprint { fingerprint_of three_key ≡ codes "b1061f3a2d61dfbd" }
+{}
+
+/// What is said of an address and of what members share holds of a value, and each part of it is broken by one that
+/// keeps all others; so is each part of what is said of a collision, of which none is known.
+pub fn promises_can_be_broken()
+    ensures address { IsAddress (address_at 255) }
+    ensures no_octets { IsAddress (record { octets = []; port = 0 }) → ⊥ }
+    ensures octet_of_256 { IsAddress (record { octets = 256 ∷ 0 ∷ 0 ∷ 0 ∷ []; port = 0 }) → ⊥ }
+    ensures port_of_65536 { (last : ℕ) → last < 2 ^ 8
+        → IsAddress (record { octets = 0 ∷ 0 ∷ 0 ∷ last ∷ []; port = 65536 }) → ⊥ }
+
+    ensures shared { IsShared least_shared × IsShared three_shared }
+    ensures life_of_two_words { IsShared (record least_shared { life = codes "a b" }) → ⊥ }
+    ensures member_of_no_octets { IsShared (record least_shared {
+      members = record { octets = []; port = 0 } ∷ [];
+    }) → ⊥ }
+    ensures look_ahead_of_101 { IsShared (record least_shared {
+      settings = record { look_ahead = 101; skew = 0; range = 0; drift = 0 };
+    }) → ⊥ }
+    ensures user_of_two_words { IsShared (record least_shared { book = event_token (codes "a b") ∷ [] }) → ⊥ }
+
+    ensures one_text { IsCollision [] [] [] → ⊥ }
+    ensures two_macs { IsCollision [] [] (0 ∷ []) → ⊥ }
 {}
 
 /// What a check prints, worked through.
