@@ -1,9 +1,10 @@
-ghost use Rattle.std.specs.Prelude.{◌≡◌, [], ◌∷◌, Some, None, codes, false, true};
+ghost use Rattle.std.specs.Prelude.{◌≡◌, [], ◌∷◌, Some, None, codes, map, false, true};
 ghost use Rattle.users_input.specs.Examples.{text_of_two_parts};
 ghost use Rattle.users_input.specs.Input.{HasLine, HasRoom, IsReadTo, TakesLine, has_marker, lines_of, rest_part, users_file};
-ghost use Rattle.users_input.specs.Users.{HasRest, IsFilled, numbered, rest_left, users_left};
+ghost use Rattle.users_input.specs.Users.{HasRest, IsFilled, is_failed, numbered, rest_left, users_left};
+ghost use Rattle.users_input.specs.declared.fault.InputFault.TheVariants.{CannotRead};
 ghost use Rattle.users_input.specs.declared.input.NextLine.TheVariants.{Cut, End, Whole};
-ghost use Rattle.users_input.specs.declared.users.Stage.TheVariants.{Rest, Users};
+ghost use Rattle.users_input.specs.declared.users.Stage.TheVariants.{Failed, Rest, Users};
 
 /// Some inputs: their lines, and their two parts.
 pub fn inputs_are_worked()
@@ -44,6 +45,7 @@ pub fn promises_can_be_broken()
     ensures takes_cut { TakesLine Cut (codes "a") 1 (codes "ab") 0 (Some (codes "b")) }
     ensures takes_end { TakesLine End [] 5 [] 5 (Some []) }
     ensures takes_remaining { TakesLine Whole (codes "a\n") 5 (codes "a\nb") 3 None → ⊥ }
+    ensures takes_other_rest { TakesLine Whole (codes "a\n") 5 (codes "a\nb") 3 (Some (codes "c")) → ⊥ }
     ensures takes_parts { TakesLine Whole (codes "a\nz") 5 (codes "a") 4 (Some []) → ⊥ }
     ensures takes_next { TakesLine Whole (codes "a\n") 5 (codes "a\nb") 0 (Some (codes "b")) → ⊥ }
     ensures takes_no_lf { TakesLine Whole (codes "a") 2 (codes "a\nb") 0 (Some (codes "\nb")) → ⊥ }
@@ -80,4 +82,8 @@ pub fn stages_are_worked()
     ensures rest_of_users { rest_left Users 1 99 (codes "a\n") (codes "b\n%%\nc") ≡ (4, Some (codes "c")) ∷ [] }
     ensures rest { rest_left Rest 3 99 [] (codes "c\nd")
         ≡ (4, Some (codes "c")) ∷ (5, Some (codes "d")) ∷ [] }
+    ensures users_of_failed { users_left (Failed CannotRead) 99 (codes "a") (codes "b\n%%\nc") ≡ codes "ab\n" }
+    ensures rest_of_failed { rest_left (Failed CannotRead) 1 99 (codes "%") (codes "%\nc")
+        ≡ (3, Some (codes "c")) ∷ [] }
+    ensures failed { map is_failed (Users ∷ Rest ∷ Failed CannotRead ∷ []) ≡ false ∷ false ∷ true ∷ [] }
 {}
