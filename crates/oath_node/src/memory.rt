@@ -30,7 +30,7 @@ impl<'b> Node<'b, MemStore> {
     }
 
     /// The same over a store of another boot, which is not the last: so a node opens that takes the place of one whose
-    /// store was lost.
+    /// store was lost. The one refusal is that memory ran out.
     pub fn in_memory_at(
         alloc: Global,
         book: &'b Book,
