@@ -30,6 +30,7 @@ pub fn files_are_worked()
     ensures two { said_by (codes "floors 1 1 3 7 100 2" ∷ codes "a 5" ∷ codes "b 0" ∷ []) ≡ Ok first_floors }
     ensures written { floors_text first_floors ≡ text_of (codes "floors 1 1 3 7 100 2" ∷ codes "a 5" ∷ codes "b 0"
         ∷ []) }
+    ensures can_be_written { AreFloors first_floors }
     ensures no_rows { said_by_first (codes "floors 1 2 3 7 5 0") ≡ Ok (record { head = head_of_node 2 3; rows = [] }) }
     ensures ends { map said_by_first (codes "floors 1 1 1 7 5 0" ∷ codes "floors 1 9 9 7 5 0" ∷ [])
         ≡ Ok (record { head = head_of_node 1 1; rows = [] }) ∷ Ok (record { head = head_of_node 9 9; rows = [] }) ∷ [] }
