@@ -71,6 +71,14 @@ pub fn promises_can_be_broken()
     ensures socket_in_a_line { EndsSo (read_of one_line None) (ended_by Socket) (Some []) (Some (codes "2")) → ⊥ }
     ensures node_in_a_line { EndsSo (read_of one_line None) (ended_by (Node Stopped)) (Some []) (Some (codes "2"))
         → ⊥ }
+    ensures memory_at_another_node { EndsSo (read_of one_line None) (ended_by Memory) (Some []) (Some (codes "1 -\n"))
+        → ⊥ }
+    ensures read_at_another_node { EndsSo (read_of one_line None) (ended_by CannotRead) (Some [])
+        (Some (codes "1 -\n")) → ⊥ }
+    ensures socket_at_another_node { EndsSo (read_of one_line None) (ended_by Socket) (Some []) (Some (codes "1 -\n"))
+        → ⊥ }
+    ensures node_at_another_node { EndsSo (read_of one_line None) (ended_by (Node Stopped)) (Some [])
+        (Some (codes "1 -\n")) → ⊥ }
 
     // a users file is refused for its first fault
     ensures refuses { RefusesUsers default_limits 0 100 (codes "HOTP u -") (users_fault 1 MissingField) }

@@ -1,7 +1,7 @@
 -- What is printed begins with the digit of the first node, and a reply has two bytes at least.
 use Rattle.std.proofs.Common.{◌≡◌, ℕ, zero, suc, ◌+◌, List, [], ◌∷◌, map, take, refl, arith}
 use Rattle.std.specs.Prelude.{codes}
-use Rattle.oathd_cluster.specs.Broken.{two_lines}
+use Rattle.oathd_cluster.specs.Broken.{one_line, two_lines}
 use Rattle.oathd_cluster.specs.Line.{NodeLine}
 use Rattle.oathd_cluster.specs.Run.{Reply, printed}
 use Rattle.oathd_cluster.proofs.laws.promises_can_be_broken.Goals as goal
@@ -99,3 +99,22 @@ returns-clause-socket_in_a_line c h = one_byte h.writes.replies 50 h.writes.writ
 
 pub returns-clause-node_in_a_line : goal.returns-clause-node_in_a_line
 returns-clause-node_in_a_line c h = one_byte h.writes.replies 50 h.writes.written
+
+-- one reply or none to a line for node 2 is none of node 1
+not_node_1 : (count : ℕ) (replies : List Reply)
+    → nodes_of replies ≡ map (λ (line : NodeLine). line.node) (take count one_line) → codes "1 -\n" ≡ printed replies → ⊥
+not_node_1 zero replies e p = has_none replies 49 (codes " -\n") e p
+not_node_1 (suc count) replies e p =
+    let byte : 49 ≡ 50 = first_byte replies 2 _ 49 (codes " -\n") e p in omega (arith, byte)
+
+pub returns-clause-memory_at_another_node : goal.returns-clause-memory_at_another_node
+returns-clause-memory_at_another_node c h = not_node_1 h.count h.writes.replies h.writes.each h.writes.written
+
+pub returns-clause-read_at_another_node : goal.returns-clause-read_at_another_node
+returns-clause-read_at_another_node c h = not_node_1 h.count h.writes.replies h.writes.each h.writes.written
+
+pub returns-clause-socket_at_another_node : goal.returns-clause-socket_at_another_node
+returns-clause-socket_at_another_node c h = not_node_1 h.count h.writes.replies h.writes.each h.writes.written
+
+pub returns-clause-node_at_another_node : goal.returns-clause-node_at_another_node
+returns-clause-node_at_another_node c h = not_node_1 h.count h.writes.replies h.writes.each h.writes.written
