@@ -10,7 +10,7 @@ use Rattle.cluster_sim.proofs.Owners.{get_more}
 use Rattle.cluster_sim.specs.Answered.{HasAnswer, IsAnsweredIn, IsAskedIn}
 use Rattle.cluster_sim.specs.World.{Told, WorldEvent, Happens, Restart, Lost as LostEvent, Anew, told_reply, world_of}
 use Rattle.cluster_law.specs.Answered.{AnswersAll, EndsProcess, HasOk, HasYetToOffer, IsAnsweredInDeed, IsLost, IsOfferedOrEnds}
-use Rattle.cluster_law.specs.Lives.{Deed, Opens, FailsToOpen, Takes, Offers, Stops, StopsIn, Loses, Remakes, Handout, Post, Answer, IsHistory, Scene, Setting, Site, Down, Up, answers_among, can_be, first_scene, handouts_of, made_by_input, node_of_deed, offers_by, scene_after, scene_after_deed, scene_at, site_after}
+use Rattle.cluster_law.specs.Lives.{Deed, Opens, FailsToOpen, Takes, Offers, Stops, StopsIn, Loses, Remakes, Handout, Post, Answer, IsHistory, Scene, Setting, Site, Down, Up, answers_among, can_be, first_scene, handouts_of, made_by_input, node_of_deed, offers_by, scene_after, scene_after_deed, scene_at, site_after, start_of}
 use Rattle.cluster_law.specs.Promises.{HasAct, IsAskedInDeed, IsEventOf, IsToldAmong, nothing}
 use Rattle.cluster_law.proofs.Follow.{answers_by, answers_made, get_after}
 use Rattle.cluster_law.proofs.Histories.{AnsweredLaw, Whole, answers_in, whole_run}
@@ -205,7 +205,7 @@ becomes setting history t h =
     inr (inl is))
     h
 
-has_ok : (setting : Setting) (history : List Deed) (x : Whole setting history) (p : Acceptance) → HasAnswer x.events (world_of setting.config setting.floors x.events).told p → HasOk setting history p
+has_ok : (setting : Setting) (history : List Deed) (x : Whole setting history) (p : Acceptance) → HasAnswer x.events (world_of setting.config (start_of setting) x.events).told p → HasOk setting history p
 has_ok setting history x p a = record {
   answer = a.answer;
   event = a.event;
@@ -220,7 +220,7 @@ has_ok setting history x p a = record {
 }
 
 abbrev InWorld : (setting : Setting) (history : List Deed) → Whole setting history → Acceptance → Option WorldEvent → Type 0
-InWorld setting history x p o = IsAnsweredIn x.events (world_of setting.config setting.floors x.events).told p o
+InWorld setting history x p o = IsAnsweredIn x.events (world_of setting.config (start_of setting) x.events).told p o
 
 answered_deed : (setting : Setting) (history : List Deed) (x : Whole setting history) (p : Acceptance) (d : Deed) (e : WorldEvent) → IsEventOf setting.key d e
     → InWorld setting history x p (Some e) → IsAnsweredInDeed setting history p (Some d)
@@ -245,4 +245,4 @@ answers_all law setting history g = λ i p at.
     let x = whole_run setting history g in
     at_place (λ o. InWorld setting history x p o) (λ o. IsAnsweredInDeed setting history p o) setting history x.events p.ended x.run
     (λ z. z) (λ d e is h. answered_deed setting history x p d e is h)
-    (law setting.config setting.floors x.events i p (subst (λ ps. slice_get ps i ≡ Some p) x.run.accepted at))
+    (law setting.config (start_of setting) x.events i p (subst (λ ps. slice_get ps i ≡ Some p) x.run.accepted at))

@@ -1,5 +1,6 @@
 -- A datagram that was offered reads as it was meant.
-use Rattle.std.proofs.Common.{◌≡◌, ℕ, suc, ◌≤◌, List, [], ◌∷◌, length, Some, sym, ap, ◌∙◌}
+use Rattle.std.proofs.Common.{◌≡◌, ℕ, suc, ◌≤◌, List, [], ◌∷◌, length, Some, refl, sym, ap, ◌∙◌}
+use Rattle.std.specs.List.{slice_get}
 use Rattle.std.specs.Option.{option_map}
 use Rattle.std.proofs.lemmas.Option.{same_Some}
 use Rattle.vote_core.proofs.Basics.{Each, each_get}
@@ -9,11 +10,11 @@ use Rattle.vote_wire.specs.Body.{HasSpelling}
 use Rattle.vote_wire.specs.Datagram.{datagram_at, datagram_bytes}
 use Rattle.oath_node.specs.Hosted.{envelope_at}
 use Rattle.cluster_sim.proofs.BelowLaws.{GroundLaw}
-use Rattle.cluster_sim.proofs.Spelled.{IsFineWorld, IsSpelled, happens_fine, start_fine}
+use Rattle.cluster_sim.proofs.Spelled.{IsFineStart, IsFineWorld, IsSpelled, happens_fine, start_fine}
 use Rattle.cluster_sim.specs.Run.{HasFloorsInRange}
 use Rattle.cluster_sim.specs.World.{World, opening_world, world_after_event}
 use Rattle.cluster_law.specs.Bytes.{AreUnforged, IsSized, IsUnforged, IsUnforgedDeed, IsUnforgedHistory}
-use Rattle.cluster_law.specs.Lives.{AreGenuine, Deed, Opens, FailsToOpen, Takes, Offers, Stops, StopsIn, Loses, Remakes, Handout, Post, Input, Line, Datagram, Time, IsGenuine, IsGenuineDeed, IsHistory, Scene, Setting, first_scene, scene_after_deed}
+use Rattle.cluster_law.specs.Lives.{AreGenuine, Deed, Opens, FailsToOpen, Takes, Offers, Stops, StopsIn, Loses, Remakes, Handout, Post, Input, Line, Datagram, Time, IsGenuine, IsGenuineDeed, IsHistory, Scene, Setting, first_scene, scene_after_deed, start_of}
 use Rattle.cluster_law.proofs.Follow.{IsKnown, Matches, OfStore, follows, of_event}
 use Rattle.cluster_law.proofs.Histories.{starts}
 
@@ -66,4 +67,19 @@ all_genuine again grounds setting e (x ∷ xs) scene w few m fine h =
 
 pub unforged : AgainLaw → GroundLaw → (setting : Setting) (history : List Deed) → IsSized setting → IsUnforgedHistory setting history → IsHistory setting history
 unforged again grounds setting history sized h =
-    all_genuine again grounds setting 0 history (first_scene setting) (opening_world setting.config setting.floors) sized.tokens (starts setting) (start_fine setting.config setting.floors sized.tokens sized.nodes sized.floors) h
+    let fine : IsFineStart setting.config (start_of setting) = record {
+      tokens = sized.tokens;
+      nodes = sized.nodes;
+      boots = sized.boots;
+      floors = sized.floors;
+      old = each_of IsSpelled setting.old sized.old;
+    } in
+    record {
+      starts = h.starts;
+      genuine = all_genuine again grounds setting 0 history (first_scene setting) (opening_world setting.config (start_of setting)) sized.tokens (starts setting)
+          (start_fine setting.config (start_of setting) fine) h.unforged;
+    }
+  where
+    each_of : {A : Type 0} (P : A → Type 0) (xs : List A) → ((k : ℕ) (x : A) → slice_get xs k ≡ Some x → P x) → Each P xs
+    each_of P [] f = tt
+    each_of P (x ∷ xs) f = (f 0 x refl, each_of P xs (λ k y e. f (suc k) y e))

@@ -52,7 +52,7 @@ pub get_after : {A : Type 0} (xs ys : List A) (k : ℕ) (y : A) → slice_get ys
 get_after [] ys k y e = (k, e)
 get_after (x ∷ xs) ys k y e = let r = get_after xs ys k y e in (suc r.0, r.1)
 
-all_there : {A : Type 0} (ys : List A) → Each (λ y. (k : ℕ) × (slice_get ys k ≡ Some y)) ys
+pub all_there : {A : Type 0} (ys : List A) → Each (λ y. (k : ℕ) × (slice_get ys k ≡ Some y)) ys
 all_there [] = tt
 all_there {A} (y ∷ ys) =
     ((zero, refl), each_weaker (λ (z : A). (k : ℕ) × (slice_get ys k ≡ Some z)) (λ (z : A). (k : ℕ) × (slice_get (y ∷ ys) k ≡ Some z)) (λ z p. (suc p.0, p.1)) ys (all_there ys))

@@ -5,17 +5,18 @@ use Rattle.std.specs.List.{slice_get}
 use Rattle.std.proofs.lemmas.List.{append-nil, append_assoc}
 use Rattle.std.proofs.lemmas.Option.{none-some, same_Some}
 use Rattle.otp_core.specs.Acceptance.{HaveSingleUse, KeepRealTimeOrder}
-use Rattle.vote_core.proofs.Basics.{Each, each_get}
+use Rattle.vote_core.proofs.Basics.{Each, each_get, each_map}
+use Rattle.vote_core.specs.Schedule.{Envelope}
 use Rattle.vote_core.specs.Safety.{HaveMajority}
 use Rattle.oath_node.specs.Machine.{Config}
 use Rattle.cluster_sim.specs.Answered.{AreAnswered, NamePasses, TellTruth}
 use Rattle.admit_core.specs.Throttle.{SpacesFailures}
 use Rattle.cluster_sim.specs.Results.{results_in, results_of}
 use Rattle.cluster_sim.specs.Justified.{AreJustified}
-use Rattle.cluster_sim.specs.World.{Told, World, WorldEvent, floor_before, opening_world, passes_in, passes_of, world_after_event, world_after_events, world_of}
-use Rattle.cluster_law.specs.Lives.{Deed, Handout, Post, Answer, Scene, Setting, AreGenuine, IsHistory, accepted_in, answered_in, answers_among, can_be, first_scene, floor_in, nodes_of, scene_after, scene_after_deed, scene_of}
+use Rattle.cluster_sim.specs.World.{Told, World, WorldEvent, floor_before, opening_world, passes_in, passes_of, world_after_event, world_after_events, world_of, MayStart, Start}
+use Rattle.cluster_law.specs.Lives.{Deed, Handout, Post, Answer, Scene, Setting, AreGenuine, IsHistory, accepted_in, answered_in, answers_among, can_be, first_scene, floor_in, nodes_of, scene_after, scene_after_deed, scene_of, start_of}
 use Rattle.cluster_law.specs.Promises.{HasEvent, IsEventOf, IsExplained, IsRunOf, IsToldAmong}
-use Rattle.cluster_law.proofs.Follow.{IsKnown, IsOneAt, Matches, answers_by, follows, same_next}
+use Rattle.cluster_law.proofs.Follow.{IsKnown, IsOneAt, Matches, all_there, answers_by, follows, same_next}
 
 -- the answers that these deeds make
 abbrev pub answers_in : Setting → ℕ → List Deed → Scene → List Told
@@ -84,8 +85,15 @@ runs setting e (x ∷ xs) scene w m g =
           ∙ append_assoc w.told (answers_by setting e x scene) (answers_in setting (suc e) xs (scene_after_deed setting e x scene));
     }
 
-pub starts : (setting : Setting) → Matches setting (first_scene setting) (opening_world setting.config setting.floors)
-starts setting = record { n = refl; lost = refl; least = refl; sites = λ j. inr refl; offered = tt; notes = refl }
+pub starts : (setting : Setting) → Matches setting (first_scene setting) (opening_world setting.config (start_of setting))
+starts setting = record {
+  n = refl;
+  lost = refl;
+  least = refl;
+  sites = λ j. inr refl;
+  offered = each_map (IsKnown (opening_world setting.config (start_of setting))) (λ (l : Envelope). Post l) setting.old (all_there setting.old);
+  notes = refl;
+}
 
 -- ---- what is to be seen
 
@@ -99,14 +107,14 @@ pub record Whole (setting : Setting) (history : List Deed) : Type 0 where
   pub events : List WorldEvent
   pub run : IsRunOf setting history events
   pub ones : AreOnes setting 0 history (first_scene setting) events
-  pub told : (world_of setting.config setting.floors events).told ≡ answers_in setting 0 history (first_scene setting)
-  pub matches : Matches setting (scene_of setting history) (world_of setting.config setting.floors events)
+  pub told : (world_of setting.config (start_of setting) events).told ≡ answers_in setting 0 history (first_scene setting)
+  pub matches : Matches setting (scene_of setting history) (world_of setting.config (start_of setting) events)
 
 pub whole_run : (setting : Setting) (history : List Deed) → IsHistory setting history → Whole setting history
 whole_run setting history g =
-    let start = opening_world setting.config setting.floors in
-    let r = runs setting 0 history (first_scene setting) start (starts setting) g in
-    let w = world_after_events setting.config 0 r.events start in
+    let first = opening_world setting.config (start_of setting) in
+    let r = runs setting 0 history (first_scene setting) first (starts setting) g.genuine in
+    let w = world_after_events setting.config 0 r.events first in
     let of_run : IsRunOf setting history r.events = record {
       number = r.number;
       each = r.each;
@@ -114,7 +122,7 @@ whole_run setting history g =
       notes_before = λ event. sym (r.parts event).notes;
       accepted = ap passes_in (sym r.whole.notes);
       floors = λ node token event.
-          let v = world_after_events setting.config 0 (take event r.events) start in
+          let v = world_after_events setting.config 0 (take event r.events) first in
           let x = scene_of setting (take event history) in
           sym (same_next v (x.lost node) (x.sites node) (v.nodes node) token ((r.parts event).sites node));
       answered = λ place told at. each_get (λ (t : Told). IsToldAmong t w.told) (answered_in setting history) place told (all_told w (scene_of setting history).offered r.whole.offered) at;
@@ -128,64 +136,64 @@ is_run setting history g = let r = whole_run setting history g in (r.events, r.r
 
 -- of every run
 abbrev pub SingleUseLaw : Type 0
-SingleUseLaw = (config : Config) (floors : List (List ℕ)) (events : List WorldEvent) → HaveSingleUse (passes_of config floors events)
+SingleUseLaw = (config : Config) (start : Start) (events : List WorldEvent) → MayStart config start → HaveSingleUse (passes_of config start events)
 
 abbrev pub OrderLaw : Type 0
-OrderLaw = (config : Config) (floors : List (List ℕ)) (events : List WorldEvent) → KeepRealTimeOrder (passes_of config floors events)
+OrderLaw = (config : Config) (start : Start) (events : List WorldEvent) → MayStart config start → KeepRealTimeOrder (passes_of config start events)
 
 abbrev pub MajorityLaw : Type 0
-MajorityLaw = (config : Config) (floors : List (List ℕ)) (events : List WorldEvent) → HaveMajority (length floors) (floor_before config floors events) (passes_of config floors events)
+MajorityLaw = (config : Config) (start : Start) (events : List WorldEvent) → MayStart config start → HaveMajority start.n (floor_before config start events) (passes_of config start events)
 
 abbrev pub JustifiedLaw : Type 0
-JustifiedLaw = (config : Config) (floors : List (List ℕ)) (events : List WorldEvent) → AreJustified config floors events (passes_of config floors events)
+JustifiedLaw = (config : Config) (start : Start) (events : List WorldEvent) → MayStart config start → AreJustified config start events (passes_of config start events)
 
 abbrev pub ToldLaw : Type 0
-ToldLaw = (config : Config) (floors : List (List ℕ)) (events : List WorldEvent) → NamePasses events (passes_of config floors events) (world_of config floors events).told
+ToldLaw = (config : Config) (start : Start) (events : List WorldEvent) → MayStart config start → NamePasses events (passes_of config start events) (world_of config start events).told
 
 abbrev pub NoOtherLaw : Type 0
-NoOtherLaw = (config : Config) (floors : List (List ℕ)) (events : List WorldEvent) → TellTruth events (passes_of config floors events) (world_of config floors events).told
+NoOtherLaw = (config : Config) (start : Start) (events : List WorldEvent) → TellTruth events (passes_of config start events) (world_of config start events).told
 
 pub single_use : SingleUseLaw → (setting : Setting) (history : List Deed) → IsHistory setting history → HaveSingleUse (accepted_in setting history)
 single_use law setting history g =
     let r = is_run setting history g in
-    subst (λ ps. HaveSingleUse ps) (sym r.1.accepted) (law setting.config setting.floors r.0)
+    subst (λ ps. HaveSingleUse ps) (sym r.1.accepted) (law setting.config (start_of setting) r.0 g.starts)
 
 pub in_order : OrderLaw → (setting : Setting) (history : List Deed) → IsHistory setting history → KeepRealTimeOrder (accepted_in setting history)
 in_order law setting history g =
     let r = is_run setting history g in
-    subst (λ ps. KeepRealTimeOrder ps) (sym r.1.accepted) (law setting.config setting.floors r.0)
+    subst (λ ps. KeepRealTimeOrder ps) (sym r.1.accepted) (law setting.config (start_of setting) r.0 g.starts)
 
 pub majority : MajorityLaw → (setting : Setting) (history : List Deed) → IsHistory setting history → HaveMajority (nodes_of setting) (floor_in setting history) (accepted_in setting history)
 majority law setting history g =
     let r = is_run setting history g in
-    let same : floor_in setting history ≡ floor_before setting.config setting.floors r.0 = fun_ext (λ node. fun_ext (λ token. fun_ext (λ event. r.1.floors node token event))) in
+    let same : floor_in setting history ≡ floor_before setting.config (start_of setting) r.0 = fun_ext (λ node. fun_ext (λ token. fun_ext (λ event. r.1.floors node token event))) in
     subst (λ ps. HaveMajority (nodes_of setting) (floor_in setting history) ps) (sym r.1.accepted)
-    (subst (λ f. HaveMajority (nodes_of setting) f (passes_of setting.config setting.floors r.0)) (sym same) (law setting.config setting.floors r.0))
+    (subst (λ f. HaveMajority (nodes_of setting) f (passes_of setting.config (start_of setting) r.0)) (sym same) (law setting.config (start_of setting) r.0 g.starts))
 
 pub explained : JustifiedLaw → ToldLaw → NoOtherLaw → (setting : Setting) (history : List Deed) → IsHistory setting history → IsExplained setting history
 explained justified told no_other setting history g =
     let r = is_run setting history g in
     let config = setting.config in
-    let floors = setting.floors in
+    let start = start_of setting in
     record {
       events = r.0;
       is_run = r.1;
-      justified = subst (λ ps. AreJustified config floors r.0 ps) (sym r.1.accepted) (justified config floors r.0);
+      justified = subst (λ ps. AreJustified config start r.0 ps) (sym r.1.accepted) (justified config start r.0 g.starts);
       told = λ i t nonce hi at is_nonce is_factor bytes.
           let p = r.1.answered i t at in
-          subst (λ ps. NamePasses r.0 ps (world_of config floors r.0).told) (sym r.1.accepted) (told config floors r.0) p.place t nonce hi p.is_there is_nonce is_factor bytes;
+          subst (λ ps. NamePasses r.0 ps (world_of config start r.0).told) (sym r.1.accepted) (told config start r.0 g.starts) p.place t nonce hi p.is_there is_nonce is_factor bytes;
       no_other = λ i t at is_ok.
           let p = r.1.answered i t at in
-          subst (λ ps. TellTruth r.0 ps (world_of config floors r.0).told) (sym r.1.accepted) (no_other config floors r.0) p.place t p.is_there is_ok;
+          subst (λ ps. TellTruth r.0 ps (world_of config start r.0).told) (sym r.1.accepted) (no_other config start r.0) p.place t p.is_there is_ok;
     }
 
 abbrev pub SpacedLaw : Type 0
-SpacedLaw = (config : Config) (floors : List (List ℕ)) (events : List WorldEvent) (node token : ℕ) → SpacesFailures (results_of config floors events node token)
+SpacedLaw = (config : Config) (start : Start) (events : List WorldEvent) (node token : ℕ) → SpacesFailures (results_of config start events node token)
 
 pub spaced : SpacedLaw → (setting : Setting) (history : List Deed) (node token : ℕ) → IsHistory setting history → SpacesFailures (results_in (scene_of setting history).notes node token)
 spaced law setting history node token g =
     let r = is_run setting history g in
-    subst (λ ns. SpacesFailures (results_in ns node token)) (sym r.1.notes) (law setting.config setting.floors r.0 node token)
+    subst (λ ns. SpacesFailures (results_in ns node token)) (sym r.1.notes) (law setting.config (start_of setting) r.0 node token)
 
 abbrev pub AnsweredLaw : Type 0
-AnsweredLaw = (config : Config) (floors : List (List ℕ)) (events : List WorldEvent) → AreAnswered events (world_of config floors events).told (passes_of config floors events)
+AnsweredLaw = (config : Config) (start : Start) (events : List WorldEvent) → AreAnswered events (world_of config start events).told (passes_of config start events)

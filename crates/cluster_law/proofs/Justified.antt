@@ -10,9 +10,9 @@ use Rattle.oath_node.specs.Machine.{Config}
 use Rattle.cluster_sim.specs.Drifts.{drift_after, drift_before, drift_by, moment_in, moment_of, passes_since}
 use Rattle.cluster_sim.specs.Justified.{IsGroundIn, IsGroundOf}
 use Rattle.cluster_sim.specs.Results.{results_before, results_in}
-use Rattle.cluster_sim.specs.World.{Act, Note, WorldEvent, Happens, Cut, Restart, Lost, Anew, acceptance_in, begun_in, floor_before, passes_in, passes_of, world_of}
+use Rattle.cluster_sim.specs.World.{MayStart, Act, Note, WorldEvent, Happens, Cut, Restart, Lost, Anew, acceptance_in, begun_in, floor_before, passes_in, passes_of, world_of}
 use Rattle.cluster_law.specs.Justified.{IsGroundInDeed, JustifiesAll, drift_in, drift_of_pass, drift_with, moment_in_deed, results_held}
-use Rattle.cluster_law.specs.Lives.{Deed, Opens, FailsToOpen, Takes, Offers, Stops, StopsIn, Loses, Remakes, IsHistory, Setting}
+use Rattle.cluster_law.specs.Lives.{Deed, Opens, FailsToOpen, Takes, Offers, Stops, StopsIn, Loses, Remakes, IsHistory, Setting, start_of}
 use Rattle.cluster_law.specs.Promises.{HasAct, IsEventOf, IsRunOf, nothing}
 use Rattle.cluster_law.proofs.Histories.{JustifiedLaw, is_run}
 use Rattle.cluster_law.proofs.Told.{at_place, by_line}
@@ -74,16 +74,16 @@ in_deed setting history events run next drift results p g =
     at_place (λ o. Ground setting.config next drift results p m o) (λ o. Deeded setting.config next drift results p m o) setting history events p.began run
     (λ z. z.0) (λ d e is h. ground_deed setting.key setting.config next drift results p m d e is h) (g, refl)
 
-same_moments : JustifiedLaw → (setting : Setting) (history : List Deed) (events : List WorldEvent) → IsRunOf setting history events → (event : ℕ) → Each (SameMoment history events) (passes_of setting.config setting.floors (take event events))
-same_moments law setting history events run event =
+same_moments : JustifiedLaw → (setting : Setting) (history : List Deed) (events : List WorldEvent) → MayStart setting.config (start_of setting) → IsRunOf setting history events → (event : ℕ) → Each (SameMoment history events) (passes_of setting.config (start_of setting) (take event events))
+same_moments law setting history events may run event =
     let config = setting.config in
-    let floors = setting.floors in
+    let start = start_of setting in
     let front = take event events in
-    each_of (SameMoment history events) (passes_of config floors front) (λ k p at.
-    let next = floor_before config floors front p.node p.token p.began in
-    let drift = drift_before config floors front p.node p.token p.began in
-    let results = results_before config floors front p.node p.token p.began in
-    let there = taken_there (λ o. IsGroundOf config next drift results p o) event events p.began (λ z. z) (law config floors front k p at) in
+    each_of (SameMoment history events) (passes_of config start front) (λ k p at.
+    let next = floor_before config start front p.node p.token p.began in
+    let drift = drift_before config start front p.node p.token p.began in
+    let results = results_before config start front p.node p.token p.began in
+    let there = taken_there (λ o. IsGroundOf config next drift results p o) event events p.began (λ z. z) (law config start front may k p at) in
     sym (in_deed setting history events run next drift results p there).1)
 
 same_drift : (setting : Setting) (history : List Deed) (events : List WorldEvent) (node token : ℕ) (drift : ℤ) (passes : List Acceptance) → Each (SameMoment history events) passes
@@ -107,11 +107,11 @@ since_each P node (x ∷ notes) h =
     each_parts P [] ys h = (tt, h)
     each_parts P (x ∷ xs) ys h = let r = each_parts P xs ys h.1 in ((h.0, r.0), r.1)
 
-drift_same : JustifiedLaw → (setting : Setting) (history : List Deed) (events : List WorldEvent) → IsRunOf setting history events → (node token event : ℕ)
-    → drift_before setting.config setting.floors events node token event ≡ drift_in setting history node token event
-drift_same law setting history events run node token event =
-    let notes = (world_of setting.config setting.floors (take event events)).history in
-    same_drift setting history events node token (pos 0) (passes_since node notes) (since_each (SameMoment history events) node notes (same_moments law setting history events run event))
+drift_same : JustifiedLaw → (setting : Setting) (history : List Deed) (events : List WorldEvent) → MayStart setting.config (start_of setting) → IsRunOf setting history events → (node token event : ℕ)
+    → drift_before setting.config (start_of setting) events node token event ≡ drift_in setting history node token event
+drift_same law setting history events may run node token event =
+    let notes = (world_of setting.config (start_of setting) (take event events)).history in
+    same_drift setting history events node token (pos 0) (passes_since node notes) (since_each (SameMoment history events) node notes (same_moments law setting history events may run event))
     ∙ ap (λ ns. drift_with setting history node token (pos 0) (passes_since node ns)) (sym (run.notes_before event))
 
 pub justifies_all : JustifiedLaw → (setting : Setting) (history : List Deed) → IsHistory setting history → JustifiesAll setting history
@@ -119,12 +119,12 @@ justifies_all law setting history g = λ i p at.
     let r = is_run setting history g in
     let events = r.0 in
     let config = setting.config in
-    let floors = setting.floors in
-    let next = floor_before config floors events p.node p.token p.began in
-    let drift = drift_before config floors events p.node p.token p.began in
-    let results = results_before config floors events p.node p.token p.began in
-    let ground = law config floors events i p (subst (λ ps. slice_get ps i ≡ Some p) r.1.accepted at) in
+    let start = start_of setting in
+    let next = floor_before config start events p.node p.token p.began in
+    let drift = drift_before config start events p.node p.token p.began in
+    let results = results_before config start events p.node p.token p.began in
+    let ground = law config start events g.starts i p (subst (λ ps. slice_get ps i ≡ Some p) r.1.accepted at) in
     let here : IsGroundInDeed config next drift results p (slice_get history p.began) = (in_deed setting history events r.1 next drift results p ground).0 in
     subst (λ n. IsGroundInDeed config n (drift_in setting history p.node p.token p.began) (results_held setting history p.node p.token p.began) p (slice_get history p.began)) (sym (r.1.floors p.node p.token p.began))
-    (subst (λ d. IsGroundInDeed config next d (results_held setting history p.node p.token p.began) p (slice_get history p.began)) (drift_same law setting history events r.1 p.node p.token p.began)
+    (subst (λ d. IsGroundInDeed config next d (results_held setting history p.node p.token p.began) p (slice_get history p.began)) (drift_same law setting history events g.starts r.1 p.node p.token p.began)
     (subst (λ rs. IsGroundInDeed config next drift rs p (slice_get history p.began)) (ap (λ ns. results_in ns p.node p.token) (sym (r.1.notes_before p.began))) here))

@@ -218,10 +218,10 @@ over_member : {S : Type 0} (held : S → Held) (setting : Setting) (node : ℕ) 
     → run_of held old batches ≡ run_with_batches (member_in setting node) batches (run_at (state_of held old))
 over_member held setting node old batches m = ap (λ n. run_with_batches n batches (run_at (state_of held old))) (same_member setting node old m)
 
-pub serves_node : {S : Type 0} (held : S → Held) (setting : Setting) (node e : ℕ) (ds : List Deed) (old new : Hosted S) (entries : List PortEvent) (asked told : Option (List (Option ℕ))) (turns : ℕ) (served : Served)
+pub serves_node : {S : Type 0} (held : S → Held) (setting : Setting) (node : ℕ) (old new : Hosted S) (entries : List PortEvent) (asked told : Option (List (Option ℕ))) (turns : ℕ) (served : Served)
     → IsMemberIn setting node old → Serves held old new (Some []) (Some entries) asked told turns (Ok served) → (held new.store).is_clean
-    → IsServedNode setting node e ds (state_of held old) (state_of held new) entries
-serves_node held setting node e ds old new entries asked told turns served m s clean =
+    → IsServedNode setting node (state_of held old) (state_of held new) entries
+serves_node held setting node old new entries asked told turns served m s clean =
     let x = s.exact clean in
     let state = state_of held old in
     let batches = s.batches in
@@ -233,15 +233,15 @@ serves_node held setting node e ds old new entries asked told turns served m s c
     record {
       batches = batches;
       received = same_Some (map entry_of (receipts_in batches)) (receives_in entries) s.receives;
-      served = λ serving takes.
+      served = λ e ds serving takes.
           subst (λ es. IsServed setting node e ds state (state_of held new) (offers_in es)) all
           (subst (λ z. IsServed setting node e ds state z (offers_in run.entries)) (sym left) (serves_turns setting node e ds state batches serving takes going));
     }
 
-pub ends_node : {S : Type 0} (held : S → Held) (setting : Setting) (node e : ℕ) (ds : List Deed) (old new : Hosted S) (entries : List PortEvent) (batches : List (List Receipt))
+pub ends_node : {S : Type 0} (held : S → Held) (setting : Setting) (node : ℕ) (old new : Hosted S) (entries : List PortEvent) (batches : List (List Receipt))
     → IsMemberIn setting node old → map entry_of (receipts_in batches) ≡ receives_in entries → Stands held (Some []) new (Some entries) (run_of held old batches)
-    → IsEndedNode setting node e ds (state_of held old) (state_of held new) entries
-ends_node held setting node e ds old new entries batches m received stands =
+    → IsEndedNode setting node (state_of held old) (state_of held new) entries
+ends_node held setting node old new entries batches m received stands =
     let state = state_of held old in
     let run = run_with_batches (member_in setting node) batches (run_at state) in
     let is : run_of held old batches ≡ run = over_member held setting node old batches m in
@@ -254,7 +254,7 @@ ends_node held setting node e ds old new entries batches m received stands =
       gone = x.gone;
       later = x.later;
       split = x.split;
-      served = λ serving takes.
+      served = λ e ds serving takes.
           subst (λ es. IsServed setting node e ds state (state_of held new) (offers_in es)) all
           (subst (λ z. IsServed setting node e ds state z (offers_in run.entries)) (sym left) (served_run setting node e ds state (receipts_in x.gone) run serving takes x.does.does));
     }
@@ -295,10 +295,10 @@ stopped_run setting node e ds s before last count run content g takes does is =
       stops = own_stop setting node e ds (Up s []) whole.node t.left t.site ∙ ap (λ c. Down c) (sym left);
     }
 
-pub fails_node : {S : Type 0} (held : S → Held) (setting : Setting) (node e : ℕ) (ds : List Deed) (old new : Hosted S) (entries : List PortEvent) (batches : List (List Receipt)) (fault : NodeFault) (content : Content)
+pub fails_node : {S : Type 0} (held : S → Held) (setting : Setting) (node : ℕ) (old new : Hosted S) (entries : List PortEvent) (batches : List (List Receipt)) (fault : NodeFault) (content : Content)
     → IsMemberIn setting node old → map entry_of (receipts_in batches) ≡ receives_in entries → FailsAfter held old new (Some []) (Some entries) batches fault → IsSettled (held old.store) → (held new.store).leaves content
-    → IsFailedNode setting node e ds (state_of held old) entries content
-fails_node held setting node e ds old new entries batches fault content m received f settled leaves =
+    → IsFailedNode setting node (state_of held old) entries content
+fails_node held setting node old new entries batches fault content m received f settled leaves =
     let state = state_of held old in
     let n = member_in setting node in
     let before = receipts_in f.before in
@@ -330,7 +330,7 @@ fails_node held setting node e ds old new entries batches fault content m receiv
       received = ap (λ l. map entry_of l) (sym (receipts_end f.before f.last)) ∙ ap (λ l. map entry_of (receipts_in l)) (sym f.batches_are) ∙ received;
       count = among.count;
       within = subst (λ es. among.count ≤ length es) events among.within;
-      served = λ serving takes.
+      served = λ e ds serving takes.
           subst (λ os. IsStopped setting node e ds state os content) (sym offers) (stopped_run setting node e ds state before f.last among.count run content serving takes done.does content_is);
     }
 

@@ -12,7 +12,7 @@ use Rattle.cluster_sim.proofs.Lone.{Lone, LoneStep, happens_lone, start_lone}
 use Rattle.oath_node.specs.ReferenceServer.{Server, restarted_server}
 use Rattle.cluster_sim.specs.SingleNode.{answers_to_event, is_end as ends_world, opening_server, server_after_event, server_after_restart, service_to, told_of_line}
 use Rattle.cluster_sim.specs.World.{Act, Deliver, Noise, Told, World, WorldEvent, Happens, Cut, Restart, floor_in, opening_world, told_reply, world_after_event}
-use Rattle.cluster_law.specs.Lives.{AreGenuine, Deed, Opens, FailsToOpen, Takes, Offers, Stops, StopsIn, Loses, Remakes, Input, Line, Datagram, Time, Handout, Post, Answer, IsHistory, Scene, Setting, Site, Down, Up, answered_in, answers_among, can_be, first_scene, handouts_of, has_store, made_by_input, node_of_deed, nodes_of, offers_by, remade_content, scene_after, scene_after_deed, scene_at, scene_of, site_after}
+use Rattle.cluster_law.specs.Lives.{AreGenuine, Deed, Opens, FailsToOpen, Takes, Offers, Stops, StopsIn, Loses, Remakes, Input, Line, Datagram, Time, Handout, Post, Answer, IsHistory, Scene, Setting, Site, Down, Up, answered_in, answers_among, can_be, first_scene, handouts_of, has_store, made_by_input, node_of_deed, nodes_of, offers_by, remade_content, scene_after, scene_after_deed, scene_at, scene_of, site_after, start_of}
 use Rattle.cluster_law.specs.Promises.{IsActOf, nothing}
 use Rattle.cluster_law.specs.SingleNode.{IsPartOf, answers_to_deed, answers_to_deeds, is_end, is_of_one, reference_of, server_after_deed, setting_of_one}
 use Rattle.cluster_law.proofs.Follow.{IsFollowed, IsFull, IsOneAt, IsSiteAt, Matches, OfStore, answers_by, answers_made, follows, of_event}
@@ -493,6 +493,6 @@ single_node law config key floors history short g =
     let setting = setting_of_one config key floors in
     let start = first_scene setting in
     let made : answers_in setting 0 history start ≡ reference_of config key floors history =
-    deeds_are law setting 1 0 0 history refl (omega (arith, short)) (omega (arith, short)) start (opening_world config (floors ∷ [])) (opening_server config floors) (opening_server config floors) (starts setting) g (start_lone config floors) refl in
+    deeds_are law setting 1 0 0 history refl (omega (arith, short)) (omega (arith, short)) start (opening_world config (start_of setting)) (opening_server config floors) (opening_server config floors) (starts setting) g.genuine (start_lone config floors) refl in
     let part = deeds_part setting 0 history start [] refl tt in
     subst (λ xs. IsPartOf (answered_in setting history) xs) made (part_front (answered_in setting history) (waiting_at ((scene_of setting history).sites 1)) (answers_in setting 0 history start) part)

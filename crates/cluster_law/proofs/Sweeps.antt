@@ -12,7 +12,7 @@ use Rattle.oath_node.specs.Machine.{Config, NodeState, Peer}
 use Rattle.cluster_sim.proofs.Owners.{get_more}
 use Rattle.cluster_sim.specs.Rounds.{AreUp, SweepLevels, deliveries, greatest, is_floor, is_floor_to, is_live, sweep_events, tick_events, turn_events, turns_events}
 use Rattle.cluster_sim.specs.World.{Act, Deliver, Ticks, World, WorldEvent, Happens, acting_node, delivered_event, has_store as has_store_there, node_event_of, world_after_act, world_after_event, world_after_events, world_of, world_with_made}
-use Rattle.cluster_law.specs.Lives.{Deed, Opens, FailsToOpen, Takes, Offers, Stops, StopsIn, Loses, Remakes, Handout, Input, Datagram, Time, Scene, Setting, Site, Down, Up, LeavesStore, content_at, event_of, first_scene, has_store, made_by_input, node_of_deed, nodes_of, scene_after, scene_after_deed, scene_of, site_after, site_half_opened, site_opened}
+use Rattle.cluster_law.specs.Lives.{Deed, Opens, FailsToOpen, Takes, Offers, Stops, StopsIn, Loses, Remakes, Handout, Input, Datagram, Time, Scene, Setting, Site, Down, Up, LeavesStore, content_at, event_of, first_scene, has_store, made_by_input, node_of_deed, nodes_of, scene_after, scene_after_deed, scene_of, site_after, site_half_opened, site_opened, start_of}
 use Rattle.cluster_law.specs.Sweeps.{AreTaken, AreTurns, IsTick, IsTurn, SweepsLevel, greatest_in, is_offer, is_step_of, next_in, sent_by_tick}
 use Rattle.cluster_law.proofs.Follow.{IsSiteAt, acts, has_it}
 use Rattle.cluster_law.proofs.Histories.{whole_run}
@@ -375,7 +375,7 @@ sweeps_level law setting before stretch live g are sweep node is =
     let config = setting.config in
     let old = scene_of setting before in
     let x = whole_run setting before g in
-    let w = world_of config setting.floors x.events in
+    let w = world_of config (start_of setting) x.events in
     let first = length x.events in
     let runs : (j : ℕ) → is_live live j ≡ true → (old.lost j ≡ false) × Holds (old.sites j) (w.nodes j) = λ j live_j.
     site_holds w (old.lost j) (old.sites j) (are j live_j).state (are j live_j).waiting (w.nodes j) (are j live_j).is_up (x.matches.sites j) in
@@ -400,7 +400,7 @@ sweeps_level law setting before stretch live g are sweep node is =
     let there : Holds (new.sites node) (v.nodes node) =
     subst (λ (z : Scene). Holds (z.sites node) (v.nodes node)) (sym whole) (same_holds ((scene_after setting (length before + 0) stretch old).sites node) ((scene_after setting 0 steps old).sites node) (v.nodes node) (like node is) (after.sites node is)) in
     let at = held (new.sites node) (v.nodes node) there in
-    let l = law config setting.floors x.events live up in
+    let l = law config (start_of setting) x.events live up in
     let none = l.1 node is in
     record {
       is_live = record { member = (are node is).member; state = v.nodes node; waiting = at.0; is_up = at.1; running = (l.0 node is).1 };

@@ -1,16 +1,21 @@
 -- What the network may do, byte for byte.
-use Rattle.std.specs.Prelude.{◌≡◌, ℕ, suc, ◌^◌, ◌≤◌, List, [], ◌∷◌, length, Some, slice_get}
+use Rattle.std.specs.Prelude.{◌≡◌, ℕ, suc, ◌+◌, ◌^◌, ◌<◌, ◌≤◌, List, [], ◌∷◌, length, Some, slice_get}
 use Rattle.vote_core.specs.Schedule.{Envelope}
+use Rattle.vote_wire.specs.Body.{HasSpelling}
 use Rattle.vote_wire.specs.Datagram.{datagram_bytes}
 use Rattle.oath_node.specs.Hosted.{envelope_at}
-use Rattle.cluster_sim.specs.World.{floor_at, floor_in}
-use Rattle.cluster_law.specs.Lives.{Deed, Opens, FailsToOpen, Takes, Offers, Stops, StopsIn, Loses, Remakes, Handout, Post, Input, Line, Datagram, Time, Scene, Setting, first_scene, nodes_of, scene_after_deed}
+use Rattle.cluster_sim.specs.World.{MayStart, floor_at, floor_in}
+use Rattle.cluster_law.specs.Lives.{Deed, Opens, FailsToOpen, Takes, Offers, Stops, StopsIn, Loses, Remakes, Handout, Post, Input, Line, Datagram, Time, Scene, Setting, first_scene, made_boot, nodes_of, scene_after_deed, start_of}
 
 -- the ranges of a cluster
 pub record IsSized (setting : Setting) : Type 0 where
   pub tokens : length setting.config.book ≤ 10000
   pub nodes : nodes_of setting ≤ 9
   pub floors : (node token : ℕ) → floor_at setting.floors node token ≤ 2 ^ 62
+  pub boots : (node : ℕ) → made_boot setting node + 1 < 2 ^ 62
+  -- what was sent before has a spelling
+  pub old : (i : ℕ) (envelope : Envelope) → slice_get setting.old i ≡ Some envelope
+      → HasSpelling envelope.sender envelope.receiver envelope.message
 
 -- the bytes are, byte for byte, a datagram that was offered before
 pub record WereOffered (key : List ℕ) (offered : List Handout) (bytes : List ℕ) : Type 0 where
@@ -47,5 +52,6 @@ AreUnforged setting first (deed ∷ deeds) scene =
     × AreUnforged setting (suc first) deeds (scene_after_deed setting first deed scene)
 
 -- a history in which no datagram is forged
-abbrev pub IsUnforgedHistory : Setting → List Deed → Type 0
-IsUnforgedHistory setting history = AreUnforged setting 0 history (first_scene setting)
+pub record IsUnforgedHistory (setting : Setting) (history : List Deed) : Type 0 where
+  pub starts : MayStart setting.config (start_of setting)
+  pub unforged : AreUnforged setting 0 history (first_scene setting)

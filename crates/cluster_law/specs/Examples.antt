@@ -9,16 +9,16 @@ use Rattle.oath_node.specs.Machine.{Made, NodeState, opened_node, quiet_made}
 use Rattle.otp_core.specs.Acceptance.{Acceptance}
 use Rattle.vote_wire.specs.declared.answer.Outcome.TheVariants.{Accepted}
 use Rattle.node_turns.specs.Turns.{FromClient, Receipt}
-use Rattle.cluster_sim.specs.Examples.{acceptance, alone, clock_alone, clock_config, clock_three, config, three, told_outcome}
+use Rattle.cluster_sim.specs.Examples.{acceptance, clock_config, config, told_outcome}
 use Rattle.cluster_sim.specs.World.{Told}
-use Rattle.cluster_law.specs.Lives.{Answer, Datagram, Deed, FailsToOpen, Handout, Input, Line, Loses, Offers, Opens, Post, Remakes, Scene, Setting, Stops, StopsIn, Takes, scene_of}
+use Rattle.cluster_law.specs.Lives.{Answer, Datagram, Deed, FailsToOpen, Handout, Input, Line, Loses, Offers, Opens, Post, Remakes, Scene, Setting, Stops, StopsIn, Takes, first_setting, scene_of}
 use Rattle.cluster_law.specs.SingleNode.{reference_of}
 
 -- ---- One node
 
 -- one node
 abbrev pub one_node : Setting
-one_node = record { config = config; key = []; floors = alone }
+one_node = first_setting config [] ((0 ∷ []) ∷ [])
 
 -- a right line of client 7
 abbrev pub right_line : Input
@@ -64,7 +64,7 @@ strangers = Opens 0 ∷ Takes 0 right_line ∷ Offers 0 ∷ Opens 2 ∷ Takes 2 
 
 -- three nodes, whose first free factor is 0
 abbrev pub three_nodes : Setting
-three_nodes = record { config = config; key = replicate 32 1; floors = three }
+three_nodes = first_setting config (replicate 32 1) (replicate 3 (0 ∷ []))
 
 -- the first proposal of node 1, in its first boot
 abbrev pub first_proposal : ProposalRecord
@@ -158,7 +158,7 @@ first_ok = told_outcome 1 1 7 (codes "1") (Accepted 0)
 
 -- one node with a token that goes by a clock, whose first free factor is 2
 abbrev pub clock_node : Setting
-clock_node = record { config = clock_config 10; key = []; floors = clock_alone }
+clock_node = first_setting (clock_config 10) [] ((2 ∷ []) ∷ [])
 
 -- the code of the step before the present one
 abbrev pub line_behind : Input
@@ -235,7 +235,7 @@ fails_and_loses =
 
 -- three nodes with the token that goes by a clock
 abbrev pub clock_nodes : Setting
-clock_nodes = record clock_node { key = replicate 32 1; floors = clock_three }
+clock_nodes = first_setting (clock_config 10) (replicate 32 1) (replicate 3 (2 ∷ []))
 
 -- node 1 asks for the step before the present one, and node 2 grants it
 abbrev pub ask_behind : Envelope
@@ -249,3 +249,21 @@ abbrev pub drifts_and_loses : List Deed
 drifts_and_loses =
     Opens 1 ∷ Opens 2 ∷ Takes 1 line_behind ∷ Offers 1 ∷ Takes 2 (Datagram 1 (bytes_of ask_behind)) ∷ Offers 2
     ∷ Takes 1 (Datagram 2 (bytes_of grant_behind)) ∷ Loses 1 ∷ Remakes 1 2 (4 ∷ []) ∷ []
+
+-- ---- Stores that were made anew, after former lives
+
+-- the three nodes, on stores that were made at these boots, after this was sent
+abbrev pub nodes_after : List ℕ → Envelope → Setting
+nodes_after boots envelope = record three_nodes { boots = boots; old = envelope ∷ [] }
+
+-- node 1 takes a line, and then the Grant that node 2 sent to its first proposal in a former life
+abbrev pub old_grant_comes : List Deed
+old_grant_comes = Opens 1 ∷ Takes 1 right_line ∷ Takes 1 grant_comes ∷ []
+
+-- the first free factor that node 2 told node 1 in a former life
+abbrev pub old_floor : Envelope
+old_floor = record { sender = 2; receiver = 1; message = Floor 0 1 }
+
+-- it comes to node 1
+abbrev pub old_floor_comes : List Deed
+old_floor_comes = Opens 1 ∷ Takes 1 (Datagram 2 (bytes_of old_floor)) ∷ []

@@ -2,7 +2,7 @@
 -- and end at any moment; and one history of all that they do. A store can be lost, and one can be made in its place
 -- between two lives. It knows no world: what it says of a node is what the contracts of `Node::open` and of the calls
 -- by which a node takes events say of a process over any store.
-use Rattle.std.specs.Prelude.{◌≡◌, ℕ, suc, ◌==◌, nat_le, nat_lt, Bool, true, false, not, ◌&&◌, if◌then◌else◌, List, [], ◌∷◌, ◌++◌, length, map, take, Some, None, slice_get}
+use Rattle.std.specs.Prelude.{◌≡◌, ℕ, suc, ◌+◌, ◌-◌, ◌==◌, nat_le, nat_lt, Bool, true, false, not, ◌&&◌, if◌then◌else◌, List, [], ◌∷◌, ◌++◌, length, map, take, Some, None, slice_get, slice_index_or}
 use Rattle.otp_core.specs.Acceptance.{Acceptance, majority_of, size}
 use Rattle.floor_store.specs.Content.{Content, with_next_boot}
 use Rattle.vote_core.specs.NodeSet.{PlaceRecord, with_node}
@@ -10,18 +10,41 @@ use Rattle.vote_core.specs.Rows.{row}
 use Rattle.vote_core.specs.Schedule.{Envelope, all_most, envelope_from, greatest, is_member, last_boot, opening_rows, without_node}
 use Rattle.oath_node.specs.Hosted.{envelope_at}
 use Rattle.oath_node.specs.Machine.{Config, Made, NodeEvent, NodeState, Client, Peer, Tick, made_by_event, opened_node}
-use Rattle.cluster_sim.specs.World.{Note, Told, floor_at, floor_in as listed_floor, note_anew, note_of, passes_in, told_reply}
+use Rattle.cluster_sim.specs.World.{MayStart, Note, Start, Told, floor_at, floor_in as listed_floor, note_anew, note_of, passes_in, told_reply}
 
--- what is the same at all members: the book and the limits, the key, and the first free factors that the nodes 1, 2 ..
--- were made with
+-- what is the same at all members: the book and the limits, and the key; what the stores of the nodes 1, 2 .. were made
+-- with; and what former lives of these nodes sent under the key, and what may still come
 pub record Setting : Type 0 where
   pub config : Config
   pub key : List ℕ
+  -- their first free factors
   pub floors : List (List ℕ)
+  -- their boots, 0 where the list has none
+  pub boots : List ℕ
+  pub old : List Envelope
+
+-- that of a cluster that never was: its stores are made at boot 0, and nothing was sent
+abbrev pub first_setting : Config → List ℕ → List (List ℕ) → Setting
+first_setting config key floors = record { config = config; key = key; floors = floors; boots = []; old = [] }
 
 -- the number of nodes
 abbrev pub nodes_of : Setting → ℕ
 nodes_of setting = length setting.floors
+
+-- the boot that a node's store was made with
+abbrev pub made_boot : Setting → ℕ → ℕ
+made_boot setting node = slice_index_or setting.boots (node - 1) 0
+
+-- how the written world starts: each node is open in the boot after the one that its store was made with
+abbrev pub start_of : Setting → Start
+start_of setting = record {
+  n = nodes_of setting;
+  opening = record {
+    boot = λ node. made_boot setting node + 1;
+    floor = floor_at setting.floors;
+    old = setting.old;
+  };
+}
 
 -- the place of a node among the members
 abbrev pub place_in : Setting → ℕ → PlaceRecord
@@ -80,10 +103,13 @@ content_at (Up state waiting) = state.content
 abbrev pub with_site : ℕ → Site → (ℕ → Site) → ℕ → Site
 with_site changed site sites node = if node == changed then site else sites node
 
--- what a node's store is made with: boot 0, and these first free factors
+-- what a node's store is made with: its boot, and its first free factors
 abbrev pub made_content : Setting → ℕ → Content
-made_content setting node =
-    record { rows = opening_rows (length setting.config.book) (floor_at setting.floors node); boot = 0; last = None }
+made_content setting node = record {
+  rows = opening_rows (length setting.config.book) (floor_at setting.floors node);
+  boot = made_boot setting node;
+  last = None;
+}
 
 -- what a store that is made in the place of one which held that holds: as many tokens, with these first free factors,
 -- and this boot
@@ -91,13 +117,13 @@ abbrev pub remade_content : Content → ℕ → (ℕ → ℕ) → Content
 remade_content content boot floor =
     record { rows = opening_rows (length content.rows) floor; boot = boot; last = None }
 
--- no process has run yet, and no store was lost
+-- no process has run on these stores yet, and none was lost
 abbrev pub first_scene : Setting → Scene
 first_scene setting = record {
   sites = λ node. Down (made_content setting node);
   lost = λ node. false;
   least = λ token. 0;
-  offered = [];
+  offered = map (λ (envelope : Envelope). Post envelope) setting.old;
   notes = [];
 }
 
@@ -291,7 +317,7 @@ pub record WasOffered (offered : List Handout) (envelope : Envelope) : Type 0 wh
   pub is_there : slice_get offered place ≡ Some (Post envelope)
 
 -- A datagram that says under the key an envelope of the node from whose address it comes says one that this node
--- offered before: in this life or an earlier one, to whom ever, any number of times, however long ago. Of all other
+-- offered before: in this life or an earlier one, on this store or a former one, to whom ever, any number of times, however long ago. Of all other
 -- bytes, from any address, nothing is asked.
 abbrev pub IsGenuine : List ℕ → List Handout → Input → Type 0
 IsGenuine key offered (Line client moment bytes) = Unit {0}
@@ -317,9 +343,11 @@ AreGenuine setting first (deed ∷ deeds) scene =
     IsGenuineDeed setting scene deed
     × AreGenuine setting (suc first) deeds (scene_after_deed setting first deed scene)
 
--- A history of a cluster: deeds of its nodes, in which nobody forges a datagram under the key.
-abbrev pub IsHistory : Setting → List Deed → Type 0
-IsHistory setting history = AreGenuine setting 0 history (first_scene setting)
+-- A history of a cluster: deeds of its nodes, whose stores were made at boots of which nothing old speaks, and in which
+-- nobody forges a datagram under the key.
+pub record IsHistory (setting : Setting) (history : List Deed) : Type 0 where
+  pub starts : MayStart setting.config (start_of setting)
+  pub genuine : AreGenuine setting 0 history (first_scene setting)
 
 -- ---- What is to be seen of a history
 

@@ -111,24 +111,24 @@ pub record CanTakeTurns (setting : Setting) (node : ℕ) (receipts : List Receip
 
 -- ---- A call that serves it, over a port whose record was empty before
 
--- It ended by Ok: there were some receives; and where the deeds of its node are those of a process that goes on and
--- takes turns with these, its state and what it offered, with what is left to offer, is the history's.
-pub record IsServedNode (setting : Setting) (node first : ℕ) (deeds : List Deed) (state new : NodeState)
-    (entries : List PortEvent) : Type 0 where
+-- It ended by Ok: there were some receives; and whatever the deeds are, where those of its node are of a process that
+-- goes on and takes turns with these, its state and what it offered, with what is left to offer, is the history's.
+pub record IsServedNode (setting : Setting) (node : ℕ) (state new : NodeState) (entries : List PortEvent) : Type 0 where
   pub batches : List (List Receipt)
   pub received : map entry_of (receipts_in batches) ≡ receives_in entries
-  pub served : AreServing node deeds → TakesTurns setting node deeds (receipts_in batches)
+  pub served : (first : ℕ) (deeds : List Deed) → AreServing node deeds
+      → TakesTurns setting node deeds (receipts_in batches)
       → IsServed setting node first deeds state new (offers_in entries)
 
 -- It ended by a fault of the port or the clock: the same, with the batches up to the one that had that fault.
-pub record IsEndedNode (setting : Setting) (node first : ℕ) (deeds : List Deed) (state new : NodeState)
-    (entries : List PortEvent) : Type 0 where
+pub record IsEndedNode (setting : Setting) (node : ℕ) (state new : NodeState) (entries : List PortEvent) : Type 0 where
   pub batches : List (List Receipt)
   pub received : map entry_of (receipts_in batches) ≡ receives_in entries
   pub gone : List (List Receipt)
   pub later : List (List Receipt)
   pub split : batches ≡ gone ++ later
-  pub served : AreServing node deeds → TakesTurns setting node deeds (receipts_in gone)
+  pub served : (first : ℕ) (deeds : List Deed) → AreServing node deeds
+      → TakesTurns setting node deeds (receipts_in gone)
       → IsServed setting node first deeds state new (offers_in entries)
 
 -- the events of a batch with these receipts, which comes after those
@@ -160,14 +160,15 @@ pub record IsStopped (setting : Setting) (node first : ℕ) (deeds : List Deed) 
 -- It ended by a fault of the node, and a stop leaves this content: the batches before the last are served. Where the
 -- process takes turns with those, and then the first so many events of the last, and stops, it leaves that content; and
 -- nothing was offered for those events.
-pub record IsFailedNode (setting : Setting) (node first : ℕ) (deeds : List Deed) (state : NodeState)
-    (entries : List PortEvent) (content : Content) : Type 0 where
+pub record IsFailedNode (setting : Setting) (node : ℕ) (state : NodeState) (entries : List PortEvent)
+    (content : Content) : Type 0 where
   pub before : List (List Receipt)
   pub last : List Receipt
   pub received : map entry_of (receipts_in before ++ last) ≡ receives_in entries
   pub count : ℕ
   pub within : count ≤ length (events_after setting.key (receipts_in before) last)
-  pub served : AreServing node deeds → TakesSome setting node deeds (receipts_in before) last count
+  pub served : (first : ℕ) (deeds : List Deed) → AreServing node deeds
+      → TakesSome setting node deeds (receipts_in before) last count
       → IsStopped setting node first deeds state (offers_in entries) content
 
 -- it didn't end by a fault of the node

@@ -6,7 +6,7 @@ use Rattle.cluster_sim.specs.Answered.{IsOk, IsTextOf, NamePasses, TellTruth, ok
 use Rattle.vote_wire.specs.Request.{without_lf}
 use Rattle.cluster_sim.specs.Justified.{AreJustified}
 use Rattle.cluster_sim.specs.World.{Act, Says, Deliver, Ticks, Noise, Told, WorldEvent, Happens, Cut, Restart, Lost, Anew, floor_before, passes_of, world_before, world_of}
-use Rattle.cluster_law.specs.Lives.{Deed, Opens, FailsToOpen, Takes, Offers, Stops, StopsIn, Loses, Remakes, Input, Line, Datagram, Time, Setting, accepted_in, answered_in, floor_in, scene_of}
+use Rattle.cluster_law.specs.Lives.{Deed, Opens, FailsToOpen, Takes, Offers, Stops, StopsIn, Loses, Remakes, Input, Line, Datagram, Time, Setting, accepted_in, answered_in, floor_in, scene_of, start_of}
 
 -- the event in which nothing happens: there is no node 0
 abbrev pub nothing : WorldEvent
@@ -57,21 +57,21 @@ pub record IsToldAmong (told : Told) (answers : List Told) : Type 0 where
 pub record IsRunOf (setting : Setting) (history : List Deed) (events : List WorldEvent) : Type 0 where
   pub number : length events ≡ length history
   pub each : (place : ℕ) (deed : Deed) → slice_get history place ≡ Some deed → HasEvent setting.key deed place events
-  pub notes : (scene_of setting history).notes ≡ (world_of setting.config setting.floors events).history
+  pub notes : (scene_of setting history).notes ≡ (world_of setting.config (start_of setting) events).history
   pub notes_before : (event : ℕ) → (scene_of setting (take event history)).notes
-      ≡ (world_before setting.config setting.floors events event).history
-  pub accepted : accepted_in setting history ≡ passes_of setting.config setting.floors events
+      ≡ (world_before setting.config (start_of setting) events event).history
+  pub accepted : accepted_in setting history ≡ passes_of setting.config (start_of setting) events
   pub floors : (node token event : ℕ) → floor_in setting history node token event
-      ≡ floor_before setting.config setting.floors events node token event
+      ≡ floor_before setting.config (start_of setting) events node token event
   pub answered : (place : ℕ) (told : Told) → slice_get (answered_in setting history) place ≡ Some told
-      → IsToldAmong told (world_of setting.config setting.floors events).told
+      → IsToldAmong told (world_of setting.config (start_of setting) events).told
 
 -- There is such a run. By it each acceptance of the history is justified by the client's line with which it began; each
 -- `OK` that was offered belongs to an acceptance, and no other answer that was offered begins as one.
 pub record IsExplained (setting : Setting) (history : List Deed) : Type 0 where
   pub events : List WorldEvent
   pub is_run : IsRunOf setting history events
-  pub justified : AreJustified setting.config setting.floors events (accepted_in setting history)
+  pub justified : AreJustified setting.config (start_of setting) events (accepted_in setting history)
   pub told : NamePasses events (accepted_in setting history) (answered_in setting history)
   pub no_other : TellTruth events (accepted_in setting history) (answered_in setting history)
 

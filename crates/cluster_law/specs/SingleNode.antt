@@ -4,7 +4,7 @@ use Rattle.oath_node.specs.Machine.{Config}
 use Rattle.oath_node.specs.ReferenceServer.{Server, restarted_server}
 use Rattle.cluster_sim.specs.SingleNode.{opening_server, service_to, told_of_line}
 use Rattle.cluster_sim.specs.World.{Told}
-use Rattle.cluster_law.specs.Lives.{Deed, Opens, Takes, StopsIn, Loses, Remakes, Line, Setting, Site, Down, Up, first_scene, node_of_deed, site_after}
+use Rattle.cluster_law.specs.Lives.{Deed, Opens, Takes, StopsIn, Loses, Remakes, Line, Setting, Site, Down, Up, first_scene, first_setting, node_of_deed, site_after}
 
 -- The server after a deed at the node, which had this site before. What reaches it is each line that a process took and
 -- whose change was kept, also where it ended inside that step; a process that opens forgets the answers that were kept.
@@ -46,7 +46,7 @@ answers_to_deeds setting first (deed ∷ deeds) site server =
 
 -- a cluster of one node, with these first free factors
 abbrev pub setting_of_one : Config → List ℕ → List ℕ → Setting
-setting_of_one config key floors = record { config = config; key = key; floors = floors ∷ [] }
+setting_of_one config key floors = first_setting config key (floors ∷ [])
 
 -- what the server with these first free factors tells in a history of that one node
 abbrev pub reference_of : Config → List ℕ → List ℕ → List Deed → List Told

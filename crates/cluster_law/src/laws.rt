@@ -26,9 +26,9 @@ ghost use Rattle.node_turns.specs.declared.fault.ServeFault.TheVariants.{Clock, 
 ghost use Rattle.node_turns.specs.declared.turns.Served.{Served};
 ghost use Rattle.cluster_law.specs.Answered.{AnswersAll, EndsProcess, HasYetToOffer, IsAnsweredInDeed, IsLost, IsOfferedOrEnds};
 ghost use Rattle.cluster_law.specs.Bytes.{IsSized, IsUnforgedHistory};
-ghost use Rattle.cluster_law.specs.Examples.{accepts_anew, among_strangers, answer_out, answers_once, clock_node, clock_nodes, comes_to_no_store, comes_to_nobody, content_of_boot, drifts_and_loses, ends_after_the_answer, ends_before_the_answer, ends_behind, ends_in_the_step, fails_and_loses, first_ok, first_pass, floor_comes, floor_out, grant_before_its_offer, grant_from, granted_by_two, loses_one, loses_two, made_anew, one_node, one_open, opens_twice, quiet_node, right_line, right_receipt, stop_in_a_forged_grant, strangers, takes_behind, takes_twice, tells_both, three_nodes, told_by_reference, two_open, uneven_nodes};
+ghost use Rattle.cluster_law.specs.Examples.{accepts_anew, among_strangers, answer_out, answers_once, clock_node, clock_nodes, comes_to_no_store, comes_to_nobody, content_of_boot, drifts_and_loses, ends_after_the_answer, ends_before_the_answer, ends_behind, ends_in_the_step, fails_and_loses, first_ok, first_pass, floor_comes, floor_out, grant, grant_before_its_offer, grant_from, granted_by_two, loses_one, loses_two, made_anew, nodes_after, old_floor, old_floor_comes, old_grant_comes, one_node, one_open, opens_twice, quiet_node, right_line, right_receipt, stop_in_a_forged_grant, strangers, takes_behind, takes_twice, tells_both, three_nodes, told_by_reference, two_open, uneven_nodes};
 ghost use Rattle.cluster_law.specs.Justified.{IsJustifiedInDeed, JustifiesAll, drift_in, moment_in_deed, results_held};
-ghost use Rattle.cluster_law.specs.Lives.{Deed, Down, Input, IsHistory, LeaveStore, Loses, Offers, Opens, Remakes, Scene, Setting, Site, Stops, StopsIn, Takes, Time, Up, accepted_in, answered_in, answers_among, content_at, event_of, first_scene, floor_in, handouts_of, has_store, made_by_input, made_content, nodes_of, offers_by, own_site, scene_after, scene_of, site_after, site_cut, site_half_opened, site_offered, site_opened};
+ghost use Rattle.cluster_law.specs.Lives.{Deed, Down, Input, IsHistory, LeaveStore, Loses, Offers, Opens, Post, Remakes, Scene, Setting, Site, Stops, StopsIn, Takes, Time, Up, accepted_in, answered_in, answers_among, content_at, event_of, first_scene, floor_in, handouts_of, has_store, made_boot, made_by_input, made_content, nodes_of, offers_by, own_site, scene_after, scene_of, site_after, site_cut, site_half_opened, site_offered, site_opened, start_of};
 ghost use Rattle.cluster_law.specs.Processes.{AreServing, CanTakeSome, CanTakeTurns, IsEndedNode, IsFailedNode, IsHalfOpened, IsMemberIn, IsNoFaultOfNode, IsServed, IsServedNode, TakesSome, TakesTurns, item_of, member_in, run_over};
 ghost use Rattle.cluster_law.specs.Promises.{AnswerTruly, IsExplained, IsRunOf};
 ghost use Rattle.cluster_law.specs.SingleNode.{IsPartOf, reference_of, setting_of_one};
@@ -182,27 +182,27 @@ pub fn turns_are_deeds()
 /// What `run_turns` promises of a call over any store and a port that keeps a record, is what a history says of such a
 /// process.
 pub fn served_nodes_are_deeds<S: FloorStore>()
-    ensures ok { (setting : Setting) (place first : ℕ) (deeds : List Deed) (old new : Hosted S)
-        (entries : List PortEvent) (asked told : Option (List (Option ℕ))) (turns : ℕ) (served : Served)
+    ensures ok { (setting : Setting) (place : ℕ) (old new : Hosted S) (entries : List PortEvent)
+        (asked told : Option (List (Option ℕ))) (turns : ℕ) (served : Served)
         → IsMemberIn setting place old
         → Serves S.held old new (Some []) (Some entries) asked told turns (Ok served) → (S.held new.store).is_clean
-        → IsServedNode setting place first deeds (state_of S.held old) (state_of S.held new) entries }
-    ensures port { (setting : Setting) (place first : ℕ) (deeds : List Deed) (old new : Hosted S)
-        (entries : List PortEvent) (asked told : Option (List (Option ℕ))) (turns : ℕ) → IsMemberIn setting place old
+        → IsServedNode setting place (state_of S.held old) (state_of S.held new) entries }
+    ensures port { (setting : Setting) (place : ℕ) (old new : Hosted S) (entries : List PortEvent)
+        (asked told : Option (List (Option ℕ))) (turns : ℕ) → IsMemberIn setting place old
         → Serves S.held old new (Some []) (Some entries) asked told turns (Err Port) → (S.held new.store).is_clean
-        → IsEndedNode setting place first deeds (state_of S.held old) (state_of S.held new) entries }
-    ensures clock { (setting : Setting) (place first : ℕ) (deeds : List Deed) (old new : Hosted S)
-        (entries : List PortEvent) (asked told : Option (List (Option ℕ))) (turns : ℕ) → IsMemberIn setting place old
+        → IsEndedNode setting place (state_of S.held old) (state_of S.held new) entries }
+    ensures clock { (setting : Setting) (place : ℕ) (old new : Hosted S) (entries : List PortEvent)
+        (asked told : Option (List (Option ℕ))) (turns : ℕ) → IsMemberIn setting place old
         → Serves S.held old new (Some []) (Some entries) asked told turns (Err Clock) → (S.held new.store).is_clean
-        → IsEndedNode setting place first deeds (state_of S.held old) (state_of S.held new) entries }
+        → IsEndedNode setting place (state_of S.held old) (state_of S.held new) entries }
     // A fault of the node: whatever a stop leaves then is what a process leaves that took the first so many events of
     // the last batch, and stopped before it offered anything of it.
-    ensures node { (setting : Setting) (place first : ℕ) (deeds : List Deed) (old new : Hosted S)
-        (entries : List PortEvent) (asked told : Option (List (Option ℕ))) (turns : ℕ) (fault : NodeFault)
+    ensures node { (setting : Setting) (place : ℕ) (old new : Hosted S) (entries : List PortEvent)
+        (asked told : Option (List (Option ℕ))) (turns : ℕ) (fault : NodeFault)
         (content : Content) → IsMemberIn setting place old
         → Serves S.held old new (Some []) (Some entries) asked told turns (Err (Node fault))
         → (S.held new.store).is_clean → IsSettled (S.held old.store) → (S.held new.store).leaves content
-        → IsFailedNode setting place first deeds (state_of S.held old) entries content }
+        → IsFailedNode setting place (state_of S.held old) entries content }
     // After all other ends a stop leaves the content of the node that the call left, and nothing else.
     ensures stops { (old new : Hosted S) (entries : List PortEvent) (asked told : Option (List (Option ℕ)))
         (turns : ℕ) (result : Result Served ServeFault) (content : Content)
@@ -276,6 +276,24 @@ pub fn losses_are_worked()
     ensures result_is_gone { results_held uneven_nodes fails_and_loses 1 0 4 ≡ [] }
     ensures drift { drift_in clock_nodes drifts_and_loses 1 0 8 ≡ negsuc 0 }
     ensures drift_is_gone { drift_in clock_nodes drifts_and_loses 1 0 9 ≡ pos 0 }
+{}
+
+/// Stores that were made anew after former lives, worked through: a Grant of a former life counts for nothing at a store
+/// that was made at a boot as late as that life's, and would count at one that was made before, which is no history; a
+/// first free factor that was told in a former life counts.
+pub fn former_lives_are_worked()
+    ensures made { (first_scene (nodes_after (4 ∷ []) grant)).sites 1
+        ≡ Down (record (made_content three_nodes 1) { boot = 4 }) }
+    ensures made_at_0 { made_boot (nodes_after (4 ∷ []) grant) 2 ≡ 0 }
+    ensures made_third { made_boot (nodes_after (4 ∷ 5 ∷ 6 ∷ []) grant) 3 ≡ 6 }
+    ensures opens { (start_of (nodes_after (4 ∷ []) grant)).opening.boot 1 ≡ 5 }
+    ensures was_offered { (first_scene (nodes_after [] grant)).offered ≡ Post grant ∷ [] }
+    ensures grant_of_before { accepted_in (nodes_after (1 ∷ []) grant) old_grant_comes ≡ [] }
+    ensures grant_at_its_boot { accepted_in (nodes_after [] grant) old_grant_comes ≡ acceptance 1 2 1 0 0 ∷ [] }
+    ensures floor_of_before { floor_in (nodes_after [] old_floor) old_floor_comes 1 0 2 ≡ 1 }
+    ensures is_history { IsHistory (nodes_after (1 ∷ []) grant) old_grant_comes }
+    ensures used_boot { IsHistory (nodes_after [] grant) old_grant_comes → ⊥ }
+    ensures never_sent { IsHistory (nodes_after (1 ∷ []) old_floor) old_grant_comes → ⊥ }
 {}
 
 /// What makes no history: a datagram under the key that its sender has not offered yet, or never. Noise makes one.

@@ -17,7 +17,7 @@ use Rattle.oath_node.specs.Machine.{Config, NodeState, NodeEvent, Client, Peer, 
 use Rattle.oath_node.specs.declared.ruling.Ruling.{Ruling}
 use Rattle.oath_node.specs.declared.ruling.Ruling.TheVariants.{Outside, Again, Waiting, Denied, Wrong, Fitting}
 use Rattle.cluster_sim.specs.Drifts.{drift_after, drift_before, drift_by, drift_kept, moment_in, passes_since}
-use Rattle.cluster_sim.specs.World.{World, Note, Act, Says, Deliver, Ticks, Noise, WorldEvent, Happens, Cut, Restart, Lost, Anew, floor_in, has_store, lost_node, may_be_anew, note_anew, opening_node, with_state, world_after_anew, world_after_loss, acting_node, delivered_event, node_event_of, place_at, note_of, world_with_made, world_after_turn, world_after_act, node_of, world_after_restart, with_told_of, world_after_event, world_after_events, world_before, opening_world, floor_at, begun_with, begun_in, acceptance_in}
+use Rattle.cluster_sim.specs.World.{World, Note, Act, Says, Deliver, Ticks, Noise, WorldEvent, Happens, Cut, Restart, Lost, Anew, floor_in, has_store, lost_node, may_be_anew, note_anew, opening_node, with_state, world_after_anew, world_after_loss, acting_node, delivered_event, node_event_of, place_at, note_of, world_with_made, world_after_turn, world_after_act, node_of, world_after_restart, with_told_of, world_after_event, world_after_events, world_before, opening_world, floor_at, begun_with, begun_in, acceptance_in, Start}
 use Rattle.cluster_sim.proofs.Acts.{noise_cases}
 use Rattle.cluster_sim.proofs.BelowLaws.{GroundLaw}
 use Rattle.cluster_sim.proofs.Servers.{gated_drift}
@@ -312,10 +312,10 @@ run_drifted law config events (x ∷ xs) e w goes sound h =
 
 -- ---- the start
 
-start_drifted : (config : Config) (floors : List (List ℕ)) (events : List WorldEvent) → AllDrifted config events (opening_world config floors)
-start_drifted config floors events i = record {
+start_drifted : (config : Config) (start : Start) (events : List WorldEvent) → AllDrifted config events (opening_world config start)
+start_drifted config start events i = record {
   pending = tt;
-  drifts = λ t lt. opening_drift (length config.book) (floor_at floors i) t;
+  drifts = λ t lt. opening_drift (length config.book) (start.opening.floor i) t;
 }
 
 taken : (events : List WorldEvent) (n k : ℕ) → k < length (take n events) → slice_get (take n events) k ≡ slice_get events k
@@ -326,11 +326,11 @@ taken (x ∷ events) (suc n) zero lt = refl
 taken (x ∷ events) (suc n) (suc k) lt = taken events n k (omega (arith, lt))
 
 -- the drifts of the nodes before an event are those by the acceptances before it
-pub drifts_before : GroundLaw → (config : Config) (floors : List (List ℕ)) (events : List WorldEvent) (n i t : ℕ) → t < length config.book
-    → (row ((world_before config floors events n).nodes i).content t).drift ≡ drift_before config floors events i t n
-drifts_before law config floors events n i t lt =
-    (run_drifted law config events (take n events) 0 (opening_world config floors) (λ k m below at. taken events n k below ∙ ap (λ j. slice_get events j) (same k m at))
-    (start_sound config floors) (start_drifted config floors events) i).drifts t lt
+pub drifts_before : GroundLaw → (config : Config) (start : Start) (events : List WorldEvent) (n i t : ℕ) → t < length config.book
+    → (row ((world_before config start events n).nodes i).content t).drift ≡ drift_before config start events i t n
+drifts_before law config start events n i t lt =
+    (run_drifted law config events (take n events) 0 (opening_world config start) (λ k m below at. taken events n k below ∙ ap (λ j. slice_get events j) (same k m at))
+    (start_sound config start) (start_drifted config start events) i).drifts t lt
   where
     same : (k m : ℕ) → m ≡ 0 + k → k ≡ m
     same k m at = omega (arith, at)

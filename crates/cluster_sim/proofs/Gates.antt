@@ -15,7 +15,7 @@ use Rattle.oath_node.specs.declared.ruling.Ruling.{Ruling}
 use Rattle.oath_node.specs.declared.ruling.Ruling.TheVariants.{Outside, Again, Waiting, Denied, Wrong, Fitting}
 use Rattle.oath_node.specs.Machine.{Config, NodeState, NodeEvent, Client, Peer, Tick, Made, Owner, Beginning, quiet_made, stopped_node, gate_with_failure, made_by_vote, next_beginning, made_by_proposal, made_by_ruling, made_by_datagram, is_heard, made_while_running, made_by_event, ruling_at, standing_at, restarted_node}
 use Rattle.vote_core.specs.Schedule.{content_with_gate}
-use Rattle.cluster_sim.specs.World.{World, WorldEvent, Happens, Cut, Restart, Lost, Anew, floor_in, has_store, lost_node, may_be_anew, opening_node, world_after_anew, world_after_loss, world_with_made, world_after_turn, world_after_act, node_event_of, place_at, acting_node, node_of, world_after_restart, with_told_of, world_after_event, world_after_events, opening_world, floor_at}
+use Rattle.cluster_sim.specs.World.{World, WorldEvent, Happens, Cut, Restart, Lost, Anew, floor_in, has_store, lost_node, may_be_anew, opening_node, world_after_anew, world_after_loss, world_with_made, world_after_turn, world_after_act, node_event_of, place_at, acting_node, node_of, world_after_restart, with_told_of, world_after_event, world_after_events, opening_world, floor_at, Start}
 use Rattle.cluster_sim.specs.Results.{results_with_failure, results_with_pass, results_in, results_of}
 use Rattle.cluster_sim.proofs.Refinement.{cluster_of}
 use Rattle.cluster_sim.proofs.BelowLaws.{GroundLaw, GateLaw, SpaceLaw}
@@ -215,15 +215,15 @@ run_gated grounds law config e [] w sized h = h
 run_gated grounds law config e (x ∷ xs) w sized h =
     run_gated grounds law config (suc e) xs (world_after_event config e x w) (next_sized grounds config e x w sized) (happens_gated grounds law config e x w sized h)
 
-start_gated : GateLaw → (config : Config) (floors : List (List ℕ)) → Gated (length config.book) (opening_world config floors)
-start_gated law config floors = record {
-  gates = λ i t lt. opening_gate (length config.book) (floor_at floors i) t ∙ sym law.start;
+start_gated : GateLaw → (config : Config) (start : Start) → Gated (length config.book) (opening_world config start)
+start_gated law config start = record {
+  gates = λ i t lt. opening_gate (length config.book) (start.opening.floor i) t ∙ sym law.start;
   opened = λ i t. tt;
 }
 
-pub all_gated : GroundLaw → GateLaw → (config : Config) (floors : List (List ℕ)) (events : List WorldEvent) → Gated (length config.book) (world_after_events config 0 events (opening_world config floors))
-all_gated grounds law config floors events = run_gated grounds law config 0 events (opening_world config floors) (start_sized config floors) (start_gated law config floors)
+pub all_gated : GroundLaw → GateLaw → (config : Config) (start : Start) (events : List WorldEvent) → Gated (length config.book) (world_after_events config 0 events (opening_world config start))
+all_gated grounds law config start events = run_gated grounds law config 0 events (opening_world config start) (start_sized config start) (start_gated law config start)
 
 -- failures are far apart
-pub spaced : GroundLaw → GateLaw → SpaceLaw → (config : Config) (floors : List (List ℕ)) (events : List WorldEvent) (i t : ℕ) → SpacesFailures (results_of config floors events i t)
-spaced grounds law spaces config floors events i t = spaces (results_of config floors events i t) ((all_gated grounds law config floors events).opened i t)
+pub spaced : GroundLaw → GateLaw → SpaceLaw → (config : Config) (start : Start) (events : List WorldEvent) (i t : ℕ) → SpacesFailures (results_of config start events i t)
+spaced grounds law spaces config start events i t = spaces (results_of config start events i t) ((all_gated grounds law config start events).opened i t)

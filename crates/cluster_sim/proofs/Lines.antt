@@ -12,7 +12,7 @@ use Rattle.vote_wire.specs.Request.{without_lf}
 use Rattle.oath_node.specs.declared.ruling.Ruling.{Ruling}
 use Rattle.oath_node.specs.declared.ruling.Ruling.TheVariants.{Outside, Again, Waiting, Denied, Wrong, Fitting}
 use Rattle.oath_node.specs.Machine.{Config, is_heard, standing_at, ruling_at}
-use Rattle.cluster_sim.specs.World.{World, Act, Says, Deliver, Ticks, Noise, WorldEvent, Happens, Cut, Restart, Lost, Anew, world_after_event, world_after_events, opening_world, place_at, world_before, passes_of}
+use Rattle.cluster_sim.specs.World.{World, Act, Says, Deliver, Ticks, Noise, WorldEvent, Happens, Cut, Restart, Lost, Anew, world_after_event, world_after_events, opening_world, place_at, world_before, passes_of, MayStart, Start}
 use Rattle.cluster_sim.proofs.Refinement.{vote_on_ruling, vote_on_datagram, vote_of, vote_event, vote_events}
 use Rattle.cluster_sim.specs.Drifts.{drift_before}
 use Rattle.cluster_sim.specs.Justified.{IsGround, IsGroundIn, IsGroundOf, AreJustified}
@@ -97,7 +97,7 @@ vote_found config zero e (x ∷ xs) w = refl
 vote_found config (suc k) e [] w = refl
 vote_found config (suc k) e (x ∷ xs) w = vote_found config k (suc e) xs (world_after_event config e x w)
 
-pub justified : GroundLaw → GateLaw → VoteLaw → (config : Config) (floors : List (List ℕ)) (events : List WorldEvent) → AreJustified config floors events (passes_of config floors events)
-justified grounds law votes config floors events k p at =
-    event_back grounds law config (world_before config floors events p.began) (λ i t. drift_before config floors events i t p.began) (all_gated grounds law config floors (take p.began events)) (drifts_before grounds config floors events p.began) p (slice_get events p.began)
-    (subst (λ o. IsProposedIn p o) (vote_found config p.began 0 events (opening_world config floors)) (proposed grounds votes config floors events k p at))
+pub justified : GroundLaw → GateLaw → VoteLaw → (config : Config) (start : Start) (events : List WorldEvent) → MayStart config start → AreJustified config start events (passes_of config start events)
+justified grounds law votes config start events may k p at =
+    event_back grounds law config (world_before config start events p.began) (λ i t. drift_before config start events i t p.began) (all_gated grounds law config start (take p.began events)) (drifts_before grounds config start events p.began) p (slice_get events p.began)
+    (subst (λ o. IsProposedIn p o) (vote_found config p.began 0 events (opening_world config start)) (proposed grounds votes config start events may k p at))

@@ -21,7 +21,7 @@ use Rattle.oath_node.specs.declared.ruling.Ruling.{Ruling}
 use Rattle.oath_node.specs.declared.ruling.Ruling.TheVariants.{Again, Denied, Fitting, Outside, Waiting, Wrong}
 use Rattle.vote_wire.specs.Request.{without_lf}
 use Rattle.cluster_sim.specs.SingleNode.{answers_to_act, answers_to_event, front_of, is_end, opening_server, reference_answers, server_after_act, server_after_event, server_after_restart, told_of_line}
-use Rattle.cluster_sim.specs.World.{World, Told, Act, Says, Deliver, Ticks, Noise, WorldEvent, Happens, Cut, Restart, Lost, Anew, acting_node, floor_in, has_store, may_be_anew, node_event_of, world_after_anew, world_after_loss, delivered_event, noise_event, place_at, with_state, told_reply, world_with_made, world_after_turn, world_after_act, node_if_sent, node_of, world_after_restart, with_told_of, world_after_event, world_after_events, opening_world, floor_at, report_of}
+use Rattle.cluster_sim.specs.World.{World, Told, Act, Says, Deliver, Ticks, Noise, WorldEvent, Happens, Cut, Restart, Lost, Anew, acting_node, floor_in, has_store, may_be_anew, node_event_of, world_after_anew, world_after_loss, delivered_event, noise_event, place_at, with_state, told_reply, world_with_made, world_after_turn, world_after_act, node_if_sent, node_of, world_after_restart, with_told_of, world_after_event, world_after_events, opening_world, floor_at, report_of, first_start}
 use Rattle.cluster_sim.proofs.Acts.{noise_cases, unheard, unread}
 use Rattle.cluster_sim.proofs.BelowLaws.{AloneLaw}
 use Rattle.cluster_sim.proofs.Shape.{right_nil}
@@ -415,7 +415,7 @@ gates_none : (k : ℕ) → gates_of (replicate k []) ≡ replicate k clear_gate
 gates_none zero = refl
 gates_none (suc k) = ap (λ gates. clear_gate ∷ gates) (gates_none k)
 
-pub start_lone : (config : Config) (floors : List ℕ) → Lone 1 0 (opening_world config (floors ∷ [])) (opening_server config floors)
+pub start_lone : (config : Config) (floors : List ℕ) → Lone 1 0 (opening_world config (first_start (floors ∷ []))) (opening_server config floors)
 start_lone config floors =
     let k = length config.book in
     let floor = floor_at (floors ∷ []) 1 in
@@ -440,6 +440,6 @@ start_lone config floors =
     }
 
 pub single_node : AloneLaw → (config : Config) (floors : List ℕ) (events : List WorldEvent) → 1 + length events < 2 ^ 62
-    → (report_of config (floors ∷ []) events).answers ≡ reference_answers config 0 events (opening_server config floors)
+    → (report_of config (first_start (floors ∷ [])) events).answers ≡ reference_answers config 0 events (opening_server config floors)
 single_node law config floors events short =
-    run_lone law config events 1 0 0 (opening_world config (floors ∷ [])) (opening_server config floors) (omega (arith, short)) (omega (arith, short)) (start_lone config floors)
+    run_lone law config events 1 0 0 (opening_world config (first_start (floors ∷ []))) (opening_server config floors) (omega (arith, short)) (omega (arith, short)) (start_lone config floors)

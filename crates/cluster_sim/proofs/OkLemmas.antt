@@ -20,7 +20,7 @@ use Rattle.cluster_sim.specs.Answered.{IsOk, ok_bytes, IsTextOf, IsAskedIn, Name
 use Rattle.cluster_sim.specs.Justified.{IsGround, IsGroundOf}
 use Rattle.cluster_sim.specs.Drifts.{drift_before}
 use Rattle.cluster_sim.specs.Results.{results_before}
-use Rattle.cluster_sim.specs.World.{Says, Deliver, Ticks, Noise, WorldEvent, Happens, Cut, Restart, Lost, Anew, floor_before, report_of}
+use Rattle.cluster_sim.specs.World.{Says, Deliver, Ticks, Noise, WorldEvent, Happens, Cut, Restart, Lost, Anew, floor_before, report_of, MayStart, Start}
 use Rattle.cluster_sim.proofs.BelowLaws.{GroundLaw, GateLaw, VoteLaw}
 use Rattle.cluster_sim.proofs.Lines.{justified}
 use Rattle.cluster_sim.proofs.Reports.{tell_truth}
@@ -109,12 +109,12 @@ ground_factor config next drift results p (Some (Restart i)) h = absurd h
 ground_factor config next drift results p (Some (Lost i)) h = absurd h
 ground_factor config next drift results p (Some (Anew i boot floors)) h = absurd h
 
-pub name_passes : GroundLaw → GateLaw → VoteLaw → (config : Config) (floors : List (List ℕ)) (events : List WorldEvent) → let report = report_of config floors events in NamePasses events report.passes report.answers
-name_passes grounds gates votes config floors events k t nonce hi at is_nonce is_factor bytes =
-    let b = tell_truth grounds config floors events k t at (subst IsOk (sym bytes) (begins_ok nonce hi)) in
+pub name_passes : GroundLaw → GateLaw → VoteLaw → (config : Config) (start : Start) (events : List WorldEvent) → MayStart config start → let report = report_of config start events in NamePasses events report.passes report.answers
+name_passes grounds gates votes config start events may k t nonce hi at is_nonce is_factor bytes =
+    let b = tell_truth grounds config start events k t at (subst IsOk (sym bytes) (begins_ok nonce hi)) in
     let q = b.belongs in
-    let last = subst IsFactor q.last (ground_factor config (floor_before config floors events q.pass.node q.pass.token q.pass.began) (drift_before config floors events q.pass.node q.pass.token q.pass.began) (results_before config floors events q.pass.node q.pass.token q.pass.began) q.pass (slice_get events q.pass.began)
-    (justified grounds gates votes config floors events q.place q.pass q.is_pass)) in
+    let last = subst IsFactor q.last (ground_factor config (floor_before config start events q.pass.node q.pass.token q.pass.began) (drift_before config start events q.pass.node q.pass.token q.pass.began) (results_before config start events q.pass.node q.pass.token q.pass.began) q.pass (slice_get events q.pass.began)
+    (justified grounds gates votes config start events may q.place q.pass q.is_pass)) in
     let same = same_ok b.nonce nonce b.hi hi (asked_nonce t.node t.client q.line b.nonce (slice_get events q.pass.began) q.asked) is_nonce last is_factor (sym b.bytes ∙ bytes) in
     record {
       place = q.place;

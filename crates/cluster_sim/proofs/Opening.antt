@@ -16,7 +16,7 @@ use Rattle.oath_node.specs.Hosted.{Hosted}
 use Rattle.oath_node.specs.Machine.{Config, opened_node}
 use Rattle.cluster_sim.specs.Journal.{AreHosts, IsHost, IsRun, no_journal}
 use Rattle.cluster_sim.specs.Run.{floor_lists}
-use Rattle.cluster_sim.specs.World.{floor_at, floor_in, opening_node, opening_world}
+use Rattle.cluster_sim.specs.World.{first_start, floor_at, floor_in, opening_node, opening_world}
 
 map_snoc : {A B : Type 0} (f : A → B) (xs : List A) (y : A) → map f (xs ++ y ∷ []) ≡ map f xs ++ f y ∷ []
 map_snoc f [] y = refl
@@ -63,7 +63,7 @@ of_snoc P (a ∷ xs) y old new (suc j) x e = of_snoc (λ i z. P (suc i) z) xs y 
 -- so many nodes are open
 pub record AreOpen (config : Config) (key : List ℕ) (lists : List (Vec ℕ)) (count : ℕ) (hosts : List (Hosted Content)) : Type 0 where
   pub size : length hosts ≡ count
-  pub hosts_are : AreHosts config key (length lists) (opening_world config (floor_lists lists)).lost (opening_world config (floor_lists lists)).nodes hosts
+  pub hosts_are : AreHosts config key (length lists) (opening_world config (first_start (floor_lists lists))).lost (opening_world config (first_start (floor_lists lists))).nodes hosts
 
 pub none_open : (config : Config) (key : List ℕ) (lists : List (Vec ℕ)) (hosts : List (Hosted Content)) → hosts ≡ [] → AreOpen config key lists 0 hosts
 none_open config key lists hosts is = record {
@@ -85,9 +85,9 @@ one_open : (config : Config) (key : List ℕ) (lists : List (Vec ℕ)) (k : ℕ)
     → AreOpen config key lists k old → AreOpen config key lists (k + 1) new
 one_open config key lists k d floors place old new h within are at is host opened = record {
   size = ap (λ (l : List (Hosted Content)). length l) is ∙ grown old h ∙ more (length old) k opened.size;
-  hosts_are = subst (AreHosts config key (length lists) (opening_world config (floor_lists lists)).lost (opening_world config (floor_lists lists)).nodes) (sym is)
-      (of_snoc (λ j y. (opening_world config (floor_lists lists)).lost (suc j) ≡ false → IsHost config key (record { me = suc j; n = length lists }) ((opening_world config (floor_lists lists)).nodes (suc j)) y) old h opened.hosts_are
-      (λ _. subst (λ j. IsHost config key (record { me = suc j; n = length lists }) ((opening_world config (floor_lists lists)).nodes (suc j)) h) (sym opened.size) here));
+  hosts_are = subst (AreHosts config key (length lists) (opening_world config (first_start (floor_lists lists))).lost (opening_world config (first_start (floor_lists lists))).nodes) (sym is)
+      (of_snoc (λ j y. (opening_world config (first_start (floor_lists lists))).lost (suc j) ≡ false → IsHost config key (record { me = suc j; n = length lists }) ((opening_world config (first_start (floor_lists lists))).nodes (suc j)) y) old h opened.hosts_are
+      (λ _. subst (λ j. IsHost config key (record { me = suc j; n = length lists }) ((opening_world config (first_start (floor_lists lists))).nodes (suc j)) h) (sym opened.size) here));
 }
   where
     grown : (xs : List (Hosted Content)) (y : Hosted Content) → length (xs ++ y ∷ []) ≡ suc (length xs)
@@ -103,7 +103,7 @@ one_open config key lists k d floors place old new h within are at is host opene
     same : (λ t. slice_index_or floors t 0) ≡ floor_at (floor_lists lists) (suc k)
     same = fun_ext (λ t. ap (λ (l : List ℕ). slice_index_or l t 0) are ∙ floor_is lists k d within t)
 
-    here : IsHost config key (record { me = suc k; n = length lists }) ((opening_world config (floor_lists lists)).nodes (suc k)) h
+    here : IsHost config key (record { me = suc k; n = length lists }) ((opening_world config (first_start (floor_lists lists))).nodes (suc k)) h
     here =
         subst (λ (f : ℕ → ℕ). IsHost config key (record { me = suc k; n = length lists }) (opening_node 1 (length config.book) f) h) same
         (subst (λ (p : PlaceRecord). IsHost config key p (opening_node 1 (length config.book) (floor_in floors)) h) (at ∙ ap (λ j. record { me = j; n = length lists }) (next k)) host)
@@ -117,10 +117,10 @@ next_open config key lists k d floors place old new h within are at is each open
     one_open config key lists k d floors place old new h within are at is (opened_host config key place floors (length config.book) h len opened) old_open
 
 pub all_open : (config : Config) (key : List ℕ) (lists : List (Vec ℕ)) (count : ℕ) (hosts : List (Hosted Content)) → length lists ≤ count → count ≤ length lists → AreOpen config key lists count hosts
-    → IsRun config key (opening_world config (floor_lists lists)) (record { nodes = hosts; journal = no_journal })
+    → IsRun config key (opening_world config (first_start (floor_lists lists))) (record { nodes = hosts; journal = no_journal })
 all_open config key lists count hosts low high opened = record {
   n = length-map lists (λ (v : Vec ℕ). v.items) ∙ same (length lists) count (length hosts) low high opened.size;
-  hosts = subst (λ n. AreHosts config key n (opening_world config (floor_lists lists)).lost (opening_world config (floor_lists lists)).nodes hosts) (sym (length-map lists (λ (v : Vec ℕ). v.items))) opened.hosts_are;
+  hosts = subst (λ n. AreHosts config key n (opening_world config (first_start (floor_lists lists))).lost (opening_world config (first_start (floor_lists lists))).nodes hosts) (sym (length-map lists (λ (v : Vec ℕ). v.items))) opened.hosts_are;
   recorded = record { sent = refl; starts = λ _. refl; passes = refl; answers = refl };
   losses = record { used = λ _. refl; least = λ _ _. refl };
 }

@@ -12,7 +12,7 @@ use Rattle.answer_ring.specs.Answers.{KeptAnswer}
 use Rattle.oath_node.specs.Machine.{Config, NodeState, NodeEvent, Made, Reply, Beginning, quiet_made, stopped_node, opened_node, restarted_node, made_while_running, made_by_event}
 use Rattle.vote_wire.specs.Request.{without_lf}
 use Rattle.cluster_sim.specs.Answered.{IsAskedIn, IsSaidIn, BelongsToPass, TellTruth, IsAnsweredIn, AreAnswered}
-use Rattle.cluster_sim.specs.World.{World, Note, Told, Act, Says, Deliver, Ticks, Noise, WorldEvent, Happens, Cut, Restart, Lost, Anew, floor_in, has_store, lost_node, may_be_anew, note_anew, opening_node, world_after_anew, world_after_loss, acting_node, delivered_event, noise_event, node_event_of, place_at, told_reply, note_of, world_with_made, world_after_turn, world_after_act, node_of, world_after_restart, with_told_of, world_after_event, world_after_events, opening_world, begun_with, begun_in, acceptance_in, passes_in, passes_of, world_of}
+use Rattle.cluster_sim.specs.World.{World, Note, Told, Act, Says, Deliver, Ticks, Noise, WorldEvent, Happens, Cut, Restart, Lost, Anew, floor_in, has_store, lost_node, may_be_anew, note_anew, opening_node, world_after_anew, world_after_loss, acting_node, delivered_event, noise_event, node_event_of, place_at, told_reply, note_of, world_with_made, world_after_turn, world_after_act, node_of, world_after_restart, with_told_of, world_after_event, world_after_events, opening_world, begun_with, begun_in, acceptance_in, passes_in, passes_of, world_of, Start}
 use Rattle.cluster_sim.proofs.Acts.{noise_cases}
 use Rattle.cluster_sim.proofs.BelowLaws.{GroundLaw}
 use Rattle.cluster_sim.proofs.Owners.{get_more}
@@ -324,17 +324,17 @@ run_honest law config events (x ∷ xs) e w rest h =
     one_more : (m n : ℕ) → suc m + n ≡ m + suc n
     one_more m n = omega arith
 
-all_honest : GroundLaw → (config : Config) (floors : List (List ℕ)) (events : List WorldEvent) → Honest events (0 + length events) (world_of config floors events)
-all_honest law config floors events =
-    run_honest law config events events 0 (opening_world config floors) (λ k m at. ap (λ n. slice_get events n) (same k m at))
+all_honest : GroundLaw → (config : Config) (start : Start) (events : List WorldEvent) → Honest events (0 + length events) (world_of config start events)
+all_honest law config start events =
+    run_honest law config events events 0 (opening_world config start) (λ k m at. ap (λ n. slice_get events n) (same k m at))
     (record { nodes = λ i. record { owners = tt; owned = tt; answers = tt }; told = tt; answered = tt })
   where
     same : (k m : ℕ) → m ≡ 0 + k → k ≡ m
     same k m at = omega (arith, at)
 
-pub tell_truth : GroundLaw → (config : Config) (floors : List (List ℕ)) (events : List WorldEvent) → TellTruth events (passes_of config floors events) (world_of config floors events).told
-tell_truth law config floors events k t at = each_get (ToldBacked events (passes_of config floors events)) (world_of config floors events).told k t (all_honest law config floors events).told at
+pub tell_truth : GroundLaw → (config : Config) (start : Start) (events : List WorldEvent) → TellTruth events (passes_of config start events) (world_of config start events).told
+tell_truth law config start events k t at = each_get (ToldBacked events (passes_of config start events)) (world_of config start events).told k t (all_honest law config start events).told at
 
-pub are_answered : GroundLaw → (config : Config) (floors : List (List ℕ)) (events : List WorldEvent) → AreAnswered events (world_of config floors events).told (passes_of config floors events)
-are_answered law config floors events k p at =
-    each_get (λ (q : Acceptance). IsAnsweredIn events (world_of config floors events).told q (slice_get events q.ended)) (passes_of config floors events) k p (all_honest law config floors events).answered at
+pub are_answered : GroundLaw → (config : Config) (start : Start) (events : List WorldEvent) → AreAnswered events (world_of config start events).told (passes_of config start events)
+are_answered law config start events k p at =
+    each_get (λ (q : Acceptance). IsAnsweredIn events (world_of config start events).told q (slice_get events q.ended)) (passes_of config start events) k p (all_honest law config start events).answered at

@@ -334,13 +334,13 @@ rounds_done grounds law rules config live (l ∷ ls) e w sound gated calm here l
     })
 
 pub rounds_are_the_reference : GroundLaw → GateLaw → RulingLaw → RoundsAreTheReference
-rounds_are_the_reference grounds law rules config floors before live lines h =
-    rounds_done grounds law rules config live lines (length before) (world_of config floors before) (sound_of config floors before) (all_gated grounds law config floors before) h.settled h.at_live h.numbers
+rounds_are_the_reference grounds law rules config start before live lines h =
+    rounds_done grounds law rules config live lines (length before) (world_of config start before) (sound_of config start before) (all_gated grounds law config start before) h.settled h.at_live h.numbers
 
 -- a run from the start uses up at most one number for each event
 pub rounds_by_count : RoundsByCount
-rounds_by_count config floors before live lines few =
-    λ i _. within ((world_of config floors before).nodes i).voter.seq (length before) (length lines) (run_seq config 0 before (opening_world config floors) 0 (λ i. omega arith) i) few
+rounds_by_count config start before live lines few =
+    λ i _. within ((world_of config start before).nodes i).voter.seq (length before) (length lines) (run_seq config 0 before (opening_world config start) 0 (λ i. omega arith) i) few
   where
     within : (a b n : ℕ) → a ≤ b + 0 → b + n ≤ 2 ^ 62 → a + n ≤ 2 ^ 62
     within a b n h k = omega (arith, h, k)
@@ -348,12 +348,12 @@ rounds_by_count config floors before live lines few =
 -- ---- a sweep settles
 
 pub sweep_settles : SweepSettles
-sweep_settles config floors before live ascending most up =
-    let w = world_of config floors before in
+sweep_settles config start before live ascending most up =
+    let w = world_of config start before in
     let xs = sweep_events config live (length before) w in
     let z : length before + 0 ≡ length before = omega arith in
-    let same : world_of config floors (before ++ xs) ≡ world_after_events config (length before) xs w = run_append config before xs 0 (opening_world config floors) ∙ ap (λ m. world_after_events config m xs w) z in
-    let swept = sweep_levels config floors before live up in
+    let same : world_of config start (before ++ xs) ≡ world_after_events config (length before) xs w = run_append config before xs 0 (opening_world config start) ∙ ap (λ m. world_after_events config m xs w) z in
+    let swept = sweep_levels config start before live up in
     subst (λ v. IsSettled config live v) (sym same) (record {
       ascending = ascending;
       majority = subst (λ m. m < 2 * length live) (sym (run_n config (length before) xs w)) most;

@@ -11,7 +11,7 @@ use Rattle.cluster_sim.specs.Journal.{AreSpelled, AreSpelledAlong, IsRun, Letter
 use Rattle.cluster_sim.specs.RoundRun.{AreActs, HaveHappened, StaySpelled, deliveries_from, delivery_of}
 use Rattle.cluster_sim.specs.Run.{round_line, round_lines}
 use Rattle.cluster_sim.specs.Rounds.{RoundLine, deliveries, events_with_rounds, is_between, is_live, line_event, round_events, rounds_events}
-use Rattle.cluster_sim.specs.World.{Anew, Cut, Deliver, Happens, Lost, Restart, World, WorldEvent, opening_world, world_after_event, world_after_events, world_of}
+use Rattle.cluster_sim.specs.World.{Anew, Cut, Deliver, Happens, Lost, Restart, World, WorldEvent, opening_world, world_after_event, world_after_events, world_of, Start}
 use Rattle.cluster_sim.specs.declared.rounds.RoundLine.{RoundLine as CallerLine}
 use Rattle.cluster_sim.proofs.Proposals.{handed_append}
 use Rattle.cluster_sim.proofs.Seqs.{run_longer}
@@ -293,23 +293,23 @@ rounds_end config key live n w lines k next s le h =
 -- ---- from the start
 
 -- what is spelled along these events and all acts after them stays so
-pub stay_spelled : (config : Config) (floors : List (List ℕ)) (before : List WorldEvent) (n : ℕ) → n ≡ length before
-    → ((acts : List WorldEvent) → AreActs acts → AreSpelledAlong config (before ++ acts) (opening_world config floors)) → StaySpelled config n (world_of config floors before)
-stay_spelled config floors before n is all ys acts =
-    let w = opening_world config floors in
-    subst AreSpelled (ap (λ l. world_after_events config 0 l w) (take-length (before ++ ys)) ∙ run_append config before ys 0 w ∙ ap (λ m. world_after_events config m ys (world_of config floors before)) (more is))
+pub stay_spelled : (config : Config) (start : Start) (before : List WorldEvent) (n : ℕ) → n ≡ length before
+    → ((acts : List WorldEvent) → AreActs acts → AreSpelledAlong config (before ++ acts) (opening_world config start)) → StaySpelled config n (world_of config start before)
+stay_spelled config start before n is all ys acts =
+    let w = opening_world config start in
+    subst AreSpelled (ap (λ l. world_after_events config 0 l w) (take-length (before ++ ys)) ∙ run_append config before ys 0 w ∙ ap (λ m. world_after_events config m ys (world_of config start before)) (more is))
     (all ys acts (length (before ++ ys)))
   where
     more : {n m : ℕ} → n ≡ m → m + 0 ≡ n
     more e = omega (arith, e)
 
 -- the world after all
-pub all_happened : (config : Config) (key : List ℕ) (floors : List (List ℕ)) (before : List WorldEvent) (live : List ℕ) (lines : List RoundLine) (n : ℕ) → n ≡ length before → (s : SimulationRecord) (next : ℕ)
-    → HaveHappened config key n (rounds_events config live n (world_of config floors before) lines) (world_of config floors before) s next
-    → IsRun config key (world_of config floors (events_with_rounds config floors before live lines)) s
-all_happened config key floors before live lines n is s next h =
-    let w = world_of config floors before in
+pub all_happened : (config : Config) (key : List ℕ) (start : Start) (before : List WorldEvent) (live : List ℕ) (lines : List RoundLine) (n : ℕ) → n ≡ length before → (s : SimulationRecord) (next : ℕ)
+    → HaveHappened config key n (rounds_events config live n (world_of config start before) lines) (world_of config start before) s next
+    → IsRun config key (world_of config start (events_with_rounds config start before live lines)) s
+all_happened config key start before live lines n is s next h =
+    let w = world_of config start before in
     let ys = rounds_events config live (length before) w lines in
     let z : length before + 0 ≡ length before = omega arith in
     subst (λ v. IsRun config key v s)
-    (ap (λ m. world_after_events config m (rounds_events config live m w lines) w) is ∙ sym (run_append config before ys 0 (opening_world config floors) ∙ ap (λ m. world_after_events config m ys w) z)) h.run
+    (ap (λ m. world_after_events config m (rounds_events config live m w lines) w) is ∙ sym (run_append config before ys 0 (opening_world config start) ∙ ap (λ m. world_after_events config m ys w) z)) h.run

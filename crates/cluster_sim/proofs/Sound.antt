@@ -4,7 +4,7 @@ use Rattle.std.proofs.Common.{◌≡◌, ℕ, ℤ, zero, suc, ◌+◌, ◌^◌, 
 use Rattle.std.proofs.lemmas.Bool.{cond_both, ltb-true, false≢true}
 use Rattle.std.proofs.lemmas.List.{length-set}
 use Rattle.admit_core.specs.Gate.{GateRecord}
-use Rattle.cluster_sim.specs.World.{Anew, Cut, Happens, Lost, Restart, World, WorldEvent, acting_node, floor_at, floor_in, has_store, lost_node, may_be_anew, opening_node, node_event_of, node_of, opening_world, place_at, with_state, with_told_of, world_after_act, world_after_anew, world_after_event, world_after_loss, world_after_events, world_after_restart, world_after_turn, world_with_made}
+use Rattle.cluster_sim.specs.World.{Anew, Cut, Happens, Lost, Restart, World, WorldEvent, acting_node, floor_in, has_store, lost_node, may_be_anew, opening_node, node_event_of, node_of, opening_world, place_at, with_state, with_told_of, world_after_act, world_after_anew, world_after_event, world_after_loss, world_after_events, world_after_restart, world_after_turn, world_with_made, Start}
 use Rattle.floor_store.specs.Content.{Content, accepted_row, with_row}
 use Rattle.floor_store.specs.Records.{ProposalRecord, RowRecord, span_of, SpanRecord}
 use Rattle.oath_node.specs.Machine.{Beginning, Client, Config, Made, NodeEvent, NodeState, Owner, Peer, Tick, is_heard, is_pending, made_by_datagram, made_by_event, made_by_proposal, made_by_ruling, made_by_vote, made_while_running, next_beginning, quiet_made, restarted_node, ruling_at, stopped_node}
@@ -210,8 +210,8 @@ unfolding world_after_events
 run_sound config tokens e [] w h = h
 run_sound config tokens e (x ∷ xs) w h = run_sound config tokens (suc e) xs (world_after_event config e x w) (happens_sound config tokens e x w h)
 
-pub start_sound : (config : Config) (floors : List (List ℕ)) → AllSound (length config.book) (opening_world config floors)
-start_sound config floors i = opening_sound (length config.book) 1 (length config.book) (floor_at floors i) refl
+pub start_sound : (config : Config) (start : Start) → AllSound (length config.book) (opening_world config start)
+start_sound config start i = opening_sound (length config.book) (start.opening.boot i) (length config.book) (start.opening.floor i) refl
 
 -- with nothing pending nobody owns anything
 pub no_owners : (tokens : ℕ) (x : NodeState) → Sound tokens x → x.voter.pending ≡ [] → x.owners ≡ []

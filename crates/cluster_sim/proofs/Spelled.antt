@@ -27,7 +27,7 @@ use Rattle.oath_node.specs.Grounds.{HasGrounds}
 use Rattle.oath_node.specs.Machine.{Config, Made, NodeEvent, NodeState, Client, Peer, Tick, made_by_event, made_by_datagram, made_by_ruling, stopped_node, is_heard, made_while_running, opened_node, made_by_proposal, quiet_made, restarted_node, standing_at, made_by_vote}
 use Rattle.oath_node.specs.declared.ruling.Ruling.{Ruling}
 use Rattle.oath_node.specs.declared.ruling.Ruling.TheVariants.{Outside, Again, Waiting, Denied, Wrong, Fitting}
-use Rattle.cluster_sim.specs.World.{World, floor_at, opening_world, world_after_events, Act, Says, Deliver, Ticks, Noise, WorldEvent, Happens, Cut, Restart, Lost, Anew, floor_in, has_store, lost_node, may_be_anew, opening_node, world_after_anew, world_after_loss, world_after_act, delivered_event, world_after_event, world_with_made, node_of, noise_event, place_at, world_after_restart, with_state, world_after_turn, with_told_of}
+use Rattle.cluster_sim.specs.World.{World, floor_at, opening_world, world_after_events, Act, Says, Deliver, Ticks, Noise, WorldEvent, Happens, Cut, Restart, Lost, Anew, floor_in, has_store, lost_node, may_be_anew, opening_node, world_after_anew, world_after_loss, world_after_act, delivered_event, world_after_event, world_with_made, node_of, noise_event, place_at, world_after_restart, with_state, world_after_turn, with_told_of, Start, first_start}
 use Rattle.cluster_sim.specs.Journal.{AreSpelled, AreSpelledAlong}
 use Rattle.cluster_sim.specs.RoundRun.{AreActs}
 use Rattle.cluster_sim.specs.Run.{HasFloorsInRange, HaveFloorsInRange}
@@ -481,23 +481,34 @@ unfolding world_after_events
 run_fine grounds config e [] w few range h = h
 run_fine grounds config e (x ∷ xs) w few range h = run_fine grounds config (suc e) xs (world_after_event config e x w) few range.1 (happens_fine grounds config e x w few range.0 h)
 
-pub start_fine : (config : Config) (floors : List (List ℕ)) → length config.book ≤ 10000 → length floors ≤ 9 → ((i t : ℕ) → floor_at floors i t ≤ 2 ^ 62) → IsFineWorld (opening_world config floors)
-start_fine config floors few n h =
-    let node : (i : ℕ) → IsFineNode (opening_node 1 (length config.book) (floor_at floors i)) = λ i. opening_fine 1 (length config.book) (floor_at floors i) (omega arith) few (h i) in
-    record { few = n; nodes = λ i _. node i; tokens = λ i. (node i).tokens; sent = tt }
+-- a start in range
+pub record IsFineStart (config : Config) (start : Start) : Type 0 where
+  pub tokens : length config.book ≤ 10000
+  pub nodes : start.n ≤ 9
+  pub boots : (i : ℕ) → start.opening.boot i < 2 ^ 62
+  pub floors : (i t : ℕ) → start.opening.floor i t ≤ 2 ^ 62
+  pub old : Each IsSpelled start.opening.old
 
-spelled_in_range : GroundLaw → (config : Config) (floors : List (List ℕ)) (events : List WorldEvent) → length config.book ≤ 10000 → length floors ≤ 9 → ((i t : ℕ) → floor_at floors i t ≤ 2 ^ 62)
-    → AreInRange events → AreSpelledAlong config events (opening_world config floors)
-spelled_in_range grounds config floors events few n h range k =
-    are_spelled (world_after_events config 0 (take k events) (opening_world config floors))
-    (run_fine grounds config 0 (take k events) (opening_world config floors) few (taken_in_range k events range) (start_fine config floors few n h))
+-- that of nodes that open for the first time
+pub first_fine : (config : Config) (floors : List (List ℕ)) → length config.book ≤ 10000 → length floors ≤ 9 → ((i t : ℕ) → floor_at floors i t ≤ 2 ^ 62) → IsFineStart config (first_start floors)
+first_fine config floors few n h = record { tokens = few; nodes = n; boots = λ i. omega arith; floors = h; old = tt }
 
-pub all_spelled : GroundLaw → (config : Config) (floors : List (List ℕ)) (events : List WorldEvent) → length config.book ≤ 10000 → length floors ≤ 9 → ((i t : ℕ) → floor_at floors i t ≤ 2 ^ 62)
-    → HaveFloorsInRange events → AreSpelledAlong config events (opening_world config floors)
-all_spelled grounds config floors events few n h range = spelled_in_range grounds config floors events few n h (in_range events range)
+pub start_fine : (config : Config) (start : Start) → IsFineStart config start → IsFineWorld (opening_world config start)
+start_fine config start h =
+    let node : (i : ℕ) → IsFineNode (opening_node (start.opening.boot i) (length config.book) (start.opening.floor i)) =
+    λ i. opening_fine (start.opening.boot i) (length config.book) (start.opening.floor i) (h.boots i) h.tokens (h.floors i) in
+    record { few = h.nodes; nodes = λ i _. node i; tokens = λ i. (node i).tokens; sent = h.old }
+
+spelled_in_range : GroundLaw → (config : Config) (start : Start) (events : List WorldEvent) → IsFineStart config start → AreInRange events → AreSpelledAlong config events (opening_world config start)
+spelled_in_range grounds config start events h range k =
+    are_spelled (world_after_events config 0 (take k events) (opening_world config start))
+    (run_fine grounds config 0 (take k events) (opening_world config start) h.tokens (taken_in_range k events range) (start_fine config start h))
+
+pub all_spelled : GroundLaw → (config : Config) (start : Start) (events : List WorldEvent) → IsFineStart config start → HaveFloorsInRange events → AreSpelledAlong config events (opening_world config start)
+all_spelled grounds config start events h range = spelled_in_range grounds config start events h (in_range events range)
 
 -- and so are all that come after, if no store is made anew in them
-pub then_spelled : GroundLaw → (config : Config) (floors : List (List ℕ)) (events more : List WorldEvent) → length config.book ≤ 10000 → length floors ≤ 9 → ((i t : ℕ) → floor_at floors i t ≤ 2 ^ 62)
-    → HaveFloorsInRange events → AreInRange more → AreSpelledAlong config (events ++ more) (opening_world config floors)
-then_spelled grounds config floors events more few n h range later =
-    spelled_in_range grounds config floors (events ++ more) few n h (each_append HasFloorsInRange events more (in_range events range) later)
+pub then_spelled : GroundLaw → (config : Config) (start : Start) (events more : List WorldEvent) → IsFineStart config start
+    → HaveFloorsInRange events → AreInRange more → AreSpelledAlong config (events ++ more) (opening_world config start)
+then_spelled grounds config start events more h range later =
+    spelled_in_range grounds config start (events ++ more) h (each_append HasFloorsInRange events more (in_range events range) later)

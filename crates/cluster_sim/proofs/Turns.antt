@@ -8,7 +8,7 @@ use Rattle.cluster_sim.proofs.Sound.{AllSound, IsTurn, happens_sound, no_owners,
 use Rattle.cluster_sim.proofs.Sweeps.{Bounded, FloorFits, Levels, OfTick, Reached, floors_wave, levels_none, levels_then, pending_at}
 use Rattle.cluster_sim.proofs.Waves.{is_in, run_append, set_all, set_at, stands_last, ticks}
 use Rattle.cluster_sim.specs.Rounds.{AreUp, HasNonePending, SweepLevels, TurnLevels, deliveries, greatest, is_floor_to, is_live, next_at, sweep_events, tick_events, turn_events, turns_events}
-use Rattle.cluster_sim.specs.World.{Happens, Ticks, World, WorldEvent, has_store, opening_world, place_at, world_after_events, world_of, world_with_made}
+use Rattle.cluster_sim.specs.World.{Happens, Ticks, World, WorldEvent, has_store, opening_world, place_at, world_after_events, world_of, world_with_made, Start}
 use Rattle.oath_node.specs.Machine.{Config, NodeState, made_by_vote}
 use Rattle.otp_core.specs.Acceptance.{size}
 use Rattle.vote_core.proofs.Basics.{Each, each_all, each_append, each_filter, each_flat_map, each_map, each_passes, each_weaker}
@@ -288,8 +288,8 @@ greatest_below (j ∷ js) w t m h =
 
 -- ---- the laws
 
-pub sound_of : (config : Config) (floors : List (List ℕ)) (before : List WorldEvent) → AllSound (length config.book) (world_of config floors before)
-sound_of config floors before = run_sound config (length config.book) 0 before (opening_world config floors) (start_sound config floors)
+pub sound_of : (config : Config) (start : Start) (before : List WorldEvent) → AllSound (length config.book) (world_of config start before)
+sound_of config start before = run_sound config (length config.book) 0 before (opening_world config start) (start_sound config start)
 
 enough : (tokens : ℕ) → 8 ≤ max tokens 8
 enough tokens = omega arith
@@ -357,9 +357,9 @@ pub none_at : (config : Config) (w : World) (i : ℕ) → AllSound (length confi
 none_at config w i sound h = (h, no_owners (length config.book) (w.nodes i) (sound i) h)
 
 pub turn_levels : TurnLevels
-turn_levels config floors before live i up here =
-    let w = world_of config floors before in
-    let sound = sound_of config floors before in
+turn_levels config start before live i up here =
+    let w = world_of config start before in
+    let sound = sound_of config start before in
     let B = greatest live w in
     let xs = turn_events config live (max (length config.book) 8) (length before) w i in
     let v = world_after_events config (length before) xs w in
@@ -369,10 +369,10 @@ turn_levels config floors before live i up here =
     )
 
 pub sweep_levels : SweepLevels
-sweep_levels config floors before live up =
+sweep_levels config start before live up =
     let tokens = length config.book in
-    let w = world_of config floors before in
-    let sound = sound_of config floors before in
+    let w = world_of config start before in
+    let sound = sound_of config start before in
     let B = greatest live w in
     let xs = sweep_events config live (length before) w in
     let v = world_after_events config (length before) xs w in

@@ -148,6 +148,6 @@ these grounds law rules config live (l ∷ ls) e w sound gated calm here last =
     }
 
 pub rounds_are_these : GroundLaw → GateLaw → RulingLaw → RoundsAreThese
-rounds_are_these grounds law rules config floors before live lines h =
-    let t = these grounds law rules config live lines (length before) (world_of config floors before) (sound_of config floors before) (all_gated grounds law config floors before) h.settled h.at_live h.numbers in
+rounds_are_these grounds law rules config start before live lines h =
+    let t = these grounds law rules config live lines (length before) (world_of config start before) (sound_of config start before) (all_gated grounds law config start before) h.settled h.at_live h.numbers in
     (t.are, t.only)

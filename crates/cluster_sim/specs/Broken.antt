@@ -7,7 +7,7 @@ use Rattle.oath_node.specs.Machine.{NodeState, stopped_node}
 use Rattle.cluster_sim.specs.Examples.{config, line_at, three, told_outcome}
 use Rattle.cluster_sim.specs.RoundExamples.{round_at}
 use Rattle.cluster_sim.specs.Rounds.{RoundLine}
-use Rattle.cluster_sim.specs.World.{Told, World, WorldEvent, opening_world, with_state}
+use Rattle.cluster_sim.specs.World.{Start, Told, World, WorldEvent, first_start, opening_world, with_state}
 
 -- three nodes at the start, and the first two of them
 abbrev pub start_world : World
@@ -37,8 +37,8 @@ second_spent =
     with_second (record node { voter = record node.voter { seq = 2 ^ 62 } })
 
 -- three nodes whose first free factor is 1
-abbrev pub raised : List (List ℕ)
-raised = (1 ∷ []) ∷ (1 ∷ []) ∷ (1 ∷ []) ∷ []
+abbrev pub raised : Start
+raised = first_start ((1 ∷ []) ∷ (1 ∷ []) ∷ (1 ∷ []) ∷ [])
 
 -- a line of client 7 at node 1, and what the server gives it
 abbrev pub round_line : RoundLine

@@ -5,7 +5,7 @@ use Rattle.otp_core.specs.Limits.{Limits}
 use Rattle.token_file.specs.Credential.{Credential}
 use Rattle.admit_core.specs.Drift.{kept_drift}
 use Rattle.oath_node.specs.Machine.{Config}
-use Rattle.cluster_sim.specs.World.{Act, Says, Deliver, Ticks, Noise, Note, WorldEvent, Happens, Cut, Restart, Lost, Anew, acceptance_in, begun_in, world_before}
+use Rattle.cluster_sim.specs.World.{Act, Says, Deliver, Ticks, Noise, Note, WorldEvent, Happens, Cut, Restart, Lost, Anew, acceptance_in, begun_in, world_before, Start}
 
 -- the moment at which a client says a line
 abbrev pub moment_of : Act → Option ℕ
@@ -53,7 +53,7 @@ passes_since node (note ∷ history) =
 
 -- the drift of the token at the node before the event of that number: what the last acceptance of the token there
 -- before it keeps, and 0 where there is none since the node's store was made
-abbrev pub drift_before : Config → List (List ℕ) → List WorldEvent → ℕ → ℕ → ℕ → ℤ
-drift_before config floors events node token event =
-    let history = (world_before config floors events event).history in
+abbrev pub drift_before : Config → Start → List WorldEvent → ℕ → ℕ → ℕ → ℤ
+drift_before config start events node token event =
+    let history = (world_before config start events event).history in
     drift_after config events node token (pos 0) (passes_since node history)

@@ -1,5 +1,5 @@
 -- Scripts to reckon with: nodes with the one token of RFC 4226, Appendix D.
-use Rattle.std.specs.Prelude.{ℕ, ℤ, pos, zero, suc, ◌+◌, ◌++◌, List, [], ◌∷◌, map, Option, Bool, true, false, Some, None, codes}
+use Rattle.std.specs.Prelude.{ℕ, ℤ, pos, zero, suc, ◌+◌, ◌++◌, List, [], ◌∷◌, map, Option, Bool, true, false, Some, None, codes, replicate}
 use Rattle.floor_store.specs.Records.{span_of}
 use Rattle.hmac_core.specs.declared.hash.Hash.TheVariants.{Sha1}
 use Rattle.otp_core.specs.Acceptance.{Acceptance}
@@ -16,7 +16,7 @@ use Rattle.vote_wire.specs.declared.answer.Outcome.{Outcome}
 use Rattle.cluster_sim.specs.Answered.{AreAnswered, NamePasses, TellTruth}
 use Rattle.cluster_sim.specs.Drifts.{drift_after, moment_in}
 use Rattle.cluster_sim.specs.Justified.{IsJustified}
-use Rattle.cluster_sim.specs.World.{WorldEvent, Happens, Cut, Restart, Says, Deliver, Ticks, Noise, Told, ReportValue}
+use Rattle.cluster_sim.specs.World.{WorldEvent, Happens, Cut, Restart, Says, Deliver, Ticks, Noise, Told, ReportValue, Start, first_start}
 
 -- a user with the secret of the appendix
 abbrev pub user_named : List ℕ → Credential
@@ -38,16 +38,16 @@ abbrev pub config : Config
 config = config_with (user_named (codes "silver") ∷ [])
 
 -- three nodes whose first free factor is 0
-abbrev pub three : List (List ℕ)
-three = (0 ∷ []) ∷ (0 ∷ []) ∷ (0 ∷ []) ∷ []
+abbrev pub three : Start
+three = first_start ((0 ∷ []) ∷ (0 ∷ []) ∷ (0 ∷ []) ∷ [])
 
 -- four of them
-abbrev pub four : List (List ℕ)
-four = (0 ∷ []) ∷ three
+abbrev pub four : Start
+four = first_start (replicate 4 (0 ∷ []))
 
 -- five of them
-abbrev pub five : List (List ℕ)
-five = (0 ∷ []) ∷ four
+abbrev pub five : Start
+five = first_start (replicate 5 (0 ∷ []))
 
 -- a client's line at a moment
 abbrev pub line_at : ℕ → ℕ → ℕ → List ℕ → WorldEvent
@@ -174,8 +174,8 @@ stop_in_a_line kept = Cut kept (Says 1 7 1000 (codes "CHECK a silver 755224 -"))
 -- ---- one node
 
 -- one node whose first free factor is 0
-abbrev pub alone : List (List ℕ)
-alone = (0 ∷ []) ∷ []
+abbrev pub alone : Start
+alone = first_start ((0 ∷ []) ∷ [])
 
 -- a fresh token, line by line
 abbrev pub fresh_token : List WorldEvent
@@ -227,8 +227,8 @@ password_column =
     line_at 1 7 100 (codes "CHECK 1 silver 755224 -") ∷ line_at 1 7 105 (codes "CHECK 2 silver 755224 pw") ∷ []
 
 -- one node with no factor left
-abbrev pub exhausted : List (List ℕ)
-exhausted = (4611686018427387904 ∷ []) ∷ []
+abbrev pub exhausted : Start
+exhausted = first_start ((4611686018427387904 ∷ []) ∷ [])
 
 -- ---- many users
 
@@ -253,8 +253,8 @@ abbrev pub many_users : Config
 many_users = config_with (letter_users 33)
 
 -- three nodes that count each first free factor as 0
-abbrev pub many_floors : List (List ℕ)
-many_floors = [] ∷ [] ∷ [] ∷ []
+abbrev pub many_floors : Start
+many_floors = first_start ([] ∷ [] ∷ [] ∷ [])
 
 -- ---- drifts
 
@@ -266,12 +266,12 @@ clock_config steps = record {
 }
 
 -- one node whose first free factor is 2
-abbrev pub clock_alone : List (List ℕ)
-clock_alone = (2 ∷ []) ∷ []
+abbrev pub clock_alone : Start
+clock_alone = first_start ((2 ∷ []) ∷ [])
 
 -- three of them
-abbrev pub clock_three : List (List ℕ)
-clock_three = (2 ∷ []) ∷ (2 ∷ []) ∷ clock_alone
+abbrev pub clock_three : Start
+clock_three = first_start ((2 ∷ []) ∷ (2 ∷ []) ∷ (2 ∷ []) ∷ [])
 
 -- the code of the step before the present one, at node 1
 abbrev pub one_behind : WorldEvent

@@ -8,7 +8,7 @@ use Rattle.oath_node.specs.Machine.{Config}
 use Rattle.vote_wire.specs.Request.{Request, IsLine}
 use Rattle.cluster_sim.specs.Drifts.{drift_before}
 use Rattle.cluster_sim.specs.Results.{results_before}
-use Rattle.cluster_sim.specs.World.{Act, Says, Deliver, Ticks, Noise, WorldEvent, Happens, Cut, Restart, Lost, Anew, floor_before}
+use Rattle.cluster_sim.specs.World.{Act, Says, Deliver, Ticks, Noise, WorldEvent, Happens, Cut, Restart, Lost, Anew, floor_before, Start}
 
 -- A line at a moment is in the line grammar, for the user of a token, and what it submits is entitled to the factors
 -- lo to hi, where next is the token's first free factor, and drift and results are its drift and its results so far at
@@ -42,14 +42,14 @@ IsGroundOf config next drift results accepted (Some (Lost node)) = ⊥
 IsGroundOf config next drift results accepted (Some (Anew node boot floors)) = ⊥
 
 -- the event in which it began is its ground, by the first free factor, the drift and the results there before it
-abbrev pub IsJustified : Config → List (List ℕ) → List WorldEvent → Acceptance → Type 0
-IsJustified config floors events accepted =
-    let next = floor_before config floors events accepted.node accepted.token accepted.began in
-    let drift = drift_before config floors events accepted.node accepted.token accepted.began in
-    let results = results_before config floors events accepted.node accepted.token accepted.began in
+abbrev pub IsJustified : Config → Start → List WorldEvent → Acceptance → Type 0
+IsJustified config start events accepted =
+    let next = floor_before config start events accepted.node accepted.token accepted.began in
+    let drift = drift_before config start events accepted.node accepted.token accepted.began in
+    let results = results_before config start events accepted.node accepted.token accepted.began in
     IsGroundOf config next drift results accepted (slice_get events accepted.began)
 
 -- each of these acceptances is justified
-abbrev pub AreJustified : Config → List (List ℕ) → List WorldEvent → List Acceptance → Type 0
-AreJustified config floors events passes =
-    (i : ℕ) (accepted : Acceptance) → slice_get passes i ≡ Some accepted → IsJustified config floors events accepted
+abbrev pub AreJustified : Config → Start → List WorldEvent → List Acceptance → Type 0
+AreJustified config start events passes =
+    (i : ℕ) (accepted : Acceptance) → slice_get passes i ≡ Some accepted → IsJustified config start events accepted

@@ -1,8 +1,13 @@
--- Scripts that the law `losses_are_worked` computes: stores that are lost, and stores that are made anew.
+-- Scripts that the laws `losses_are_worked` and `starts_are_worked` compute: stores that are lost and made anew, and
+-- nodes that were there before.
 use Rattle.std.specs.Prelude.{ℕ, true, List, [], ◌∷◌, codes}
+use Rattle.floor_store.specs.Records.{span_of}
+use Rattle.vote_core.specs.Schedule.{Envelope}
+use Rattle.vote_core.specs.declared.message.Message.{Message}
+use Rattle.vote_core.specs.declared.message.Message.TheVariants.{Grant, Floor}
 use Rattle.vote_wire.specs.declared.answer.Outcome.TheVariants.{Accepted}
 use Rattle.cluster_sim.specs.Examples.{acceptance, delivery, first_at_1, line_at, one_behind, report_with, told_outcome}
-use Rattle.cluster_sim.specs.World.{Cut, Lost, Anew, ReportValue, Restart, Ticks, WorldEvent}
+use Rattle.cluster_sim.specs.World.{Cut, Lost, Anew, ReportValue, Restart, Start, Ticks, WorldEvent}
 
 -- node 1 accepts factor 0, which node 2 granted; the store of node 2 is lost, and this happens; then node 3 asks node 2
 -- for factor 1
@@ -54,3 +59,30 @@ failed_before =
 -- a node is made anew after node 1 kept a drift
 abbrev pub drifted_before : ℕ → List WorldEvent
 drifted_before node = one_behind ∷ delivery 2 0 ∷ delivery 1 2 ∷ Lost node ∷ Anew node 2 (4 ∷ []) ∷ []
+
+-- ---- Nodes that were there before
+
+-- what node 2 told node 1 at its boot 1: its Grant for the first factor, or a first free factor
+abbrev pub from_before : Message → Envelope
+from_before message = record { sender = 2; receiver = 1; message = message }
+
+abbrev pub old_grant : Envelope
+old_grant = from_before (Grant (record { node = 1; boot = 1; seq = 0 }) 0 (span_of 0 0))
+
+abbrev pub old_floor : Envelope
+old_floor = from_before (Floor 0 1)
+
+-- three nodes that open at this boot, whose first free factor is 0, after this was sent
+abbrev pub three_after : ℕ → Envelope → Start
+three_after boot envelope = record {
+  n = 3;
+  opening = record { boot = λ node. boot; floor = λ node token. 0; old = envelope ∷ [] };
+}
+
+-- node 1 asks for the first factor, and what was sent before comes to it
+abbrev pub old_comes : List WorldEvent
+old_comes = first_at_1 ∷ delivery 1 0 ∷ []
+
+-- it comes first
+abbrev pub old_comes_first : List WorldEvent
+old_comes_first = delivery 1 0 ∷ first_at_1 ∷ []

@@ -3,7 +3,7 @@ use Rattle.std.specs.Prelude.{ℕ, ◌==◌, if◌then◌else◌, List, [], ◌�
 use Rattle.admit_core.specs.Throttle.{Result, Failed, Accepted}
 use Rattle.floor_store.specs.Records.{PassRecord}
 use Rattle.oath_node.specs.Machine.{Config}
-use Rattle.cluster_sim.specs.World.{Note, WorldEvent, world_before, world_of}
+use Rattle.cluster_sim.specs.World.{Note, WorldEvent, world_before, world_of, Start}
 
 -- the results of the token, with a failure in front if it is the token's
 abbrev pub results_with_failure : ℕ → Option (ℕ × ℕ) → List Result → List Result
@@ -32,10 +32,10 @@ results_in (note ∷ history) node token =
     else results_in history node token
 
 -- the results of the token at the node before the event of that number
-abbrev pub results_before : Config → List (List ℕ) → List WorldEvent → ℕ → ℕ → ℕ → List Result
-results_before config floors events node token event =
-    results_in (world_before config floors events event).history node token
+abbrev pub results_before : Config → Start → List WorldEvent → ℕ → ℕ → ℕ → List Result
+results_before config start events node token event =
+    results_in (world_before config start events event).history node token
 
 -- all results of the token at the node in a run
-abbrev pub results_of : Config → List (List ℕ) → List WorldEvent → ℕ → ℕ → List Result
-results_of config floors events node token = results_in (world_of config floors events).history node token
+abbrev pub results_of : Config → Start → List WorldEvent → ℕ → ℕ → List Result
+results_of config start events node token = results_in (world_of config start events).history node token

@@ -5,7 +5,7 @@ use Rattle.oath_node.specs.ReferenceServer.{Server, server_at}
 use Rattle.cluster_sim.specs.Examples.{clock_config, clock_three, config, three, line_at, delivery, tick_of, first_at_1}
 use Rattle.cluster_sim.specs.FrontEnds.{FrontedServer, fronted_after, server_at_front, service_at_front}
 use Rattle.cluster_sim.specs.Rounds.{RoundLine, as_line, events_with_rounds, server_of, sweep_events}
-use Rattle.cluster_sim.specs.World.{WorldEvent, world_of}
+use Rattle.cluster_sim.specs.World.{Start, WorldEvent, first_start, world_of}
 
 -- a client's line at a node, at a moment
 abbrev pub round_at : ℕ → ℕ → ℕ → List ℕ → RoundLine
@@ -60,8 +60,8 @@ abbrev pub clock_rounds : List WorldEvent
 clock_rounds = events_with_rounds (clock_config 10) clock_three [] (1 ∷ 2 ∷ []) lines_of_a_clock
 
 -- three nodes, of which the second counts the first factor as used up
-abbrev pub not_level : List (List ℕ)
-not_level = (0 ∷ []) ∷ (1 ∷ []) ∷ (0 ∷ []) ∷ []
+abbrev pub not_level : Start
+not_level = first_start ((0 ∷ []) ∷ (1 ∷ []) ∷ (0 ∷ []) ∷ [])
 
 -- ---- Front ends
 

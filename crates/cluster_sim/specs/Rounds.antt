@@ -12,7 +12,7 @@ use Rattle.oath_node.specs.Machine.{Config}
 use Rattle.oath_node.specs.ReferenceServer.{Front, Line}
 use Rattle.cluster_sim.specs.FrontEnds.{FrontedServer, fronted_after, service_at_front}
 use Rattle.cluster_sim.specs.Results.{results_in}
-use Rattle.cluster_sim.specs.World.{World, WorldEvent, Happens, Says, Deliver, Ticks, Told, has_store, world_after_event, world_after_events, world_of, report_of}
+use Rattle.cluster_sim.specs.World.{World, WorldEvent, Happens, Says, Deliver, Ticks, Told, has_store, world_after_event, world_after_events, world_of, report_of, Start}
 
 -- ---- Live members
 
@@ -94,8 +94,8 @@ sweep_events config live first world = turns_events config live first world live
 -- least what it was, and none is above the greatest.
 abbrev pub TurnLevels : Type 0
 TurnLevels =
-    (config : Config) (floors : List (List ℕ)) (before : List WorldEvent) (live : List ℕ) (node : ℕ)
-    → let old = world_of config floors before in
+    (config : Config) (start : Start) (before : List WorldEvent) (live : List ℕ) (node : ℕ)
+    → let old = world_of config start before in
     let turn = turn_events config live (max (length config.book) 8) (length before) old node in
     let new = world_after_events config (length before) turn old in
     AreUp live old → is_live live node ≡ true
@@ -107,8 +107,8 @@ TurnLevels =
 -- had.
 abbrev pub SweepLevels : Type 0
 SweepLevels =
-    (config : Config) (floors : List (List ℕ)) (before : List WorldEvent) (live : List ℕ)
-    → let old = world_of config floors before in
+    (config : Config) (start : Start) (before : List WorldEvent) (live : List ℕ)
+    → let old = world_of config start before in
     let new = world_after_events config (length before) (sweep_events config live (length before) old) old in
     AreUp live old
     → AreUp live new × ((node : ℕ) → is_live live node ≡ true → HasNonePending new node × ((token : ℕ)
@@ -139,10 +139,10 @@ pub record IsSettled (config : Config) (live : List ℕ) (world : World) : Type 
 -- a sweep settles a strict majority that isn't stopped
 abbrev pub SweepSettles : Type 0
 SweepSettles =
-    (config : Config) (floors : List (List ℕ)) (before : List WorldEvent) (live : List ℕ)
-    → let old = world_of config floors before in
+    (config : Config) (start : Start) (before : List WorldEvent) (live : List ℕ)
+    → let old = world_of config start before in
     IsAscending live → old.n < 2 * length live → AreUp live old
-    → IsSettled config live (world_of config floors (before ++ sweep_events config live (length before) old))
+    → IsSettled config live (world_of config start (before ++ sweep_events config live (length before) old))
 
 -- ---- A round
 
@@ -190,9 +190,9 @@ rounds_events config live first world (line ∷ lines) =
     one ++ rounds_events config live (length one + first) (world_after_events config first one world) lines
 
 -- some events, and then rounds for the lines
-abbrev pub events_with_rounds : Config → List (List ℕ) → List WorldEvent → List ℕ → List RoundLine → List WorldEvent
-events_with_rounds config floors before live lines =
-    before ++ rounds_events config live (length before) (world_of config floors before) lines
+abbrev pub events_with_rounds : Config → Start → List WorldEvent → List ℕ → List RoundLine → List WorldEvent
+events_with_rounds config start before live lines =
+    before ++ rounds_events config live (length before) (world_of config start before) lines
 
 -- ---- The server that live members stand for
 
@@ -276,8 +276,8 @@ pub record AreServable (config : Config) (live : List ℕ) (world : World) (line
 -- whatever was before, rounds among settled members are answered as the one server answers the lines
 abbrev pub RoundsAreTheReference : Type 0
 RoundsAreTheReference =
-    (config : Config) (floors : List (List ℕ)) (before : List WorldEvent) (live : List ℕ) (lines : List RoundLine)
-    → let old = world_of config floors before in
+    (config : Config) (start : Start) (before : List WorldEvent) (live : List ℕ) (lines : List RoundLine)
+    → let old = world_of config start before in
     let rounds = rounds_events config live (length before) old lines in
     AreServable config live old lines
     → ServesAsOne config live (length before) old (world_after_events config (length before) rounds old) lines
@@ -285,14 +285,14 @@ RoundsAreTheReference =
 -- so few events cannot have used up the numbers
 abbrev pub RoundsByCount : Type 0
 RoundsByCount =
-    (config : Config) (floors : List (List ℕ)) (before : List WorldEvent) (live : List ℕ) (lines : List RoundLine)
-    → length before + length lines ≤ 2 ^ 62 → HaveNumbers live (world_of config floors before) lines
+    (config : Config) (start : Start) (before : List WorldEvent) (live : List ℕ) (lines : List RoundLine)
+    → length before + length lines ≤ 2 ^ 62 → HaveNumbers live (world_of config start before) lines
 
 -- the computed events are rounds, and no others are
 abbrev pub RoundsAreThese : Type 0
 RoundsAreThese =
-    (config : Config) (floors : List (List ℕ)) (before : List WorldEvent) (live : List ℕ) (lines : List RoundLine)
-    → let old = world_of config floors before in
+    (config : Config) (start : Start) (before : List WorldEvent) (live : List ℕ) (lines : List RoundLine)
+    → let old = world_of config start before in
     let rounds = rounds_events config live (length before) old lines in
     AreServable config live old lines
     → AreRounds config live (length before) old lines rounds
@@ -302,34 +302,34 @@ RoundsAreThese =
 
 -- Of events that end in rounds: these answers are those that were told before, then one to each line as the server
 -- gives it, within its own round; and the live members are settled again.
-pub record AreServed (config : Config) (floors : List (List ℕ)) (before rounds : List WorldEvent) (live : List ℕ)
+pub record AreServed (config : Config) (start : Start) (before rounds : List WorldEvent) (live : List ℕ)
     (lines : List RoundLine) (answers : List Told) : Type 0 where
   pub more : List Told
-  pub told : answers ≡ (report_of config floors before).answers ++ more
-  pub are : AreAnswersTo config live (length before) (world_of config floors before)
-      (server_of live (world_of config floors before)) lines more
-  pub settled : IsSettled config live (world_of config floors (before ++ rounds))
+  pub told : answers ≡ (report_of config start before).answers ++ more
+  pub are : AreAnswersTo config live (length before) (world_of config start before)
+      (server_of live (world_of config start before)) lines more
+  pub settled : IsSettled config live (world_of config start (before ++ rounds))
 
 -- the report of events that end in rounds has an answer more to each line, as the server gives it
 abbrev pub RoundsReported : Type 0
 RoundsReported =
-    (config : Config) (floors : List (List ℕ)) (before rounds : List WorldEvent) (live : List ℕ)
+    (config : Config) (start : Start) (before rounds : List WorldEvent) (live : List ℕ)
     (lines : List RoundLine)
-    → let old = world_of config floors before in
+    → let old = world_of config start before in
     AreServable config live old lines → AreRounds config live (length before) old lines rounds
-    → AreServed config floors before rounds live lines (report_of config floors (before ++ rounds)).answers
+    → AreServed config start before rounds live lines (report_of config start (before ++ rounds)).answers
 
 -- events that end in a sweep of a strict majority that isn't stopped
-pub record EndInSweep (config : Config) (floors : List (List ℕ)) (events : List WorldEvent)
+pub record EndInSweep (config : Config) (start : Start) (events : List WorldEvent)
     (live : List ℕ) : Type 0 where
-  pub start : List WorldEvent
-  pub are : events ≡ start ++ sweep_events config live (length start) (world_of config floors start)
+  pub before : List WorldEvent
+  pub are : events ≡ before ++ sweep_events config live (length before) (world_of config start before)
   pub ascending : IsAscending live
-  pub majority : length floors < 2 * length live
-  pub up : AreUp live (world_of config floors start)
+  pub majority : start.n < 2 * length live
+  pub up : AreUp live (world_of config start before)
 
 -- they settle its members
 abbrev pub SweepEndSettles : Type 0
 SweepEndSettles =
-    (config : Config) (floors : List (List ℕ)) (events : List WorldEvent) (live : List ℕ)
-    → EndInSweep config floors events live → IsSettled config live (world_of config floors events)
+    (config : Config) (start : Start) (events : List WorldEvent) (live : List ℕ)
+    → EndInSweep config start events live → IsSettled config live (world_of config start events)

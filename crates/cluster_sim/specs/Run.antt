@@ -7,7 +7,7 @@ use Rattle.token_file.specs.Credential.{Credential}
 use Rattle.oath_node.specs.Machine.{Config}
 use Rattle.oath_node.specs.Hosted.{envelope_at}
 use Rattle.cluster_sim.specs.Rounds.{RoundLine}
-use Rattle.cluster_sim.specs.World.{Act as WorldAct, Says, Deliver, Ticks, Noise, WorldEvent as Event, Happens, Cut, Restart, Lost, Anew, floor_in}
+use Rattle.cluster_sim.specs.World.{Act as WorldAct, Says, Deliver, Ticks, Noise, WorldEvent as Event, Happens, Cut, Restart, Lost, Anew, Start, first_start, floor_in}
 use Rattle.cluster_sim.specs.declared.rounds.RoundLine.{RoundLine as CallerLine}
 use Rattle.cluster_sim.specs.declared.script.Act.{Act}
 use Rattle.cluster_sim.specs.declared.script.Act.TheVariants.{Client as ClientAct, Deliver as DeliverAct, Tick as TickAct, Noise as NoiseAct}
@@ -33,17 +33,17 @@ event_of key (AnewEvent node boot floors) = Anew node boot floors.now
 abbrev pub floor_lists : List (Vec ℕ) → List (List ℕ)
 floor_lists lists = map (λ list. list.items) lists
 
--- nodes with this configuration and these first free factors, and what happens to them
+-- nodes with this configuration that start so, and what happens to them
 pub record Run : Type 0 where
   pub config : Config
-  pub floors : List (List ℕ)
+  pub start : Start
   pub events : List Event
 
 -- the run that a caller asks for
 abbrev pub run_of : List Credential → Limits → List ℕ → List (Vec ℕ) → List WorldEvent → Run
 run_of book limits key lists events = record {
   config = record { book = book; limits = limits };
-  floors = floor_lists lists;
+  start = first_start (floor_lists lists);
   events = map (event_of key) events;
 }
 

@@ -7,7 +7,8 @@ use Rattle.floor_store.specs.Records.{ProposalRecord, PassRecord}
 use Rattle.otp_core.specs.Acceptance.{Acceptance, majority_of, size}
 use Rattle.vote_core.specs.NodeSet.{PlaceRecord, with_node}
 use Rattle.vote_core.specs.Rows.{row}
-use Rattle.vote_core.specs.Schedule.{Envelope, Begun, all_most, greatest, is_member, envelope_from, last_boot, with_begun, without_node, began_in, opening_rows}
+use Rattle.vote_core.specs.Safety.{MayOpen}
+use Rattle.vote_core.specs.Schedule.{Envelope, Begun, Opening, all_most, greatest, is_member, envelope_from, first_opening, last_boot, with_begun, without_node, began_in, opening_rows}
 use Rattle.vote_core.specs.Voting.{fresh_voter}
 use Rattle.oath_node.specs.Machine.{Config, NodeState, NodeEvent, Client, Peer, Tick, Reply, Beginning, Made, made_by_event, restarted_node}
 
@@ -253,30 +254,44 @@ world_after_events config first (event ∷ events) world =
 abbrev pub floor_at : List (List ℕ) → ℕ → ℕ → ℕ
 floor_at floors node = floor_in (slice_index_or floors (node - 1) [])
 
--- the world before any event: each node is open at boot 1
-abbrev pub opening_world : Config → List (List ℕ) → World
-opening_world config floors = record {
-  n = length floors;
-  nodes = λ node. opening_node 1 (length config.book) (floor_at floors node);
+-- how a cluster starts: the nodes 1 to n, with the boots and the first free factors at which they open, and what was
+-- sent before, by nodes of earlier boots, and may still come
+pub record Start : Type 0 where
+  pub n : ℕ
+  pub opening : Opening
+
+-- what comes from before is of earlier boots than these, and fits
+abbrev pub MayStart : Config → Start → Type 0
+MayStart config start = MayOpen start.n (length config.book) start.opening
+
+-- the first start of as many nodes as these lists of first free factors: each opens at boot 1, and nothing was sent
+abbrev pub first_start : List (List ℕ) → Start
+first_start floors = record { n = length floors; opening = first_opening (floor_at floors) }
+
+-- the world before any event
+abbrev pub opening_world : Config → Start → World
+opening_world config start = record {
+  n = start.n;
+  nodes = λ node. opening_node (start.opening.boot node) (length config.book) (start.opening.floor node);
   lost = λ node. false;
   least = λ token. 0;
-  sent = [];
+  sent = start.opening.old;
   history = [];
   told = [];
 }
 
 -- the world after all events
-abbrev pub world_of : Config → List (List ℕ) → List WorldEvent → World
-world_of config floors events = world_after_events config 0 events (opening_world config floors)
+abbrev pub world_of : Config → Start → List WorldEvent → World
+world_of config start events = world_after_events config 0 events (opening_world config start)
 
 -- the world before the event of that number
-abbrev pub world_before : Config → List (List ℕ) → List WorldEvent → ℕ → World
-world_before config floors events event = world_after_events config 0 (take event events) (opening_world config floors)
+abbrev pub world_before : Config → Start → List WorldEvent → ℕ → World
+world_before config start events event = world_after_events config 0 (take event events) (opening_world config start)
 
 -- the first free factor that the node has of the token before the event of that number
-abbrev pub floor_before : Config → List (List ℕ) → List WorldEvent → ℕ → ℕ → ℕ → ℕ
-floor_before config floors events node token event =
-    (row ((world_before config floors events event).nodes node).content token).next
+abbrev pub floor_before : Config → Start → List WorldEvent → ℕ → ℕ → ℕ → ℕ
+floor_before config start events node token event =
+    (row ((world_before config start events event).nodes node).content token).next
 
 -- ---- What a run tells
 
@@ -311,8 +326,8 @@ passes_in (note ∷ history) =
     passes_in history ++ acceptance_in (begun_in (note ∷ history)) note.event note.node note.pass
 
 -- the acceptances of a run
-abbrev pub passes_of : Config → List (List ℕ) → List WorldEvent → List Acceptance
-passes_of config floors events = passes_in (world_of config floors events).history
+abbrev pub passes_of : Config → Start → List WorldEvent → List Acceptance
+passes_of config start events = passes_in (world_of config start events).history
 
 -- what is told of a run: its acceptances, its answers, and how many datagrams were sent
 pub record ReportValue : Type 0 where
@@ -321,7 +336,7 @@ pub record ReportValue : Type 0 where
   pub sent : ℕ
 
 -- the report of a run
-abbrev pub report_of : Config → List (List ℕ) → List WorldEvent → ReportValue
-report_of config floors events =
-    let world = world_of config floors events in
+abbrev pub report_of : Config → Start → List WorldEvent → ReportValue
+report_of config start events =
+    let world = world_of config start events in
     record { passes = passes_in world.history; answers = world.told; sent = length world.sent }

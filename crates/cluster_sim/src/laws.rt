@@ -9,32 +9,32 @@ ghost use Rattle.cluster_sim.specs.Answered.{AreAnswered, NamePasses, TellTruth}
 ghost use Rattle.cluster_sim.specs.Broken.{first_ok, first_two, no_line_at_1, ok_given, raised, round_line, second_spent, second_stopped, second_waiting, start_world};
 ghost use Rattle.cluster_sim.specs.Examples.{IsAnsweredBy, IsJustifiedAlone, IsJustifiedAmong, IsJustifiedByClock, IsToldTruly, NamesItsPass, alone, clock_alone, clock_among, clock_config, clock_line_stopped, clock_lines, clock_stopped, clock_three, config, drift_of_passes, eight_ticks, exhausted, five, four, fresh_token, gate_survives_restart, letter_lines, many_floors, many_users, moments_of_others, nothing_happens, old_grants, one_voter_twice, acceptance, password_column, refusal_again, report_with, resynchronization, line_at, second_factor_elsewhere, span_against_one, split_two_to_two, stop_after_the_commit, stop_before_accepting, stop_in_a_line, stop_in_a_tick, stop_in_noise, stop_of_nothing, three, told_outcome, told_bad_line, two_submissions, with_password};
 ghost use Rattle.cluster_sim.specs.Drifts.{drift_before};
-ghost use Rattle.cluster_sim.specs.LossExamples.{after_loss, alone_lost, answered_before, both_accepted, drifted_before, failed_before, first_accepted, one_of_two, two_lost, without_a_store};
+ghost use Rattle.cluster_sim.specs.LossExamples.{after_loss, alone_lost, answered_before, both_accepted, drifted_before, failed_before, first_accepted, old_comes, old_comes_first, old_floor, old_grant, one_of_two, three_after, two_lost, without_a_store};
 ghost use Rattle.cluster_sim.specs.Justified.{AreJustified};
 ghost use Rattle.cluster_sim.specs.Results.{results_before, results_of};
 ghost use Rattle.oath_node.specs.ReferenceServer.{server_at};
 ghost use Rattle.cluster_sim.specs.RoundExamples.{clock_rounds, fronted_at, line_after_sweep, lines_after_failure, lines_after_loss, lines_again, lines_of_a_clock, not_level, one_line, one_lost, rounds_from_start, server_after_rounds, swept, three_lines, told_at_fronts, two_lines};
 ghost use Rattle.cluster_sim.specs.Rounds.{AreServable, AreServed, IsAnswerTo, IsSettled, ServesAsOne, RoundsAreTheReference, RoundsAreThese, RoundsByCount, RoundsReported, SweepEndSettles, SweepLevels, SweepSettles, TurnLevels, events_with_rounds};
 ghost use Rattle.cluster_sim.specs.SingleNode.{reference_answers, opening_server};
-ghost use Rattle.cluster_sim.specs.World.{Anew, Restart, WorldEvent, floor_before, opening_world, passes_of, report_of};
+ghost use Rattle.cluster_sim.specs.World.{Anew, MayStart, Restart, Start, WorldEvent, first_start, floor_before, opening_world, passes_of, report_of};
 
 use admit_core::{failures_are_spaced, gate_keeps_throttle};
 use oath_node::{one_node_answers_as_the_server, rulings_have_grounds};
 use vote_core::votes_are_safe;
 
-/// Over every list of events, for every book and limits, from every opening floors of any number of nodes: what
-/// is accepted is safe and justified, and failures are far apart.
+/// Over every list of events, for every book and limits, from every start of any number of nodes, which may have been
+/// there before in earlier boots: what is accepted is safe and justified, and failures are far apart.
 pub fn world_is_safe()
-    ensures single_use { (config : Config) (floors : List (List ℕ)) (events : List WorldEvent) →
-        HaveSingleUse (passes_of config floors events) }
-    ensures in_order { (config : Config) (floors : List (List ℕ)) (events : List WorldEvent) →
-        KeepRealTimeOrder (passes_of config floors events) }
-    ensures majority { (config : Config) (floors : List (List ℕ)) (events : List WorldEvent) →
-        HaveMajority (length floors) (floor_before config floors events) (passes_of config floors events) }
-    ensures justified { (config : Config) (floors : List (List ℕ)) (events : List WorldEvent) →
-        AreJustified config floors events (passes_of config floors events) }
-    ensures spaced { (config : Config) (floors : List (List ℕ)) (events : List WorldEvent) (node token : ℕ) →
-        SpacesFailures (results_of config floors events node token) }
+    ensures single_use { (config : Config) (start : Start) (events : List WorldEvent) → MayStart config start
+        → HaveSingleUse (passes_of config start events) }
+    ensures in_order { (config : Config) (start : Start) (events : List WorldEvent) → MayStart config start
+        → KeepRealTimeOrder (passes_of config start events) }
+    ensures majority { (config : Config) (start : Start) (events : List WorldEvent) → MayStart config start
+        → HaveMajority start.n (floor_before config start events) (passes_of config start events) }
+    ensures justified { (config : Config) (start : Start) (events : List WorldEvent) → MayStart config start
+        → AreJustified config start events (passes_of config start events) }
+    ensures spaced { (config : Config) (start : Start) (events : List WorldEvent) (node token : ℕ)
+        → SpacesFailures (results_of config start events node token) }
 {
     votes_are_safe();
     rulings_have_grounds();
@@ -46,12 +46,12 @@ pub fn world_is_safe()
 /// came from the same client with its nonce; no other reply begins as an `OK`; and each pass that wasn't accepted in
 /// a stop has its `OK`.
 pub fn answers_belong_to_passes()
-    ensures told { (config : Config) (floors : List (List ℕ)) (events : List WorldEvent) →
-        let report = report_of config floors events in NamePasses events report.passes report.answers }
-    ensures no_other { (config : Config) (floors : List (List ℕ)) (events : List WorldEvent) →
-        let report = report_of config floors events in TellTruth events report.passes report.answers }
-    ensures answered { (config : Config) (floors : List (List ℕ)) (events : List WorldEvent) →
-        let report = report_of config floors events in AreAnswered events report.answers report.passes }
+    ensures told { (config : Config) (start : Start) (events : List WorldEvent) → MayStart config start
+        → let report = report_of config start events in NamePasses events report.passes report.answers }
+    ensures no_other { (config : Config) (start : Start) (events : List WorldEvent) →
+        let report = report_of config start events in TellTruth events report.passes report.answers }
+    ensures answered { (config : Config) (start : Start) (events : List WorldEvent) →
+        let report = report_of config start events in AreAnswered events report.answers report.passes }
 {
     votes_are_safe();
     rulings_have_grounds();
@@ -62,7 +62,7 @@ pub fn answers_belong_to_passes()
 /// does.
 pub fn one_node_is_the_reference()
     ensures { (config : Config) (floors : List ℕ) (events : List WorldEvent) → 1 + length events < 2 ^ 62 →
-        (report_of config (floors ∷ []) events).answers
+        (report_of config (first_start (floors ∷ [])) events).answers
         ≡ reference_answers config 0 events (opening_server config floors) }
 {
     one_node_answers_as_the_server();
@@ -174,7 +174,7 @@ pub fn losses_are_worked()
     ensures not_lost { report_of config three (after_loss (Anew 3 2 (1 ∷ []))) ≡ first_accepted }
     ensures no_member { report_of config three (after_loss (Anew 4 2 (1 ∷ []))) ≡ first_accepted }
     ensures two_of_three { report_of config three two_lost ≡ first_accepted }
-    ensures one_of_two { report_of config ((0 ∷ []) ∷ (0 ∷ []) ∷ []) one_of_two
+    ensures one_of_two { report_of config (first_start ((0 ∷ []) ∷ (0 ∷ []) ∷ [])) one_of_two
         ≡ report_with (acceptance 2 4 1 0 0 ∷ []) (told_outcome 4 1 7 (codes "a") (Accepted 0) ∷ []) 2 }
     ensures without_a_store { report_of config three without_a_store ≡ report_with [] [] 0 }
     ensures alone { report_of config alone alone_lost
@@ -191,6 +191,22 @@ pub fn losses_are_worked()
     ensures drift { drift_before (clock_config 10) clock_three (drifted_before 1) 1 0 4 ≡ negsuc 0 }
     ensures drift_anew { drift_before (clock_config 10) clock_three (drifted_before 1) 1 0 5 ≡ pos 0 }
     ensures other_drift { drift_before (clock_config 10) clock_three (drifted_before 2) 1 0 5 ≡ negsuc 0 }
+{}
+
+/// Nodes that were there before, worked through: a Grant of a former boot counts for nothing where a node opens at a
+/// later one, and would count where it opened at that boot again, which is no start; a first free factor that was told
+/// before is taken, and counts.
+pub fn starts_are_worked()
+    ensures first { MayStart config three }
+    ensures grant_of_before { report_of config (three_after 2 old_grant) old_comes ≡ report_with [] [] 3 }
+    ensures grant_at_its_boot { passes_of config (three_after 1 old_grant) old_comes ≡ acceptance 0 1 1 0 0 ∷ [] }
+    ensures floor_of_before { report_of config (three_after 2 old_floor) old_comes_first
+        ≡ report_with [] (told_outcome 1 1 7 (codes "a") (Refused Invalid) ∷ []) 1 }
+    ensures boot { ((opening_world config (three_after 2 old_grant)).nodes 3).content.boot ≡ 2 }
+    ensures later_boot { MayStart config (three_after 2 old_grant) }
+    ensures same_boot { MayStart config (three_after 1 old_grant) → ⊥ }
+    ensures to_no_member { MayStart config (three_after 2 (record old_grant { receiver = 4 })) → ⊥ }
+    ensures floor_at_any_boot { MayStart config (three_after 1 old_floor) }
 {}
 
 /// The results of a token at a node, the newest first: its failures and its acceptances there, and nothing else.

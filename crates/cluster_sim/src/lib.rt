@@ -42,7 +42,7 @@ pub use laws::{
     answers_belong_to_passes, answers_can_be_broken, busy_script_is_worked, drifts_are_worked,
     justifications_can_be_broken, losses_are_worked, one_node_is_the_reference, results_are_worked,
     rounds_are_the_reference, rounds_are_worked, scripts_are_worked, servers_are_worked,
-    services_can_be_broken, stops_are_worked, sweep_levels, world_is_safe,
+    services_can_be_broken, starts_are_worked, stops_are_worked, sweep_levels, world_is_safe,
 };
 pub use report::{Report, WorldAnswer, WorldPass};
 pub use rounds::{RoundLine, run_rounds};

@@ -202,8 +202,8 @@ fn run_script_and_rounds(
     requires each { (k : ℕ) (list : Vec ℕ) → slice_get floors.now k ≡ Some list
         → length list.items ≡ length book.now }
     ensures { let run = run_of book.now settings key.now floors.now before.now in
-        let all = events_with_rounds run.config run.floors run.events live.now (round_lines lines.now) in
-        IfOk result (λ report. report ≡ report_of run.config run.floors all) }
+        let all = events_with_rounds run.config run.start run.events live.now (round_lines lines.now) in
+        IfOk result (λ report. report ≡ report_of run.config run.start all) }
 {
     // At most 10,000 tokens.
     let _tokens = book.len();
@@ -247,25 +247,25 @@ pub fn run_rounds(
 
     // The report is exactly that of the events before, and then of a round for each line.
     ensures report { let run = run_of book.now settings key.now floors.now before.now in
-        let all = events_with_rounds run.config run.floors run.events live.now (round_lines lines.now) in
-        IfOk result (λ report. report ≡ report_of run.config run.floors all) }
+        let all = events_with_rounds run.config run.start run.events live.now (round_lines lines.now) in
+        IfOk result (λ report. report ≡ report_of run.config run.start all) }
 
     // Among a strict majority that is settled after the events before, each line is answered within its own round as
     // one server answers it, and the members are settled again.
     ensures served { let run = run_of book.now settings key.now floors.now before.now in
-        let old = world_of run.config run.floors run.events in
+        let old = world_of run.config run.start run.events in
         let rounds = rounds_events run.config live.now (length run.events) old (round_lines lines.now) in
         AreServable run.config live.now old (round_lines lines.now) → IfOk result (λ report.
-        AreServed run.config run.floors run.events rounds live.now (round_lines lines.now) report.answers) }
+        AreServed run.config run.start run.events rounds live.now (round_lines lines.now) report.answers) }
 
     // A sweep at the end of the events before settles such a majority.
     ensures levelled { let run = run_of book.now settings key.now floors.now before.now in
-        let old = world_of run.config run.floors run.events in
+        let old = world_of run.config run.start run.events in
         let rounds = rounds_events run.config live.now (length run.events) old (round_lines lines.now) in
-        EndInSweep run.config run.floors run.events live.now
+        EndInSweep run.config run.start run.events live.now
         → AreAtLive live.now (round_lines lines.now) → HaveNumbers live.now old (round_lines lines.now)
         → IfOk result (λ report.
-        AreServed run.config run.floors run.events rounds live.now (round_lines lines.now) report.answers) }
+        AreServed run.config run.start run.events rounds live.now (round_lines lines.now) report.answers) }
 {
     sweep_levels();
     rounds_are_the_reference();

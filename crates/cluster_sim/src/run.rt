@@ -14,7 +14,7 @@ ghost use Rattle.cluster_sim.specs.Justified.{AreJustified};
 ghost use Rattle.cluster_sim.specs.Results.{results_of};
 ghost use Rattle.cluster_sim.specs.Rounds.{AreRounds, AreServable, AreServed, RoundLine};
 ghost use Rattle.cluster_sim.specs.SingleNode.{opening_server, reference_answers};
-ghost use Rattle.cluster_sim.specs.World.{World, WorldEvent as Event, floor_at, floor_before, opening_world, report_of, world_after_events, world_of};
+ghost use Rattle.cluster_sim.specs.World.{World, WorldEvent as Event, first_start, floor_at, floor_before, opening_world, report_of, world_after_events, world_of};
 
 use crate::fault::SimFault;
 use crate::journal::Journal;
@@ -62,7 +62,7 @@ pub(crate) fn open_nodes<'b>(
     requires each { (k : ℕ) (list : Vec ℕ) → slice_get floors.now k ≡ Some list
         → length list.items ≡ length book.now }
     ensures { let config : Config = record { book = book.now; limits = settings } in
-        let opening = opening_world config (floor_lists floors.now) in
+        let opening = opening_world config (first_start (floor_lists floors.now)) in
         IfOk result (λ nodes. IsRun config key.now opening (simulation_of nodes.items no_journal)) }
 {
     let mut nodes = Vec::new(alloc);
@@ -123,7 +123,7 @@ fn run_script(
     requires each { (k : ℕ) (list : Vec ℕ) → slice_get floors.now k ≡ Some list
         → length list.items ≡ length book.now }
     ensures { let run = run_of book.now settings key.now floors.now events.now in
-        IfOk result (λ report. report ≡ report_of run.config run.floors run.events) }
+        IfOk result (λ report. report ≡ report_of run.config run.start run.events) }
 {
     // At most 10,000 tokens.
     let _tokens = book.len();
@@ -182,7 +182,7 @@ pub fn run_world(
 
     // The report is exactly that of the run: what is accepted, what is answered, and how many datagrams are sent.
     ensures report { let run = run_of book.now settings key.now floors.now events.now in
-        IfOk result (λ report. report ≡ report_of run.config run.floors run.events) }
+        IfOk result (λ report. report ≡ report_of run.config run.start run.events) }
 
     // No factor is used up twice, and what begins after an acceptance is accepted above it.
     ensures single_use { IfOk result (λ report. HaveSingleUse report.passes) }
@@ -190,12 +190,12 @@ pub fn run_world(
 
     // Each acceptance has a majority of nodes that gave its factors to no other.
     ensures majority { let run = run_of book.now settings key.now floors.now events.now in
-        let floor = floor_before run.config run.floors run.events in
+        let floor = floor_before run.config run.start run.events in
         IfOk result (λ report. HaveMajority (length floors.now) floor report.passes) }
 
     // Each acceptance is justified by the client's line with which it began.
     ensures justified { let run = run_of book.now settings key.now floors.now events.now in
-        IfOk result (λ report. AreJustified run.config run.floors run.events report.passes) }
+        IfOk result (λ report. AreJustified run.config run.start run.events report.passes) }
 
     // Each `OK` belongs to an acceptance, no other answer begins as one, and each acceptance that isn't of a stop is
     // answered.
@@ -208,7 +208,7 @@ pub fn run_world(
 
     // One node alone answers as the reference server does.
     ensures single_node { let run = run_of book.now settings key.now floors.now events.now in
-        let server = opening_server run.config (slice_index_or run.floors 0 []) in
+        let server = opening_server run.config (slice_index_or (floor_lists floors.now) 0 []) in
         length floors.now ≡ 1
         → IfOk result (λ report. report.answers ≡ reference_answers run.config 0 run.events server) }
 
@@ -216,13 +216,13 @@ pub fn run_world(
     // round as one server answers it, and the members are settled again.
     ensures served { let run = run_of book.now settings key.now floors.now events.now in
         (before rounds : List Event) (live : List ℕ) (lines : List RoundLine) → run.events ≡ before ++ rounds
-        → AreServable run.config live (world_of run.config run.floors before) lines
-        → AreRounds run.config live (length before) (world_of run.config run.floors before) lines rounds
-        → IfOk result (λ report. AreServed run.config run.floors before rounds live lines report.answers) }
+        → AreServable run.config live (world_of run.config run.start before) lines
+        → AreRounds run.config live (length before) (world_of run.config run.start before) lines rounds
+        → IfOk result (λ report. AreServed run.config run.start before rounds live lines report.answers) }
 
     // The failures of a token at a node are far apart.
     ensures spaced { let run = run_of book.now settings key.now floors.now events.now in
-        (node token : ℕ) → SpacesFailures (results_of run.config run.floors run.events node token) }
+        (node token : ℕ) → SpacesFailures (results_of run.config run.start run.events node token) }
 {
     world_is_safe();
     answers_belong_to_passes();

@@ -17,7 +17,7 @@ use Rattle.cluster_sim.specs.Run as code
 use Rattle.cluster_sim.specs.Run.{round_lines}
 use Rattle.cluster_sim.specs.Rounds.{events_with_rounds}
 use Rattle.cluster_sim.specs.World as world
-use Rattle.cluster_sim.specs.World.{ReportValue, report_of}
+use Rattle.cluster_sim.specs.World.{ReportValue, first_start, report_of}
 use Rattle.cluster_sim.specs.declared.script.Act as acts
 use Rattle.cluster_sim.specs.declared.script.Act.TheVariants.{Client, Deliver, Tick, Noise}
 use Rattle.cluster_sim.specs.declared.script.WorldEvent as events
@@ -56,9 +56,9 @@ events_same key (event ∷ more) =
 -- what is run of a script, as the code has it
 pub script_same : (config : Config) (floors : List (List ℕ)) (key : List ℕ) (script : Script)
     → script_events config floors key (script_value script)
-    ≡ events_with_rounds config floors (map (code.event_of key) script.events.items) script.live.items (round_lines script.rounds.items)
+    ≡ events_with_rounds config (first_start floors) (map (code.event_of key) script.events.items) script.live.items (round_lines script.rounds.items)
 script_same config floors key script =
-    ap (λ (es : List world.WorldEvent). events_with_rounds config floors es script.live.items (round_lines script.rounds.items)) (events_same key script.events.items)
+    ap (λ (es : List world.WorldEvent). events_with_rounds config (first_start floors) es script.live.items (round_lines script.rounds.items)) (events_same key script.events.items)
 
 -- a list that is tested to be empty
 pub empty_is : {X : Type 0} (xs : List X) → (length xs == 0) ≡ true → xs ≡ []
@@ -70,25 +70,25 @@ pub eventful_same : (config : Config) (floors : List (List ℕ)) (key : List ℕ
     → script_events config floors key (script_value script) ≡ map (code.event_of key) script.events.items
 eventful_same config floors key script none =
     script_same config floors key script
-    ∙ ap (λ rounds. events_with_rounds config floors (map (code.event_of key) script.events.items) script.live.items (round_lines rounds)) none
+    ∙ ap (λ rounds. events_with_rounds config (first_start floors) (map (code.event_of key) script.events.items) script.live.items (round_lines rounds)) none
     ∙ append-nil (map (code.event_of key) script.events.items)
 
 -- a run of the script tells this
 told : (setup : Setup) (book : List Credential) (floors : List ℕ) (said : Result ScriptRecord ℕ) (script : ScriptRecord)
     (lists : List (List ℕ)) (report : ReportValue) → said ≡ Ok script → lists ≡ replicate setup.nodes floors
-    → report ≡ report_of (record { book = book; limits = setup.limits }) lists
+    → report ≡ report_of (record { book = book; limits = setup.limits }) (first_start lists)
     (script_events (record { book = book; limits = setup.limits }) lists setup.key script)
     → sim_of_script setup (import_of book floors) said ≡ Reports report
 told setup book floors said script lists report is copied same =
     ap (sim_of_script setup (import_of book floors)) is
-    ∙ ap (λ (ls : List (List ℕ)). Reports (report_of (record { book = book; limits = setup.limits }) ls
+    ∙ ap (λ (ls : List (List ℕ)). Reports (report_of (record { book = book; limits = setup.limits }) (first_start ls)
     (script_events (record { book = book; limits = setup.limits }) ls setup.key script))) (sym copied)
     ∙ ap Reports (sym same)
 
 -- where there is a report, it is what the script tells
 pub told_by : (setup : Setup) (book : List Credential) (floors : List ℕ) (said : Result ScriptRecord ℕ) (script : ScriptRecord)
     (lists : List (List ℕ)) (result : Result ReportValue Fault) → said ≡ Ok script → lists ≡ replicate setup.nodes floors
-    → IfOk result (λ report. report ≡ report_of (record { book = book; limits = setup.limits }) lists
+    → IfOk result (λ report. report ≡ report_of (record { book = book; limits = setup.limits }) (first_start lists)
     (script_events (record { book = book; limits = setup.limits }) lists setup.key script))
     → IfOk result (λ report. sim_of_script setup (import_of book floors) said ≡ Reports report)
 told_by setup book floors said script lists (Ok report) is copied same = told setup book floors said script lists report is copied same

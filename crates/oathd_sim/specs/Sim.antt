@@ -9,7 +9,7 @@ use Rattle.token_file.specs.declared.fault.LineFault.TheVariants.{Read}
 use Rattle.oath_node.specs.Hosted.{envelope_at}
 use Rattle.oath_node.specs.Machine.{Config}
 use Rattle.cluster_sim.specs.World as world
-use Rattle.cluster_sim.specs.World.{ReportValue, report_of}
+use Rattle.cluster_sim.specs.World.{ReportValue, first_start, report_of}
 use Rattle.cluster_sim.specs.Rounds.{events_with_rounds}
 use Rattle.sim_script.specs.Event.{Act, Says, Deliver, Ticks, Noise, Event, Happens, Cut, Restart, Lost, Anew, ScriptRecord, empty_script}
 use Rattle.sim_script.specs.ReportText.{report_text}
@@ -55,7 +55,7 @@ event_under key (Anew node boot floors) = world.Anew node boot floors
 -- for each further line among its live members
 abbrev pub script_events : Config → List (List ℕ) → List ℕ → ScriptRecord → List world.WorldEvent
 script_events config floors key script =
-    events_with_rounds config floors (map (event_under key) script.events) script.live script.rounds
+    events_with_rounds config (first_start floors) (map (event_under key) script.events) script.live script.rounds
 
 -- ---- The simulation
 
@@ -81,7 +81,7 @@ sim_of_script setup import (Err number) = BadScript number
 sim_of_script setup import (Ok script) =
     let config : Config = record { book = import.book; limits = setup.limits } in
     let floors : List (List ℕ) = replicate setup.nodes import.floors in
-    Reports (report_of config floors (script_events config floors setup.key script))
+    Reports (report_of config (first_start floors) (script_events config floors setup.key script))
 
 -- the simulation over what a users file gives: an import, or its first fault
 abbrev pub sim_of_users : Setup → Result Import (ℕ × LineFault) → Result ScriptRecord ℕ → Sim

@@ -3,7 +3,7 @@ ghost use Rattle.std.specs.Prelude.{replicate, slice_get, take};
 ghost use Rattle.std.specs.Global.{Vec};
 ghost use Rattle.std.specs.Io.KnownBytes.{Appends};
 ghost use Rattle.cluster_sim.specs.Run.{floor_lists};
-ghost use Rattle.cluster_sim.specs.World.{report_of};
+ghost use Rattle.cluster_sim.specs.World.{first_start, report_of};
 ghost use Rattle.oath_node.specs.Machine.{Config};
 ghost use Rattle.otp_core.specs.Range.{IsMoment};
 ghost use Rattle.sim_script.specs.Event.{script_value};
@@ -55,7 +55,7 @@ fn run_script(
     ensures report { let config : Config = record { book = book.now; limits = settings } in
         let lists = floor_lists floors.now in
         let events = script_events config lists key.now (script_value script.now) in
-        IfOk result (λ report. report ≡ report_of config lists events) }
+        IfOk result (λ report. report ≡ report_of config (first_start lists) events) }
     ensures fault { IfErr result (λ fault. fault ≡ Fault.Memory) }
 {
     let events = script.events.as_slice();

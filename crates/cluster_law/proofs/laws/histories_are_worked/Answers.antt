@@ -1,5 +1,6 @@
 -- Each history is computed, the hash with it.
 use Rattle.std.proofs.Common.{refl}
+use Rattle.std.proofs.lemmas.Option.{none-some}
 use Rattle.admit_core.specs.Fit.{code_at}
 use Rattle.sha1.specs.Sha1.{first_words, schedule, rounds, compress, hash_after, digest_bytes, sha1}
 use Rattle.vote_core.specs.Voting.{propose, propose_alone, propose_among, tick}
@@ -57,4 +58,4 @@ returns-clause-strangers c = refl
 
 pub returns-clause-is_history : goal.returns-clause-is_history
 unfolding AreGenuine
-returns-clause-is_history c = (tt, (tt, (tt, tt)))
+returns-clause-is_history c = record { starts = λ i envelope at. absurd (none-some envelope at); genuine = (tt, (tt, (tt, tt))) }

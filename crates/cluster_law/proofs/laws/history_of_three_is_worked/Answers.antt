@@ -1,5 +1,6 @@
 -- The history is computed, the hashes with it.
 use Rattle.std.proofs.Common.{◌≡◌, List, Some, refl, sym, subst}
+use Rattle.std.proofs.lemmas.Option.{none-some}
 use Rattle.admit_core.specs.Fit.{code_at}
 use Rattle.sha1.specs.Sha1.{first_words, schedule, rounds, compress, hash_after, digest_bytes, sha1}
 use Rattle.hmac_core.specs.Unfolded.sha256_steps
@@ -57,19 +58,22 @@ grant_came envelope reads =
 
 pub returns-clause-is_history : goal.returns-clause-is_history
 unfolding AreGenuine scene_after
-returns-clause-is_history c = (
-  tt,
-  (
+returns-clause-is_history c = record {
+  starts = λ i envelope at. absurd (none-some envelope at);
+  genuine = (
     tt,
     (
       tt,
       (
         tt,
         (
-          (λ envelope reads sender. ask_came envelope reads),
-          (tt, ((λ envelope reads sender. grant_came envelope reads), (tt, (tt, tt)))),
+          tt,
+          (
+            (λ envelope reads sender. ask_came envelope reads),
+            (tt, ((λ envelope reads sender. grant_came envelope reads), (tt, (tt, tt)))),
+          ),
         ),
       ),
     ),
-  ),
-)
+  );
+}

@@ -1,6 +1,6 @@
 use Rattle.std.proofs.Common.{◌≡◌, ℕ, List, length, subst, ap, map, replicate, sym, ◌∙◌}
 use Rattle.std.specs.Prelude.{IfOk, Some, slice_get}
-use Rattle.cluster_sim.specs.World.{ReportValue, report_of}
+use Rattle.cluster_sim.specs.World.{ReportValue, first_start, report_of}
 use Rattle.oath_node.specs.Machine.{Config}
 use Rattle.sim_script.specs.Event.{script_value}
 use Rattle.users_input.specs.Input.{lines_between, pieces_of}
@@ -18,7 +18,7 @@ returns-clause-report c = λ moment.
     (map (λ list. list.items) c.in_ok-floors.floors.items) c.run_script.result
     (ap (λ (t : List ℕ). script_lines c.args.nodes parts.first (lines_between parts.script.is_cut (pieces_of t))) (sym c.deref.ensures.value) ∙ c.in_ok-script.ensures.script)
     (c.in_ok-floors.ensures.same ∙ ap (replicate c.args.nodes) c.deref-2.ensures.value)
-    (subst (λ lists. IfOk c.run_script.result (λ (report : ReportValue). report ≡ report_of config (map (λ list. list.items) lists)
+    (subst (λ lists. IfOk c.run_script.result (λ (report : ReportValue). report ≡ report_of config (first_start (map (λ list. list.items) lists))
     (script_events config (map (λ list. list.items) lists) c.args.key.now script))) c.deref-3.ensures.value c.run_script.ensures.report)
 
 pub run_script-requires-clause-each : goal.run_script-requires-clause-each
