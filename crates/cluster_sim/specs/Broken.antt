@@ -30,6 +30,12 @@ second_waiting =
     let node = start_world.nodes 2 in
     with_second (record node { voter = record node.voter { pending = ballot_of small_ballot ∷ [] } })
 
+-- a line waits there
+abbrev pub second_line_waiting : World
+second_line_waiting =
+    let node = start_world.nodes 2 in
+    with_second (record node { owners = record { seq = 0; client = 7; line = []; nonce = [] } ∷ [] })
+
 -- it has no number left
 abbrev pub second_spent : World
 second_spent =

@@ -2,19 +2,20 @@ ghost use Rattle.std.specs.Prelude.{pos, negsuc, ◌≡◌, ◌+◌, ◌<◌, �
 ghost use Rattle.admit_core.specs.Throttle.{Accepted as Passed, Failed, SpacesFailures};
 ghost use Rattle.otp_core.specs.Acceptance.{HaveSingleUse, KeepRealTimeOrder};
 ghost use Rattle.vote_core.specs.Safety.{HaveMajority};
+ghost use Rattle.vote_core.specs.declared.message.Message.TheVariants.{Floor};
 ghost use Rattle.oath_node.specs.Machine.{Config};
 ghost use Rattle.vote_wire.specs.declared.answer.Outcome.TheVariants.{Accepted, Refused};
 ghost use Rattle.vote_wire.specs.declared.answer.Reason.TheVariants.{Busy, Clock, Exhausted, Invalid, Password, Spent, Throttled, Timeout, Unknown};
 ghost use Rattle.cluster_sim.specs.Answered.{AreAnswered, NamePasses, TellTruth};
-ghost use Rattle.cluster_sim.specs.Broken.{first_ok, first_two, no_line_at_1, ok_given, raised, round_line, second_spent, second_stopped, second_waiting, start_world};
-ghost use Rattle.cluster_sim.specs.Examples.{IsAnsweredBy, IsJustifiedAlone, IsJustifiedAmong, IsJustifiedByClock, IsToldTruly, NamesItsPass, alone, clock_alone, clock_among, clock_config, clock_line_stopped, clock_lines, clock_stopped, clock_three, config, drift_of_passes, eight_ticks, exhausted, five, four, fresh_token, gate_survives_restart, letter_lines, many_floors, many_users, moments_of_others, nothing_happens, old_grants, one_voter_twice, acceptance, password_column, refusal_again, report_with, resynchronization, line_at, second_factor_elsewhere, span_against_one, split_two_to_two, stop_after_the_commit, stop_before_accepting, stop_in_a_line, stop_in_a_tick, stop_in_noise, stop_of_nothing, three, told_outcome, told_bad_line, two_submissions, with_password};
+ghost use Rattle.cluster_sim.specs.Broken.{first_ok, first_two, no_line_at_1, ok_given, raised, round_line, second_line_waiting, second_spent, second_stopped, second_waiting, start_world};
+ghost use Rattle.cluster_sim.specs.Examples.{IsAnsweredBy, IsJustifiedAlone, IsJustifiedAmong, IsJustifiedByClock, IsToldTruly, NamesItsPass, alone, clock_alone, clock_among, clock_config, clock_line_stopped, clock_lines, clock_stopped, clock_three, config, delivery, drift_of_passes, eight_ticks, exhausted, first_at_1, first_pass, five, four, fresh_token, gate_survives_restart, letter_lines, many_floors, many_users, moments_of_others, nothing_happens, old_grants, one_voter_twice, acceptance, password_column, refusal_again, report_with, resynchronization, line_at, second_factor_elsewhere, span_against_one, split_two_to_two, stop_after_the_commit, stop_before_accepting, stop_in_a_line, stop_in_a_tick, stop_in_noise, stop_of_nothing, three, told_outcome, told_bad_line, two_submissions, with_password};
 ghost use Rattle.cluster_sim.specs.Drifts.{drift_before};
-ghost use Rattle.cluster_sim.specs.LossExamples.{after_loss, alone_lost, answered_before, both_accepted, drifted_before, failed_before, first_accepted, old_comes, old_comes_first, old_floor, old_grant, one_of_two, three_after, two_lost, without_a_store};
-ghost use Rattle.cluster_sim.specs.Justified.{AreJustified};
+ghost use Rattle.cluster_sim.specs.LossExamples.{after_loss, alone_lost, answered_before, both_accepted, drifted_before, failed_before, first_accepted, from_before, old_comes, old_comes_first, old_floor, old_grant, one_of_two, three_after, two_lost, without_a_store};
+ghost use Rattle.cluster_sim.specs.Justified.{AreJustified, IsJustified};
 ghost use Rattle.cluster_sim.specs.Results.{results_before, results_of};
 ghost use Rattle.oath_node.specs.ReferenceServer.{server_at};
 ghost use Rattle.cluster_sim.specs.RoundExamples.{clock_rounds, fronted_at, line_after_sweep, lines_after_failure, lines_after_loss, lines_again, lines_of_a_clock, not_level, one_line, one_lost, rounds_from_start, server_after_rounds, swept, three_lines, told_at_fronts, two_lines};
-ghost use Rattle.cluster_sim.specs.Rounds.{AreServable, AreServed, IsAnswerTo, IsSettled, ServesAsOne, RoundsAreTheReference, RoundsAreThese, RoundsByCount, RoundsReported, SweepEndSettles, SweepLevels, SweepSettles, TurnLevels, events_with_rounds};
+ghost use Rattle.cluster_sim.specs.Rounds.{AreServable, AreServed, HasNonePending, IsAnswerTo, IsSettled, ServesAsOne, RoundsAreTheReference, RoundsAreThese, RoundsByCount, RoundsReported, SweepEndSettles, SweepLevels, SweepSettles, TurnLevels, events_with_rounds};
 ghost use Rattle.cluster_sim.specs.SingleNode.{reference_answers, opening_server};
 ghost use Rattle.cluster_sim.specs.World.{Anew, MayStart, Restart, Start, WorldEvent, first_start, floor_before, opening_world, passes_of, report_of};
 
@@ -195,7 +196,7 @@ pub fn losses_are_worked()
 
 /// Nodes that were there before, worked through: a Grant of a former boot counts for nothing where a node opens at a
 /// later one, and would count where it opened at that boot again, which is no start; a first free factor that was told
-/// before is taken, and counts.
+/// before is taken, and counts. What comes from before is to a member, and of a token of the book.
 pub fn starts_are_worked()
     ensures first { MayStart config three }
     ensures grant_of_before { report_of config (three_after 2 old_grant) old_comes ≡ report_with [] [] 3 }
@@ -205,7 +206,8 @@ pub fn starts_are_worked()
     ensures boot { ((opening_world config (three_after 2 old_grant)).nodes 3).content.boot ≡ 2 }
     ensures later_boot { MayStart config (three_after 2 old_grant) }
     ensures same_boot { MayStart config (three_after 1 old_grant) → ⊥ }
-    ensures to_no_member { MayStart config (three_after 2 (record old_grant { receiver = 4 })) → ⊥ }
+    ensures to_no_member { MayStart config (three_after 2 (record old_floor { receiver = 4 })) → ⊥ }
+    ensures of_no_token { MayStart config (three_after 2 (from_before (Floor 1 1))) → ⊥ }
     ensures floor_at_any_boot { MayStart config (three_after 1 old_floor) }
 {}
 
@@ -257,8 +259,8 @@ pub fn drifts_are_worked()
 {}
 
 /// What is said of an acceptance can be broken: by another node, by an event that is no line or is a line that a stop
-/// lost, by another token or factor, by a line that came while the token was closed or its factor used up, and by a
-/// factor that the drift puts outside the window.
+/// lost, by another token, user or factor, by a line that came while the token was closed or its factor used up, and by
+/// a factor that the drift puts outside the window. Of a list of acceptances each is justified.
 pub fn justifications_can_be_broken()
     ensures node { IsJustifiedAmong second_factor_elsewhere (acceptance 0 2 2 0 0) → ⊥ }
     ensures delivery { IsJustifiedAmong second_factor_elsewhere (acceptance 1 2 1 0 0) → ⊥ }
@@ -274,11 +276,17 @@ pub fn justifications_can_be_broken()
     ensures used_up { IsJustifiedAlone (acceptance 1 1 1 0 0) → ⊥ }
     ensures closed { IsJustifiedAlone (acceptance 5 5 1 2 2) → ⊥ }
     ensures drifted { IsJustifiedByClock (acceptance 3 3 1 9 9) → ⊥ }
+    ensures user { IsJustified config alone (line_at 1 7 100 (codes "CHECK 1 gold 755224 -") ∷ [])
+        (acceptance 0 0 1 0 0) → ⊥ }
+    ensures kept_stop_elsewhere { IsJustifiedAmong (stop_in_a_line true) (acceptance 0 0 2 0 0) → ⊥ }
+    ensures one_of_a_list { AreJustified config three second_factor_elsewhere (acceptance 0 2 2 0 0 ∷ []) → ⊥ }
 {}
 
 /// What is said of answers can be broken: an `OK` without an acceptance, of another node, client, nonce or factor, told
-/// too early, or again to a client that didn't ask again; and an acceptance whose `OK` is missing, comes from another
-/// node, in another event, to another client, or with another nonce or factor.
+/// too early, or again to a client that didn't ask again; one whose acceptance began in an event that is no line, no
+/// line of its client, or a line that a stop lost; and an acceptance whose `OK` is missing, comes from another node, in
+/// another event, to another client, or with another nonce or factor, or that ended in no event, in a stop that lost
+/// it, or in an event that accepts nothing.
 pub fn answers_can_be_broken()
     ensures no_pass { TellTruth second_factor_elsewhere [] (told_outcome 2 1 7 (codes "a") (Accepted 0) ∷ []) → ⊥ }
     ensures node { IsToldTruly (told_outcome 2 3 7 (codes "a") (Accepted 0)) → ⊥ }
@@ -287,6 +295,36 @@ pub fn answers_can_be_broken()
     ensures factor { IsToldTruly (told_outcome 2 1 7 (codes "a") (Accepted 1)) → ⊥ }
     ensures early { IsToldTruly (told_outcome 1 1 7 (codes "a") (Accepted 0)) → ⊥ }
     ensures again { IsToldTruly (told_outcome 3 1 7 (codes "a") (Accepted 0)) → ⊥ }
+    ensures pass_elsewhere { TellTruth second_factor_elsewhere (acceptance 0 2 2 0 0 ∷ [])
+        (told_outcome 2 1 7 (codes "a") (Accepted 0) ∷ []) → ⊥ }
+    ensures asked_elsewhere { TellTruth second_factor_elsewhere (acceptance 0 2 2 0 0 ∷ [])
+        (told_outcome 2 2 7 (codes "a") (Accepted 0) ∷ []) → ⊥ }
+    ensures delivery { TellTruth second_factor_elsewhere (acceptance 1 2 1 0 0 ∷ [])
+        (told_outcome 2 1 7 (codes "a") (Accepted 0) ∷ []) → ⊥ }
+    ensures tick { TellTruth eight_ticks (acceptance 1 1 1 0 0 ∷ [])
+        (told_outcome 1 1 7 (codes "a") (Accepted 0) ∷ []) → ⊥ }
+    ensures noise { TellTruth nothing_happens (acceptance 2 2 2 0 0 ∷ [])
+        (told_outcome 2 2 7 (codes "a") (Accepted 0) ∷ []) → ⊥ }
+    ensures no_event { TellTruth second_factor_elsewhere (acceptance 9 9 1 0 0 ∷ [])
+        (told_outcome 9 1 7 (codes "a") (Accepted 0) ∷ []) → ⊥ }
+    ensures kept_stop_of_another { TellTruth (stop_in_a_line true) (acceptance 0 0 1 0 0 ∷ [])
+        (told_outcome 0 1 8 (codes "a") (Accepted 0) ∷ []) → ⊥ }
+    ensures lost_stop { TellTruth (stop_in_a_line false) (acceptance 0 0 1 0 0 ∷ [])
+        (told_outcome 0 1 7 (codes "a") (Accepted 0) ∷ []) → ⊥ }
+    ensures restart { TellTruth old_grants (acceptance 2 2 1 0 0 ∷ [])
+        (told_outcome 2 1 7 (codes "a") (Accepted 0) ∷ []) → ⊥ }
+    ensures store_lost { TellTruth (after_loss (Restart 0)) (acceptance 3 3 2 0 0 ∷ [])
+        (told_outcome 3 2 7 (codes "a") (Accepted 0) ∷ []) → ⊥ }
+    ensures store_anew { TellTruth (after_loss (Anew 2 2 (1 ∷ []))) (acceptance 4 4 2 0 0 ∷ [])
+        (told_outcome 4 2 7 (codes "a") (Accepted 0) ∷ []) → ⊥ }
+    ensures again_another_line { TellTruth fresh_token (acceptance 0 0 1 0 0 ∷ [])
+        (told_outcome 1 1 7 (codes "1") (Accepted 0) ∷ []) → ⊥ }
+    ensures again_elsewhere { TellTruth (first_at_1 ∷ delivery 2 0 ∷ delivery 1 2
+        ∷ line_at 2 7 1000 (codes "CHECK a silver 755224 -") ∷ []) (first_pass ∷ [])
+        (told_outcome 3 1 7 (codes "a") (Accepted 0) ∷ []) → ⊥ }
+    ensures again_by_another { TellTruth fresh_token (acceptance 0 0 1 0 0 ∷ [])
+        (told_outcome 3 1 7 (codes "1") (Accepted 0) ∷ []) → ⊥ }
+    ensures again_by_no_line { IsToldTruly (told_outcome 4 1 7 (codes "a") (Accepted 0)) → ⊥ }
     ensures names_no_pass { NamePasses second_factor_elsewhere [] (told_outcome 2 1 7 (codes "a") (Accepted 0) ∷ [])
         → ⊥ }
     ensures names_node { NamesItsPass (told_outcome 2 3 7 (codes "a") (Accepted 0)) → ⊥ }
@@ -300,6 +338,11 @@ pub fn answers_can_be_broken()
     ensures to_client { IsAnsweredBy (told_outcome 2 1 9 (codes "a") (Accepted 0) ∷ []) → ⊥ }
     ensures with_nonce { IsAnsweredBy (told_outcome 2 1 7 (codes "c") (Accepted 0) ∷ []) → ⊥ }
     ensures with_factor { IsAnsweredBy (told_outcome 2 1 7 (codes "a") (Accepted 1) ∷ []) → ⊥ }
+    ensures ended_nowhere { AreAnswered second_factor_elsewhere [] (acceptance 9 9 1 0 0 ∷ []) → ⊥ }
+    ensures ended_in_lost_stop { AreAnswered (stop_in_a_line false) [] (acceptance 0 0 1 0 0 ∷ []) → ⊥ }
+    ensures ended_in_restart { AreAnswered old_grants [] (acceptance 2 2 1 0 0 ∷ []) → ⊥ }
+    ensures ended_in_loss { AreAnswered (after_loss (Restart 0)) [] (acceptance 3 3 2 0 0 ∷ []) → ⊥ }
+    ensures ended_in_anew { AreAnswered (after_loss (Anew 2 2 (1 ∷ []))) [] (acceptance 4 4 2 0 0 ∷ []) → ⊥ }
 {}
 
 /// Rounds worked through: two and three of them, after a node is lost, after a sweep, and those of a clock that falls
@@ -354,8 +397,9 @@ pub fn servers_are_worked()
     } }
 {}
 
-/// What is said of settled members, of rounds among them and of a report that ends in rounds holds of the least that
-/// keeps it, and each field is broken by the least that keeps all others.
+/// What is said of settled members, of a node where nothing waits, of rounds among members and of a report that ends in
+/// rounds holds of the least that keeps it, and each field is broken by the least that keeps all others. Each line has
+/// one answer, to its client.
 pub fn services_can_be_broken()
     ensures ascending { IsSettled config (2 ∷ 1 ∷ []) start_world → ⊥ }
     ensures majority { IsSettled config (1 ∷ []) start_world → ⊥ }
@@ -363,6 +407,9 @@ pub fn services_can_be_broken()
     ensures member { IsSettled config (2 ∷ 3 ∷ 4 ∷ []) start_world → ⊥ }
     ensures none { IsSettled config first_two second_waiting → ⊥ }
     ensures level { IsSettled config first_two (opening_world config not_level) → ⊥ }
+
+    ensures pending { HasNonePending second_waiting 2 → ⊥ }
+    ensures owners { HasNonePending second_line_waiting 2 → ⊥ }
 
     ensures servable { AreServable config first_two start_world one_line }
     ensures servable_settled { AreServable config (1 ∷ []) start_world one_line → ⊥ }
@@ -381,6 +428,10 @@ pub fn services_can_be_broken()
     ensures served_told { AreServed config three no_line_at_1 [] first_two [] [] → ⊥ }
     ensures served_are { AreServed config three [] [] first_two [] (first_ok ∷ []) → ⊥ }
     ensures served_settled { AreServed config three [] [] (1 ∷ []) [] [] → ⊥ }
+    ensures answer_missing { AreServed config three [] [] first_two one_line [] → ⊥ }
+    ensures answer_to_another { AreServed config three [] [] first_two one_line (record first_ok { client = 8 } ∷ [])
+        → ⊥ }
+    ensures answer_twice { AreServed config three [] [] first_two one_line (first_ok ∷ first_ok ∷ []) → ⊥ }
 
     ensures as_one { ServesAsOne config first_two 0 start_world start_world [] }
     ensures as_one_told { ServesAsOne config first_two 0 (record start_world { told = first_ok ∷ [] }) start_world []

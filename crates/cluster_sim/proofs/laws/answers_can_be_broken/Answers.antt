@@ -1,5 +1,5 @@
 -- What is told and what was accepted are computed, and differ.
-use Rattle.std.proofs.Common.{◌≡◌, ℕ, zero, suc, ◌<◌, ◌≤◌, List, [], ◌∷◌, Some, None, refl, arith, ap, sym, ◌∙◌, subst}
+use Rattle.std.proofs.Common.{◌≡◌, ℕ, zero, suc, ◌<◌, ◌≤◌, true, false, List, [], ◌∷◌, Some, None, refl, arith, ap, sym, ◌∙◌, subst}
 use Rattle.std.specs.Prelude.{codes, slice_get, slice_index}
 use Rattle.std.specs.Fmt.{digits}
 use Rattle.otp_core.specs.Acceptance.{Acceptance}
@@ -8,9 +8,10 @@ use Rattle.vote_wire.specs.Field.{IsNonce}
 use Rattle.vote_wire.specs.Request.{Request}
 use Rattle.vote_wire.specs.declared.answer.Outcome.TheVariants.{Accepted}
 use Rattle.vote_wire.proofs.RequestLemmas.{line_of_request, request_of_line}
-use Rattle.cluster_sim.specs.Answered.{BelongsToPass, HasAnswer, IsAskedIn, IsPassOf, IsTextOf, ok_bytes}
-use Rattle.cluster_sim.specs.Examples.{first_pass, second_factor_elsewhere, told_outcome}
-use Rattle.cluster_sim.specs.World.{Told}
+use Rattle.cluster_sim.specs.Answered.{BelongsToPass, HasAnswer, IsAskedIn, IsOk, IsPassOf, IsSaidIn, IsTextOf, TellTruth, ok_bytes}
+use Rattle.cluster_sim.specs.Examples.{acceptance, delivery, eight_ticks, first_at_1, first_pass, fresh_token, line_at, nothing_happens, old_grants, second_factor_elsewhere, stop_in_a_line, told_outcome}
+use Rattle.cluster_sim.specs.LossExamples.{after_loss}
+use Rattle.cluster_sim.specs.World.{Anew, Restart, Told, WorldEvent}
 use Rattle.cluster_sim.proofs.OkLemmas.{text_nonce}
 use Rattle.cluster_sim.proofs.laws.answers_can_be_broken.Goals as goal
 
@@ -110,6 +111,118 @@ returns-clause-again c h =
     let said : (2 ≡ 1) × (8 ≡ 7) × _ = b.belongs.again late in
     omega (arith, said.0)
 
+-- ---- what follows where one acceptance and one reply are all that there is
+
+-- it is the acceptance to which the reply belongs
+abbrev Belongs : List WorldEvent → Acceptance → Told → Type 0
+Belongs events pass told = BelongsToPass events (pass ∷ []) told
+
+belongs : (events : List WorldEvent) (pass : Acceptance) (told : Told) → TellTruth events (pass ∷ []) (told ∷ []) → IsOk told.bytes → Belongs events pass told
+belongs events pass told h is_ok = h 0 told refl is_ok
+
+same_pass : (events : List WorldEvent) (pass : Acceptance) (told : Told) (b : Belongs events pass told) → pass ≡ b.belongs.pass
+same_pass events pass told b = only pass b.belongs.pass b.belongs.place b.belongs.is_pass
+
+-- the event in which it began is a line of the client there
+asked_in : (events : List WorldEvent) (pass : Acceptance) (told : Told) (b : Belongs events pass told)
+    → IsAskedIn told.node told.client b.belongs.line b.nonce (slice_get events pass.began)
+asked_in events pass told b =
+    subst (λ (p : Acceptance). IsAskedIn told.node told.client b.belongs.line b.nonce (slice_get events p.began)) (sym (same_pass events pass told b)) b.belongs.asked
+
+-- a later reply is to the same line
+said_in : (events : List WorldEvent) (pass : Acceptance) (told : Told) (b : Belongs events pass told) → pass.ended < told.event
+    → IsSaidIn told.node told.client b.belongs.line (slice_get events told.event)
+said_in events pass told b late = b.belongs.again (subst (λ (p : Acceptance). p.ended < told.event) (same_pass events pass told b) late)
+
+pub returns-clause-pass_elsewhere : goal.returns-clause-pass_elsewhere
+returns-clause-pass_elsewhere c h =
+    let b = belongs second_factor_elsewhere (acceptance 0 2 2 0 0) (ok 2 1 7 (codes "a") 0) h refl in
+    let node : 2 ≡ 1 = ap (λ (p : Acceptance). p.node) (same_pass second_factor_elsewhere (acceptance 0 2 2 0 0) (ok 2 1 7 (codes "a") 0) b) ∙ b.belongs.node in
+    omega (arith, node)
+
+pub returns-clause-asked_elsewhere : goal.returns-clause-asked_elsewhere
+returns-clause-asked_elsewhere c h =
+    let b = belongs second_factor_elsewhere (acceptance 0 2 2 0 0) (ok 2 2 7 (codes "a") 0) h refl in
+    let asked : (1 ≡ 2) × (7 ≡ 7) × _ = asked_in second_factor_elsewhere (acceptance 0 2 2 0 0) (ok 2 2 7 (codes "a") 0) b in
+    omega (arith, asked.0)
+
+pub returns-clause-delivery : goal.returns-clause-delivery
+returns-clause-delivery c h =
+    let b = belongs second_factor_elsewhere (acceptance 1 2 1 0 0) (ok 2 1 7 (codes "a") 0) h refl in
+    asked_in second_factor_elsewhere (acceptance 1 2 1 0 0) (ok 2 1 7 (codes "a") 0) b
+
+pub returns-clause-tick : goal.returns-clause-tick
+returns-clause-tick c h =
+    let b = belongs eight_ticks (acceptance 1 1 1 0 0) (ok 1 1 7 (codes "a") 0) h refl in
+    asked_in eight_ticks (acceptance 1 1 1 0 0) (ok 1 1 7 (codes "a") 0) b
+
+pub returns-clause-noise : goal.returns-clause-noise
+returns-clause-noise c h =
+    let b = belongs nothing_happens (acceptance 2 2 2 0 0) (ok 2 2 7 (codes "a") 0) h refl in
+    asked_in nothing_happens (acceptance 2 2 2 0 0) (ok 2 2 7 (codes "a") 0) b
+
+pub returns-clause-no_event : goal.returns-clause-no_event
+returns-clause-no_event c h =
+    let b = belongs second_factor_elsewhere (acceptance 9 9 1 0 0) (ok 9 1 7 (codes "a") 0) h refl in
+    asked_in second_factor_elsewhere (acceptance 9 9 1 0 0) (ok 9 1 7 (codes "a") 0) b
+
+pub returns-clause-kept_stop_of_another : goal.returns-clause-kept_stop_of_another
+returns-clause-kept_stop_of_another c h =
+    let b = belongs (stop_in_a_line true) (acceptance 0 0 1 0 0) (ok 0 1 8 (codes "a") 0) h refl in
+    let asked : (1 ≡ 1) × (7 ≡ 8) × _ = asked_in (stop_in_a_line true) (acceptance 0 0 1 0 0) (ok 0 1 8 (codes "a") 0) b in
+    omega (arith, asked.1)
+
+pub returns-clause-lost_stop : goal.returns-clause-lost_stop
+returns-clause-lost_stop c h =
+    let b = belongs (stop_in_a_line false) (acceptance 0 0 1 0 0) (ok 0 1 7 (codes "a") 0) h refl in
+    asked_in (stop_in_a_line false) (acceptance 0 0 1 0 0) (ok 0 1 7 (codes "a") 0) b
+
+pub returns-clause-restart : goal.returns-clause-restart
+returns-clause-restart c h =
+    let b = belongs old_grants (acceptance 2 2 1 0 0) (ok 2 1 7 (codes "a") 0) h refl in
+    asked_in old_grants (acceptance 2 2 1 0 0) (ok 2 1 7 (codes "a") 0) b
+
+pub returns-clause-store_lost : goal.returns-clause-store_lost
+returns-clause-store_lost c h =
+    let b = belongs (after_loss (Restart 0)) (acceptance 3 3 2 0 0) (ok 3 2 7 (codes "a") 0) h refl in
+    asked_in (after_loss (Restart 0)) (acceptance 3 3 2 0 0) (ok 3 2 7 (codes "a") 0) b
+
+pub returns-clause-store_anew : goal.returns-clause-store_anew
+returns-clause-store_anew c h =
+    let b = belongs (after_loss (Anew 2 2 (1 ∷ []))) (acceptance 4 4 2 0 0) (ok 4 2 7 (codes "a") 0) h refl in
+    asked_in (after_loss (Anew 2 2 (1 ∷ []))) (acceptance 4 4 2 0 0) (ok 4 2 7 (codes "a") 0) b
+
+-- event 1 is another line of the client
+pub returns-clause-again_another_line : goal.returns-clause-again_another_line
+returns-clause-again_another_line c h =
+    let b = belongs fresh_token (acceptance 0 0 1 0 0) (ok 1 1 7 (codes "1") 0) h refl in
+    let said : (1 ≡ 1) × (7 ≡ 7) × (codes "CHECK 2 silver 755224 -" ≡ b.belongs.line) = said_in fresh_token (acceptance 0 0 1 0 0) (ok 1 1 7 (codes "1") 0) b (omega arith) in
+    let asked : (1 ≡ 1) × (7 ≡ 7) × IsTextOf b.belongs.line b.nonce (codes "CHECK 1 silver 755224 -") = asked_in fresh_token (acceptance 0 0 1 0 0) (ok 1 1 7 (codes "1") 0) b in
+    let lines : codes "CHECK 1 silver 755224 -" ≡ codes "CHECK 2 silver 755224 -" = asked.2.line_is ∙ sym said.2 in
+    let there : 49 ≡ 50 = ap (λ (bytes : List ℕ). slice_index bytes 6) lines in
+    omega (arith, there)
+
+-- the line comes again at node 2
+abbrev comes_elsewhere : List WorldEvent
+comes_elsewhere = first_at_1 ∷ delivery 2 0 ∷ delivery 1 2 ∷ line_at 2 7 1000 (codes "CHECK a silver 755224 -") ∷ []
+
+pub returns-clause-again_elsewhere : goal.returns-clause-again_elsewhere
+returns-clause-again_elsewhere c h =
+    let b = belongs comes_elsewhere first_pass (ok 3 1 7 (codes "a") 0) h refl in
+    let said : (2 ≡ 1) × (7 ≡ 7) × _ = said_in comes_elsewhere first_pass (ok 3 1 7 (codes "a") 0) b (omega arith) in
+    omega (arith, said.0)
+
+pub returns-clause-again_by_another : goal.returns-clause-again_by_another
+returns-clause-again_by_another c h =
+    let b = belongs fresh_token (acceptance 0 0 1 0 0) (ok 3 1 7 (codes "1") 0) h refl in
+    let said : (1 ≡ 1) × (8 ≡ 7) × _ = said_in fresh_token (acceptance 0 0 1 0 0) (ok 3 1 7 (codes "1") 0) b (omega arith) in
+    omega (arith, said.1)
+
+pub returns-clause-again_by_no_line : goal.returns-clause-again_by_no_line
+returns-clause-again_by_no_line c h =
+    let b = belongs second_factor_elsewhere first_pass (ok 4 1 7 (codes "a") 0) h refl in
+    said_in second_factor_elsewhere first_pass (ok 4 1 7 (codes "a") 0) b (omega arith)
+
 pub returns-clause-names_no_pass : goal.returns-clause-names_no_pass
 returns-clause-names_no_pass c h =
     let b = h 0 (ok 2 1 7 (codes "a") 0) (codes "a") 0 refl nonce_a (omega arith) refl in
@@ -188,3 +301,20 @@ returns-clause-with_factor c h =
     let a : HasAnswer second_factor_elsewhere (told ∷ []) first_pass = h 0 first_pass refl in
     let asked = asked_at 1 a.answer.client a.line a.nonce first_pass refl a.asked in
     other_factor (ap (λ (t : Told). t.bytes) (only told a.answer a.place a.is_told) ∙ a.bytes ∙ ap (λ (n : List ℕ). ok_bytes n 0) (asked_nonce a.line a.nonce asked.2))
+
+-- ---- an acceptance that ended in no event that accepts
+
+pub returns-clause-ended_nowhere : goal.returns-clause-ended_nowhere
+returns-clause-ended_nowhere c h = h 0 (acceptance 9 9 1 0 0) refl
+
+pub returns-clause-ended_in_lost_stop : goal.returns-clause-ended_in_lost_stop
+returns-clause-ended_in_lost_stop c h = h 0 (acceptance 0 0 1 0 0) refl
+
+pub returns-clause-ended_in_restart : goal.returns-clause-ended_in_restart
+returns-clause-ended_in_restart c h = h 0 (acceptance 2 2 1 0 0) refl
+
+pub returns-clause-ended_in_loss : goal.returns-clause-ended_in_loss
+returns-clause-ended_in_loss c h = h 0 (acceptance 3 3 2 0 0) refl
+
+pub returns-clause-ended_in_anew : goal.returns-clause-ended_in_anew
+returns-clause-ended_in_anew c h = h 0 (acceptance 4 4 2 0 0) refl

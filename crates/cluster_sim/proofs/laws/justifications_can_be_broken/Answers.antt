@@ -13,7 +13,7 @@ use Rattle.token_file.specs.declared.token.Kind.TheVariants.{Time30}
 use Rattle.vote_wire.specs.Request.{Request, request_at}
 use Rattle.vote_wire.proofs.RequestLemmas.{request_of_line}
 use Rattle.cluster_sim.specs.Drifts.{drift_before}
-use Rattle.cluster_sim.specs.Examples.{clock_alone, clock_config, clock_lines, config, user_named}
+use Rattle.cluster_sim.specs.Examples.{acceptance, clock_alone, clock_config, clock_lines, config, user_named}
 use Rattle.cluster_sim.specs.Justified.{IsGround}
 use Rattle.cluster_sim.specs.World.{floor_before, world_with_made, world_after_turn, world_after_act, world_after_restart, world_after_event, world_after_events}
 use Rattle.cluster_sim.proofs.laws.justifications_can_be_broken.Goals as goal
@@ -80,3 +80,23 @@ returns-clause-drifted c h =
     let drift = drift_before (clock_config 10) clock_alone clock_lines 1 0 3 in
     let window = subst (λ (credential : Credential). InWindowOf credential (clock_config 10).limits next drift 270 h.1.request.submission 9) clock h.1.entitled.fit.first in
     let e = window.near in omega (arith, ints)
+
+-- the line names a user who isn't in the book
+abbrev gold : Request
+gold = record { nonce = codes "1"; user = codes "gold"; submission = Check (codes "755224"); password = None }
+
+pub returns-clause-user : goal.returns-clause-user
+returns-clause-user c h =
+    let line = codes "CHECK 1 gold 755224 -" in
+    let read = request_of_line line h.1.request h.1.grammar in
+    let same : h.1.request ≡ gold = same_some h.1.request gold (sym read ∙ refl) in
+    let one : silver ≡ h.1.credential = same_some silver h.1.credential h.1.is_token in
+    let names : codes "silver" ≡ codes "gold" = ap (λ (c : Credential). c.name) one ∙ h.1.user ∙ ap (λ (r : Request). r.user) same in
+    let first : 115 ≡ 103 = ap (λ (name : List ℕ). slice_index name 0) names in
+    omega (arith, first)
+
+pub returns-clause-kept_stop_elsewhere : goal.returns-clause-kept_stop_elsewhere
+returns-clause-kept_stop_elsewhere c h = let node : 1 ≡ 2 = h.0 in omega (arith, node)
+
+pub returns-clause-one_of_a_list : goal.returns-clause-one_of_a_list
+returns-clause-one_of_a_list c h = let node : 1 ≡ 2 = (h 0 (acceptance 0 2 2 0 0) refl).0 in omega (arith, node)

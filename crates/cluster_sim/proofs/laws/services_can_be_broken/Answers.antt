@@ -1,13 +1,14 @@
 -- Each promise is asked about the one that breaks it.
-use Rattle.std.proofs.Common.{◌≡◌, ◌≤◌, ◌^◌, ◌+◌, ℕ, true, false, List, [], ◌∷◌, get_or, length, refl, ap, sym, ◌∙◌, arith}
+use Rattle.std.proofs.Common.{◌≡◌, ◌≤◌, ◌^◌, ◌+◌, ℕ, true, false, List, [], ◌∷◌, get_or, length, refl, ap, sym, ◌∙◌, subst, arith}
 use Rattle.std.specs.Fmt.{digits}
 use Rattle.vote_core.specs.Schedule.{is_member}
 use Rattle.oath_node.specs.Machine.{made_by_ruling, made_while_running, made_by_event}
 use Rattle.cluster_sim.specs.Broken.{first_ok, first_two, start_world}
-use Rattle.cluster_sim.specs.Examples.{config}
+use Rattle.cluster_sim.specs.Examples.{config, three}
 use Rattle.cluster_sim.specs.FrontEnds.{FrontedServer}
-use Rattle.cluster_sim.specs.Rounds.{IsSettled, next_at}
-use Rattle.cluster_sim.specs.World.{world_with_made, world_after_turn, world_after_act, world_after_event, world_after_events}
+use Rattle.cluster_sim.specs.RoundExamples.{one_line}
+use Rattle.cluster_sim.specs.Rounds.{AreAnswersTo, AreServed, IsSettled, next_at, server_of}
+use Rattle.cluster_sim.specs.World.{Told, world_with_made, world_after_turn, world_after_act, world_after_event, world_after_events, world_of}
 use Rattle.cluster_sim.proofs.Turns.{at_live}
 use Rattle.cluster_sim.proofs.laws.services_can_be_broken.Goals as goal
 
@@ -44,6 +45,12 @@ returns-clause-none c h = let e = h.none 2 refl in absurd cc
 pub returns-clause-level : goal.returns-clause-level
 returns-clause-level c h = let e : 0 ≡ 1 = h.level 1 2 0 refl refl (omega arith) in omega (arith, e)
 
+pub returns-clause-pending : goal.returns-clause-pending
+returns-clause-pending c h = let e = h.0 in absurd cc
+
+pub returns-clause-owners : goal.returns-clause-owners
+returns-clause-owners c h = let e = h.1 in absurd cc
+
 pub returns-clause-servable : goal.returns-clause-servable
 returns-clause-servable c = record {
   settled = start_is_settled;
@@ -75,6 +82,31 @@ returns-clause-served_are c h = let e : first_ok ∷ [] ≡ h.more = h.told in l
 pub returns-clause-served_settled : goal.returns-clause-served_settled
 unfolding world_after_events
 returns-clause-served_settled c h = no_majority h.settled
+
+-- the answers to one line
+abbrev AnswerOneLine : List Told → Type 0
+AnswerOneLine answers = AreAnswersTo config first_two 0 (world_of config three []) (server_of first_two (world_of config three [])) one_line answers
+
+-- of a report of no events, all that was told are these answers
+of_one_line : (answers : List Told) → AreServed config three [] [] first_two one_line answers → AnswerOneLine answers
+unfolding world_after_events
+of_one_line answers h = let e : answers ≡ h.more = h.told in subst AnswerOneLine (sym e) h.are
+
+pub returns-clause-answer_missing : goal.returns-clause-answer_missing
+returns-clause-answer_missing c h = of_one_line [] h
+
+pub returns-clause-answer_to_another : goal.returns-clause-answer_to_another
+returns-clause-answer_to_another c h =
+    let other : Told = record first_ok { client = 8 } in
+    let are = of_one_line (other ∷ []) h in
+    let client : 8 ≡ 7 = are.0.client in
+    omega (arith, client)
+
+pub returns-clause-answer_twice : goal.returns-clause-answer_twice
+returns-clause-answer_twice c h =
+    let are = of_one_line (first_ok ∷ first_ok ∷ []) h in
+    let none : first_ok ∷ [] ≡ [] = are.1 in
+    absurd cc
 
 pub returns-clause-as_one : goal.returns-clause-as_one
 returns-clause-as_one c = record { answers = []; told = refl; are = refl; settled = start_is_settled; server = refl }

@@ -5,11 +5,12 @@ use Rattle.std.proofs.lemmas.Option.{none-some, same_Some}
 use Rattle.vote_core.specs.Calls.{IsOther}
 use Rattle.vote_core.specs.Safety.{IsDeliverable, IsOfEarlierBoot}
 use Rattle.vote_core.specs.Schedule.{Envelope}
+use Rattle.vote_core.specs.declared.message.Message.TheVariants.{Floor}
 use Rattle.admit_core.specs.Fit.{code_at}
 use Rattle.sha1.specs.Sha1.{first_words, schedule, rounds, compress, hash_after, digest_bytes, sha1}
 use Rattle.vote_core.specs.Voting.{propose, propose_alone, propose_among, on_ask, accept, count_grant, on_grant, raise, count_deny, on_deny, on_floor, on_message, tick}
 use Rattle.oath_node.specs.Machine.{made_by_proposal, made_by_ruling, made_by_datagram, made_while_running, made_by_event}
-use Rattle.cluster_sim.specs.LossExamples.{old_floor, old_grant}
+use Rattle.cluster_sim.specs.LossExamples.{from_before, old_floor, old_grant}
 use Rattle.cluster_sim.specs.World.{world_with_made, world_after_turn, world_after_act, world_after_restart, world_after_loss, world_after_anew, world_after_event, world_after_events}
 use Rattle.cluster_sim.proofs.laws.starts_are_worked.Goals as goal
 
@@ -46,7 +47,10 @@ pub returns-clause-same_boot : goal.returns-clause-same_boot
 returns-clause-same_boot c h = let early : 1 < 1 = (h 0 old_grant refl).1 in absurd (omega (arith, early))
 
 pub returns-clause-to_no_member : goal.returns-clause-to_no_member
-returns-clause-to_no_member c h = let last : 4 ≤ 3 = (h 0 (record old_grant { receiver = 4 }) refl).0.last in absurd (omega (arith, last))
+returns-clause-to_no_member c h = let last : 4 ≤ 3 = (h 0 (record old_floor { receiver = 4 }) refl).0.last in absurd (omega (arith, last))
+
+pub returns-clause-of_no_token : goal.returns-clause-of_no_token
+returns-clause-of_no_token c h = let known : 1 < 1 = (h 0 (from_before (Floor 1 1)) refl).0.fits in absurd (omega (arith, known))
 
 pub returns-clause-floor_at_any_boot : goal.returns-clause-floor_at_any_boot
 returns-clause-floor_at_any_boot c =
