@@ -278,9 +278,9 @@ pub fn losses_are_worked()
     ensures drift_is_gone { drift_in clock_nodes drifts_and_loses 1 0 9 ≡ pos 0 }
 {}
 
-/// Stores that were made anew after former lives, worked through: a Grant of a former life counts for nothing at a store
-/// that was made at a boot as late as that life's, and would count at one that was made before, which is no history; a
-/// first free factor that was told in a former life counts.
+/// Stores that were made anew after former lives, worked through: a Grant of a former life counts for nothing at a
+/// store that was made at a boot as late as that life's, and would count at one that was made before, which is no
+/// history; a first free factor that was told in a former life counts.
 pub fn former_lives_are_worked()
     ensures made { (first_scene (nodes_after (4 ∷ []) grant)).sites 1
         ≡ Down (record (made_content three_nodes 1) { boot = 4 }) }

@@ -1,5 +1,5 @@
 -- The history is computed, the hashes with it.
-use Rattle.std.proofs.Common.{◌≡◌, ◌<◌, ◌+◌, ℕ, List, [], ◌∷◌, zero, suc, Some, refl, sym, subst, arith, ◌∙◌}
+use Rattle.std.proofs.Common.{◌≡◌, ◌<◌, ◌+◌, ℕ, [], ◌∷◌, zero, suc, Some, refl, subst, arith, ap}
 use Rattle.std.specs.List.{slice_get}
 use Rattle.std.proofs.lemmas.Option.{none-some, same_Some}
 use Rattle.vote_core.specs.Calls.{IsOther}
@@ -13,9 +13,11 @@ use Rattle.vote_wire.specs.Datagram.{datagram_at, datagram_bytes}
 use Rattle.vote_wire.specs.Key.{tag_of}
 use Rattle.oath_node.specs.Machine.{made_by_proposal, made_by_ruling, made_by_datagram, made_while_running, made_by_event}
 use Rattle.vote_core.specs.Schedule.{Envelope}
+use Rattle.vote_core.specs.declared.message.Message.{Message}
+use Rattle.vote_core.specs.declared.message.Message.TheVariants.{Grant}
 use Rattle.oath_node.specs.Hosted.{envelope_at}
 use Rattle.cluster_law.specs.Examples.{bytes_of, grant, nodes_after, old_floor, three_nodes}
-use Rattle.cluster_law.specs.Lives.{AreGenuine, Handout, Post, WasOffered, made_boot, scene_after, scene_after_deed}
+use Rattle.cluster_law.specs.Lives.{Answer, AreGenuine, Handout, Post, WasOffered, made_boot, scene_after, scene_after_deed}
 use Rattle.cluster_law.proofs.Examples.{grant_reads, said}
 use Rattle.cluster_law.proofs.laws.former_lives_are_worked.Goals as goal
 
@@ -46,16 +48,25 @@ grant_came envelope reads =
     let there : WasOffered (Post grant ∷ []) grant = record { place = 0; is_there = refl } in
     subst (λ (is : Envelope). WasOffered (Post grant ∷ []) is) (said (bytes_of grant) grant envelope grant_reads reads) there
 
+-- how many Grants it is
+abbrev grants_of : Message → ℕ
+grants_of (Grant proposal token span) = 1
+grants_of _ = 0
+
+abbrev grants_in : Handout → ℕ
+grants_in (Post envelope) = grants_of envelope.message
+grants_in (Answer told) = 0
+
 -- and where only a Floor was, the Grant wasn't
 not_there : (k : ℕ) → slice_get (Post old_floor ∷ []) k ≡ Some (Post grant) → ⊥
 not_there zero at = absurd (other (same_Some (Post old_floor) (Post grant) at))
   where
     other : Post old_floor ≡ Post grant → ⊥
-    other e = cc
+    other e = let number : 0 ≡ 1 = ap (λ (handout : Handout). grants_in handout) e in omega (arith, number)
 not_there (suc k) at = absurd (none-some (Post grant) at)
 
 pub returns-clause-is_history : goal.returns-clause-is_history
-unfolding AreGenuine scene_after
+unfolding AreGenuine scene_after scene_after_deed
 returns-clause-is_history c = record {
   starts = of_one (λ envelope. IsDeliverable 3 1 envelope × IsOfEarlierBoot (λ node. made_boot (nodes_after (1 ∷ []) grant) node + 1) envelope.message) grant
       (record { first = omega arith; last = omega arith; other = from_second; fits = (omega arith, record { ordered = omega arith; short = omega arith }, refl) }, omega arith);
@@ -66,7 +77,7 @@ pub returns-clause-used_boot : goal.returns-clause-used_boot
 returns-clause-used_boot c h = let early : 1 < 1 = (h.starts 0 grant refl).1 in absurd (omega (arith, early))
 
 pub returns-clause-never_sent : goal.returns-clause-never_sent
-unfolding AreGenuine scene_after
+unfolding AreGenuine scene_after scene_after_deed
 returns-clause-never_sent c h =
     let was = h.genuine.1.1.0 grant grant_reads refl in
     absurd (not_there was.place was.is_there)
