@@ -5,34 +5,35 @@ ghost use Rattle.admit_core.specs.Throttle.{Accepted as Passed, Failed, SpacesFa
 ghost use Rattle.cluster_sim.specs.Results.{results_in};
 ghost use Rattle.otp_core.specs.Acceptance.{HaveSingleUse, KeepRealTimeOrder};
 ghost use Rattle.vote_core.specs.Safety.{HaveMajority};
-ghost use Rattle.cluster_sim.specs.World.{WorldEvent};
+ghost use Rattle.cluster_sim.specs.World.{Anew, Cut, Happens, Lost, Restart, Ticks, WorldEvent};
 ghost use Rattle.floor_store.specs.Content.{Content};
 ghost use Rattle.floor_store.specs.Held.{IsSettled, RaisesBoot};
 ghost use Rattle.floor_store.specs.Range.{IsCount};
 ghost use Rattle.floor_store.specs.declared.fault.StoreFault.{StoreFault};
 ghost use Rattle.oath_node.specs.Calls.{CommitsNode, Handles, IsOpened, Takes as TakesEvent};
 ghost use Rattle.oath_node.specs.Hosted.{Hosted, state_of};
-ghost use Rattle.oath_node.specs.Machine.{Config, NodeState, opened_node};
+ghost use Rattle.oath_node.specs.Machine.{Config, NodeState, opened_node, stopped_node};
 ghost use Rattle.oath_node.specs.Outputs.{OutputsRecord};
 ghost use Rattle.oath_node.specs.declared.fault.NodeFault.{NodeFault};
 ghost use Rattle.node_turns.specs.Turns.{Nothing, Receipt, offers_in, receipts_in, run_at, run_with_batches};
 ghost use Rattle.vote_wire.specs.declared.answer.Outcome.TheVariants.{Accepted, Refused};
 ghost use Rattle.vote_wire.specs.declared.answer.Reason.TheVariants.{Invalid};
 ghost use Rattle.cluster_sim.specs.Examples.{acceptance, told_outcome};
-ghost use Rattle.node_turns.specs.Port.{PortEvent};
+ghost use Rattle.node_turns.specs.Port.{PortEvent, Quiet};
 ghost use Rattle.node_turns.specs.Serving.{Serves};
 ghost use Rattle.node_turns.specs.declared.fault.ServeFault.{ServeFault};
 ghost use Rattle.node_turns.specs.declared.fault.ServeFault.TheVariants.{Clock, Node, Port};
 ghost use Rattle.node_turns.specs.declared.turns.Served.{Served};
 ghost use Rattle.cluster_law.specs.Answered.{AnswersAll, EndsProcess, HasYetToOffer, IsAnsweredInDeed, IsLost, IsOfferedOrEnds};
+ghost use Rattle.cluster_law.specs.Broken.{content_with_pass, hurries, just_opened, owning_node, pending_node, right_text, tick_made, told_by_tick, with_process};
 ghost use Rattle.cluster_law.specs.Bytes.{IsSized, IsUnforgedHistory};
 ghost use Rattle.cluster_law.specs.Examples.{accepts_anew, among_strangers, answer_out, answers_once, clock_node, clock_nodes, comes_to_no_store, comes_to_nobody, content_of_boot, drifts_and_loses, ends_after_the_answer, ends_before_the_answer, ends_behind, ends_in_the_step, fails_and_loses, first_ok, first_pass, floor_comes, floor_out, grant, grant_before_its_offer, grant_from, granted_by_two, loses_one, loses_two, made_anew, nodes_after, old_floor, old_floor_comes, old_grant_comes, one_node, one_open, opens_twice, quiet_node, right_line, right_receipt, stop_in_a_forged_grant, strangers, takes_behind, takes_twice, tells_both, three_nodes, told_by_reference, two_open, uneven_nodes};
 ghost use Rattle.cluster_law.specs.Justified.{IsJustifiedInDeed, JustifiesAll, drift_in, moment_in_deed, results_held};
-ghost use Rattle.cluster_law.specs.Lives.{Deed, Down, Input, IsHistory, LeaveStore, Loses, Offers, Opens, Post, Remakes, Scene, Setting, Site, Stops, StopsIn, Takes, Time, Up, accepted_in, answered_in, answers_among, content_at, event_of, first_scene, floor_in, handouts_of, has_store, made_boot, made_by_input, made_content, nodes_of, offers_by, own_site, scene_after, scene_of, site_after, site_cut, site_half_opened, site_offered, site_opened, start_of};
-ghost use Rattle.cluster_law.specs.Processes.{AreServing, CanTakeSome, CanTakeTurns, IsEndedNode, IsFailedNode, IsHalfOpened, IsMemberIn, IsNoFaultOfNode, IsServed, IsServedNode, TakesSome, TakesTurns, item_of, member_in, run_over};
-ghost use Rattle.cluster_law.specs.Promises.{AnswerTruly, IsExplained, IsRunOf};
+ghost use Rattle.cluster_law.specs.Lives.{Datagram, Deed, Down, FailsToOpen, Input, IsHistory, LeaveStore, Loses, Offers, Opens, Post, Remakes, Scene, Setting, Site, Stops, StopsIn, Takes, Time, Up, accepted_in, answered_in, answers_among, content_at, event_of, first_scene, floor_in, handouts_of, has_store, made_boot, made_by_input, made_content, nodes_of, offers_by, own_site, scene_after, scene_of, site_after, site_cut, site_half_opened, site_offered, site_opened, start_of};
+ghost use Rattle.cluster_law.specs.Processes.{AreServing, CanTakeSome, CanTakeTurns, IsEndedNode, IsFailedNode, IsHalfOpened, IsMemberIn, IsNoFaultOfNode, IsServed, IsServedNode, IsStopped, TakesSome, TakesTurns, item_of, member_in, run_over};
+ghost use Rattle.cluster_law.specs.Promises.{AnswerTruly, BelongsToAcceptance, HasAct, HasEvent, IsActOf, IsAskedInDeed, IsEventOf, IsExplained, IsRunOf, IsSaidInDeed, nothing};
 ghost use Rattle.cluster_law.specs.SingleNode.{IsPartOf, reference_of, setting_of_one};
-ghost use Rattle.cluster_law.specs.Sweeps.{IsSweep, IsTick, SweepsLevel, greatest_in, is_step_of};
+ghost use Rattle.cluster_law.specs.Sweeps.{IsLive, IsSweep, IsSwept, IsTick, SweepsLevel, greatest_in, is_step_of};
 ghost use Rattle.std.specs.List.{filter};
 
 use cluster_sim::{answers_belong_to_passes, sweep_levels, world_is_safe};
@@ -305,7 +306,7 @@ pub fn promises_can_be_broken()
 {}
 
 /// The drifts and the results by which an acceptance is justified, worked through; and what justifies none: a deed that
-/// took no line, a line at another node, or in a stop that lost it.
+/// took no line, a line at another node, or in a stop that lost it, or one while the token was closed.
 pub fn grounds_are_worked()
     ensures line { moment_in_deed (Some (Takes 1 right_line)) ≡ Some 100 }
     ensures line_in_a_stop { moment_in_deed (Some (StopsIn 1 true right_line)) ≡ Some 100 }
@@ -324,6 +325,10 @@ pub fn grounds_are_worked()
     ensures node { IsJustifiedInDeed one_node answers_once (acceptance 1 1 2 0 0) → ⊥ }
     ensures token { IsJustifiedInDeed one_node answers_once (record first_pass { token = 1 }) → ⊥ }
     ensures lost { IsJustifiedInDeed one_node (ends_in_the_step false) first_pass → ⊥ }
+    ensures tick { IsJustifiedInDeed one_node (Opens 1 ∷ Takes 1 Time ∷ []) first_pass → ⊥ }
+    ensures node_in_a_stop { IsJustifiedInDeed one_node (ends_in_the_step true) (acceptance 1 1 2 0 0) → ⊥ }
+    // A failure 4 seconds before has closed the token.
+    ensures closed { IsJustifiedInDeed one_node hurries (acceptance 2 2 1 0 0) → ⊥ }
 {}
 
 /// What becomes of an answer, worked through: it waits, is offered, or is lost with its process.
@@ -352,6 +357,12 @@ pub fn answers_are_worked()
     ensures in_another_deed { IsAnsweredInDeed one_node answers_once (record first_pass { ended = 2 })
         (Some (Takes 1 right_line)) → ⊥ }
     ensures at_another_node { IsAnsweredInDeed one_node answers_once (record first_pass { node = 2 })
+        (Some (Takes 1 right_line)) → ⊥ }
+    ensures by_another_node { IsAnsweredInDeed one_node among_strangers (acceptance 2 3 2 0 0)
+        (Some (Takes 1 right_line)) → ⊥ }
+    ensures without_a_line { IsAnsweredInDeed one_node answers_once (record first_pass { began = 0 })
+        (Some (Takes 1 right_line)) → ⊥ }
+    ensures with_another_factor { IsAnsweredInDeed one_node answers_once (record first_pass { hi = 1 })
         (Some (Takes 1 right_line)) → ⊥ }
 {}
 
@@ -415,6 +426,89 @@ pub fn sweeps_are_worked()
     ensures short { IsSweep one_node (1 ∷ []) one_open (replicate 7 (Takes 1 Time)) → ⊥ }
     ensures greatest { greatest_in (3 ∷ 2 ∷ []) (scene_of three_nodes (take 5 granted_by_two)) 0 ≡ 1 }
     ensures greatest_of_the_first { greatest_in (2 ∷ 3 ∷ []) (scene_of three_nodes (take 5 granted_by_two)) 0 ≡ 1 }
+{}
+
+/// What breaks what is said of a process: of one that failed to open, of one that goes on, of what a stop leaves, and
+/// of a call that serves it, for which no choice of batches will do.
+pub fn promises_of_processes_can_be_broken()
+    ensures half_open { IsHalfOpened (content_of_boot 3) (content_of_boot 4) }
+    ensures half_open_at_a_later_boot { IsHalfOpened (content_of_boot 3) (content_of_boot 5) → ⊥ }
+    ensures fails_to_open { AreServing 1 (FailsToOpen 1 true ∷ []) → ⊥ }
+    ensures served { IsServed one_node 1 0 [] quiet_node quiet_node [] }
+    ensures served_in_another_state { IsServed one_node 1 0 [] quiet_node (stopped_node quiet_node) [] → ⊥ }
+    ensures served_with_an_entry_more { IsServed one_node 1 0 [] quiet_node quiet_node (Quiet ∷ []) → ⊥ }
+    ensures stopped { IsStopped one_node 1 0 [] quiet_node [] (content_of_boot 1) }
+    ensures stopped_with_an_entry_more { IsStopped one_node 1 0 [] quiet_node (Quiet ∷ []) (content_of_boot 1) → ⊥ }
+    ensures stopped_at_a_later_boot { IsStopped one_node 1 0 [] quiet_node [] (content_of_boot 5) → ⊥ }
+    // A tick was made, and nothing was received.
+    ensures ticked_unasked { IsServedNode three_nodes 1 (just_opened three_nodes) tick_made.state told_by_tick → ⊥ }
+    ensures ended_after_it_ticked_unasked { IsEndedNode three_nodes 1 (just_opened three_nodes) tick_made.state
+        told_by_tick → ⊥ }
+    // A quiet turn was received, and no tick was made.
+    ensures never_ticked { IsServedNode three_nodes 1 (just_opened three_nodes) (just_opened three_nodes)
+        (Quiet ∷ []) → ⊥ }
+    // A line was taken, and nothing was received.
+    ensures failed_with_a_line_unasked { IsFailedNode one_node 1 (just_opened one_node) [] content_with_pass → ⊥ }
+{}
+
+/// What breaks what is said of an answer: another node, client or nonce of its line, a line that was lost, and another
+/// acceptance, or none.
+pub fn answers_can_be_broken()
+    ensures asked { IsAskedInDeed 1 7 right_text (codes "1") (Some (Takes 1 right_line)) }
+    ensures asked_at_another_node { IsAskedInDeed 2 7 right_text (codes "1") (Some (Takes 1 right_line)) → ⊥ }
+    ensures asked_by_another_client { IsAskedInDeed 1 8 right_text (codes "1") (Some (Takes 1 right_line)) → ⊥ }
+    ensures asked_with_another_nonce { IsAskedInDeed 1 7 right_text (codes "2") (Some (Takes 1 right_line)) → ⊥ }
+    ensures stop_at_another_node { IsAskedInDeed 2 7 right_text (codes "1") (Some (StopsIn 1 true right_line)) → ⊥ }
+    ensures stop_of_another_client { IsAskedInDeed 1 8 right_text (codes "1") (Some (StopsIn 1 true right_line)) → ⊥ }
+    ensures stop_with_another_nonce { IsAskedInDeed 1 7 right_text (codes "2") (Some (StopsIn 1 true right_line))
+        → ⊥ }
+    ensures stop_that_lost_it { IsAskedInDeed 1 7 right_text (codes "1") (Some (StopsIn 1 false right_line)) → ⊥ }
+    ensures said { IsSaidInDeed 1 7 right_text (Some (Takes 1 right_line)) }
+    ensures said_at_another_node { IsSaidInDeed 2 7 right_text (Some (Takes 1 right_line)) → ⊥ }
+    ensures said_by_another_client { IsSaidInDeed 1 8 right_text (Some (Takes 1 right_line)) → ⊥ }
+    ensures said_with_another_text { IsSaidInDeed 1 7 [] (Some (Takes 1 right_line)) → ⊥ }
+    ensures said_in_a_stop { IsSaidInDeed 1 7 right_text (Some (StopsIn 1 true right_line)) → ⊥ }
+    ensures belongs { BelongsToAcceptance one_node answers_once first_ok }
+    ensures belongs_to_none { BelongsToAcceptance one_node comes_to_nobody first_ok → ⊥ }
+    ensures belongs_to_a_later_one { BelongsToAcceptance one_node answers_once (record first_ok { event = 0 }) → ⊥ }
+    ensures told_to_another_client { BelongsToAcceptance one_node answers_once (record first_ok { client = 8 }) → ⊥ }
+    ensures told_another_factor { BelongsToAcceptance one_node answers_once
+        (told_outcome 1 1 7 (codes "1") (Accepted 1)) → ⊥ }
+    ensures told_again_unasked { BelongsToAcceptance one_node answers_once (record first_ok { event = 2 }) → ⊥ }
+{}
+
+/// What breaks what a sweep leaves: a node that is no member or has no process, what waits there, and a first free
+/// factor that differs.
+pub fn sweeps_can_be_broken()
+    ensures stranger { IsLive one_node (with_process quiet_node) 2 → ⊥ }
+    ensures swept { IsSwept one_node (1 ∷ []) one_open one_open 1 }
+    ensures without_a_process { IsSwept one_node (1 ∷ []) one_open (first_scene one_node) 1 → ⊥ }
+    ensures proposal_waits { IsSwept one_node (1 ∷ []) one_open (with_process pending_node) 1 → ⊥ }
+    ensures line_waits { IsSwept one_node (1 ∷ []) one_open (with_process owning_node) 1 → ⊥ }
+    ensures factor_ahead { IsSwept one_node (1 ∷ []) one_open (scene_of one_node answers_once) 1 → ⊥ }
+{}
+
+/// What breaks that a history is a run of the written world: another act for an input, another event for a deed, and
+/// an event without a deed.
+pub fn runs_can_be_broken()
+    ensures tick_for_a_line { IsActOf [] 1 right_line (Ticks 1) → ⊥ }
+    ensures tick_at_another_node { IsActOf [] 1 Time (Ticks 2) → ⊥ }
+    ensures tick_for_a_datagram { IsActOf [] 1 (Datagram 2 []) (Ticks 1) → ⊥ }
+    ensures nothing_for_an_act { HasAct [] 1 Time (λ act. Happens act) nothing → ⊥ }
+    ensures act_of_another_input { HasAct [] 1 Time (λ act. Happens act) (Happens (Ticks 2)) → ⊥ }
+    ensures opening_is_a_loss { IsEventOf [] (Opens 1) (Lost 1) → ⊥ }
+    ensures failed_opening_is_a_loss { IsEventOf [] (FailsToOpen 1 true) (Lost 1) → ⊥ }
+    ensures input_is_a_restart { IsEventOf [] (Takes 1 Time) (Restart 1) → ⊥ }
+    ensures offer_is_a_restart { IsEventOf [] (Offers 1) (Restart 1) → ⊥ }
+    ensures stop_is_a_restart { IsEventOf [] (Stops 1) (Restart 1) → ⊥ }
+    ensures stop_that_lost_it_is_a_cut { IsEventOf [] (StopsIn 1 false Time) (Cut false (Ticks 1)) → ⊥ }
+    ensures stop_in_a_step_is_an_act { IsEventOf [] (StopsIn 1 true Time) (Happens (Ticks 1)) → ⊥ }
+    ensures loss_is_a_restart { IsEventOf [] (Loses 1) (Restart 1) → ⊥ }
+    ensures store_anew_at_its_own_boot { IsEventOf [] (Remakes 1 2 []) (Anew 1 2 []) → ⊥ }
+    ensures no_event { HasEvent [] (Stops 1) 0 [] → ⊥ }
+    ensures another_event { HasEvent [] (Stops 1) 0 (Restart 1 ∷ []) → ⊥ }
+    ensures run_with_an_event_more { IsRunOf one_node [] (nothing ∷ []) → ⊥ }
+    ensures run_with_another_event { IsRunOf one_node (Stops 1 ∷ []) (Restart 1 ∷ []) → ⊥ }
 {}
 
 /// Parts of deeds, worked through: boots, and what is handed out in which order.

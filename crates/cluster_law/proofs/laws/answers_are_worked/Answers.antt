@@ -1,6 +1,7 @@
 -- Each history is computed, the hash with it.
 use Rattle.std.proofs.Common.{◌≡◌, ℕ, zero, suc, ◌⊎◌, inl, ⊎_elim, List, [], ◌∷◌, Some, None, refl, sym, ap, ◌∙◌, subst, arith}
-use Rattle.std.specs.Prelude.{codes, take}
+use Rattle.std.specs.Prelude.{codes, slice_index, take}
+use Rattle.std.specs.Fmt.{digits}
 use Rattle.std.specs.List.{slice_get}
 use Rattle.std.proofs.lemmas.Option.{none-some, same_Some}
 use Rattle.admit_core.specs.Fit.{Check, code_at}
@@ -8,10 +9,11 @@ use Rattle.sha1.specs.Sha1.{first_words, schedule, rounds, compress, hash_after,
 use Rattle.vote_core.specs.Voting.{propose, propose_alone, propose_among, tick}
 use Rattle.oath_node.specs.Machine.{NodeState, made_by_proposal, made_by_ruling, made_by_datagram, made_while_running, made_by_event}
 use Rattle.vote_wire.specs.Request.{Request}
-use Rattle.vote_wire.proofs.RequestLemmas.{line_of_request}
+use Rattle.vote_wire.proofs.RequestLemmas.{line_of_request, request_of_line}
+use Rattle.cluster_sim.specs.Answered.{IsTextOf, ok_bytes}
 use Rattle.cluster_sim.specs.World.{Told}
 use Rattle.cluster_law.specs.Answered.{EndsProcess, HasYetToOffer, IsLost, IsOfferedOrEnds}
-use Rattle.cluster_law.specs.Examples.{answers_once, ends_after_the_answer, first_ok, one_node}
+use Rattle.cluster_law.specs.Examples.{among_strangers, answers_once, ends_after_the_answer, first_ok, one_node}
 use Rattle.cluster_law.specs.Lives.{Answer, Down, Handout, Site, Up, answered_in, scene_after, scene_after_deed, scene_of}
 use Rattle.cluster_law.specs.Promises.{IsToldAmong}
 use Rattle.cluster_law.proofs.laws.answers_are_worked.Goals as goal
@@ -162,3 +164,65 @@ returns-clause-loss_elsewhere c h = let node : 2 ≡ 1 = h in omega (arith, node
 
 pub returns-clause-making : goal.returns-clause-making
 returns-clause-making c h = h
+
+-- ---- other deeds, lines and factors
+
+-- the process of node 2 would end in the last of these deeds
+ends_fourth : (node event : ℕ) → EndsProcess node (slice_get among_strangers event) → event ≡ 4
+ends_fourth node zero h = absurd h
+ends_fourth node (suc zero) h = absurd h
+ends_fourth node (suc (suc zero)) h = absurd h
+ends_fourth node (suc (suc (suc zero))) h = absurd h
+ends_fourth node (suc (suc (suc (suc zero)))) h = refl
+ends_fourth node (suc (suc (suc (suc (suc k))))) h = absurd h
+
+-- but there is none
+none_before : HasNothing ((scene_of one_node (take 4 among_strangers)).sites 2)
+unfolding code_at first_words schedule rounds compress hash_after digest_bytes sha1 scene_after scene_after_deed made_by_event made_while_running made_by_datagram made_by_ruling made_by_proposal propose propose_alone propose_among tick
+none_before = tt
+
+none_after : HasNothing ((scene_of one_node among_strangers).sites 2)
+unfolding code_at first_words schedule rounds compress hash_after digest_bytes sha1 scene_after scene_after_deed made_by_event made_while_running made_by_datagram made_by_ruling made_by_proposal propose propose_alone propose_among tick
+none_after = tt
+
+none_offered : answered_in one_node among_strangers ≡ []
+unfolding code_at first_words schedule rounds compress hash_after digest_bytes sha1 scene_after scene_after_deed made_by_event made_while_running made_by_datagram made_by_ruling made_by_proposal propose propose_alone propose_among tick
+none_offered = refl
+
+-- no answer of node 2 was offered, is lost or waits
+none_of_second : (told : Told) → told.node ≡ 2 → IsOfferedOrEnds one_node among_strangers told → ⊥
+none_of_second told node h =
+    ⊎_elim
+    (λ (p : IsToldAmong told (answered_in one_node among_strangers)). none-some told (subst (λ ts. slice_get ts p.place ≡ Some told) none_offered p.is_there))
+    (λ (p : IsLost one_node among_strangers told ⊎ HasYetToOffer told ((scene_of one_node among_strangers).sites told.node)).
+    ⊎_elim
+    (λ (q : IsLost one_node among_strangers told).
+    let yet = subst (λ event. HasYetToOffer told ((scene_of one_node (take event among_strangers)).sites told.node)) (ends_fourth told.node q.event q.ends) q.yet in
+    nothing_waits told ((scene_of one_node (take 4 among_strangers)).sites told.node) (subst (λ node. HasNothing ((scene_of one_node (take 4 among_strangers)).sites node)) (sym node) none_before) yet)
+    (λ (q : HasYetToOffer told ((scene_of one_node among_strangers).sites told.node)).
+    nothing_waits told ((scene_of one_node among_strangers).sites told.node) (subst (λ node. HasNothing ((scene_of one_node among_strangers).sites node)) (sym node) none_after) q)
+    p)
+    h
+
+pub returns-clause-by_another_node : goal.returns-clause-by_another_node
+returns-clause-by_another_node c h = none_of_second h.answer h.node h.becomes
+
+pub returns-clause-without_a_line : goal.returns-clause-without_a_line
+returns-clause-without_a_line c h = h.asked
+
+asked_nonce : (line nonce : List ℕ) → IsTextOf line nonce (codes "CHECK 1 silver 755224 -") → nonce ≡ codes "1"
+unfolding request
+asked_nonce line nonce h =
+    let read = request_of_line (codes "CHECK 1 silver 755224 -") h.request h.grammar in
+    h.nonce_is ∙ ap (λ (r : Request). r.nonce) (same_Some h.request request (sym read ∙ refl))
+
+other_factor : ok_bytes (codes "1") 0 ≡ ok_bytes (codes "1") 1 → ⊥
+unfolding digits
+other_factor e = let there : 48 ≡ 49 = ap (λ (bytes : List ℕ). slice_index bytes 5) e in omega (arith, there)
+
+pub returns-clause-with_another_factor : goal.returns-clause-with_another_factor
+returns-clause-with_another_factor c h =
+    let none = subst (λ node. HasNothing ((scene_of one_node answers_once).sites node)) (sym h.node) has_offered in
+    let same = is_first h.answer none h.becomes in
+    let nonce = asked_nonce h.line h.nonce h.asked.2 in
+    other_factor (sym (ap (λ (told : Told). told.bytes) same) ∙ h.bytes ∙ ap (λ (nonce : List ℕ). ok_bytes nonce 1) nonce)

@@ -1,5 +1,5 @@
 -- Each history is computed, the hash with it.
-use Rattle.std.proofs.Common.{◌≡◌, Some, None, refl, arith}
+use Rattle.std.proofs.Common.{◌≡◌, ◌≤◌, ◌⊎◌, inl, inr, Some, None, refl, arith}
 use Rattle.token_file.specs.Credential.{Credential}
 use Rattle.admit_core.specs.Fit.{code_at}
 use Rattle.sha1.specs.Sha1.{first_words, schedule, rounds, compress, hash_after, digest_bytes, sha1}
@@ -70,3 +70,15 @@ no_token c e = cc
 
 pub returns-clause-token : goal.returns-clause-token
 returns-clause-token c h = no_token h.1.credential h.1.is_token
+
+pub returns-clause-tick : goal.returns-clause-tick
+returns-clause-tick c h = h
+
+pub returns-clause-node_in_a_stop : goal.returns-clause-node_in_a_stop
+returns-clause-node_in_a_stop c h = let node : 1 ≡ 2 = h.0 in omega (arith, node)
+
+pub returns-clause-closed : goal.returns-clause-closed
+unfolding code_at first_words schedule rounds compress hash_after digest_bytes sha1 scene_after scene_after_deed made_by_event made_while_running made_by_datagram made_by_ruling made_by_proposal propose propose_alone propose_among tick
+returns-clause-closed c h =
+    let is_open : (1 ≡ 0) ⊎ (105 ≤ 104) = h.1.entitled.is_open in
+    elim is_open [ inl x ↦ omega (arith, x) | inr x ↦ omega (arith, x) ]
