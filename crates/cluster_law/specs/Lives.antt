@@ -317,8 +317,8 @@ pub record WasOffered (offered : List Handout) (envelope : Envelope) : Type 0 wh
   pub is_there : slice_get offered place ≡ Some (Post envelope)
 
 -- A datagram that says under the key an envelope of the node from whose address it comes says one that this node
--- offered before: in this life or an earlier one, on this store or a former one, to whom ever, any number of times, however long ago. Of all other
--- bytes, from any address, nothing is asked.
+-- offered before: in this life or an earlier one, on this store or a former one, to whom ever, any number of times,
+-- however long ago. Of all other bytes, from any address, nothing is asked.
 abbrev pub IsGenuine : List ℕ → List Handout → Input → Type 0
 IsGenuine key offered (Line client moment bytes) = Unit {0}
 IsGenuine key offered Time = Unit {0}
