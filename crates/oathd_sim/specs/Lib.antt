@@ -1,4 +1,5 @@
 pub mod Broken
+pub mod Examples
 pub mod Fault
 pub mod Parts
 pub mod Sim
