@@ -17,7 +17,7 @@ use Rattle.oath_node.specs.Machine.{Config, NodeState, NodeEvent, Client, Peer, 
 use Rattle.oath_node.specs.declared.ruling.Ruling.{Ruling}
 use Rattle.oath_node.specs.declared.ruling.Ruling.TheVariants.{Outside, Again, Waiting, Denied, Wrong, Fitting}
 use Rattle.cluster_sim.specs.Drifts.{drift_after, drift_before, drift_by, drift_kept, moment_in, passes_since}
-use Rattle.cluster_sim.specs.World.{World, Note, Act, Says, Deliver, Ticks, Noise, WorldEvent, Happens, Cut, Restart, Lost, Anew, floor_in, has_store, lost_node, may_be_anew, note_anew, opening_node, with_state, world_after_anew, world_after_loss, acting_node, delivered_event, node_event_of, place_at, note_of, world_with_made, world_after_turn, world_after_act, node_of, world_after_restart, with_told_of, world_after_event, world_after_events, world_before, opening_world, floor_at, begun_with, begun_in, acceptance_in, Start}
+use Rattle.cluster_sim.specs.World.{World, Note, Act, Says, Deliver, Ticks, Noise, WorldEvent, Happens, Cut, Restart, Lost, Anew, floor_in, has_store, lost_node, may_be_anew, note_anew, opening_node, with_state, world_after_anew, world_after_loss, acting_node, delivered_event, node_event_of, place_at, note_of, world_with_made, world_after_turn, world_after_act, node_of, world_after_restart, with_told_of, world_after_event, world_after_events, world_before, opening_world, begun_with, begun_in, acceptance_in, Start}
 use Rattle.cluster_sim.proofs.Acts.{noise_cases}
 use Rattle.cluster_sim.proofs.BelowLaws.{GroundLaw}
 use Rattle.cluster_sim.proofs.Servers.{gated_drift}

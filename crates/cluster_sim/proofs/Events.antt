@@ -2,7 +2,7 @@
 use Rattle.std.proofs.Common.{◌≡◌, ℕ, List, [], ◌∷◌, ◌++◌, true, false, cond, length, Option, Some, None, refl, sym, ap, ◌∙◌, ltb}
 use Rattle.vote_core.specs.NodeSet.{with_node}
 use Rattle.vote_core.specs.Rows.{row}
-use Rattle.vote_core.specs.Schedule.{Cluster, Member, after_act, after_loss, after_replacement, greatest, lost_member, may_replace, opening_member, set_node, with_member, without_node, restarted_member, last_boot, after_restart as vote_restart, with_sent_of as vote_unsent, after_event as vote_happens}
+use Rattle.vote_core.specs.Schedule.{Cluster, Member, after_act, after_loss, after_replacement, greatest, opening_member, set_node, with_member, without_node, restarted_member, last_boot, after_restart as vote_restart, with_sent_of as vote_unsent, after_event as vote_happens}
 use Rattle.otp_core.specs.Acceptance.{Acceptance}
 use Rattle.oath_node.specs.Machine.{Config, NodeState, stopped_node, opened_node, restarted_node}
 use Rattle.cluster_sim.specs.World.{World, WorldEvent, Happens, Cut, Restart, Lost, Anew, floor_in, has_store, lost_node, may_be_anew, note_anew, opening_node, world_after_act, world_after_anew, world_after_loss, node_of, world_after_restart, with_told_of, world_after_event, with_state, begun_in, passes_in}

@@ -15,7 +15,7 @@ use Rattle.oath_node.specs.declared.ruling.Ruling.{Ruling}
 use Rattle.oath_node.specs.declared.ruling.Ruling.TheVariants.{Outside, Again, Waiting, Denied, Wrong, Fitting}
 use Rattle.oath_node.specs.Machine.{Config, NodeState, NodeEvent, Client, Peer, Tick, Made, Owner, Beginning, quiet_made, stopped_node, gate_with_failure, made_by_vote, next_beginning, made_by_proposal, made_by_ruling, made_by_datagram, is_heard, made_while_running, made_by_event, ruling_at, standing_at, restarted_node}
 use Rattle.vote_core.specs.Schedule.{content_with_gate}
-use Rattle.cluster_sim.specs.World.{World, WorldEvent, Happens, Cut, Restart, Lost, Anew, floor_in, has_store, lost_node, may_be_anew, opening_node, world_after_anew, world_after_loss, world_with_made, world_after_turn, world_after_act, node_event_of, place_at, acting_node, node_of, world_after_restart, with_told_of, world_after_event, world_after_events, opening_world, floor_at, Start}
+use Rattle.cluster_sim.specs.World.{World, WorldEvent, Happens, Cut, Restart, Lost, Anew, floor_in, has_store, lost_node, may_be_anew, opening_node, world_after_anew, world_after_loss, world_with_made, world_after_turn, world_after_act, node_event_of, place_at, acting_node, node_of, world_after_restart, with_told_of, world_after_event, world_after_events, opening_world, Start}
 use Rattle.cluster_sim.specs.Results.{results_with_failure, results_with_pass, results_in, results_of}
 use Rattle.cluster_sim.proofs.Refinement.{cluster_of}
 use Rattle.cluster_sim.proofs.BelowLaws.{GroundLaw, GateLaw, SpaceLaw}

@@ -1,13 +1,11 @@
 -- Stores that are lost and made anew, as the functions of a simulation see them.
 use Rattle.std.proofs.Common.{◌≡◌, ◌≢◌, ℕ, zero, suc, ◌+◌, ◌-◌, ◌<◌, ◌≤◌, Bool, true, false, true≢false, not, cond, ◌&&◌, ◌||◌, ⊎_elim, List, [], ◌∷◌, ◌++◌, length, get_or, take, map, Option, Some, None, refl, sym, ap, ◌∙◌, subst, arith, eqb, leb, ltb, set, Equal, Greater}
-use Rattle.std.specs.List.{slice_get}
-use Rattle.std.specs.Prelude.{Result, Ok, Err, is_some, slice_index_or}
+use Rattle.std.specs.Prelude.{Result, Ok, Err, is_some}
 use Rattle.std.proofs.Math.Seq.{take-suc, take-length}
-use Rattle.std.proofs.lemmas.Bool.{cases_Bool, cond_both, cond-true, cond-false, and_left, and_right, and_from, and_parts, eq-eqb, eqb-true, ltb-true, ltb-false, leb-true, leb-false, le-leb, lt-ltb, both_ways, ne_eqb, cases_eq, cases_lt}
+use Rattle.std.proofs.lemmas.Bool.{cases_Bool, cond_both, cond-true, cond-false, and_left, and_right, eq-eqb, eqb-true, ltb-true, ltb-false, leb-true, le-leb, both_ways, ne_eqb, cases_eq, cases_lt}
 use Rattle.std.specs.Ordering.{is_lt, nat_cmp}
 use Rattle.std.specs.Cmp.{nat_cmp_is}
-use Rattle.std.proofs.lemmas.Option.{slice_get-get_or}
-use Rattle.floor_store.specs.Content.{Content, opening_content_at, opening_row}
+use Rattle.floor_store.specs.Content.{Content, opening_row}
 use Rattle.otp_core.specs.Acceptance.{majority_of, size}
 use Rattle.vote_core.specs.NodeSet.{with_node}
 use Rattle.vote_core.specs.Rows.{row}
@@ -17,10 +15,10 @@ use Rattle.vote_core.specs.Schedule.{all_most, greater, greatest, is_member, las
 use Rattle.oath_node.specs.Hosted.{Hosted}
 use Rattle.oath_node.specs.Machine.{Config, NodeState}
 use Rattle.oath_node.specs.Serving.{IsInMemoryAt}
-use Rattle.cluster_sim.specs.Journal.{AreHosts, AreLosses, IsHost, IsLossOf, IsRun, JournalRecord, LossRecord, SimulationRecord, journal_with_anew, journal_with_loss, used_from, used_in}
+use Rattle.cluster_sim.specs.Journal.{AreHosts, IsHost, IsLossOf, IsRun, JournalRecord, LossRecord, SimulationRecord, journal_with_anew, journal_with_loss, used_from, used_in}
 use Rattle.cluster_sim.specs.Losses.{AreGreatest, are_lost, list_of}
 use Rattle.cluster_sim.specs.World.{World, floor_in, has_store, lost_node, may_be_anew, opening_node, with_state, world_after_anew, world_after_loss}
-use Rattle.cluster_sim.proofs.HostLemmas.{has_it, has_none, here, hosts_set, store_gone, store_there}
+use Rattle.cluster_sim.proofs.HostLemmas.{has_it, here, hosts_set, store_gone, store_there}
 
 one_more : (k : ℕ) → suc k ≡ k + 1
 one_more k = omega arith

@@ -1,4 +1,4 @@
-use Rattle.std.proofs.Common.{◌<◌, sym, ap, ◌∙◌, subst, arith}
+use Rattle.std.proofs.Common.{◌<◌, sym, ◌∙◌, subst}
 use Rattle.cluster_sim.specs.World.{floor_in}
 use Rattle.cluster_sim.proofs.Lost.{lt_from_is_lt, not_enough}
 use Rattle.cluster_sim.proofs.losses.are_enough.Goals as goal

@@ -1,6 +1,5 @@
-use Rattle.std.proofs.Common.{sym, ap, ◌∙◌, ◌≡◌, ◌≤◌, ◌+◌, ℕ, arith}
+use Rattle.std.proofs.Common.{sym, ap, ◌∙◌, ◌+◌, arith}
 use Rattle.std.specs.Prelude.{is_some}
-use Rattle.cluster_sim.specs.Journal.{used_in}
 use Rattle.cluster_sim.specs.Losses.{are_lost}
 use Rattle.cluster_sim.proofs.Lost.{count_all, size_with, size_without}
 use Rattle.cluster_sim.proofs.losses.lost_count.Goals as goal

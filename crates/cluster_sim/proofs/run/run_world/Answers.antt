@@ -1,9 +1,9 @@
 -- The laws of the world, from the first start.
-use Rattle.std.proofs.Common.{◌≡◌, ℕ, List, length, sym, ap, subst, ◌∙◌}
+use Rattle.std.proofs.Common.{◌≡◌, ℕ, length, sym, ap, subst, ◌∙◌}
 use Rattle.std.specs.Global.{Vec}
 use Rattle.std.proofs.lemmas.List.{length-map}
 use Rattle.std.proofs.lemmas.Result.{IfOk-weaker}
-use Rattle.otp_core.specs.Acceptance.{Acceptance, HaveSingleUse, KeepRealTimeOrder}
+use Rattle.otp_core.specs.Acceptance.{HaveSingleUse, KeepRealTimeOrder}
 use Rattle.vote_core.specs.Safety.{HaveMajority}
 use Rattle.cluster_sim.specs.Answered.{AreAnswered, NamePasses, TellTruth}
 use Rattle.cluster_sim.specs.Justified.{AreJustified}

@@ -1,4 +1,4 @@
-use Rattle.std.proofs.Common.{◌≡◌, Some, suc, ap, get_or, length, set, subst, sym, ◌∙◌, arith, true, false, not}
+use Rattle.std.proofs.Common.{◌≡◌, Some, suc, ap, get_or, length, set, subst, sym, ◌∙◌, arith, true, not}
 use Rattle.std.specs.Prelude.{is_some}
 use Rattle.std.proofs.lemmas.Bool.{and_right}
 use Rattle.std.proofs.lemmas.List.{length-set}

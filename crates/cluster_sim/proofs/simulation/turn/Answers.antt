@@ -1,7 +1,6 @@
-use Rattle.std.proofs.Common.{Some, ap, ◌∙◌, sym, true, false}
+use Rattle.std.proofs.Common.{Some, ap, ◌∙◌, sym}
 use Rattle.std.specs.Prelude.{is_some}
 use Rattle.oath_node.specs.Hosted.{event_of}
-use Rattle.oath_node.specs.Machine.{NodeEvent}
 use Rattle.cluster_sim.proofs.HostLemmas.{store_gone, store_there}
 use Rattle.cluster_sim.proofs.Records.{gone_run, turn_plays}
 use Rattle.cluster_sim.specs.Journal.{used_in}
