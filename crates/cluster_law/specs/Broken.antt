@@ -1,14 +1,17 @@
--- Processes and scenes, each of which breaks one field of a promise. No contract cites them.
+-- Processes, scenes and runs, each of which breaks one field of a promise. No contract cites them.
 use Rattle.std.specs.Prelude.{List, [], ◌∷◌, ℕ, map, codes}
 use Rattle.floor_store.specs.Content.{Content}
 use Rattle.vote_core.specs.Broken.{small_ballot}
 use Rattle.vote_core.specs.State.{ballot_of}
 use Rattle.vote_core.specs.Voting.{fresh_voter}
+use Rattle.vote_core.specs.declared.message.Message.TheVariants.{Floor}
 use Rattle.oath_node.specs.Machine.{Made, NodeState, opened_node}
 use Rattle.node_turns.specs.Port.{PortEvent}
-use Rattle.cluster_law.specs.Examples.{one_node, one_open, quiet_node, right_line, three_nodes}
-use Rattle.cluster_law.specs.Lives.{Deed, Line, Opens, Scene, Setting, Takes, Time, Up, handouts_of, made_by_input, made_content}
+use Rattle.cluster_sim.specs.World.{Deliver, Happens, Restart, Says, WorldEvent}
+use Rattle.cluster_law.specs.Examples.{old_floor, one_node, one_open, quiet_node, right_line, three_nodes}
+use Rattle.cluster_law.specs.Lives.{Deed, Line, Offers, Opens, Scene, Setting, Takes, Time, Up, handouts_of, made_by_input, made_content}
 use Rattle.cluster_law.specs.Processes.{offer_of_handout}
+use Rattle.cluster_law.specs.Promises.{nothing}
 
 -- ---- Processes
 
@@ -53,3 +56,25 @@ pending_node = record quiet_node { voter = record fresh_voter { pending = ballot
 -- a line waits
 abbrev pub owning_node : NodeState
 owning_node = record quiet_node { owners = record { seq = 0; client = 7; line = []; nonce = [] } ∷ [] }
+
+-- ---- Runs
+
+-- three nodes, two of whose first free factors node 2 told node 1 in a former life
+abbrev pub two_floors : Setting
+two_floors = record three_nodes { old = old_floor ∷ record old_floor { message = Floor 0 2 } ∷ [] }
+
+-- the run in which the second of these comes to node 1
+abbrev pub second_floor_comes : List WorldEvent
+second_floor_comes = nothing ∷ Happens (Deliver 1 1) ∷ []
+
+-- one node, whose store was made at the boot before the last
+abbrev pub late_node : Setting
+late_node = record one_node { boots = 4611686018427387902 ∷ [] }
+
+-- a process opens it in the last boot, where a second one doesn't, takes a bad line, and answers
+abbrev pub answers_late : List Deed
+answers_late = Opens 1 ∷ Opens 1 ∷ Takes 1 (Line 7 100 []) ∷ Offers 1 ∷ []
+
+-- the run in which the second one restarts the node, which stops
+abbrev pub stops_late : List WorldEvent
+stops_late = nothing ∷ Restart 1 ∷ Happens (Says 1 7 100 []) ∷ nothing ∷ []

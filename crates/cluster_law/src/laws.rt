@@ -25,7 +25,7 @@ ghost use Rattle.node_turns.specs.declared.fault.ServeFault.{ServeFault};
 ghost use Rattle.node_turns.specs.declared.fault.ServeFault.TheVariants.{Clock, Node, Port};
 ghost use Rattle.node_turns.specs.declared.turns.Served.{Served};
 ghost use Rattle.cluster_law.specs.Answered.{AnswersAll, EndsProcess, HasYetToOffer, IsAnsweredInDeed, IsLost, IsOfferedOrEnds};
-ghost use Rattle.cluster_law.specs.Broken.{content_with_pass, hurries, just_opened, owning_node, pending_node, right_text, tick_made, told_by_tick, with_process};
+ghost use Rattle.cluster_law.specs.Broken.{answers_late, content_with_pass, hurries, just_opened, late_node, owning_node, pending_node, right_text, second_floor_comes, stops_late, tick_made, told_by_tick, two_floors, with_process};
 ghost use Rattle.cluster_law.specs.Bytes.{IsSized, IsUnforgedHistory};
 ghost use Rattle.cluster_law.specs.Examples.{accepts_anew, among_strangers, answer_out, answers_once, clock_node, clock_nodes, comes_to_no_store, comes_to_nobody, content_of_boot, drifts_and_loses, ends_after_the_answer, ends_before_the_answer, ends_behind, ends_in_the_step, fails_and_loses, first_ok, first_pass, floor_comes, floor_out, grant, grant_before_its_offer, grant_from, granted_by_two, loses_one, loses_two, made_anew, nodes_after, old_floor, old_floor_comes, old_grant_comes, one_node, one_open, opens_twice, quiet_node, right_line, right_receipt, stop_in_a_forged_grant, strangers, takes_behind, takes_twice, tells_both, three_nodes, told_by_reference, two_open, uneven_nodes};
 ghost use Rattle.cluster_law.specs.Justified.{IsJustifiedInDeed, JustifiesAll, drift_in, moment_in_deed, results_held};
@@ -488,8 +488,8 @@ pub fn sweeps_can_be_broken()
     ensures factor_ahead { IsSwept one_node (1 ∷ []) one_open (scene_of one_node answers_once) 1 → ⊥ }
 {}
 
-/// What breaks that a history is a run of the written world: another act for an input, another event for a deed, and
-/// an event without a deed.
+/// What breaks that a history is a run of the written world: another act for an input, another event for a deed, an
+/// event without a deed, another first free factor, an answer that the run doesn't tell, and an acceptance of no run.
 pub fn runs_can_be_broken()
     ensures tick_for_a_line { IsActOf [] 1 right_line (Ticks 1) → ⊥ }
     ensures tick_at_another_node { IsActOf [] 1 Time (Ticks 2) → ⊥ }
@@ -509,6 +509,11 @@ pub fn runs_can_be_broken()
     ensures another_event { HasEvent [] (Stops 1) 0 (Restart 1 ∷ []) → ⊥ }
     ensures run_with_an_event_more { IsRunOf one_node [] (nothing ∷ []) → ⊥ }
     ensures run_with_another_event { IsRunOf one_node (Stops 1 ∷ []) (Restart 1 ∷ []) → ⊥ }
+    // The acts are those of its inputs, and what they make of the nodes is not the same.
+    ensures run_with_another_floor { IsRunOf two_floors old_floor_comes second_floor_comes → ⊥ }
+    ensures run_without_the_answer { IsRunOf late_node answers_late stops_late → ⊥ }
+    // The Grant that is accepted was never sent.
+    ensures explained_by_no_run { IsExplained three_nodes old_grant_comes → ⊥ }
 {}
 
 /// Parts of deeds, worked through: boots, and what is handed out in which order.

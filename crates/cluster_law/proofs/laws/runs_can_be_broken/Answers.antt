@@ -1,11 +1,25 @@
--- Acts and events are told apart by their kinds, and by the numbers in them.
-use Rattle.std.proofs.Common.{◌≡◌, ℕ, ◌⊎◌, ⊎_elim, true, List, [], ◌∷◌, refl, ap, ◌∙◌, arith}
+-- Acts and events are told apart by their kinds, and by the numbers in them. The three runs at the end are computed, the
+-- hashes with them.
+use Rattle.std.proofs.Common.{◌≡◌, ℕ, zero, suc, ◌⊎◌, ⊎_elim, Bool, true, false, List, [], ◌∷◌, length, Some, refl, ap, sym, subst, ◌∙◌, arith}
+use Rattle.std.specs.List.{slice_get}
+use Rattle.std.specs.Prelude.{codes}
 use Rattle.std.proofs.lemmas.Option.{none-some, same_Some}
+use Rattle.admit_core.specs.Fit.{code_at}
+use Rattle.sha1.specs.Sha1.{first_words, schedule, rounds, compress, hash_after, digest_bytes, sha1}
+use Rattle.hmac_core.specs.Unfolded.sha256_steps
+use Rattle.otp_core.specs.Acceptance.{Acceptance}
+use Rattle.vote_core.specs.Voting.{propose, propose_alone, propose_among, on_ask, accept, count_grant, on_grant, raise, count_deny, on_deny, on_floor, on_message, tick}
+use Rattle.vote_wire.specs.Body.{body_at, message_at, vote_at, denial_at, floor_at, proposal_at, factor_at, next_at}
+use Rattle.vote_wire.specs.Datagram.{datagram_at, datagram_bytes}
+use Rattle.vote_wire.specs.Key.{tag_of}
+use Rattle.oath_node.specs.Machine.{made_by_proposal, made_by_ruling, made_by_datagram, made_while_running, made_by_event}
 use Rattle.oath_node.specs.Hosted.{envelope_at}
-use Rattle.cluster_sim.specs.World.{Act, Says, Deliver, Ticks, Noise, WorldEvent, Happens, Cut, Restart, Lost, Anew, acting_node}
-use Rattle.cluster_law.specs.Examples.{one_node}
-use Rattle.cluster_law.specs.Lives.{Stops, Time}
-use Rattle.cluster_law.specs.Promises.{HasAct, HasEvent, nothing}
+use Rattle.cluster_sim.specs.Examples.{acceptance, told_bad_line}
+use Rattle.cluster_sim.specs.World.{Act, Says, Deliver, Ticks, Noise, WorldEvent, Happens, Cut, Restart, Lost, Anew, acting_node, passes_of, world_with_made, world_after_turn, world_after_act, world_after_restart, world_after_event, world_after_events}
+use Rattle.cluster_law.specs.Examples.{bytes_of, grant, grant_comes, old_grant_comes, one_node, right_line, three_nodes}
+use Rattle.cluster_law.specs.Lives.{Opens, Stops, Takes, Time, accepted_in, scene_after, scene_after_deed, start_of}
+use Rattle.cluster_law.specs.Promises.{HasAct, HasEvent, IsActOf, IsEventOf, nothing}
+use Rattle.cluster_law.proofs.Examples.{grant_reads}
 use Rattle.cluster_law.proofs.laws.runs_can_be_broken.Goals as goal
 
 -- ---- acts
@@ -123,3 +137,119 @@ returns-clause-run_with_an_event_more c h = let number : 1 ≡ 0 = h.number in o
 
 pub returns-clause-run_with_another_event : goal.returns-clause-run_with_another_event
 returns-clause-run_with_another_event c h = stops_only one_node.key (h.each 0 (Stops 1) refl)
+
+-- ---- what a history leaves, and what its run does
+
+pub returns-clause-run_with_another_floor : goal.returns-clause-run_with_another_floor
+unfolding code_at first_words schedule rounds compress hash_after digest_bytes sha1 tag_of datagram_bytes datagram_at body_at message_at vote_at denial_at floor_at proposal_at factor_at next_at sha256_steps.first_words sha256_steps.schedule sha256_steps.rounds sha256_steps.compress sha256_steps.hash_after sha256_steps.digest_bytes sha256_steps.sha256 scene_after scene_after_deed world_after_events world_after_event world_after_act world_after_turn world_with_made world_after_restart made_by_event made_while_running made_by_datagram made_by_ruling made_by_proposal propose propose_alone propose_among on_ask accept count_grant on_grant raise count_deny on_deny on_floor on_message tick
+returns-clause-run_with_another_floor c h = let floor : 1 ≡ 2 = h.floors 1 0 2 in omega (arith, floor)
+
+pub returns-clause-run_without_the_answer : goal.returns-clause-run_without_the_answer
+unfolding scene_after scene_after_deed world_after_events world_after_event world_after_act world_after_turn world_with_made world_after_restart made_by_event made_while_running made_by_datagram made_by_ruling made_by_proposal propose propose_alone propose_among on_ask accept count_grant on_grant raise count_deny on_deny on_floor on_message tick
+returns-clause-run_without_the_answer c h =
+    let among = h.answered 0 (told_bad_line 2 1 7) refl in
+    none-some (told_bad_line 2 1 7) among.is_there
+
+-- ---- a Grant that was never sent
+
+-- the store holds the acceptance
+old_grant_counts : accepted_in three_nodes old_grant_comes ≡ acceptance 1 2 1 0 0 ∷ []
+unfolding code_at first_words schedule rounds compress hash_after digest_bytes sha1 tag_of datagram_bytes datagram_at body_at message_at vote_at denial_at floor_at proposal_at factor_at next_at sha256_steps.first_words sha256_steps.schedule sha256_steps.rounds sha256_steps.compress sha256_steps.hash_after sha256_steps.digest_bytes sha256_steps.sha256 scene_after scene_after_deed made_by_event made_while_running made_by_datagram made_by_ruling made_by_proposal propose propose_alone propose_among on_ask accept count_grant on_grant raise count_deny on_deny on_floor on_message tick
+old_grant_counts = refl
+
+-- what the opening and the line can be in a run
+abbrev opened : Bool → WorldEvent
+opened true = Restart 1
+opened false = nothing
+
+abbrev said_there : Bool → WorldEvent
+said_there true = Happens (Says 1 7 100 (codes "CHECK 1 silver 755224 -"))
+said_there false = nothing
+
+is_opened : (event : WorldEvent) → IsEventOf three_nodes.key (Opens 1) event → (b : Bool) × (event ≡ opened b)
+is_opened event h =
+    ⊎_elim (λ (p : event ≡ nothing). (false, p)) (λ (q : event ≡ Restart 1). (true, q)) h
+
+is_said : (event : WorldEvent) → IsEventOf three_nodes.key (Takes 1 right_line) event → (b : Bool) × (event ≡ said_there b)
+is_said event h =
+    ⊎_elim
+    (λ (p : event ≡ nothing). (false, p))
+    (λ (q : HasAct three_nodes.key 1 right_line (λ act. Happens act) event). (true, q.event_is ∙ ap (λ act. Happens act) q.is_act))
+    h
+
+-- a run of the three nodes accepts nothing
+abbrev AcceptsNone : List WorldEvent → Type 0
+AcceptsNone events = passes_of three_nodes.config (start_of three_nodes) events ≡ []
+
+-- neither does one of these and of a third event, whichever that is
+abbrev NoneWith : Bool → Bool → WorldEvent → Type 0
+NoneWith a b last = AcceptsNone (opened a ∷ said_there b ∷ last ∷ [])
+
+none_by_nothing : (a b : Bool) → NoneWith a b nothing
+unfolding code_at first_words schedule rounds compress hash_after digest_bytes sha1 world_after_events world_after_event world_after_act world_after_turn world_with_made world_after_restart made_by_event made_while_running made_by_datagram made_by_ruling made_by_proposal propose propose_alone propose_among on_ask accept count_grant on_grant raise count_deny on_deny on_floor on_message tick
+none_by_nothing true true = refl
+none_by_nothing true false = refl
+none_by_nothing false true = refl
+none_by_nothing false false = refl
+
+-- all that was sent are the two Asks, and none is for node 1
+none_by_delivery : (a b : Bool) (k : ℕ) → NoneWith a b (Happens (Deliver 1 k))
+unfolding code_at first_words schedule rounds compress hash_after digest_bytes sha1 world_after_events world_after_event world_after_act world_after_turn world_with_made world_after_restart made_by_event made_while_running made_by_datagram made_by_ruling made_by_proposal propose propose_alone propose_among on_ask accept count_grant on_grant raise count_deny on_deny on_floor on_message tick
+none_by_delivery true true zero = refl
+none_by_delivery true true (suc zero) = refl
+none_by_delivery true true (suc (suc k)) = refl
+none_by_delivery true false k = refl
+none_by_delivery false true zero = refl
+none_by_delivery false true (suc zero) = refl
+none_by_delivery false true (suc (suc k)) = refl
+none_by_delivery false false k = refl
+
+none_by_noise : (a b : Bool) → NoneWith a b (Happens (Noise 1 2 (Some grant)))
+unfolding code_at first_words schedule rounds compress hash_after digest_bytes sha1 world_after_events world_after_event world_after_act world_after_turn world_with_made world_after_restart made_by_event made_while_running made_by_datagram made_by_ruling made_by_proposal propose propose_alone propose_among on_ask accept count_grant on_grant raise count_deny on_deny on_floor on_message tick
+none_by_noise true true = refl
+none_by_noise true false = refl
+none_by_noise false true = refl
+none_by_noise false false = refl
+
+none_by_act : (a b : Bool) (act : Act) → IsActOf three_nodes.key 1 grant_comes act → NoneWith a b (Happens act)
+none_by_act a b act h =
+    ⊎_elim
+    (λ (p : (k : ℕ) × (act ≡ Deliver 1 k)). subst (λ did. NoneWith a b (Happens did)) (sym p.1) (none_by_delivery a b p.0))
+    (λ (q : act ≡ Noise 1 2 (envelope_at three_nodes.key (bytes_of grant))). subst (λ did. NoneWith a b (Happens did)) (sym (q ∙ ap (λ read. Noise 1 2 read) grant_reads)) (none_by_noise a b))
+    h
+
+none_by_event : (a b : Bool) (event : WorldEvent) → IsEventOf three_nodes.key (Takes 1 grant_comes) event → NoneWith a b event
+none_by_event a b event h =
+    ⊎_elim
+    (λ (p : event ≡ nothing). subst (λ last. NoneWith a b last) (sym p) (none_by_nothing a b))
+    (λ (q : HasAct three_nodes.key 1 grant_comes (λ act. Happens act) event). subst (λ last. NoneWith a b last) (sym q.event_is) (none_by_act a b q.act q.is_act))
+    h
+
+-- three events are those at their places
+three_events : (events : List WorldEvent) (x y z : WorldEvent) → length events ≡ 3 → slice_get events 0 ≡ Some x → slice_get events 1 ≡ Some y → slice_get events 2 ≡ Some z
+    → events ≡ x ∷ y ∷ z ∷ []
+three_events [] x y z n at_0 at_1 at_2 = absurd (none-some x at_0)
+three_events (a ∷ []) x y z n at_0 at_1 at_2 = absurd (none-some y at_1)
+three_events (a ∷ b ∷ []) x y z n at_0 at_1 at_2 = absurd (none-some z at_2)
+three_events (a ∷ b ∷ c ∷ []) x y z n at_0 at_1 at_2 =
+    let first : a ≡ x = same_Some a x at_0 in
+    let second : b ≡ y = same_Some b y at_1 in
+    let third : c ≡ z = same_Some c z at_2 in
+    ap (λ e. e ∷ b ∷ c ∷ []) first ∙ ap (λ e. x ∷ e ∷ c ∷ []) second ∙ ap (λ e. x ∷ y ∷ e ∷ []) third
+three_events (a ∷ b ∷ c ∷ d ∷ rest) x y z n at_0 at_1 at_2 =
+    let more : suc (suc (suc (suc (length rest)))) ≡ 3 = n in absurd (omega (arith, more))
+
+pub returns-clause-explained_by_no_run : goal.returns-clause-explained_by_no_run
+returns-clause-explained_by_no_run c h =
+    let run = h.is_run in
+    let first = run.each 0 (Opens 1) refl in
+    let second = run.each 1 (Takes 1 right_line) refl in
+    let third = run.each 2 (Takes 1 grant_comes) refl in
+    let a = is_opened first.event first.is_event in
+    let b = is_said second.event second.is_event in
+    let at_first : slice_get h.events 0 ≡ Some (opened a.0) = first.is_there ∙ ap (λ e. Some e) a.1 in
+    let at_second : slice_get h.events 1 ≡ Some (said_there b.0) = second.is_there ∙ ap (λ e. Some e) b.1 in
+    let same = three_events h.events (opened a.0) (said_there b.0) third.event run.number at_first at_second third.is_there in
+    let none : AcceptsNone h.events = subst (λ events. AcceptsNone events) (sym same) (none_by_event a.0 b.0 third.event third.is_event) in
+    let number : 1 ≡ 0 = ap (λ (passes : List Acceptance). length passes) (sym old_grant_counts ∙ run.accepted ∙ none) in
+    omega (arith, number)
