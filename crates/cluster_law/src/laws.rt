@@ -288,6 +288,7 @@ pub fn former_lives_are_worked()
     ensures made_at_0 { made_boot (nodes_after (4 ∷ []) grant) 2 ≡ 0 }
     ensures made_third { made_boot (nodes_after (4 ∷ 5 ∷ 6 ∷ []) grant) 3 ≡ 6 }
     ensures opens { (start_of (nodes_after (4 ∷ []) grant)).opening.boot 1 ≡ 5 }
+    ensures was_sent { (start_of (nodes_after (4 ∷ []) grant)).opening.old ≡ grant ∷ [] }
     ensures was_offered { (first_scene (nodes_after [] grant)).offered ≡ Post grant ∷ [] }
     ensures grant_of_before { accepted_in (nodes_after (1 ∷ []) grant) old_grant_comes ≡ [] }
     ensures grant_at_its_boot { accepted_in (nodes_after [] grant) old_grant_comes ≡ acceptance 1 2 1 0 0 ∷ [] }
