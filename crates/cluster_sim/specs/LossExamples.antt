@@ -56,6 +56,12 @@ failed_before =
     line_at 1 7 1000 (codes "CHECK a silver 000000 -") ∷ Lost 1 ∷ Anew 1 2 (0 ∷ [])
     ∷ line_at 1 7 1000 (codes "CHECK b silver 755224 -") ∷ []
 
+-- a store is to be made for node 1, which has one, after a failure, and a line comes in the same second
+abbrev pub failed_and_there : List WorldEvent
+failed_and_there =
+    line_at 1 7 1000 (codes "CHECK a silver 000000 -") ∷ Anew 1 2 (0 ∷ [])
+    ∷ line_at 1 7 1000 (codes "CHECK b silver 755224 -") ∷ []
+
 -- a node is made anew after node 1 kept a drift
 abbrev pub drifted_before : ℕ → List WorldEvent
 drifted_before node = one_behind ∷ delivery 2 0 ∷ delivery 1 2 ∷ Lost node ∷ Anew node 2 (4 ∷ []) ∷ []

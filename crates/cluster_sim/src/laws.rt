@@ -10,14 +10,14 @@ ghost use Rattle.cluster_sim.specs.Answered.{AreAnswered, NamePasses, TellTruth}
 ghost use Rattle.cluster_sim.specs.Broken.{first_ok, first_two, no_line_at_1, ok_given, raised, round_line, second_line_waiting, second_spent, second_stopped, second_waiting, start_world};
 ghost use Rattle.cluster_sim.specs.Examples.{IsAnsweredBy, IsJustifiedAlone, IsJustifiedAmong, IsJustifiedByClock, IsToldTruly, NamesItsPass, alone, clock_alone, clock_among, clock_config, clock_line_stopped, clock_lines, clock_stopped, clock_three, config, delivery, drift_of_passes, eight_ticks, exhausted, first_at_1, first_pass, five, four, fresh_token, gate_survives_restart, letter_lines, many_floors, many_users, moments_of_others, nothing_happens, old_grants, one_voter_twice, acceptance, password_column, refusal_again, report_with, resynchronization, line_at, second_factor_elsewhere, span_against_one, split_two_to_two, stop_after_the_commit, stop_before_accepting, stop_in_a_line, stop_in_a_tick, stop_in_noise, stop_of_nothing, three, told_outcome, told_bad_line, two_submissions, with_password};
 ghost use Rattle.cluster_sim.specs.Drifts.{drift_before};
-ghost use Rattle.cluster_sim.specs.LossExamples.{after_loss, alone_lost, answered_before, both_accepted, drifted_before, failed_before, first_accepted, from_before, old_comes, old_comes_first, old_floor, old_grant, one_of_two, three_after, two_lost, without_a_store};
+ghost use Rattle.cluster_sim.specs.LossExamples.{after_loss, alone_lost, answered_before, both_accepted, drifted_before, failed_and_there, failed_before, first_accepted, from_before, old_comes, old_comes_first, old_floor, old_grant, one_of_two, three_after, two_lost, without_a_store};
 ghost use Rattle.cluster_sim.specs.Justified.{AreJustified, IsJustified};
 ghost use Rattle.cluster_sim.specs.Results.{results_before, results_of};
 ghost use Rattle.oath_node.specs.ReferenceServer.{server_at};
 ghost use Rattle.cluster_sim.specs.RoundExamples.{clock_rounds, fronted_at, line_after_sweep, lines_after_failure, lines_after_loss, lines_again, lines_of_a_clock, not_level, one_line, one_lost, rounds_from_start, server_after_rounds, swept, three_lines, told_at_fronts, two_lines};
 ghost use Rattle.cluster_sim.specs.Rounds.{AreServable, AreServed, HasNonePending, IsAnswerTo, IsSettled, ServesAsOne, RoundsAreTheReference, RoundsAreThese, RoundsByCount, RoundsReported, SweepEndSettles, SweepLevels, SweepSettles, TurnLevels, events_with_rounds};
 ghost use Rattle.cluster_sim.specs.SingleNode.{reference_answers, opening_server};
-ghost use Rattle.cluster_sim.specs.World.{Anew, MayStart, Restart, Start, WorldEvent, first_start, floor_before, opening_world, passes_of, report_of};
+ghost use Rattle.cluster_sim.specs.World.{Anew, MayStart, Restart, Start, WorldEvent, first_start, floor_before, opening_world, passes_of, report_of, world_of};
 
 use admit_core::{failures_are_spaced, gate_keeps_throttle};
 use oath_node::{one_node_answers_as_the_server, rulings_have_grounds};
@@ -165,6 +165,7 @@ pub fn busy_script_is_worked()
 /// changes. Gates, drifts and kept answers begin again with it.
 pub fn losses_are_worked()
     ensures made_anew { report_of config three (after_loss (Anew 2 2 (1 ∷ []))) ≡ both_accepted }
+    ensures boot_anew { ((world_of config three (after_loss (Anew 2 2 (1 ∷ [])))).nodes 2).content.boot ≡ 2 }
     ensures at_the_last_boot { report_of config three (after_loss (Anew 2 4611686018427387903 (1 ∷ [])))
         ≡ both_accepted }
     ensures too_low { report_of config three (after_loss (Anew 2 2 (0 ∷ []))) ≡ first_accepted }
@@ -173,6 +174,9 @@ pub fn losses_are_worked()
     ensures past_the_last_boot { report_of config three (after_loss (Anew 2 4611686018427387904 (1 ∷ [])))
         ≡ first_accepted }
     ensures not_lost { report_of config three (after_loss (Anew 3 2 (1 ∷ []))) ≡ first_accepted }
+    ensures there { report_of config three failed_and_there
+        ≡ report_with [] (told_outcome 0 1 7 (codes "a") (Refused Invalid)
+        ∷ told_outcome 2 1 7 (codes "b") (Refused (Throttled 1)) ∷ []) 0 }
     ensures no_member { report_of config three (after_loss (Anew 4 2 (1 ∷ []))) ≡ first_accepted }
     ensures two_of_three { report_of config three two_lost ≡ first_accepted }
     ensures one_of_two { report_of config (first_start ((0 ∷ []) ∷ (0 ∷ []) ∷ [])) one_of_two

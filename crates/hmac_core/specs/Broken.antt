@@ -12,5 +12,7 @@ after_block block = Sha1 (record { h = hash_after block 1; buffer = replicate 64
 
 -- the empty key under SHA-1
 abbrev pub empty_key : Keyed
-empty_key =
-    record { inner = after_block (xor_each ipad (replicate 64 0)); outer = after_block (xor_each opad (replicate 64 0)) }
+empty_key = record {
+  inner = after_block (xor_each ipad (replicate 64 0));
+  outer = after_block (xor_each opad (replicate 64 0));
+}

@@ -1,7 +1,7 @@
 -- Inputs and simulations that the laws work through. No contract cites them.
 use Rattle.std.specs.Prelude.{ℕ, List, [], ◌++◌, codes}
 use Rattle.otp_core.specs.Limits.{default_limits, limits_of}
-use Rattle.oathd_sim.specs.Sim.{IsCutSo, output_of, sim_of}
+use Rattle.oathd_sim.specs.Sim.{IsCutSo, Setup, output_of, sim_of}
 use Rattle.oathd_sim.specs.declared.fault.Fault.{Fault}
 
 -- a users file of a time token, and a client's line at the fifth step of its clock, with this code
@@ -15,6 +15,14 @@ abbrev pub printed_at_step_5 : ℕ → List ℕ → List ℕ
 printed_at_step_5 skew code =
     output_of (sim_of (record { nodes = 1; limits = limits_of 10 skew 100; moment = 150; key = [] }) 199 299
     (time_script code))
+
+-- a node under this key, which imports its users at the start
+abbrev pub one_node : List ℕ → Setup
+one_node key = record { nodes = 1; limits = default_limits; moment = 0; key = key }
+
+-- an input of 18 bytes, whose script is one line of 15
+abbrev pub line_of_15 : List ℕ
+line_of_15 = codes "%%\nclient 1 7 9 ab"
 
 -- A fault says where an input was cut off, of which so many bytes are read, in a users file of at most so many that is
 -- imported at this moment.

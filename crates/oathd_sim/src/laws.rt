@@ -1,24 +1,25 @@
 ghost use Rattle.std.specs.Prelude.{◌≡◌, ◌++◌, [], ◌∷◌, ℕ, List, Some, Ok, Err, codes, false, map, true};
 ghost use Rattle.otp_core.specs.Limits.{default_limits};
+ghost use Rattle.token_file.specs.UsersFile.{import_of};
 ghost use Rattle.token_file.specs.declared.fault.LineFault.TheVariants.{BadSecret, FileTooLong, MissingField, Read};
 ghost use Rattle.token_file.specs.Examples.{event_token};
 ghost use Rattle.oath_node.specs.Hosted.{envelope_at};
 ghost use Rattle.oath_node.specs.Machine.{Config};
 ghost use Rattle.cluster_sim.specs.World as world;
-ghost use Rattle.cluster_sim.specs.World.{ReportValue};
+ghost use Rattle.cluster_sim.specs.World.{ReportValue, first_start, report_of};
 ghost use Rattle.sim_script.specs.ReportText.{report_text};
 ghost use Rattle.sim_script.specs.declared.fault.ScriptFault.TheVariants as script;
 ghost use Rattle.users_input.specs.declared.fault.InputFault.TheVariants as input;
 ghost use Rattle.users_input.specs.declared.fault.UsersFault.TheVariants as users;
 ghost use Rattle.oathd_sim.specs.Broken.{IsUnreadFor, fault_at, one_tick};
-ghost use Rattle.oathd_sim.specs.Examples.{IsCutAt, printed_at_step_5};
+ghost use Rattle.oathd_sim.specs.Examples.{IsCutAt, line_of_15, one_node, printed_at_step_5};
 ghost use Rattle.oathd_sim.specs.Fault.{input_fault_of, script_fault_of, users_fault_of};
 ghost use Rattle.oathd_sim.specs.Parts.{HasParts, IsGivenUp, IsUnread};
 ghost use Rattle.oathd_sim.specs.declared.fault.Fault.TheVariants.{CannotRead, CannotWrite, Memory, ScriptLine, Users};
 ghost use Rattle.sim_script.specs.Event.{Anew, Cut, Deliver, Happens, Lost, Noise, Restart, Says, Ticks};
 ghost use Rattle.sim_script.specs.Event.{empty_script, eventful};
 ghost use Rattle.oathd_sim.specs.Sim.{BadScript, EndsSo, IsTaken, Refused, Reports};
-ghost use Rattle.oathd_sim.specs.Sim.{event_under, script_events, script_read};
+ghost use Rattle.oathd_sim.specs.Sim.{event_under, output_of, script_events, script_read, sim_of, sim_of_script};
 
 /// Scripts in whole inputs, whose lines are numbered from 1 with the users file and `%%` among them.
 pub fn scripts_are_worked()
@@ -45,6 +46,11 @@ pub fn simulations_are_worked()
     ensures skew_of_the_nodes { printed_at_step_5 0 (codes "287922") ≡ codes "answer 0 1 7 NO 1 INVALID\nsent 0\n" }
     ensures skew_of_the_import { printed_at_step_5 3 (codes "162583") ≡ codes "answer 0 1 7 NO 1 INVALID\nsent 0\n" }
 
+    // one byte past the limit is read, and the line that goes on there is bad
+    ensures at_the_limit { output_of (sim_of (one_node []) 99 18 line_of_15)
+        ≡ codes "answer 0 1 7 NO - BADLINE\nsent 0\n" }
+    ensures past_the_limit { sim_of (one_node []) 99 17 line_of_15 ≡ BadScript 2 }
+
     // noise is read under the key
     ensures noise { (key bytes : List ℕ) → event_under key (Happens (Noise 1 2 bytes))
         ≡ world.Happens (world.Noise 1 2 (envelope_at key bytes)) }
@@ -53,6 +59,10 @@ pub fn simulations_are_worked()
     ensures noise_of_a_script { (config : Config) (key bytes : List ℕ)
         → script_events config ([] ∷ []) key (eventful (Happens (Noise 1 2 bytes) ∷ []))
         ≡ world.Happens (world.Noise 1 2 (envelope_at key bytes)) ∷ [] }
+    ensures noise_of_a_simulation { (key bytes : List ℕ)
+        → sim_of_script (one_node key) (import_of [] []) (Ok (eventful (Happens (Noise 1 2 bytes) ∷ [])))
+        ≡ Reports (report_of (record { book = []; limits = default_limits }) (first_start ([] ∷ []))
+        (world.Happens (world.Noise 1 2 (envelope_at key bytes)) ∷ [])) }
     ensures other_events { map (event_under []) (Happens (Says 1 7 5 (codes "x")) ∷ Happens (Deliver 1 2)
         ∷ Cut false (Ticks 1) ∷ Restart 1 ∷ Lost 1 ∷ Anew 1 2 (3 ∷ []) ∷ [])
         ≡ world.Happens (world.Says 1 7 5 (codes "x")) ∷ world.Happens (world.Deliver 1 2)

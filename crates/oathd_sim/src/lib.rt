@@ -22,5 +22,7 @@ mod script;
 mod sim;
 
 pub use fault::Fault;
-pub use laws::{faults_are_worked, promises_can_be_broken, scripts_are_worked};
+pub use laws::{
+    faults_are_worked, promises_can_be_broken, scripts_are_worked, simulations_are_worked,
+};
 pub use sim::run_sim;

@@ -87,6 +87,10 @@ pub fn plans_are_worked()
     ensures given_times { (text : List ℕ) (seconds : ℕ) →
         IsTimeGiven None None × (IsTimeGiven None (Some seconds) → ⊥) × (IsTimeGiven (Some text) None → ⊥) }
     ensures given_time { IsTimeGiven (Some (codes "@7")) (Some 7) }
+    ensures texts { (words : Words) → let given = record words { time = Some words.start; otp = Some words.key } in
+        (time_text given ≡ Some words.start.now) × (otp_text given ≡ Some words.key.now) }
+    ensures no_texts { (words : Words) → let given = record words { time = None; otp = None } in
+        (time_text given ≡ None) × (otp_text given ≡ None) }
     ensures bad_start { (words : Words) → IsNoTime words.start.now → HasBadTime words }
     ensures bad_now { (words : Words) (text : List ℕ) → time_text words ≡ Some text → IsNoTime text
         → HasBadTime words }

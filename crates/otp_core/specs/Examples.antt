@@ -1,5 +1,5 @@
--- Worked cases: the keys of the standards' tables, the codes of a key, and acceptances and witnesses that break what the
--- theorems promise.
+-- Worked cases: the keys of the standards' tables, the codes of a key, and acceptances and witnesses that break what
+-- the theorems promise.
 use Rattle.std.specs.Prelude.{ℕ, ◌==◌, ◌||◌, not, nat_le, if◌then◌else◌, List, codes}
 use Rattle.hmac_core.specs.Broken.{empty_key}
 use Rattle.otp_core.specs.Acceptance.{Acceptance}

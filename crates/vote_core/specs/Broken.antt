@@ -1,4 +1,5 @@
--- Small calls of a voter, openings and events, each of which breaks one field of what is promised. No contract cites them.
+-- Small calls of a voter, openings and events, each of which breaks one field of what is promised. No contract cites
+-- them.
 use Rattle.std.specs.Prelude.{ℕ, pos, List, [], Option, Some, None, Result, Ok, Err}
 use Rattle.floor_store.specs.Content.{Content, with_next_boot}
 use Rattle.floor_store.specs.Records.{ProposalRecord}

@@ -1,5 +1,5 @@
-ghost use Rattle.std.specs.Prelude.{◌≡◌, ◌↔◌, ◌∷◌, ◌++◌, [], ℕ, List, Some, None, codes, replicate, take, slice_set};
-ghost use Rattle.admit_core.specs.Fit.{Resync};
+ghost use Rattle.std.specs.Prelude.{◌≡◌, ◌↔◌, ◌∷◌, ◌++◌, [], ℕ, List, Some, None, codes, map, replicate, take, slice_set};
+ghost use Rattle.admit_core.specs.Fit.{Check, Resync};
 ghost use Rattle.floor_store.specs.Records.{span_of};
 ghost use Rattle.secret_text.specs.declared.fault.SecretFault.{SecretFault};
 ghost use Rattle.vote_core.specs.declared.message.Message.{Message};
@@ -7,12 +7,14 @@ ghost use Rattle.vote_core.specs.declared.message.Message.TheVariants.{Deny, Flo
 ghost use Rattle.vote_wire.specs.Answer.{answer_bytes};
 ghost use Rattle.vote_wire.specs.Body.{HasSpelling, body_at, body_bytes};
 ghost use Rattle.vote_wire.specs.Bytes.{AreBytes};
+ghost use Rattle.vote_wire.specs.Codes.{submission_of};
 ghost use Rattle.vote_wire.specs.Datagram.{IsDatagramOf, datagram_at, datagram_bytes};
 ghost use Rattle.vote_wire.specs.Examples.{ask, ask_body, ask_of, ask_tag, ask_with, check_request, check_text, check_with, deny, deny_body, floor, floor_body, grant, grant_body, letters, read_again, tag_of_the_standard};
 ghost use Rattle.vote_wire.specs.Key.{IsClusterKey, key_refusal_of, tag_of};
 ghost use Rattle.vote_wire.specs.Request.{IsLine, Request, request_at};
 ghost use Rattle.vote_wire.specs.declared.answer.Answer.TheVariants.{BadLine, Reply};
 ghost use Rattle.vote_wire.specs.declared.answer.Outcome.TheVariants.{Accepted, Refused};
+ghost use Rattle.vote_wire.specs.declared.line.Codes.TheVariants.{One, Two};
 ghost use Rattle.vote_wire.specs.declared.answer.Reason.TheVariants.{Busy, Clock, Exhausted, Invalid, Password, Spent, Throttled, Timeout, Unknown};
 
 /// Under each key a message from one node to another has one spelling, and a datagram one reading.
@@ -134,6 +136,8 @@ pub fn lines_are_worked()
       submission = Resync (codes "755224") (codes "12345678");
       password = None;
     }) }
+    ensures submissions { map submission_of (One (codes "755224") ∷ Two (codes "755224") (codes "287082") ∷ [])
+        ≡ Check (codes "755224") ∷ Resync (codes "755224") (codes "287082") ∷ [] }
 
     // one LF at the end, and nothing else
     ensures lf { request_at (codes "CHECK 1 silver 755224 -" ++ 10 ∷ []) ≡ check_with None }

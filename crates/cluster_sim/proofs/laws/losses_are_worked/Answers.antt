@@ -12,6 +12,10 @@ pub returns-clause-made_anew : goal.returns-clause-made_anew
 unfolding code_at first_words schedule rounds compress hash_after digest_bytes sha1 world_after_events world_after_event world_after_act world_after_turn world_with_made world_after_restart world_after_loss world_after_anew made_by_event made_while_running made_by_datagram made_by_ruling made_by_proposal propose propose_alone propose_among on_ask accept count_grant on_grant raise count_deny on_deny on_floor on_message tick reference_answers
 returns-clause-made_anew c = refl
 
+pub returns-clause-boot_anew : goal.returns-clause-boot_anew
+unfolding code_at first_words schedule rounds compress hash_after digest_bytes sha1 world_after_events world_after_event world_after_act world_after_turn world_with_made world_after_restart world_after_loss world_after_anew made_by_event made_while_running made_by_datagram made_by_ruling made_by_proposal propose propose_alone propose_among on_ask accept count_grant on_grant raise count_deny on_deny on_floor on_message tick reference_answers
+returns-clause-boot_anew c = refl
+
 pub returns-clause-at_the_last_boot : goal.returns-clause-at_the_last_boot
 unfolding code_at first_words schedule rounds compress hash_after digest_bytes sha1 world_after_events world_after_event world_after_act world_after_turn world_with_made world_after_restart world_after_loss world_after_anew made_by_event made_while_running made_by_datagram made_by_ruling made_by_proposal propose propose_alone propose_among on_ask accept count_grant on_grant raise count_deny on_deny on_floor on_message tick reference_answers
 returns-clause-at_the_last_boot c = refl
@@ -35,6 +39,10 @@ returns-clause-past_the_last_boot c = refl
 pub returns-clause-not_lost : goal.returns-clause-not_lost
 unfolding code_at first_words schedule rounds compress hash_after digest_bytes sha1 world_after_events world_after_event world_after_act world_after_turn world_with_made world_after_restart world_after_loss world_after_anew made_by_event made_while_running made_by_datagram made_by_ruling made_by_proposal propose propose_alone propose_among on_ask accept count_grant on_grant raise count_deny on_deny on_floor on_message tick reference_answers
 returns-clause-not_lost c = refl
+
+pub returns-clause-there : goal.returns-clause-there
+unfolding code_at first_words schedule rounds compress hash_after digest_bytes sha1 world_after_events world_after_event world_after_act world_after_turn world_with_made world_after_restart world_after_loss world_after_anew made_by_event made_while_running made_by_datagram made_by_ruling made_by_proposal propose propose_alone propose_among on_ask accept count_grant on_grant raise count_deny on_deny on_floor on_message tick reference_answers
+returns-clause-there c = refl
 
 pub returns-clause-no_member : goal.returns-clause-no_member
 unfolding code_at first_words schedule rounds compress hash_after digest_bytes sha1 world_after_events world_after_event world_after_act world_after_turn world_with_made world_after_restart world_after_loss world_after_anew made_by_event made_while_running made_by_datagram made_by_ruling made_by_proposal propose propose_alone propose_among on_ask accept count_grant on_grant raise count_deny on_deny on_floor on_message tick reference_answers

@@ -18,6 +18,14 @@ pub returns-clause-skew_of_the_import : goal.returns-clause-skew_of_the_import
 unfolding decode_pairs digits world_after_events world_after_event world_after_act world_after_turn world_with_made made_by_event made_while_running made_by_ruling
 returns-clause-skew_of_the_import c = refl
 
+pub returns-clause-at_the_limit : goal.returns-clause-at_the_limit
+unfolding decode_pairs digits world_after_events world_after_event world_after_act world_after_turn world_with_made made_by_event made_while_running made_by_ruling
+returns-clause-at_the_limit c = refl
+
+pub returns-clause-past_the_limit : goal.returns-clause-past_the_limit
+unfolding decode_pairs digits world_after_events world_after_event world_after_act world_after_turn world_with_made made_by_event made_while_running made_by_ruling
+returns-clause-past_the_limit c = refl
+
 pub returns-clause-noise : goal.returns-clause-noise
 returns-clause-noise c key bytes = refl
 
@@ -26,6 +34,9 @@ returns-clause-noise_in_a_stop c key bytes = refl
 
 pub returns-clause-noise_of_a_script : goal.returns-clause-noise_of_a_script
 returns-clause-noise_of_a_script c config key bytes = refl
+
+pub returns-clause-noise_of_a_simulation : goal.returns-clause-noise_of_a_simulation
+returns-clause-noise_of_a_simulation c key bytes = refl
 
 pub returns-clause-other_events : goal.returns-clause-other_events
 returns-clause-other_events c = refl

@@ -97,6 +97,12 @@ returns-clause-given_times c = λ text seconds. (refl, λ given. cc given, λ gi
 pub returns-clause-given_time : goal.returns-clause-given_time
 returns-clause-given_time c = (omega arith, inl (record { digits = codes "7"; marked = refl; number = refl }))
 
+pub returns-clause-texts : goal.returns-clause-texts
+returns-clause-texts c words = (refl, refl)
+
+pub returns-clause-no_texts : goal.returns-clause-no_texts
+returns-clause-no_texts c words = (refl, refl)
+
 pub returns-clause-bad_start : goal.returns-clause-bad_start
 returns-clause-bad_start c = λ words none. inl none
 

@@ -17,6 +17,9 @@ returns-clause-two_marks c = refl
 pub returns-clause-resync : goal.returns-clause-resync
 returns-clause-resync c = refl
 
+pub returns-clause-submissions : goal.returns-clause-submissions
+returns-clause-submissions c = refl
+
 pub returns-clause-lf : goal.returns-clause-lf
 returns-clause-lf c = refl
 
