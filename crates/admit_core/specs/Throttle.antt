@@ -1,7 +1,7 @@
 -- When a token is open at one node, by the list of its results there: the delay scheme of RFC 4226,
 -- section 7.3, with T = 5 seconds. The A-th failure since the last acceptance closes it for T * A seconds.
 use Rattle.std.specs.Prelude.{ℕ, ◌+◌, ◌-◌, ◌*◌, ◌≤◌, ◌≡◌, ◌⊎◌, min, List, [], ◌∷◌, ◌++◌, map, length}
-use Rattle.admit_core.specs.Gate.{GateRecord}
+use Rattle.otp_core.specs.Gate.{GateRecord}
 
 -- what became of a line whose token was open; an acceptance has no moment, since nothing asks for one
 pub data Result : Type 0 where

@@ -5,7 +5,7 @@ ghost use Rattle.admit_core.specs.Drift.{kept_drift, token_step};
 ghost use Rattle.admit_core.specs.Entitled.{IsEntitled};
 ghost use Rattle.admit_core.specs.Examples.{checked, drifting, right, some_limits, token_of, token_of_equal_codes, token_of_kind, token_of_sha256, token_with, wrong};
 ghost use Rattle.admit_core.specs.Fit.{Check, Resync, Submission, Fits, InWindowOf, IsLeastBetween, NoneBetween, least_fit, IsLeastFit, NothingFits};
-ghost use Rattle.admit_core.specs.Gate.{IsGate, clear_gate, with_failure};
+ghost use Rattle.otp_core.specs.Gate.{clear_gate, with_failure};
 ghost use Rattle.admit_core.specs.Password.{PasswordFits};
 ghost use Rattle.admit_core.specs.Throttle.{Result, Failed, Accepted, counted_failures, gate_after, wait_after, IsOpenAfter, AreGated, SpacesFailures};
 ghost use Rattle.otp_core.specs.Examples.{secret_of_20};
@@ -221,12 +221,6 @@ pub fn throttle_is_worked()
     ensures open { IsOpenAfter [] 0 × IsOpenAfter (Accepted ∷ Failed 100 ∷ []) 0 × IsOpenAfter (Failed 100 ∷ []) 105
         × IsOpenAfter (Failed 105 ∷ Failed 100 ∷ []) 115 }
     ensures closed { (IsOpenAfter (Failed 100 ∷ []) 104 → ⊥) × (IsOpenAfter (Failed 105 ∷ Failed 100 ∷ []) 114 → ⊥) }
-    ensures after_failures { map (λ fails. with_failure (record { fails = fails; until = 3 }) 100)
-        (0 ∷ 1 ∷ 9999 ∷ 10000 ∷ [])
-        ≡ record { fails = 1; until = 105 } ∷ record { fails = 2; until = 110 }
-        ∷ record { fails = 10000; until = 50100 } ∷ record { fails = 10000; until = 50100 } ∷ [] }
-    ensures clear { clear_gate ≡ record { fails = 0; until = 0 } }
-    ensures ranges { IsGate 10000 1099511677776 × (IsGate 10001 0 → ⊥) × (IsGate 0 1099511677777 → ⊥) }
     ensures gated { AreGated (Failed 115 ∷ Failed 105 ∷ Failed 100 ∷ [])
         × AreGated (Failed 100 ∷ Accepted ∷ Failed 100 ∷ []) }
     ensures not_gated { (AreGated (Failed 104 ∷ Failed 100 ∷ []) → ⊥)

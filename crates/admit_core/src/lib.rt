@@ -4,14 +4,12 @@
 #![tactic(auto)]
 
 mod drift;
-mod gate;
 mod laws;
 mod password;
 mod search;
 mod windows;
 
 pub use drift::drift_after;
-pub use gate::Gate;
 pub use laws::{
     drifts_are_worked, failures_are_spaced, fits_are_worked, gate_keeps_throttle,
     least_fit_is_least, no_drift_is_as_before, promises_can_be_broken, throttle_is_worked,

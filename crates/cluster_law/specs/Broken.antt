@@ -6,7 +6,7 @@ use Rattle.vote_core.specs.State.{ballot_of}
 use Rattle.vote_core.specs.Voting.{fresh_voter}
 use Rattle.vote_core.specs.declared.message.Message.TheVariants.{Floor}
 use Rattle.oath_node.specs.Machine.{Made, NodeState, opened_node}
-use Rattle.node_turns.specs.Port.{PortEvent}
+use Rattle.datagram_port.specs.Port.{PortEvent}
 use Rattle.cluster_sim.specs.World.{Deliver, Happens, Restart, Says, WorldEvent}
 use Rattle.cluster_law.specs.Examples.{old_floor, one_node, one_open, quiet_node, right_line, three_nodes}
 use Rattle.cluster_law.specs.Lives.{Deed, Line, Offers, Opens, Scene, Setting, Takes, Time, Up, handouts_of, made_by_input, made_content}

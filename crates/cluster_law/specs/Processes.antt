@@ -6,7 +6,7 @@ use Rattle.oath_node.specs.Hosted.{Hosted, config_of}
 use Rattle.oath_node.specs.Machine.{NodeEvent, NodeState}
 use Rattle.oath_node.specs.declared.item.Item.{Item}
 use Rattle.oath_node.specs.declared.item.Item.TheVariants.{Datagram as DatagramItem, Reply}
-use Rattle.node_turns.specs.Port.{PortEvent}
+use Rattle.datagram_port.specs.Port.{PortEvent}
 use Rattle.node_turns.specs.Turns.{Member, Receipt, Run, entry_of, events_of_turns, offer_of, offers_in, receipts_in, received_after, receives_in, run_at, run_with_batches, run_with_events}
 use Rattle.node_turns.specs.declared.fault.ServeFault.{ServeFault}
 use Rattle.node_turns.specs.declared.fault.ServeFault.TheVariants.{Node}

@@ -19,7 +19,7 @@ ghost use Rattle.node_turns.specs.Turns.{Nothing, Receipt, offers_in, receipts_i
 ghost use Rattle.vote_wire.specs.declared.answer.Outcome.TheVariants.{Accepted, Refused};
 ghost use Rattle.vote_wire.specs.declared.answer.Reason.TheVariants.{Invalid};
 ghost use Rattle.cluster_sim.specs.Examples.{acceptance, told_outcome};
-ghost use Rattle.node_turns.specs.Port.{PortEvent, Quiet};
+ghost use Rattle.datagram_port.specs.Port.{PortEvent, Quiet};
 ghost use Rattle.node_turns.specs.Serving.{Serves};
 ghost use Rattle.node_turns.specs.declared.fault.ServeFault.{ServeFault};
 ghost use Rattle.node_turns.specs.declared.fault.ServeFault.TheVariants.{Clock, Node, Port};

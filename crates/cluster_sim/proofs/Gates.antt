@@ -1,7 +1,7 @@
 -- The gate of each token at each node is the gate after its results there, and each failure came while the token was open.
 use Rattle.std.proofs.Common.{◌≡◌, ℕ, zero, suc, ◌-◌, ◌^◌, ◌<◌, ◌≤◌, Bool, true, false, cond, List, [], ◌∷◌, ◌++◌, length, Option, Some, None, refl, sym, ap, ◌∙◌, subst, arith, eqb, get_or, ltb}
 use Rattle.std.proofs.lemmas.Bool.{cond_both, eqb-true}
-use Rattle.admit_core.specs.Gate.{GateRecord, clear_gate, with_failure}
+use Rattle.otp_core.specs.Gate.{GateRecord, clear_gate, with_failure}
 use Rattle.admit_core.specs.Throttle.{Result, Failed, Accepted, gate_after, IsOpenAfter, AreGated, SpacesFailures}
 use Rattle.floor_store.specs.Records.{RowRecord, PassRecord}
 use Rattle.vote_core.specs.NodeSet.{PlaceRecord}

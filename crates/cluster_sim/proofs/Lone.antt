@@ -5,7 +5,7 @@ use Rattle.std.proofs.lemmas.Bool.{and_left, and_right, both_ways, cases_Bool, c
 use Rattle.std.proofs.lemmas.List.{append_assoc, ext_get_or, get_or-replicate, length-map, length-replicate}
 use Rattle.std.proofs.lemmas.List.FromFn.{fill_by_all, length-map-range_with_len}
 use Rattle.std.proofs.Math.ListN.{get_or-map}
-use Rattle.admit_core.specs.Gate.{clear_gate}
+use Rattle.otp_core.specs.Gate.{clear_gate}
 use Rattle.answer_ring.specs.Answers.{KeptAnswer}
 use Rattle.floor_store.specs.Content.{Content, opening_row}
 use Rattle.floor_store.specs.Records.{RowRecord}

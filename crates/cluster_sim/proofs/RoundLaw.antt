@@ -2,7 +2,7 @@
 use Rattle.std.proofs.Common.{◌≡◌, ℕ, ℤ, suc, ◌+◌, ◌-◌, ◌*◌, ◌^◌, ◌<◌, ◌≤◌, ⊎_elim, true, false, List, [], ◌∷◌, ◌++◌, length, map, set, Some, None, refl, sym, ap, ◌∙◌, subst, arith, eqb, leb}
 use Rattle.std.proofs.lemmas.Bool.{cond_both, cond-true, cond-false, eqb-true, eqb-false, eq-eqb, ne_eqb, cases_eq, both_ways}
 use Rattle.std.proofs.lemmas.List.{append-nil, append_assoc}
-use Rattle.admit_core.specs.Gate.{GateRecord}
+use Rattle.otp_core.specs.Gate.{GateRecord}
 use Rattle.admit_core.specs.Throttle.{Accepted, Failed, Result, wait_after}
 use Rattle.answer_ring.specs.Answers.{kept_with}
 use Rattle.cluster_sim.proofs.BelowLaws.{GateLaw, GroundLaw, RulingLaw}

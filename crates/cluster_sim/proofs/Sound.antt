@@ -3,7 +3,7 @@
 use Rattle.std.proofs.Common.{◌≡◌, ℕ, ℤ, zero, suc, ◌+◌, ◌^◌, ◌<◌, ◌⊎◌, inl, inr, true, false, cond, List, [], ◌∷◌, ◌++◌, length, set, Option, Some, None, refl, ◌∙◌, subst, arith, eqb, leb, ltb}
 use Rattle.std.proofs.lemmas.Bool.{cond_both, ltb-true, false≢true}
 use Rattle.std.proofs.lemmas.List.{length-set}
-use Rattle.admit_core.specs.Gate.{GateRecord}
+use Rattle.otp_core.specs.Gate.{GateRecord}
 use Rattle.cluster_sim.specs.World.{Anew, Cut, Happens, Lost, Restart, World, WorldEvent, acting_node, floor_in, has_store, lost_node, may_be_anew, opening_node, node_event_of, node_of, opening_world, place_at, with_state, with_told_of, world_after_act, world_after_anew, world_after_event, world_after_loss, world_after_events, world_after_restart, world_after_turn, world_with_made, Start}
 use Rattle.floor_store.specs.Content.{Content, accepted_row, with_row}
 use Rattle.floor_store.specs.Records.{ProposalRecord, RowRecord, span_of, SpanRecord}

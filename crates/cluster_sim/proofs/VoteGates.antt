@@ -2,7 +2,7 @@
 use Rattle.vote_core.proofs.Lists.{pass_in-timeouts}
 use Rattle.std.proofs.Common.{◌≡◌, ℕ, ℤ, ◌-◌, ◌<◌, [], ◌∷◌, ⊎_elim, cond, length, Option, Some, None, refl, sym, ap, ◌∙◌, subst, eqb, leb, ltb, not, filter}
 use Rattle.std.proofs.lemmas.Bool.{cond_both, eqb-true, eqb-false}
-use Rattle.admit_core.specs.Gate.{GateRecord, clear_gate}
+use Rattle.otp_core.specs.Gate.{GateRecord, clear_gate}
 use Rattle.floor_store.specs.Content.{Content, accepted_row, with_row}
 use Rattle.floor_store.specs.Records.{ProposalRecord, RowRecord, PassRecord, span_of}
 use Rattle.otp_core.specs.Acceptance.{size, majority_of}

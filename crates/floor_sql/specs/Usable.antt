@@ -6,7 +6,7 @@ use Rattle.sqlite.specs.Order.{Row}
 use Rattle.sqlite.specs.Tree.{Trees, rowid, has_rowid}
 use Rattle.sqlite.specs.Effect.{Database}
 use Rattle.otp_core.specs.Range.{IsDrift, IsFactor, IsNext}
-use Rattle.admit_core.specs.Gate.{IsGate}
+use Rattle.otp_core.specs.Gate.{IsGate}
 use Rattle.floor_store.specs.Records.{ProposalRecord, RowRecord, PassRecord, SpanRecord, span_of}
 use Rattle.floor_store.specs.Range.{IsCount, IsProposal, IsSpan, IsPass}
 use Rattle.floor_sql.specs.Schema as tables

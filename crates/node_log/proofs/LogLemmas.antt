@@ -1,7 +1,7 @@
 -- What is remembered as a port's record grows.
 use Rattle.std.proofs.Common.{◌≡◌, ℕ, Bool, List, [], ◌∷◌, ◌++◌, Option, Some, None, refl, sym, ap, ◌∙◌}
 use Rattle.std.proofs.lemmas.List.{append-nil}
-use Rattle.node_turns.specs.Port.{Grows, PortEvent}
+use Rattle.datagram_port.specs.Port.{Grows, PortEvent}
 use Rattle.node_log.specs.Asked.{AskedLine}
 use Rattle.node_log.specs.Log.{Remembers, Tells, asked_after, asked_after_all}
 use Rattle.std.specs.Io.KnownBytes.{Appends}

@@ -1,8 +1,8 @@
 -- What a log says of what a port received and offered.
 use Rattle.std.specs.Prelude.{◌≡◌, ℕ, Bool, false, true, List, [], ◌∷◌, map, Option, Some}
 use Rattle.std.specs.Io.KnownBytes.{Appends}
-use Rattle.node_turns.specs.Port.{PortEvent, Received, Quiet, Faulted, Offered}
-use Rattle.node_turns.specs.declared.port.Sender.TheVariants.{Client, Peer}
+use Rattle.datagram_port.specs.Port.{PortEvent, Received, Quiet, Faulted, Offered}
+use Rattle.datagram_port.specs.declared.port.Sender.TheVariants.{Client, Peer}
 use Rattle.node_log.specs.Asked.{AskedLine, place_of, user_at, with_line, without}
 use Rattle.node_log.specs.Members.{after_datagram, after_quiet, heard_texts, silent_texts}
 use Rattle.node_log.specs.Text.{answered_line}

@@ -1,8 +1,8 @@
 //! A log over a writer.
 
 ghost use Rattle.std.specs.Prelude.{◌≡◌, [], false};
-ghost use Rattle.node_turns.specs.Port.{Offered, Quiet, Received};
-ghost use Rattle.node_turns.specs.declared.port.Sender.TheVariants.{Client, Peer};
+ghost use Rattle.datagram_port.specs.Port.{Offered, Quiet, Received};
+ghost use Rattle.datagram_port.specs.declared.port.Sender.TheVariants.{Client, Peer};
 ghost use Rattle.node_log.specs.Log.{Tells, asked_after, members_after, told_of};
 ghost use Rattle.node_log.specs.Text.{end_line};
 

@@ -1,15 +1,15 @@
 //! A node's port that keeps a log.
 
 ghost use Rattle.std.specs.Prelude.{◌≡◌, [], ◌≢◌, ◌∷◌, Some, IfSome};
-ghost use Rattle.node_turns.specs.declared.port.Received.TheVariants.{Quiet as QuietReceive};
-ghost use Rattle.node_turns.specs.Port.{Grows, IsWithin, Offered, entries_of_poll, event_of_receive};
+ghost use Rattle.datagram_port.specs.declared.port.Received.TheVariants.{Quiet as QuietReceive};
+ghost use Rattle.datagram_port.specs.Port.{Grows, IsWithin, Offered, entries_of_poll, event_of_receive};
 ghost use Rattle.node_log.specs.Log.{Remembers, Tells, asked_after, members_after, told_of};
 ghost use Rattle.node_log.specs.Text.{end_line};
 
 use crate::log::{Log, MAX_OTHERS};
 use crate::members::Member;
 use arrayvec::ArrayVec;
-use node_turns::{Port, Received, Sender};
+use datagram_port::{Port, Received, Sender};
 use std::io::Write;
 
 /// A node's port over another one, with a log of the answers that are offered to clients, and of the members that are

@@ -11,7 +11,7 @@ use Rattle.oath_node.specs.Machine.{NodeEvent, Tick}
 use Rattle.oath_node.specs.Outputs.{OutputsRecord}
 use Rattle.oath_node.specs.declared.fault.NodeFault.{NodeFault}
 use Rattle.oath_node.specs.declared.item.Item.{Item}
-use Rattle.node_turns.specs.Port.{Grows, PortEvent}
+use Rattle.datagram_port.specs.Port.{Grows, PortEvent}
 use Rattle.node_turns.specs.Serving.{EndsSettled}
 use Rattle.node_turns.specs.Steps.{BatchEnds, FailsIn, Gathers, GathersBatch, HasMade, IsOf, Scene, SettlesBatch, StepsBatch, TakesAll, TakesBatch, TakesReceipt, TakesReceived, TakesTick, datagram_events, end_of, items_in, reply_count, tally_after, ticks_of}
 use Rattle.node_turns.specs.Turns.{GoesOn, IsBatch, Member, Receipt, Run, FromPeer, FromClient, Nothing, Failure, end_with, ends_batch, entry_of, events_of_turn, events_of_turns, member_of, moments_for, moments_in, offer_of, received_after, received_with, receives_in, run_with_batch, run_with_receipt, run_with_receipts, tally_with, with_replies}

@@ -4,7 +4,7 @@ use Rattle.std.specs.Prelude.{Option, None, Some}
 use Rattle.std.proofs.lemmas.List.{append-nil}
 use Rattle.oath_node.specs.Machine.{NodeEvent, NodeState, made_by_event}
 use Rattle.oath_node.specs.Outputs.{outputs_of}
-use Rattle.node_turns.specs.Port.{PortEvent, Received, Quiet, Faulted, Offered}
+use Rattle.datagram_port.specs.Port.{PortEvent, Received, Quiet, Faulted, Offered}
 use Rattle.node_turns.specs.Turns.{DoesTheSame, Member, Receipt, Run, FromPeer, FromClient, Nothing, Failure, end_with, entry_of, events_of_turn, offer_of, offers_in, run_with_event, run_with_events, run_with_receipt, run_with_turn, run_with_turns, tally_with, while_going, without_failures}
 use Rattle.node_turns.specs.declared.fault.ServeFault.{ServeFault}
 use Rattle.node_turns.specs.declared.turns.Tally.{Tally}

@@ -6,12 +6,12 @@ use Rattle.std.specs.Option.{option_map}
 use Rattle.std.proofs.lemmas.List.{append_assoc, append-nil, map-append, take_more}
 use Rattle.oath_node.specs.declared.item.Item.{Item}
 use Rattle.oath_node.specs.declared.item.Item.TheVariants.{Datagram, Reply}
-use Rattle.node_turns.specs.Port.{Grows, PortEvent, Received, Quiet, Faulted, Offered}
+use Rattle.datagram_port.specs.Port.{Grows, PortEvent, Received, Quiet, Faulted, Offered}
 use Rattle.oath_node.specs.Machine.{Reply as ReplyRecord}
 use Rattle.oath_node.specs.Outputs.{OutputsRecord, datagram_item, items_of, reply_item}
 use Rattle.vote_core.specs.declared.message.Message.{Message}
 use Rattle.node_turns.specs.Steps.{items_in, reply_count}
-use Rattle.node_turns.specs.declared.port.Sender.TheVariants.{Client, Peer}
+use Rattle.datagram_port.specs.declared.port.Sender.TheVariants.{Client, Peer}
 use Rattle.node_turns.specs.Turns.{offer_of, receives_in}
 
 pub grows_refl : {A : Type 0} (x : Option (List A)) → Grows x x []

@@ -6,7 +6,7 @@ use Rattle.std.proofs.lemmas.List.{append-nil}
 use Rattle.oath_node.specs.Machine.{NodeEvent, NodeState, made_by_event}
 use Rattle.oath_node.specs.Outputs.{outputs_of}
 use Rattle.oath_node.specs.declared.item.Item.{Item}
-use Rattle.node_turns.specs.Port.{PortEvent}
+use Rattle.datagram_port.specs.Port.{PortEvent}
 use Rattle.node_turns.specs.Turns.{AreBatches, ComesToTheSame, DoesTheSame, GoesOn, IsBatch, Member, Receipt, Run, FromPeer, FromClient, Nothing, Failure, end_with, ends_batch, entry_of, events_of_turn, events_of_turns, offer_of, offers_in, received_after, received_with, receipts_in, receives_in, run_with_batch, run_with_batches, run_with_event, run_with_events, run_with_receipt, run_with_receipts, run_with_turn, run_with_turns, tally_with, while_going, with_replies, without_failures}
 use Rattle.node_turns.specs.declared.fault.ServeFault.{ServeFault}
 use Rattle.node_turns.specs.declared.turns.Tally.{Tally}

@@ -10,11 +10,11 @@ use Rattle.oath_node.specs.Machine.{Client, Peer}
 use Rattle.oath_node.specs.Outputs.{OutputsRecord}
 use Rattle.oath_node.specs.declared.fault.NodeFault.{NodeFault}
 use Rattle.oath_node.specs.declared.item.Item.{Item}
-use Rattle.node_turns.specs.Port.{Grows, Received, Quiet, Faulted}
+use Rattle.datagram_port.specs.Port.{Grows, Received, Quiet, Faulted}
 use Rattle.node_turns.specs.Steps.{TakesDatagram, TakesReceived, end_after, end_of, items_in, tally_with_datagram}
 use Rattle.node_turns.specs.Turns.{FromPeer, FromClient, Nothing, Failure, tally_with}
-use Rattle.node_turns.specs.declared.port.Sender.{Sender}
-use Rattle.node_turns.specs.declared.port.Sender.TheVariants.{Client as ToClient, Peer as ToPeer}
+use Rattle.datagram_port.specs.declared.port.Sender.{Sender}
+use Rattle.datagram_port.specs.declared.port.Sender.TheVariants.{Client as ToClient, Peer as ToPeer}
 use Rattle.node_turns.specs.declared.turns.BatchEnd.{BatchEnd}
 use Rattle.node_turns.specs.declared.turns.BatchEnd.TheVariants as ends
 use Rattle.node_turns.specs.declared.turns.Tally.{Tally}

@@ -11,7 +11,7 @@ use Rattle.oath_node.specs.Machine.{NodeEvent, NodeState, made_by_event}
 use Rattle.oath_node.specs.Outputs.{OutputsRecord, outputs_of}
 use Rattle.oath_node.specs.declared.fault.NodeFault.{NodeFault}
 use Rattle.oath_node.specs.declared.item.Item.{Item}
-use Rattle.node_turns.specs.Port.{Grows, PortEvent}
+use Rattle.datagram_port.specs.Port.{Grows, PortEvent}
 use Rattle.node_turns.specs.Serving.{FailsAmong, FailsNext, IsAmong, LeavesAmong}
 use Rattle.node_turns.specs.Steps.{FailsIn, HasMade, TakesAll, reply_count}
 use Rattle.node_turns.specs.Turns.{Member, Run, member_of, offer_of, run_with_event, run_with_events, with_replies}

@@ -5,7 +5,7 @@ use Rattle.std.specs.Option.{option_map}
 use Rattle.std.proofs.lemmas.List.{append_assoc, append-nil, map-append}
 use Rattle.floor_store.specs.Held.{Held, IsSettled}
 use Rattle.oath_node.specs.Hosted.{Hosted, IsSameNode, state_of}
-use Rattle.node_turns.specs.Port.{Grows, PortEvent}
+use Rattle.datagram_port.specs.Port.{Grows, PortEvent}
 use Rattle.node_turns.specs.Serving.{EndsByClock, EndsSettled, EndsSo, Serves, Stands, run_over, served_in}
 use Rattle.node_turns.specs.Steps.{BatchEnds, IsClean, IsOf, Scene, StepsBatch, TakesBatch}
 use Rattle.node_turns.specs.Turns.{AreBatches, GoesOn, IsBatch, Member, Receipt, Run, entry_of, member_of, moments_for, moments_in, received_after, received_with, receipts_in, receives_in, run_at, run_with_batch, run_with_batches, while_going}

@@ -10,11 +10,11 @@ use Rattle.oath_node.specs.Cases.{idle_node}
 use Rattle.oath_node.specs.Hosted.{Hosted, state_of}
 use Rattle.oath_node.specs.declared.fault.NodeFault.{NodeFault}
 use Rattle.oath_node.specs.declared.fault.NodeFault.TheVariants.{Store as StoreFailed}
-use Rattle.node_turns.specs.Port.{PortEvent, Received, Offered}
+use Rattle.datagram_port.specs.Port.{PortEvent, Received, Offered}
 use Rattle.node_turns.specs.TurnExamples.{first_of_three}
 use Rattle.node_turns.specs.Turns.{Receipt, Run, run_at, run_with_batches, run_with_turns}
 use Rattle.node_turns.specs.declared.fault.ServeFault.{ServeFault}
-use Rattle.node_turns.specs.declared.port.Sender.TheVariants.{Client, Peer}
+use Rattle.datagram_port.specs.declared.port.Sender.TheVariants.{Client, Peer}
 use Rattle.node_turns.specs.declared.turns.Served.{Served}
 
 -- ---- Entries

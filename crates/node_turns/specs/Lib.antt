@@ -1,6 +1,4 @@
 pub mod Broken
-pub mod Entries
-pub mod Port
 pub mod Serving
 pub mod Steps
 pub mod TurnExamples

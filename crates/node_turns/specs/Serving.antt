@@ -7,7 +7,7 @@ use Rattle.oath_node.specs.Calls.{CommitsNode, Takes}
 use Rattle.oath_node.specs.Hosted.{Hosted, IsSameNode, state_of}
 use Rattle.oath_node.specs.Machine.{NodeEvent}
 use Rattle.oath_node.specs.declared.fault.NodeFault.{NodeFault}
-use Rattle.node_turns.specs.Port.{Grows, PortEvent}
+use Rattle.datagram_port.specs.Port.{Grows, PortEvent}
 use Rattle.node_turns.specs.Turns.{AreBatches, Member, Receipt, Run, entry_of, events_of_turns, member_of, moments_in, receipts_in, receives_in, run_at, run_with_batches, run_with_events, run_with_receipts}
 use Rattle.node_turns.specs.declared.fault.ServeFault.{ServeFault}
 use Rattle.node_turns.specs.declared.fault.ServeFault.TheVariants.{Node, Port, Clock}

@@ -10,12 +10,12 @@ use Rattle.oath_node.specs.Outputs.{OutputsRecord}
 use Rattle.oath_node.specs.declared.fault.NodeFault.{NodeFault}
 use Rattle.oath_node.specs.declared.item.Item.{Item}
 use Rattle.oath_node.specs.declared.item.Item.TheVariants.{Datagram, Reply}
-use Rattle.node_turns.specs.Port.{Grows, PortEvent, Received}
+use Rattle.datagram_port.specs.Port.{Grows, PortEvent, Received}
 use Rattle.node_turns.specs.Serving.{EndsSettled, FailsAmong, FailsNext, IsAmong, LeavesAmong, Stands}
 use Rattle.node_turns.specs.Turns.{GoesOn, IsBatch, Member, Receipt, FromPeer, FromClient, Nothing, Failure, Run, entry_of, events_of_turns, member_of, moments_for, moments_in, offer_of, receives_in, run_with_batch, run_with_events, run_with_receipts, tally_with, with_replies}
 use Rattle.node_turns.specs.declared.fault.ServeFault.{ServeFault}
 use Rattle.node_turns.specs.declared.fault.ServeFault.TheVariants.{Node, Port, Clock}
-use Rattle.node_turns.specs.declared.port.Sender.{Sender}
+use Rattle.datagram_port.specs.declared.port.Sender.{Sender}
 use Rattle.node_turns.specs.declared.turns.BatchEnd.{BatchEnd}
 use Rattle.node_turns.specs.declared.turns.BatchEnd.TheVariants as ends
 use Rattle.node_turns.specs.declared.turns.Gathered.{Gathered}

@@ -2,10 +2,10 @@
 use Rattle.std.specs.Prelude.{ℕ, ◌+◌, Bool, true, false, List, filter, length, map, replicate, Option, Some, None, codes}
 use Rattle.oath_node.specs.Cases.{config, idle_node}
 use Rattle.vote_core.specs.Cases.{place}
-use Rattle.node_turns.specs.Port.{PortEvent, Received, Quiet, Faulted, Offered}
+use Rattle.datagram_port.specs.Port.{PortEvent, Received, Quiet, Faulted, Offered}
 use Rattle.node_turns.specs.Turns.{Member, Receipt, FromClient, FromPeer, Run, is_receive, run_at, run_with_batches, run_with_turns}
 use Rattle.node_turns.specs.declared.fault.ServeFault.{ServeFault}
-use Rattle.node_turns.specs.declared.port.Sender.TheVariants.{Client, Peer}
+use Rattle.datagram_port.specs.declared.port.Sender.TheVariants.{Client, Peer}
 
 -- What is seen of a run: the datagrams handed in and the replies that it counts, the offers to members and to clients
 -- that are on record, and the fault that ended it.

@@ -8,11 +8,11 @@ use Rattle.oath_node.specs.Machine.{Config, NodeEvent, NodeState, Client, Peer, 
 use Rattle.oath_node.specs.Outputs.{outputs_of}
 use Rattle.oath_node.specs.declared.item.Item.{Item}
 use Rattle.oath_node.specs.declared.item.Item.TheVariants.{Datagram, Reply}
-use Rattle.node_turns.specs.Port.{PortEvent, Received, Quiet, Faulted, Offered}
+use Rattle.datagram_port.specs.Port.{PortEvent, Received, Quiet, Faulted, Offered}
 use Rattle.node_turns.specs.declared.fault.ServeFault.{ServeFault}
 use Rattle.node_turns.specs.declared.fault.ServeFault.TheVariants.{Port as PortFault, Clock as ClockFault}
 use Rattle.node_turns.specs.declared.turns.Tally.{Tally}
-use Rattle.node_turns.specs.declared.port.Sender.TheVariants.{Client as ToClient, Peer as ToPeer}
+use Rattle.datagram_port.specs.declared.port.Sender.TheVariants.{Client as ToClient, Peer as ToPeer}
 
 -- ---- What a turn is handed
 

@@ -6,10 +6,10 @@ ghost use Rattle.node_turns.specs.Serving.{EndsByClock, EndsSettled, EndsSo, Fai
 ghost use Rattle.oath_node.specs.declared.fault.NodeFault.TheVariants.{Spent as NoNumber};
 ghost use Rattle.node_turns.specs.TurnExamples.{batches_of, going_with, line_without_moment, no_line, noise, order_of, run_of};
 ghost use Rattle.oath_node.specs.Cases.{first_line, idle_node, line};
-ghost use Rattle.node_turns.specs.Port.{Faulted, Grows, Offered, Quiet, Received};
+ghost use Rattle.datagram_port.specs.Port.{Faulted, Offered, Quiet, Received};
 ghost use Rattle.node_turns.specs.Turns.{AreBatches, ComesToTheSame, DoesTheSame, Failure, GoesOn, IsBatch, Member, Nothing, Receipt, Run, moments_in, offers_in, receipts_in, run_at, run_with_batch, run_with_batches, run_with_turn, run_with_turns, without_failures};
 ghost use Rattle.node_turns.specs.declared.fault.ServeFault.TheVariants.{Clock, Node, Port};
-ghost use Rattle.node_turns.specs.declared.port.Sender.TheVariants.{Client, Peer};
+ghost use Rattle.datagram_port.specs.declared.port.Sender.TheVariants.{Client, Peer};
 
 /// What some turns of a member of three come to.
 pub fn turns_are_worked()
@@ -206,13 +206,6 @@ pub fn promises_can_be_broken()
 /// What is said of a record that grows, of how a run ends and of which call of its node fails holds of the least that
 /// keeps it, and each field is broken by the least that keeps all others.
 pub fn ends_can_be_broken()
-    // a record, with what was added behind it
-    ensures grows { Grows (Some (Quiet ∷ [])) (Some (Quiet ∷ Faulted ∷ [])) (Faulted ∷ []) }
-    ensures grows_unseen { Grows (Some (Quiet ∷ [])) None (Faulted ∷ []) }
-    ensures grows_from_none { Grows None (Some (Quiet ∷ [])) (Quiet ∷ []) → ⊥ }
-    ensures grows_by_nothing { Grows (Some (Quiet ∷ [])) (Some (Quiet ∷ Faulted ∷ [])) [] → ⊥ }
-    ensures grows_before { Grows (Some (Quiet ∷ [])) (Some (Faulted ∷ Quiet ∷ [])) (Faulted ∷ []) → ⊥ }
-
     // a run that went on to the end, and one that the port or the clock ended
     ensures ends { EndsSo small_held (node_over (store_at 0) []) (node_over (store_at 0) []) nothing_yet nothing_yet []
         (served 0 0) }

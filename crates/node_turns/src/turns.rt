@@ -3,15 +3,14 @@
 ghost use Rattle.std.specs.Prelude.{◌≡◌, ◌↔◌, ◌<◌, ◌≤◌, ◌+◌, ◌^◌, [], Err, map, true};
 ghost use Rattle.arrayvec.specs.ArrayVec.{array_vec_len};
 ghost use Rattle.floor_store.specs.Held.{IsSettled};
-ghost use Rattle.node_turns.specs.Port.{Grows, IsWithin, event_of_receive};
+ghost use Rattle.datagram_port.specs.Port.{Grows, IsWithin, event_of_receive};
 ghost use Rattle.node_turns.specs.Serving.{EndsByClock, Serves};
 ghost use Rattle.node_turns.specs.Steps.{GathersBatch, SettlesBatch, TakesBatch, TakesDatagram, TakesReceived, TakesTick, items_in, reply_count, scene, ticks_of};
 ghost use Rattle.node_turns.specs.Turns.{offer_of};
 
-use crate::clock::Clock;
 use crate::fault::ServeFault;
-use crate::port::{MAX_DATAGRAM_LEN, Port, Received, Sender};
 use arrayvec::ArrayVec;
+use datagram_port::{Clock, MAX_DATAGRAM_LEN, Port, Received, Sender};
 use floor_store::FloorStore;
 use oath_node::{Event, Item, Node, NodeFault, Outputs, Scratch};
 

@@ -4,7 +4,7 @@ use Rattle.std.specs.Prelude.{nat_lt}
 use Rattle.std.proofs.lemmas.Bool.{cond_both, eq-eqb, lt-ltb}
 use Rattle.std.proofs.lemmas.List.{map-set}
 use Rattle.std.proofs.Math.ListN.{get_or-map}
-use Rattle.admit_core.specs.Gate.{GateRecord, clear_gate, with_failure}
+use Rattle.otp_core.specs.Gate.{GateRecord, clear_gate, with_failure}
 use Rattle.admit_core.specs.Throttle.{Result, Failed, Accepted as Passed, gate_after}
 use Rattle.answer_ring.specs.Answers.{KeptAnswer}
 use Rattle.floor_store.specs.Content.{Content, accepted_row}

@@ -4,7 +4,7 @@ use Rattle.std.specs.Prelude.{Result, Ok, Err, IsErrAnd}
 use Rattle.std.specs.Map.Iter.{TakesFirst}
 use Rattle.otp_core.specs.Limits.{Limits}
 use Rattle.token_file.specs.Credential.{Credential}
-use Rattle.admit_core.specs.Gate.{clear_gate}
+use Rattle.otp_core.specs.Gate.{clear_gate}
 use Rattle.floor_store.specs.Content.{Content, opening_content}
 use Rattle.floor_store.specs.Held.{Held}
 use Rattle.vote_core.specs.NodeSet.{PlaceRecord}

@@ -1,7 +1,7 @@
 -- A node of one, beside the reference server.
 use Rattle.std.specs.Prelude.{◌≡◌, ℕ, ℤ, ◌+◌, ◌≤◌, true, List, [], ◌∷◌, map}
 use Rattle.std.specs.Option.{option_map}
-use Rattle.admit_core.specs.Gate.{GateRecord}
+use Rattle.otp_core.specs.Gate.{GateRecord}
 use Rattle.admit_core.specs.Throttle.{Result, gate_after}
 use Rattle.floor_store.specs.Content.{Content}
 use Rattle.floor_store.specs.Records.{PassRecord}

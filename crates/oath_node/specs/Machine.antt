@@ -6,7 +6,7 @@ use Rattle.std.specs.List.{flat_map, list_any}
 use Rattle.std.specs.Str.{bytes_eq}
 use Rattle.otp_core.specs.Limits.{Limits}
 use Rattle.token_file.specs.Credential.{Credential}
-use Rattle.admit_core.specs.Gate.{GateRecord, with_failure}
+use Rattle.otp_core.specs.Gate.{GateRecord, with_failure}
 use Rattle.floor_store.specs.Content.{Content, with_next_boot}
 use Rattle.floor_store.specs.Records.{ProposalRecord, PassRecord}
 use Rattle.vote_core.specs.NodeSet.{PlaceRecord}

@@ -9,7 +9,7 @@ ghost use Rattle.oathd.specs.Cluster.{IsImportOf};
 use crate::fault::Fault;
 use crate::floors::{floors_texts, with_paths};
 use cluster_file::Cluster;
-use node_turns::Clock;
+use datagram_port::Clock;
 use oathd_database::{
     LostNode, NodeKey, Serving, audit_file, export_file, floors_file, init_file, init_lost_file,
     level_file, migrate_file, serve_file,

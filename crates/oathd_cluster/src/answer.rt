@@ -11,7 +11,7 @@ use crate::fault::Fault;
 use crate::line::read_node_line;
 use crate::rounds::{Cluster, ask};
 use command_line::write_line;
-use node_turns::{MAX_DATAGRAM_LEN, Port};
+use datagram_port::{MAX_DATAGRAM_LEN, Port};
 use std::alloc::Global;
 use std::io::{BufRead, Write};
 use users_input::{Input, NextLine, text_of};

@@ -10,7 +10,7 @@ use crate::answer::answer_lines;
 use crate::fault::Fault;
 use crate::rounds::Cluster;
 use crate::sockets::open_cluster;
-use node_turns::Port;
+use datagram_port::Port;
 use otp_core::{Next, Settings};
 use std::alloc::Global;
 use std::io::{BufReader, Read, Write};

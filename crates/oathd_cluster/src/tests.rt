@@ -2,13 +2,13 @@
 
 use crate::line::NodeLine;
 use crate::rounds::{Cluster, Member, ask};
+use datagram_port::{Coming, ListPort, MAX_DATAGRAM_LEN, PortEntry, Sender};
 use floor_store::MemStore;
-use node_turns::{Coming, ListPort, MAX_DATAGRAM_LEN, PortEntry, Sender};
 use oath_node::{Node, Scratch};
-use otp_core::{Next, Settings};
+use otp_core::{MAX_TOKENS, Next, Settings};
 use std::alloc::Global;
 use std::test::Fail;
-use token_file::{Book, FromRead, MAX_TOKENS, read_book};
+use token_file::{Book, FromRead, read_book};
 use vote_core::Place;
 use vote_wire::ClusterKey;
 

@@ -1,8 +1,9 @@
 //! The commands over a database in memory: a store is made, exported, served, audited and exported again.
 
+use datagram_port::{Coming, ListClock, ListPort, PortEntry, Sender};
 use floor_sql::SqlStore;
 use floor_store::StoreFault;
-use node_turns::{Coming, ListClock, ListPort, PortEntry, Sender, Served};
+use node_turns::Served;
 use oathd_database::{
     Database, Fault, init_store, open_node, open_store, serve_node, write_audit, write_rows,
 };

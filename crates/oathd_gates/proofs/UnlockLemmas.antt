@@ -5,7 +5,7 @@ use Rattle.std.proofs.lemmas.Option.{IfSome_then}
 use Rattle.sqlite.specs.Store.{Ghosts}
 use Rattle.otp_core.specs.Limits.{Limits}
 use Rattle.token_file.specs.Credential.{Credential, place_of}
-use Rattle.admit_core.specs.Gate.{GateRecord, clear_gate}
+use Rattle.otp_core.specs.Gate.{GateRecord, clear_gate}
 use Rattle.floor_store.specs.Content.{Content, with_row}
 use Rattle.floor_store.specs.Held.{Commits, Held, MayWrite, OldOrNew, Puts}
 use Rattle.floor_store.specs.Records.{RowRecord}

@@ -1,6 +1,6 @@
 -- Worked rows of a store.
 use Rattle.std.specs.Prelude.{ℕ, pos, List, [], ◌∷◌, Some}
-use Rattle.admit_core.specs.Gate.{GateRecord}
+use Rattle.otp_core.specs.Gate.{GateRecord}
 use Rattle.floor_store.specs.Records.{RowRecord, span_of}
 use Rattle.floor_store.specs.Content.{Content}
 

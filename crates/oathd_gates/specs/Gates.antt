@@ -7,7 +7,7 @@ use Rattle.sqlite.specs.Held as sql
 use Rattle.sqlite.specs.State.{HasCleanDisk}
 use Rattle.otp_core.specs.Limits.{Limits}
 use Rattle.token_file.specs.Credential.{Credential}
-use Rattle.admit_core.specs.Gate.{GateRecord}
+use Rattle.otp_core.specs.Gate.{GateRecord}
 use Rattle.floor_store.specs.Records.{RowRecord}
 use Rattle.floor_sql.specs.Held.{SqlHeld}
 use Rattle.oathd_database.specs.Commands.{HasImport, HasOpened}

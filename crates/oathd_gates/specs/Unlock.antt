@@ -3,7 +3,7 @@ use Rattle.std.specs.Prelude.{◌≡◌, ℕ, List, length, Option, Some, None, 
 use Rattle.sqlite.specs.Store.{Ghosts}
 use Rattle.otp_core.specs.Limits.{Limits}
 use Rattle.token_file.specs.Credential.{place_of}
-use Rattle.admit_core.specs.Gate.{clear_gate}
+use Rattle.otp_core.specs.Gate.{clear_gate}
 use Rattle.floor_store.specs.Records.{RowRecord}
 use Rattle.floor_store.specs.Content.{Content, with_row}
 use Rattle.floor_store.specs.Held.{MayWrite}

@@ -7,10 +7,9 @@ ghost use Rattle.oathd_database.specs.Commands.{EndsOutput, HasImport};
 ghost use Rattle.oathd_database.specs.Fault.{IsOutputFault};
 ghost use Rattle.oathd_gates.specs.Gates.{HasToldGates, WritesGate, gate_line, gate_text, gates_text};
 
-use admit_core::Gate;
 use floor_store::FloorStore;
 use oathd_database::{Database, DatabaseFile, Fault, open_store};
-use otp_core::Settings;
+use otp_core::{Gate, Settings};
 use sqlite::Alter;
 use std::alloc::Global;
 use std::io::{self, Read, Write};

@@ -1,7 +1,7 @@
 ghost use Rattle.std.specs.Prelude.{◌≡◌, ◌∷◌, ℕ, List, [], Some, codes, map};
 ghost use Rattle.otp_core.specs.Limits.{default_limits};
 ghost use Rattle.token_file.specs.Examples.{event_token};
-ghost use Rattle.admit_core.specs.Gate.{clear_gate};
+ghost use Rattle.otp_core.specs.Gate.{clear_gate};
 ghost use Rattle.floor_store.specs.declared.fault.StoreFault.TheVariants.{Disk};
 ghost use Rattle.floor_sql.specs.Broken.{tables_at};
 ghost use Rattle.oathd_database.specs.Broken.{IsOfOne, fallen, new_store, no_users, still};

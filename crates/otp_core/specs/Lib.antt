@@ -3,6 +3,7 @@ pub mod Code
 pub mod Codes
 pub mod Digits
 pub mod Examples
+pub mod Gate
 pub mod Hotp
 pub mod Limits
 pub mod Range

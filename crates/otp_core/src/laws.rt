@@ -6,6 +6,7 @@ ghost use Rattle.otp_core.specs.Code.{IsCode, decimal_digits};
 ghost use Rattle.otp_core.specs.Codes.{AreCodesOf};
 ghost use Rattle.otp_core.specs.Digits.{count_of};
 ghost use Rattle.otp_core.specs.Examples.{accepted, accepted_at, accepted_at_node, accepted_of_other, codes_of_empty_key, floor_back_in, floor_of_first, floor_until, secret_of_20, secret_of_32, secret_of_64, witnessed};
+ghost use Rattle.otp_core.specs.Gate.{IsGate, clear_gate, with_failure};
 ghost use Rattle.otp_core.specs.Hotp.{code_of, factor_mac, truncation_of};
 ghost use Rattle.otp_core.specs.Limits.{AreLimits, allowed_drift, default_limits, limits_of};
 ghost use Rattle.otp_core.specs.Range.{IsDrift, IsFactor, IsMoment, IsNext, IsSecret};
@@ -46,6 +47,16 @@ pub fn ranges_are_worked()
     ensures no_digits { (IsCode (codes "12345/") → ⊥) × (IsCode (codes ":23456") → ⊥) }
     ensures steps { (step_of 29 0 30 ≡ 0) × (step_of 59 0 30 ≡ 1) × (step_of 60 0 30 ≡ 2) × (step_of 119 0 60 ≡ 1)
         × (step_of 159 100 30 ≡ 1) }
+{}
+
+/// What a failure makes of a gate, a gate where none counts, and the ranges of its numbers, worked through.
+pub fn gates_are_worked()
+    ensures after_failures { map (λ fails. with_failure (record { fails = fails; until = 3 }) 100)
+        (0 ∷ 1 ∷ 9999 ∷ 10000 ∷ [])
+        ≡ record { fails = 1; until = 105 } ∷ record { fails = 2; until = 110 }
+        ∷ record { fails = 10000; until = 50100 } ∷ record { fails = 10000; until = 50100 } ∷ [] }
+    ensures clear { clear_gate ≡ record { fails = 0; until = 0 } }
+    ensures ranges { IsGate 10000 1099511677776 × (IsGate 10001 0 → ⊥) × (IsGate 0 1099511677777 → ⊥) }
 {}
 
 /// The ranges of a drift at their ends, and drifts brought into those that settings allow.

@@ -1,6 +1,6 @@
 //! Ports over loopback sockets.
 
-use node_turns::{Clock, Port, Received, Sender};
+use datagram_port::{Clock, Port, Received, Sender};
 use std::cell::Cell;
 use std::io;
 use std::net::{Ipv4Addr, Net, SocketAddr, SocketAddrV4, UdpSocket};

@@ -1,7 +1,8 @@
 //! Turns over a port in memory.
 
+use datagram_port::{Coming, ListClock, ListPort, PortEntry, Sender};
 use floor_store::{FloorStore, FuseStore, MemStore};
-use node_turns::{Coming, ListClock, ListPort, PortEntry, Sender, Served, run_turns};
+use node_turns::{Served, run_turns};
 use oath_node::Node;
 use otp_core::{Next, Settings};
 use std::alloc::Global;

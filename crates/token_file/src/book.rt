@@ -3,12 +3,10 @@ ghost use Rattle.token_file.specs.Credential.{place_of};
 
 use crate::token::{MAX_NAME_LEN, Token, array_of};
 use arrayvec::ArrayVec;
+use otp_core::MAX_TOKENS;
 use std::alloc::{AllocError, Global};
 use std::collections::BTreeMap;
 use std::marker::Model;
-
-/// The most tokens of a book.
-pub const MAX_TOKENS: usize = 10_000;
 
 /// The number of a token in a book, from 0. It is below 10,000.
 #[derive(Clone, Copy, Debug, PartialEq, Eq, PartialOrd, Ord, Hash)]

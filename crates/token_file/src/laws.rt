@@ -17,8 +17,8 @@ ghost use Rattle.token_file.specs.declared.fault.LineFault.{LineFault};
 ghost use Rattle.token_file.specs.declared.source.Pulled.{Pulled};
 ghost use Rattle.token_file.specs.declared.token.Password.{Password};
 
-use crate::book::MAX_TOKENS;
 use crate::token::{Kind, Token};
+use otp_core::MAX_TOKENS;
 
 /// Each element of a slice of bytes is a byte.
 fn are_bytes(bytes: &[u8])

@@ -14,7 +14,7 @@ mod token;
 mod type_word;
 mod write;
 
-pub use book::{Book, MAX_TOKENS, TokenId};
+pub use book::{Book, TokenId};
 pub use fault::{FileFault, LineFault};
 pub use laws::{
     files_are_worked, files_read_back, promises_can_be_broken, rows_are_worked, rows_read_back,

@@ -4,13 +4,13 @@ ghost use Rattle.token_file.specs.Reading.{Fails, Leads, Progress, initial_progr
 ghost use Rattle.token_file.specs.Source.{OfText, Stays};
 ghost use Rattle.token_file.specs.UsersFile.{Instant, IsCutOff, after_line, book_of, import_of, instant_of, is_of_text, is_read, is_read_result};
 
-use crate::book::{Book, MAX_TOKENS};
+use crate::book::Book;
 use crate::fault::{FileFault, LineFault};
 use crate::floor::first_floor;
 use crate::row::read_row;
 use crate::source::{Pulled, Source};
 use arrayvec::ArrayVec;
-use otp_core::{Next, Settings};
+use otp_core::{MAX_TOKENS, Next, Settings};
 use std::alloc::Global;
 use std::marker::Model;
 

@@ -4,8 +4,8 @@ use Rattle.std.specs.List.{slice_get}
 use Rattle.std.specs.declared.net.socket_addr.SocketAddrV4.{SocketAddrV4}
 use Rattle.std.specs.Net.Addr.{ipv4_bits}
 use Rattle.std.specs.Net.Socket.{v4_ip, v4_port}
-use Rattle.node_turns.specs.declared.port.Sender.{Sender}
-use Rattle.node_turns.specs.declared.port.Sender.TheVariants.{Client, Peer}
+use Rattle.datagram_port.specs.declared.port.Sender.{Sender}
+use Rattle.datagram_port.specs.declared.port.Sender.TheVariants.{Client, Peer}
 
 -- the number of the client at an address: the IPv4 address as a number of 32 bits, times 65,536, and the port
 abbrev pub number_of : SocketAddrV4 → ℕ

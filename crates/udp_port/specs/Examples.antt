@@ -2,7 +2,7 @@
 use Rattle.std.specs.Prelude.{ℕ, Bool, List, [], ◌∷◌, Option, Ok}
 use Rattle.std.specs.declared.net.socket_addr.SocketAddrV4.{SocketAddrV4}
 use Rattle.std.specs.declared.net.socket_addr.SocketAddr.TheVariants.{V4}
-use Rattle.node_turns.specs.declared.port.Received.{Received}
+use Rattle.datagram_port.specs.declared.port.Received.{Received}
 use Rattle.udp_port.specs.Receipt.{receipt_of}
 
 -- the address HOST.0.0.1 with a port

@@ -8,10 +8,10 @@ use Rattle.std.specs.declared.io.ErrorKind.TheVariants.{WouldBlock, TimedOut, In
 use Rattle.std.specs.declared.net.socket_addr.SocketAddrV4.{SocketAddrV4}
 use Rattle.std.specs.declared.net.socket_addr.SocketAddr.{SocketAddr}
 use Rattle.std.specs.declared.net.socket_addr.SocketAddr.TheVariants.{V4, V6}
-use Rattle.node_turns.specs.declared.port.Sender.{Sender}
-use Rattle.node_turns.specs.declared.port.Sender.TheVariants.{Client, Peer}
-use Rattle.node_turns.specs.declared.port.Received.{Received}
-use Rattle.node_turns.specs.declared.port.Received.TheVariants.{Datagram, Quiet, Fault}
+use Rattle.datagram_port.specs.declared.port.Sender.{Sender}
+use Rattle.datagram_port.specs.declared.port.Sender.TheVariants.{Client, Peer}
+use Rattle.datagram_port.specs.declared.port.Received.{Received}
+use Rattle.datagram_port.specs.declared.port.Received.TheVariants.{Datagram, Quiet, Fault}
 use Rattle.udp_port.specs.Address.{sender_of}
 
 -- these bytes are an answer of a node: they begin with OK or NO and a space

@@ -3,7 +3,7 @@
 ghost use Rattle.std.specs.Prelude.{◌≡◌, ◌<◌, ◌≤◌, ◌^◌, IfNone, IfSome, length};
 ghost use Rattle.udp_port.specs.Address.{HasNoAddress, IsAddressOf, number_of, sender_of};
 
-use node_turns::Sender;
+use datagram_port::Sender;
 use std::net::{Ipv4Addr, SocketAddrV4};
 
 /// The numbers of clients are below this.

@@ -3,7 +3,7 @@
 ghost use Rattle.std.specs.Prelude.{◌≡◌, IfSome};
 ghost use Rattle.otp_core.specs.Range.{IsMoment};
 
-use node_turns::Clock;
+use datagram_port::Clock;
 use otp_core::MOMENTS_END;
 use std::io::{self, ErrorKind};
 use std::time::{Clock as TimeSource, Duration, SystemTime, UNIX_EPOCH};

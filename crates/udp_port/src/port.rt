@@ -1,13 +1,13 @@
 //! A port over a UDP socket.
 
 ghost use Rattle.std.specs.Prelude.{◌≡◌, ◌≤◌, true, false, length, IfOk, IfSome, IsTrue};
-ghost use Rattle.node_turns.specs.Port.{IsWithin};
+ghost use Rattle.datagram_port.specs.Port.{IsWithin};
 ghost use Rattle.udp_port.specs.Receipt.{failure_of, is_answer, is_passed_over, receipt_of};
 
 use crate::address::{address_of, sender_of};
 use crate::clock::NoClock;
 use crate::pace::{Pace, millis_of};
-use node_turns::{Port, Received, Sender};
+use datagram_port::{Port, Received, Sender};
 use std::io::{self, ErrorKind};
 use std::net::{SocketAddr, SocketAddrV4, UdpSocket};
 use std::time::Clock as TimeSource;

@@ -9,8 +9,7 @@ use crate::bytes::{number_at, word_at};
 use crate::key::{ClusterKey, TAG_LEN, are_equal, tag};
 use crate::writing::{MARK, VERSION};
 use floor_store::{Proposal, Span};
-use otp_core::{Factor, Next};
-use token_file::MAX_TOKENS;
+use otp_core::{Factor, MAX_TOKENS, Next};
 use vote_core::Message;
 
 /// The fewest bytes before a tag.

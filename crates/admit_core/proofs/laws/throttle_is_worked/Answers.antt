@@ -15,13 +15,6 @@ closed_at_114 = ⊎_elim (λ (e : 2 ≡ 0). omega (arith, e)) (λ (l : 115 ≤ 1
 pub returns-clause-closed : goal.returns-clause-closed
 returns-clause-closed c = (closed_at_104, closed_at_114)
 
-pub returns-clause-ranges : goal.returns-clause-ranges
-returns-clause-ranges c = (
-  (lit≤ tt, lit≤ tt),
-  λ h. let e : 10001 ≤ 10000 = h.0 in omega (arith, e),
-  λ h. let e : 1099511677777 ≤ 1099511677776 = h.1 in omega (arith, e),
-)
-
 pub returns-clause-gated : goal.returns-clause-gated
 returns-clause-gated c = ((inr (lit≤ tt), (inr (lit≤ tt), (inl refl, tt))), (inl refl, (inl refl, tt)))
 

@@ -1,7 +1,7 @@
 -- What is remembered of a record is computed, and differs.
 use Rattle.std.proofs.Common.{◌≡◌, List, [], ◌∷◌, codes, refl}
-use Rattle.node_turns.specs.Port.{PortEvent, Received}
-use Rattle.node_turns.specs.declared.port.Sender.TheVariants.{Client}
+use Rattle.datagram_port.specs.Port.{PortEvent, Received}
+use Rattle.datagram_port.specs.declared.port.Sender.TheVariants.{Client}
 use Rattle.node_log.specs.Examples.{ann}
 use Rattle.node_log.proofs.laws.promises_can_be_broken.Goals as goal
 

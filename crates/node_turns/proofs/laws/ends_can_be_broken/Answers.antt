@@ -9,7 +9,7 @@ use Rattle.oath_node.specs.Broken.{node_of_three, node_over, stopped}
 use Rattle.oath_node.specs.declared.fault.NodeFault.{NodeFault}
 use Rattle.oath_node.specs.declared.fault.NodeFault.TheVariants.{Spent as NoNumber}
 use Rattle.node_turns.specs.Broken.{no_line_came, nothing_yet, run_from, store_failed}
-use Rattle.node_turns.specs.Port.{Faulted}
+use Rattle.datagram_port.specs.Port.{Faulted}
 use Rattle.node_turns.specs.Serving.{FailsAmong, FailsNext, LeavesAmong, run_over}
 use Rattle.node_turns.specs.TurnExamples.{line_without_moment}
 use Rattle.node_turns.specs.Turns.{AreBatches, Failure, FromClient, FromPeer, Member, Nothing, Receipt, Run, entry_of, events_of_turns, member_of, moments_in, receipts_in, run_with_batches, run_with_events, run_with_receipts, run_with_turn, run_with_turns, while_going}

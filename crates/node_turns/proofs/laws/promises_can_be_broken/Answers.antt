@@ -7,7 +7,7 @@ use Rattle.oath_node.specs.Hosted.{Hosted, state_of}
 use Rattle.oath_node.specs.Machine.{NodeEvent, NodeState}
 use Rattle.oath_node.specs.Broken.{node_over}
 use Rattle.node_turns.specs.Broken.{nothing_yet, run_from, store_failed}
-use Rattle.node_turns.specs.Port.{PortEvent}
+use Rattle.datagram_port.specs.Port.{PortEvent}
 use Rattle.node_turns.specs.Serving.{EndsSo, FailsNext, Serves}
 use Rattle.node_turns.specs.Turns.{AreBatches, Receipt, receipts_in, run_with_events}
 use Rattle.node_turns.specs.declared.fault.ServeFault.{ServeFault}

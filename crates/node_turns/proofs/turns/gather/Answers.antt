@@ -2,7 +2,7 @@ use Rattle.std.proofs.Common.{◌+◌, List, [], ◌∷◌, ◌++◌, arith, ref
 use Rattle.std.specs.Prelude.{Result, Ok}
 use Rattle.oath_node.specs.declared.fault.NodeFault.{NodeFault}
 use Rattle.oath_node.specs.declared.item.Item.{Item}
-use Rattle.node_turns.specs.Port.{event_of_receive}
+use Rattle.datagram_port.specs.Port.{event_of_receive}
 use Rattle.node_turns.specs.Steps.{Gathers, GathersBatch, items_in, scene}
 use Rattle.node_turns.specs.declared.turns.Gathered.{Gathered}
 use Rattle.node_turns.proofs.BatchLemmas.{gathers_failed, gathers_few, gathers_more, gathers_next, gathers_none, gathers_still, one_more}

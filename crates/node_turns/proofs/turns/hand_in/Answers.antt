@@ -3,7 +3,7 @@ use Rattle.std.specs.Prelude.{Option, Result, Ok, Some, None, Err}
 use Rattle.oath_node.specs.Outputs.{OutputsRecord}
 use Rattle.oath_node.specs.declared.fault.NodeFault.{NodeFault}
 use Rattle.node_turns.specs.Steps.{TakesDatagram}
-use Rattle.node_turns.specs.declared.port.Sender.{Sender}
+use Rattle.datagram_port.specs.declared.port.Sender.{Sender}
 use Rattle.node_turns.proofs.GrowLemmas.{err_is}
 use Rattle.node_turns.proofs.ReceiptLemmas.{line_failed, line_taken, line_untimed, peer_failed, peer_taken}
 use Rattle.node_turns.proofs.turns.hand_in.Goals as goal

@@ -1,7 +1,7 @@
 use Rattle.std.proofs.Common.{arith, List, ◌≡◌, ◌<◌, ◌^◌, ◌++◌, ◌+◌, ◌∷◌, [], ap, sym, subst, ◌∙◌, refl, map}
 use Rattle.std.proofs.lemmas.List.{append-nil, append_assoc}
 use Rattle.oath_node.specs.declared.item.Item.{Item}
-use Rattle.node_turns.specs.Port.{Grows}
+use Rattle.datagram_port.specs.Port.{Grows}
 use Rattle.node_turns.specs.Steps.{reply_count}
 use Rattle.node_turns.specs.Turns.{offer_of}
 use Rattle.node_turns.proofs.GrowLemmas.{grows_refl, offered_datagram, offered_more, offered_reply, reply_count-append}

@@ -1,5 +1,5 @@
 use Rattle.std.proofs.Common.{◌≡◌, ◌<◌, ◌≤◌, ◌^◌, ◌++◌, map}
-use Rattle.node_turns.specs.Port.{Grows}
+use Rattle.datagram_port.specs.Port.{Grows}
 use Rattle.node_turns.specs.Steps.{reply_count}
 use Rattle.node_turns.specs.Turns.{offer_of}
 use Rattle.node_turns.proofs.turns.offer.Given as goal

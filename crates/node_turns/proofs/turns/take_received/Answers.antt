@@ -2,10 +2,10 @@ use Rattle.std.proofs.Common.{◌+◌, take, sym, subst}
 use Rattle.std.specs.Prelude.{Option, Result, Ok, Some, Err}
 use Rattle.oath_node.specs.Outputs.{OutputsRecord}
 use Rattle.oath_node.specs.declared.fault.NodeFault.{NodeFault}
-use Rattle.node_turns.specs.Port.{event_of_receive}
+use Rattle.datagram_port.specs.Port.{event_of_receive}
 use Rattle.node_turns.specs.Steps.{TakesDatagram, TakesReceived, tally_with_datagram}
 use Rattle.node_turns.specs.Turns.{Failure, Nothing, tally_with}
-use Rattle.node_turns.specs.declared.port.Received.{Received}
+use Rattle.datagram_port.specs.declared.port.Received.{Received}
 use Rattle.node_turns.specs.declared.turns.BatchEnd.{BatchEnd}
 use Rattle.node_turns.specs.declared.turns.BatchEnd.TheVariants as ends
 use Rattle.node_turns.proofs.GrowLemmas.{err_is}

@@ -1,5 +1,5 @@
 use Rattle.std.proofs.Common.{ℕ, ℤ, ◌-◌, ◌≤◌, sym, ap, subst, ◌∙◌, arith}
-use Rattle.admit_core.specs.Gate.{GateRecord}
+use Rattle.otp_core.specs.Gate.{GateRecord}
 use Rattle.oath_node.specs.Rules.{open_ruling}
 use Rattle.oath_node.proofs.FitLemmas.{Suits, token_open, token_suits}
 use Rattle.oath_node.proofs.rules.token_ruling.Goals as goal

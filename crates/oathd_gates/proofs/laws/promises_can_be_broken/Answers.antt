@@ -9,7 +9,7 @@ use Rattle.oathd_database.specs.Broken.{IsOfOne, new_store, one_book, small_conn
 use Rattle.oathd_database.specs.Commands.{HasImport}
 use Rattle.oathd_database.proofs.BrokenLemmas.{clean_is, fallen_is, fallen_opened, imported_is, one_token, opened_over}
 use Rattle.token_file.specs.Examples.{event_token}
-use Rattle.admit_core.specs.Gate.{GateRecord, clear_gate}
+use Rattle.otp_core.specs.Gate.{GateRecord, clear_gate}
 use Rattle.floor_store.specs.Records.{RowRecord}
 use Rattle.oathd_gates.specs.Examples.{gate_with, row_with}
 use Rattle.oathd_gates.specs.Gates.{WritesGate, gate_line, gate_text, gates_text}

@@ -26,8 +26,8 @@ pub enum Received {
 /// A port of datagrams. Where it keeps a record of its calls, each call adds its entry at the end.
 pub trait Port {
     ghost use Rattle.std.specs.Prelude.{◌≢◌, ◌∷◌, [], List, Option, Some, None, IfSome};
-    ghost use Rattle.node_turns.specs.Port.{Grows, IsWithin, PortEvent, Offered, entries_of_poll, event_of_receive};
-    ghost use Rattle.node_turns.specs.declared.port.Received.TheVariants.{Quiet as QuietReceive};
+    ghost use Rattle.datagram_port.specs.Port.{Grows, IsWithin, PortEvent, Offered, entries_of_poll, event_of_receive};
+    ghost use Rattle.datagram_port.specs.declared.port.Received.TheVariants.{Quiet as QuietReceive};
 
     // What was received and offered, in order. None: it keeps no record, or couldn't keep it.
     ghost events: { Self → Option (List PortEvent) } = { λ _. None };

@@ -1,5 +1,5 @@
 ghost use Rattle.std.specs.Prelude.{◌≡◌, ◌+◌, ◌-◌, ◌^◌, ◌≤◌, ◌↔◌, IsTrue, IsSome, IfSome};
-ghost use Rattle.admit_core.specs.Gate.{GateRecord, IsGate, clear_gate, with_failure};
+ghost use Rattle.otp_core.specs.Gate.{GateRecord, IsGate, clear_gate, with_failure};
 ghost use Rattle.otp_core.specs.Range.{IsMoment};
 
 use std::marker::Model;

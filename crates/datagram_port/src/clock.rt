@@ -3,7 +3,7 @@
 /// A clock. Where it keeps what it told, each call adds that at the end.
 pub trait Clock {
     ghost use Rattle.std.specs.Prelude.{ℕ, ◌∷◌, [], List, Option, None};
-    ghost use Rattle.node_turns.specs.Port.{Grows};
+    ghost use Rattle.datagram_port.specs.Port.{Grows};
 
     // What it told, in order. None: it keeps no record, or couldn't keep it.
     ghost moments: { Self → Option (List (Option ℕ)) } = { λ _. None };

@@ -1,9 +1,9 @@
 -- What a port and a clock tell of their calls.
 use Rattle.std.specs.Prelude.{◌≡◌, ℕ, ◌≤◌, ⊤, List, [], ◌∷◌, ◌++◌, take, Option, Some, None, IfSome}
 use Rattle.std.specs.Option.{option_map}
-use Rattle.node_turns.specs.declared.port.Sender.{Sender}
-use Rattle.node_turns.specs.declared.port.Received.{Received as Receive}
-use Rattle.node_turns.specs.declared.port.Received.TheVariants.{Datagram, Quiet as QuietReceive, Fault}
+use Rattle.datagram_port.specs.declared.port.Sender.{Sender}
+use Rattle.datagram_port.specs.declared.port.Received.{Received as Receive}
+use Rattle.datagram_port.specs.declared.port.Received.TheVariants.{Datagram, Quiet as QuietReceive, Fault}
 
 -- An entry of a port's record: a receive, by what came of it, or a datagram that was offered, whether it was taken or
 -- not.

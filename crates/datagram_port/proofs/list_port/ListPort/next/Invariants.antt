@@ -1,5 +1,5 @@
 use Rattle.std.proofs.Common.{◌≡◌}
-use Rattle.node_turns.proofs.list_port.ListPort.next.Given as goal
+use Rattle.datagram_port.proofs.list_port.ListPort.next.Given as goal
 
 -- the record is as it was
 abbrev pub invariant-loop-place : goal.invariant-loop-place

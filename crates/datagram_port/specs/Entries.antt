@@ -1,8 +1,8 @@
 -- The records of a port and a clock in memory.
 use Rattle.std.specs.Prelude.{ℕ, Bool, true, false, List, map, Option, Some, None}
-use Rattle.node_turns.specs.Port.{PortEvent, Received, Quiet, Faulted, Offered}
-use Rattle.node_turns.specs.declared.list_port.PortEntry.{PortEntry}
-use Rattle.node_turns.specs.declared.list_port.PortEntry.TheVariants.{Received as ReceivedEntry, Quiet as QuietEntry, Faulted as FaultedEntry, Offered as OfferedEntry}
+use Rattle.datagram_port.specs.Port.{PortEvent, Received, Quiet, Faulted, Offered}
+use Rattle.datagram_port.specs.declared.list_port.PortEntry.{PortEntry}
+use Rattle.datagram_port.specs.declared.list_port.PortEntry.TheVariants.{Received as ReceivedEntry, Quiet as QuietEntry, Faulted as FaultedEntry, Offered as OfferedEntry}
 
 -- what an entry says
 abbrev pub event_of_entry : PortEntry → PortEvent

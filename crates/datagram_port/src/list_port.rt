@@ -2,8 +2,8 @@
 
 ghost use Rattle.std.specs.Option.{option_map};
 ghost use Rattle.std.specs.Prelude.{◌≡◌, ◌∷◌, [], Some, None, IfOk, OnErr, length, map};
-ghost use Rattle.node_turns.specs.Entries.{event_of_entry};
-ghost use Rattle.node_turns.specs.Port.{Grows, IsWithin, event_of_receive};
+ghost use Rattle.datagram_port.specs.Entries.{event_of_entry};
+ghost use Rattle.datagram_port.specs.Port.{Grows, IsWithin, event_of_receive};
 
 use crate::clock::Clock;
 use crate::port::{MAX_DATAGRAM_LEN, Port, Received, Sender};
@@ -49,8 +49,8 @@ pub struct ListPort<'a> {
 
 impl<'a> Model for ListPort<'a> {
     ghost use Rattle.std.specs.Prelude.{List, Option};
-    ghost use Rattle.node_turns.specs.Entries.{events_kept};
-    ghost use Rattle.node_turns.specs.Port.{PortEvent};
+    ghost use Rattle.datagram_port.specs.Entries.{events_kept};
+    ghost use Rattle.datagram_port.specs.Port.{PortEvent};
 
     ghost Value = { Option (List PortEvent) };
 
@@ -228,7 +228,7 @@ pub struct ListClock<'a> {
 
 impl<'a> Model for ListClock<'a> {
     ghost use Rattle.std.specs.Prelude.{ℕ, List, Option};
-    ghost use Rattle.node_turns.specs.Entries.{moments_kept};
+    ghost use Rattle.datagram_port.specs.Entries.{moments_kept};
 
     ghost Value = { Option (List (Option ℕ)) };
 

@@ -1,0 +1,2 @@
+/// The most tokens of a server. Their numbers are below it.
+pub const MAX_TOKENS: usize = 10_000;
