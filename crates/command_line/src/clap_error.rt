@@ -1,10 +1,9 @@
 ghost use Rattle.std.specs.Prelude.{◌≡◌, ◌≢◌, ◌⊎◌, IfErr, IfOk};
 ghost use Rattle.clap.specs.Values.{kind_of};
 
-use crate::fault::OutsideFault;
-use crate::status::USAGE;
 use clap::Error;
 use clap::error::ErrorKind;
+use program_edge::{OutsideFault, USAGE};
 use std::io::Write;
 
 /// Writes what clap has to say of the words, and gives the exit status: the help and the version go to the

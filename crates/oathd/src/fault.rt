@@ -1,7 +1,7 @@
 use crate::cause::Cause;
 use crate::floors::PathFault;
-use command_line::{OutsideFault, ProgramFault};
 use oathd_gates::UnlockFault;
+use program_edge::{OutsideFault, ProgramFault};
 use thiserror::Error;
 
 /// What ends the program before its time. The text lacks the program's name.

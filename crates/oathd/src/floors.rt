@@ -3,10 +3,10 @@
 ghost use Rattle.std.specs.Prelude.{◌≡◌, length, IfOk};
 
 use crate::fault::Fault;
-use command_line::ProgramFault;
 use floors_file::{FileFault, FilesFault, FloorsFault, MAX_FLOORS_LEN};
 use oathd_database::GatherFault;
 use oathd_memory::file_text;
+use program_edge::ProgramFault;
 use std::alloc::Global;
 use std::rt::Files;
 use thiserror::Error;

@@ -7,7 +7,7 @@ mod fault;
 mod floors;
 mod run;
 
-use command_line::process_words;
+use program_edge::process_words;
 use run::run;
 use std::io;
 use std::process::ExitCode;

@@ -5,9 +5,10 @@ ghost use Rattle.oathd_words.specs.Words.{IsInRange};
 use crate::cause::{Named, cause_of};
 use crate::databases::perform_action;
 use crate::fault::{Fault, ToldFault};
-use command_line::{OutsideFault, exit_status, explain};
+use command_line::explain;
 use oathd_memory::{cluster_text, perform};
 use oathd_words::{Task, read_words};
+use program_edge::{OutsideFault, exit_status};
 use std::alloc::Global;
 use std::io::{BufWriter, Read, Write};
 

@@ -6,7 +6,7 @@ use Rattle.std.proofs.KnownBytes.{Appends-nil, Appends-trans}
 use Rattle.std.proofs.Math.Seq.{take-append_seam}
 use Rattle.std.proofs.lemmas.List.Concat.{flat_map-append}
 use Rattle.std.proofs.lemmas.List.{append-nil, append_assoc, map-append}
-use Rattle.command_line.specs.Line.{line_of}
+use Rattle.program_edge.specs.Line.{line_of}
 use Rattle.users_input.specs.Input.{TakesLine, line_text, lines_of}
 use Rattle.users_input.specs.declared.fault.InputFault.{InputFault}
 use Rattle.users_input.specs.declared.fault.InputFault.TheVariants as input

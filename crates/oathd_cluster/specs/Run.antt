@@ -3,7 +3,7 @@
 use Rattle.std.specs.Prelude.{◌≡◌, ℕ, ◌+◌, List, [], ◌∷◌, map, take, Option, Some, None, Result, Ok, Err, IsTrue}
 use Rattle.std.specs.List.{flat_map}
 use Rattle.std.specs.Io.KnownBytes.{Appends}
-use Rattle.command_line.specs.Line.{line_of}
+use Rattle.program_edge.specs.Line.{line_of}
 use Rattle.otp_core.specs.Limits.{Limits}
 use Rattle.token_file.specs.UsersFile.{book_of, instant_of, is_of_text}
 use Rattle.oathd_cluster.specs.Line.{LinesRead, NodeLine}

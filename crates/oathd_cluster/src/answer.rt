@@ -2,7 +2,7 @@
 
 ghost use Rattle.std.specs.Prelude.{◌≡◌, ◌≤◌, IfErr, IfSome, OnOk};
 ghost use Rattle.std.specs.Io.KnownBytes.{Appends};
-ghost use Rattle.command_line.specs.Line.{line_of};
+ghost use Rattle.program_edge.specs.Line.{line_of};
 ghost use Rattle.oathd_cluster.specs.Line.{node_lines};
 ghost use Rattle.oathd_cluster.specs.Run.{EndsSo, IsBehindUsers, reply_text};
 ghost use Rattle.users_input.specs.Input.{lines_of};
@@ -10,8 +10,8 @@ ghost use Rattle.users_input.specs.Input.{lines_of};
 use crate::fault::Fault;
 use crate::line::read_node_line;
 use crate::rounds::{Cluster, ask};
-use command_line::write_line;
 use datagram_port::{MAX_DATAGRAM_LEN, Port};
+use program_edge::write_line;
 use std::alloc::Global;
 use std::io::{BufRead, Write};
 use users_input::{Input, NextLine, text_of};

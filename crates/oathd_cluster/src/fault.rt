@@ -1,8 +1,8 @@
 ghost use Rattle.std.specs.Prelude.{◌≡◌};
 ghost use Rattle.oathd_cluster.specs.declared.fault.Fault.TheVariants.{Memory, Node};
 
-use command_line::ProgramFault;
 use oath_node::NodeFault;
+use program_edge::ProgramFault;
 use std::alloc::{AllocError, AllocFailed};
 use thiserror::Error;
 use token_file::FileFault;

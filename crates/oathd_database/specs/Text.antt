@@ -2,7 +2,7 @@
 use Rattle.std.specs.Prelude.{◌≡◌, ℕ, ◌+◌, List, [], ◌∷◌, ◌++◌, slice_get, Option, Some, codes}
 use Rattle.std.specs.Io.KnownBytes.{Appends}
 use Rattle.std.specs.Fmt.{decimal}
-use Rattle.command_line.specs.Line.{line_of}
+use Rattle.program_edge.specs.Line.{line_of}
 use Rattle.token_file.specs.Credential.{Credential}
 use Rattle.token_file.specs.Writing.{row_text}
 use Rattle.floor_store.specs.Records.{PassRecord, RowRecord}

@@ -5,8 +5,8 @@ ghost use Rattle.floors_file.specs.Floors.{floors_value};
 ghost use Rattle.oathd_database.specs.Gather.{IsUnreadFile, files_after};
 
 use crate::fault::Fault;
-use command_line::ProgramFault;
 use floors_file::{FilesFault, Floors, FloorsFault, read_floors};
+use program_edge::ProgramFault;
 use std::alloc::Global;
 use thiserror::Error;
 

@@ -5,11 +5,11 @@ ghost use Rattle.floor_store.specs.Held.{MayWrite};
 ghost use Rattle.otp_core.specs.Limits.{default_limits};
 ghost use Rattle.oathd_gates.specs.Unlock.{HasUser, IsNotUnlocked, Unlocks, unlocked_content};
 
-use command_line::ProgramFault;
 use floor_sql::SqlStore;
 use floor_store::{FloorStore, StoreFault};
 use oathd_database::{Database, DatabaseFile, Fault, open_store};
 use otp_core::{Gate, Settings};
+use program_edge::ProgramFault;
 use sqlite::Alter;
 use std::alloc::Global;
 use std::io::Read;

@@ -4,9 +4,10 @@
 
 ghost use Rattle.oathd_words.specs.Words.{IsInRange};
 
-use command_line::{OutsideFault, exit_status, explain, process_words};
+use command_line::explain;
 use oathd_memory::{Fault, cluster_text, perform};
 use oathd_words::{Task, read_words};
+use program_edge::{OutsideFault, exit_status, process_words};
 use std::alloc::Global;
 use std::io::{self, BufWriter, Read, Write};
 use std::process::ExitCode;

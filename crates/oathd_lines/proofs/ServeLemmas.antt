@@ -8,7 +8,7 @@ use Rattle.std.proofs.Math.Seq.{take-append_seam}
 use Rattle.std.proofs.lemmas.List.Concat.{flat_map-append}
 use Rattle.std.proofs.lemmas.List.{append-nil, append_assoc}
 use Rattle.std.proofs.lemmas.Option.{IfSome_then}
-use Rattle.command_line.specs.Line.{line_of}
+use Rattle.program_edge.specs.Line.{line_of}
 use Rattle.otp_core.specs.Limits.{Limits}
 use Rattle.token_file.specs.Credential.{Credential}
 use Rattle.token_file.specs.Source.{OfText, Stays}

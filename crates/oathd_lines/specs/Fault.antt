@@ -1,7 +1,7 @@
 -- What ends a run before its time.
 use Rattle.std.specs.Prelude.{ℕ}
-use Rattle.command_line.specs.declared.fault.OutsideFault.{OutsideFault}
-use Rattle.command_line.specs.declared.fault.OutsideFault.TheVariants as outside
+use Rattle.program_edge.specs.declared.fault.OutsideFault.{OutsideFault}
+use Rattle.program_edge.specs.declared.fault.OutsideFault.TheVariants as outside
 use Rattle.oathd_lines.specs.declared.fault.Fault.{Fault}
 use Rattle.users_input.specs.declared.fault.InputFault.{InputFault}
 use Rattle.users_input.specs.declared.fault.InputFault.TheVariants as input

@@ -1,7 +1,7 @@
 -- What a run over one input answers, and how it ends.
 use Rattle.std.specs.Prelude.{◌≡◌, ℕ, ◌+◌, List, [], map, length, take, flat_map, Option, Some, None, Result, Ok, Err, IsTrue}
 use Rattle.std.specs.Io.KnownBytes.{Appends}
-use Rattle.command_line.specs.Line.{line_of}
+use Rattle.program_edge.specs.Line.{line_of}
 use Rattle.otp_core.specs.Limits.{Limits}
 use Rattle.oath_node.specs.ReferenceServer.{Line, Server}
 use Rattle.oath_node.specs.Report.{LineAnswer, report_from, report_of}

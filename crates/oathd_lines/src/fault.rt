@@ -1,8 +1,8 @@
 ghost use Rattle.std.specs.Prelude.{◌≡◌};
 ghost use Rattle.oathd_lines.specs.declared.fault.Fault.TheVariants.{BadKey, Memory, Users};
 
-use command_line::{OutsideFault, ProgramFault, USAGE};
 use oath_node::OpenFault;
+use program_edge::{OutsideFault, ProgramFault, USAGE};
 use secret_text::SecretFault;
 use std::alloc::AllocFailed;
 use thiserror::Error;

@@ -1,7 +1,7 @@
 ghost use Rattle.std.specs.Prelude.{◌≡◌, [], ◌∷◌, ◌++◌, ℕ, List, Option, Some, None, Result, Ok, Err, codes, false, take};
 ghost use Rattle.otp_core.specs.Limits.{Limits};
 ghost use Rattle.secret_text.specs.declared.fault.SecretFault.TheVariants.{BadLength, Empty};
-ghost use Rattle.command_line.specs.declared.fault.OutsideFault.TheVariants as outside;
+ghost use Rattle.program_edge.specs.declared.fault.OutsideFault.TheVariants as outside;
 ghost use Rattle.token_file.specs.declared.fault.LineFault.TheVariants.{FileTooLong, MissingField, Read};
 ghost use Rattle.oathd_lines.specs.Client.{client_line_of, client_lines};
 ghost use Rattle.oathd_lines.specs.Examples.{IsCutAt, answered, fault_at, line_saying, lines_before, run_at_most, run_at_step_5};

@@ -1,6 +1,6 @@
 ghost use Rattle.std.specs.Prelude.{◌≡◌, ◌+◌, ℕ, IfErr, IfSome, List, OnOk, take};
 ghost use Rattle.std.specs.Io.KnownBytes.{Appends};
-ghost use Rattle.command_line.specs.Line.{line_of};
+ghost use Rattle.program_edge.specs.Line.{line_of};
 ghost use Rattle.otp_core.specs.Limits.{Limits};
 ghost use Rattle.otp_core.specs.Range.{IsMoment};
 ghost use Rattle.token_file.specs.Credential.{Credential};
@@ -12,9 +12,9 @@ ghost use Rattle.oathd_lines.specs.Run.{EndsSo, IsBehindUsers, IsCutSo, run_of, 
 
 use crate::client::read_client_line;
 use crate::fault::Fault;
-use command_line::write_line;
 use oath_node::LineServer;
 use otp_core::Settings;
+use program_edge::write_line;
 use std::alloc::Global;
 use std::io::{BufRead, BufReader, Read, Write};
 use token_file::read_book;

@@ -1,7 +1,7 @@
 ghost use Rattle.oathd_lines.specs.Secret.{EndsWithText};
 
 use crate::fault::Fault;
-use command_line::write_line;
+use program_edge::write_line;
 use secret_text::{read_hex, write_base32};
 use std::io::Write;
 

@@ -1,5 +1,5 @@
 use cluster_file::ClusterFault;
-use command_line::{OutsideFault, ProgramFault};
+use program_edge::{OutsideFault, ProgramFault};
 use thiserror::Error;
 
 /// What ends a command that keeps nothing before its time. The text lacks the program's name.

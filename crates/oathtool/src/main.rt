@@ -4,8 +4,8 @@
 mod run;
 mod words;
 
-use command_line::{exit_status, process_words};
 use oathtool_core::Fault;
+use program_edge::{exit_status, process_words};
 use run::{PROGRAM, run};
 use std::io::{self, BufWriter};
 use std::process::ExitCode;

@@ -1,6 +1,7 @@
 use crate::words::read_words;
-use command_line::{exit_status, explain, flushed};
+use command_line::explain;
 use oathtool_core::Fault;
+use program_edge::{exit_status, flushed};
 use std::alloc::Global;
 use std::io::Write;
 

@@ -1,7 +1,7 @@
 -- The codes of a key, and the lines that are printed of them.
 use Rattle.std.specs.Prelude.{◌≡◌, ℕ, List, flat_map}
 use Rattle.std.specs.List.{range_with_len}
-use Rattle.command_line.specs.Line.{line_of}
+use Rattle.program_edge.specs.Line.{line_of}
 use Rattle.otp_core.specs.Codes.{AreCodesOf}
 use Rattle.otp_core.specs.Digits.{count_of}
 use Rattle.otp_core.specs.Hotp.{code_of}

@@ -1,7 +1,7 @@
 -- What ends a run before its time.
 use Rattle.std.specs.Prelude.{ℕ}
-use Rattle.command_line.specs.declared.fault.OutsideFault.{OutsideFault}
-use Rattle.command_line.specs.declared.fault.OutsideFault.TheVariants as outside
+use Rattle.program_edge.specs.declared.fault.OutsideFault.{OutsideFault}
+use Rattle.program_edge.specs.declared.fault.OutsideFault.TheVariants as outside
 use Rattle.oathtool_core.specs.declared.fault.Fault.{Fault}
 use Rattle.oathtool_core.specs.declared.fault.Fault.TheVariants.{BadTime, BadStepSize, BadKey, NoClock, BeforeStart, FactorTooLarge, NoMatch, Memory, CannotWrite, NotText}
 

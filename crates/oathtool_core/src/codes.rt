@@ -4,9 +4,9 @@ ghost use Rattle.otp_core.specs.Range.{IsFactor};
 ghost use Rattle.oathtool_core.specs.Codes.{IsSetUp, Matches, code_at, code_lines};
 
 use crate::fault::Fault;
-use command_line::write_line;
 use hmac_core::Hash;
 use otp_core::{Code, Codes, Digits, Factor};
+use program_edge::write_line;
 use std::io::Write;
 
 /// What the codes of a key are made with.

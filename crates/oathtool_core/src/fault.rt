@@ -1,7 +1,7 @@
 ghost use Rattle.std.specs.Prelude.{◌≡◌};
 ghost use Rattle.oathtool_core.specs.declared.fault.Fault.TheVariants.{BadKey};
 
-use command_line::{OutsideFault, ProgramFault, USAGE};
+use program_edge::{OutsideFault, ProgramFault, USAGE};
 use secret_text::SecretFault;
 use thiserror::Error;
 

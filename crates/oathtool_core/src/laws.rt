@@ -1,6 +1,6 @@
 ghost use Rattle.std.specs.Prelude.{◌≡◌, ◌+◌, ◌<◌, ◌≤◌, ◌^◌, ◌⊎◌, ◌++◌, ℕ, pos, negsuc, true, false, List, [], ◌∷◌, map, codes, Option, Some, None, Ok, Err};
-ghost use Rattle.command_line.specs.declared.fault.OutsideFault.TheVariants.{Memory as OutsideMemory, CannotWrite as OutsideCannotWrite, NotText as OutsideNotText};
-ghost use Rattle.command_line.specs.Line.{line_of};
+ghost use Rattle.program_edge.specs.declared.fault.OutsideFault.TheVariants.{Memory as OutsideMemory, CannotWrite as OutsideCannotWrite, NotText as OutsideNotText};
+ghost use Rattle.program_edge.specs.Line.{line_of};
 ghost use Rattle.hmac_core.specs.declared.hash.Hash.TheVariants.{Sha1, Sha256, Sha512};
 ghost use Rattle.otp_core.specs.Hotp.{code_of};
 ghost use Rattle.otp_core.specs.declared.digits.Digits.TheVariants.{Eight};

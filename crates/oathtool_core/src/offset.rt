@@ -1,14 +1,14 @@
 ghost use Rattle.std.specs.Prelude.{◌≡◌, ◌+◌, ◌<◌, ◌↔◌, IfSome, IfNone, IsNone, OnOk, IfErr};
 ghost use Rattle.std.specs.Io.KnownBytes.{Appends};
-ghost use Rattle.command_line.specs.Line.{line_of};
+ghost use Rattle.program_edge.specs.Line.{line_of};
 ghost use Rattle.otp_core.specs.Range.{IsFactor};
 ghost use Rattle.oathtool_core.specs.Offset.{HasNoNearest, HasNoOffset, IsLeastOffset, IsNearestOffset};
 
 use crate::codes::{Generator, factor_after};
 use crate::fault::Fault;
-use command_line::write_line;
 use itoa::{Buffer, Integer};
 use otp_core::Factor;
+use program_edge::write_line;
 use std::io::Write;
 
 /// How far after a factor the code is the OTP: the least distance, at most the window.

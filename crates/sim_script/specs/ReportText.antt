@@ -2,7 +2,7 @@
 use Rattle.std.specs.Prelude.{ℕ, List, ◌++◌, codes}
 use Rattle.std.specs.Fmt.{decimal}
 use Rattle.std.specs.List.{flat_map}
-use Rattle.command_line.specs.Line.{line_of}
+use Rattle.program_edge.specs.Line.{line_of}
 use Rattle.otp_core.specs.Acceptance.{Acceptance}
 use Rattle.cluster_sim.specs.World.{ReportValue, Told}
 

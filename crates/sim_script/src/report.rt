@@ -4,7 +4,7 @@ ghost use Rattle.std.specs.List.{flat_map};
 ghost use Rattle.sim_script.specs.ReportText.{answer_line, pass_line, report_text, sent_line};
 
 use cluster_sim::{Report, WorldAnswer, WorldPass};
-use command_line::{OutsideFault, write_line};
+use program_edge::{OutsideFault, write_line};
 use std::io::Write;
 
 /// Writes an accepted submission.

@@ -2,7 +2,7 @@ use Rattle.std.proofs.Common.{◌≡◌, ℕ, Some, None, IfSome, ap, subst, ◌
 use Rattle.std.specs.Prelude.{IfErr, Result}
 use Rattle.std.specs.Io.KnownBytes.{Appends}
 use Rattle.std.proofs.lemmas.Option.{IfSome_then}
-use Rattle.command_line.specs.Line.{line_of}
+use Rattle.program_edge.specs.Line.{line_of}
 use Rattle.users_input.specs.Input.{TakesLine, line_text, lines_of}
 use Rattle.users_input.specs.declared.fault.InputFault.TheVariants as input
 use Rattle.oathd_cluster.specs.Fault.{input_fault_of}

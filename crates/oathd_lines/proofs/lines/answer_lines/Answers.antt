@@ -2,7 +2,7 @@ use Rattle.std.proofs.Common.{◌≡◌, ◌≤◌, ◌<◌, ◌^◌, ◌+◌, a
 use Rattle.std.specs.Prelude.{IfErr, Result}
 use Rattle.std.specs.Io.KnownBytes.{Appends}
 use Rattle.std.proofs.lemmas.Option.{IfSome_then}
-use Rattle.command_line.specs.Line.{line_of}
+use Rattle.program_edge.specs.Line.{line_of}
 use Rattle.oathd_lines.specs.Client.{client_line_of, client_lines}
 use Rattle.users_input.specs.Input.{HasRoom, TakesLine, line_text, lines_of}
 use Rattle.oathd_lines.specs.Run.{EndsSo, IsBehindUsers, run_of_server}

@@ -1,5 +1,5 @@
 use Rattle.std.proofs.Common.{◌≡◌, ℕ, ◌+◌, List, ◌++◌, ap, ◌∙◌, sym}
-use Rattle.command_line.specs.Line.{line_of}
+use Rattle.program_edge.specs.Line.{line_of}
 use Rattle.oathtool_core.specs.Codes.{code_at, code_lines}
 use Rattle.oathtool_core.proofs.CodeLines.{code_lines_more, joined}
 use Rattle.oathtool_core.proofs.codes.codes_from.Goals as goal

@@ -1,6 +1,6 @@
 ghost use Rattle.std.specs.Prelude.{◌≡◌, ◌⊎◌, IfErr, IsOk, OnOk};
 ghost use Rattle.std.specs.Io.KnownBytes.{Appends, Keeps};
-ghost use Rattle.command_line.specs.Line.{line_of};
+ghost use Rattle.program_edge.specs.Line.{line_of};
 
 use crate::fault::OutsideFault;
 use std::io::Write;

@@ -1,0 +1,7 @@
+ghost use Rattle.std.specs.Prelude.{◌≡◌, [], ◌∷◌, codes};
+ghost use Rattle.program_edge.specs.Line.{line_of};
+
+/// A line of output, worked through.
+pub fn lines_are_worked()
+    ensures { line_of (codes "OK") ≡ 79 ∷ 75 ∷ 10 ∷ [] }
+{}

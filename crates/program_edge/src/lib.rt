@@ -1,0 +1,14 @@
+//! What the programs share at their edge: the words of the process, lines of output, and how a run ends.
+#![tactic(auto)]
+
+mod fault;
+mod laws;
+mod output;
+mod status;
+mod words;
+
+pub use fault::OutsideFault;
+pub use laws::lines_are_worked;
+pub use output::{flushed, write_line};
+pub use status::{ProgramFault, USAGE, exit_status};
+pub use words::process_words;
