@@ -7,7 +7,7 @@ use Rattle.vote_core.specs.declared.message.Message.TheVariants.{Ask, Grant, Flo
 use Rattle.vote_wire.specs.Datagram.{datagram_bytes}
 use Rattle.oath_node.specs.Machine.{Made, NodeState, opened_node, quiet_made}
 use Rattle.otp_core.specs.Acceptance.{Acceptance}
-use Rattle.vote_wire.specs.declared.answer.Outcome.TheVariants.{Accepted}
+use Rattle.client_lines.specs.declared.answer.Outcome.TheVariants.{Accepted}
 use Rattle.node_turns.specs.Turns.{FromClient, Receipt}
 use Rattle.cluster_sim.specs.Examples.{acceptance, clock_config, config, told_outcome}
 use Rattle.cluster_sim.specs.World.{Told}

@@ -3,7 +3,7 @@ use Rattle.std.specs.Prelude.{◌≡◌, ◌⊎◌, ℕ, ◌+◌, ◌<◌, ◌�
 use Rattle.otp_core.specs.Acceptance.{Acceptance}
 use Rattle.oath_node.specs.Hosted.{envelope_at}
 use Rattle.cluster_sim.specs.Answered.{IsOk, IsTextOf, NamePasses, TellTruth, ok_bytes}
-use Rattle.vote_wire.specs.Request.{without_lf}
+use Rattle.client_lines.specs.Request.{without_lf}
 use Rattle.cluster_sim.specs.Justified.{AreJustified}
 use Rattle.cluster_sim.specs.World.{Act, Says, Deliver, Ticks, Noise, Told, WorldEvent, Happens, Cut, Restart, Lost, Anew, floor_before, passes_of, world_before, world_of}
 use Rattle.cluster_law.specs.Lives.{Deed, Opens, FailsToOpen, Takes, Offers, Stops, StopsIn, Loses, Remakes, Input, Line, Datagram, Time, Setting, accepted_in, answered_in, floor_in, scene_of, start_of}

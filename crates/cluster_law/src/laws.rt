@@ -16,8 +16,8 @@ ghost use Rattle.oath_node.specs.Machine.{Config, NodeState, opened_node, stoppe
 ghost use Rattle.oath_node.specs.Outputs.{OutputsRecord};
 ghost use Rattle.oath_node.specs.declared.fault.NodeFault.{NodeFault};
 ghost use Rattle.node_turns.specs.Turns.{Nothing, Receipt, offers_in, receipts_in, run_at, run_with_batches};
-ghost use Rattle.vote_wire.specs.declared.answer.Outcome.TheVariants.{Accepted, Refused};
-ghost use Rattle.vote_wire.specs.declared.answer.Reason.TheVariants.{Invalid};
+ghost use Rattle.client_lines.specs.declared.answer.Outcome.TheVariants.{Accepted, Refused};
+ghost use Rattle.client_lines.specs.declared.answer.Reason.TheVariants.{Invalid};
 ghost use Rattle.cluster_sim.specs.Examples.{acceptance, told_outcome};
 ghost use Rattle.datagram_port.specs.Port.{PortEvent, Quiet};
 ghost use Rattle.node_turns.specs.Serving.{Serves};

@@ -7,7 +7,7 @@ use Rattle.vote_core.specs.Rows.{row}
 use Rattle.vote_core.specs.Voting.{propose, on_message, tick, quiet_step}
 use Rattle.vote_core.specs.Schedule.{Envelope, Cluster, Begin, Deliver as Passes, Tick as Ticked, Idle, is_running, place_of, cluster_after, with_proposal_begun, with_member, stopped_member, may_begin, after_proposal, after_delivery, content_with_gate, after_act, node_of as vote_node, set_node, receiver_of}
 use Rattle.oath_node.specs.Grounds.{HasGrounds, IsFitting}
-use Rattle.vote_wire.specs.Request.{without_lf}
+use Rattle.client_lines.specs.Request.{without_lf}
 use Rattle.oath_node.specs.declared.ruling.Ruling.{Ruling}
 use Rattle.oath_node.specs.declared.ruling.Ruling.TheVariants.{Outside, Again, Waiting, Denied, Wrong, Fitting}
 use Rattle.vote_core.specs.NodeSet.{PlaceRecord}

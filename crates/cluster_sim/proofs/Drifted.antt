@@ -11,7 +11,7 @@ use Rattle.vote_core.specs.Rows.{no_row, row}
 use Rattle.vote_core.specs.Schedule.{Envelope, Begun, began_in, last_boot, opening_rows}
 use Rattle.vote_core.specs.Voting.{Ballot, Voted, propose, on_message, tick, pass_in}
 use Rattle.vote_core.proofs.Basics.{Each, each_append, each_get_or, each_weaker}
-use Rattle.vote_wire.specs.Request.{without_lf}
+use Rattle.client_lines.specs.Request.{without_lf}
 use Rattle.oath_node.specs.Grounds.{HasGrounds}
 use Rattle.oath_node.specs.Machine.{Config, NodeState, NodeEvent, Client, Peer, Tick, Made, Owner, Beginning, quiet_made, stopped_node, opened_node, restarted_node, gate_with_failure, made_by_vote, next_beginning, next_owner, made_by_proposal, made_by_ruling, made_by_datagram, is_heard, made_while_running, made_by_event, ruling_at, standing_at}
 use Rattle.oath_node.specs.declared.ruling.Ruling.{Ruling}

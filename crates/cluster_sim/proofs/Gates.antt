@@ -10,7 +10,7 @@ use Rattle.vote_core.specs.Voting.{Voted, propose, on_message, tick, pass_in}
 use Rattle.vote_core.specs.Schedule.{last_boot, opening_rows}
 use Rattle.vote_core.proofs.Basics.{Each, each_append, each_get_or}
 use Rattle.oath_node.specs.Grounds.{HasGrounds}
-use Rattle.vote_wire.specs.Request.{without_lf}
+use Rattle.client_lines.specs.Request.{without_lf}
 use Rattle.oath_node.specs.declared.ruling.Ruling.{Ruling}
 use Rattle.oath_node.specs.declared.ruling.Ruling.TheVariants.{Outside, Again, Waiting, Denied, Wrong, Fitting}
 use Rattle.oath_node.specs.Machine.{Config, NodeState, NodeEvent, Client, Peer, Tick, Made, Owner, Beginning, quiet_made, stopped_node, gate_with_failure, made_by_vote, next_beginning, made_by_proposal, made_by_ruling, made_by_datagram, is_heard, made_while_running, made_by_event, ruling_at, standing_at, restarted_node}

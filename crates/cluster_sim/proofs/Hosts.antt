@@ -13,7 +13,7 @@ use Rattle.oath_node.specs.declared.ruling.Ruling.{Ruling}
 use Rattle.oath_node.specs.declared.ruling.Ruling.TheVariants.{Outside, Again, Waiting, Denied, Wrong, Fitting}
 use Rattle.oath_node.specs.declared.fault.NodeFault.{NodeFault}
 use Rattle.oath_node.specs.declared.fault.NodeFault.TheVariants.{Store, Stopped, Spent}
-use Rattle.vote_wire.specs.Request.{without_lf}
+use Rattle.client_lines.specs.Request.{without_lf}
 use Rattle.cluster_sim.specs.Journal.{IsHanded, IsHost, memory_held}
 
 stopped_made : (config : Config) (place : PlaceRecord) (x : NodeState) (e : NodeEvent) → x.running ≡ false → made_by_event config place e x ≡ quiet_made x

@@ -8,7 +8,7 @@ use Rattle.vote_core.specs.Rows.{row}
 use Rattle.vote_core.specs.Safety.{IsProposalOf, IsProposedIn}
 use Rattle.vote_core.specs.Schedule.{Envelope, Deliver as Passes, Idle, Event}
 use Rattle.oath_node.specs.Grounds.{HasGrounds, IsFitting}
-use Rattle.vote_wire.specs.Request.{without_lf}
+use Rattle.client_lines.specs.Request.{without_lf}
 use Rattle.oath_node.specs.declared.ruling.Ruling.{Ruling}
 use Rattle.oath_node.specs.declared.ruling.Ruling.TheVariants.{Outside, Again, Waiting, Denied, Wrong, Fitting}
 use Rattle.oath_node.specs.Machine.{Config, is_heard, standing_at, ruling_at}

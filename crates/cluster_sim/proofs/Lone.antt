@@ -19,7 +19,7 @@ use Rattle.oath_node.specs.Machine.{Client, Config, Made, NodeEvent, NodeState, 
 use Rattle.oath_node.specs.ReferenceServer.{Line, Server, restarted_server, service_of}
 use Rattle.oath_node.specs.declared.ruling.Ruling.{Ruling}
 use Rattle.oath_node.specs.declared.ruling.Ruling.TheVariants.{Again, Denied, Fitting, Outside, Waiting, Wrong}
-use Rattle.vote_wire.specs.Request.{without_lf}
+use Rattle.client_lines.specs.Request.{without_lf}
 use Rattle.cluster_sim.specs.SingleNode.{answers_to_act, answers_to_event, front_of, is_end, opening_server, reference_answers, server_after_act, server_after_event, server_after_restart, told_of_line}
 use Rattle.cluster_sim.specs.World.{World, Told, Act, Says, Deliver, Ticks, Noise, WorldEvent, Happens, Cut, Restart, Lost, Anew, acting_node, floor_in, has_store, may_be_anew, node_event_of, world_after_anew, world_after_loss, delivered_event, noise_event, place_at, with_state, told_reply, world_with_made, world_after_turn, world_after_act, node_if_sent, node_of, world_after_restart, with_told_of, world_after_event, world_after_events, opening_world, floor_at, report_of, first_start}
 use Rattle.cluster_sim.proofs.Acts.{noise_cases, unheard, unread}

@@ -13,9 +13,9 @@ use Rattle.token_file.specs.declared.token.Kind.TheVariants.{Event, Time30, Time
 use Rattle.admit_core.specs.Throttle.{Result}
 use Rattle.admit_core.specs.Window.{InWindow}
 use Rattle.otp_core.specs.Limits.{Limits}
-use Rattle.vote_wire.specs.Field.{IsNonce}
+use Rattle.client_lines.specs.Field.{IsNonce}
 use Rattle.oath_node.specs.Machine.{Config}
-use Rattle.vote_wire.specs.Request.{Request, IsRequest, fields_of, without_lf}
+use Rattle.client_lines.specs.Request.{Request, IsRequest, fields_of, without_lf}
 use Rattle.cluster_sim.specs.Answered.{IsOk, ok_bytes, IsTextOf, IsAskedIn, NamePasses}
 use Rattle.cluster_sim.specs.Justified.{IsGround, IsGroundOf}
 use Rattle.cluster_sim.specs.Drifts.{drift_before}

@@ -27,7 +27,7 @@ use Rattle.vote_core.specs.Rows.{granted_row, row}
 use Rattle.vote_core.specs.Schedule.{Envelope, envelope_from, is_member}
 use Rattle.vote_core.specs.Voting.{VoterState, pass_of, propose, propose_alone, propose_among, to_each}
 use Rattle.vote_core.specs.declared.message.Message.TheVariants.{Ask}
-use Rattle.vote_wire.specs.Request.{without_lf}
+use Rattle.client_lines.specs.Request.{without_lf}
 
 -- ---- the events of a round
 

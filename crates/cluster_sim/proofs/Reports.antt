@@ -10,7 +10,7 @@ use Rattle.vote_core.specs.Voting.{same_proposal}
 use Rattle.vote_core.proofs.Basics.{Each, each_append, each_get, each_map, each_weaker}
 use Rattle.answer_ring.specs.Answers.{KeptAnswer}
 use Rattle.oath_node.specs.Machine.{Config, NodeState, NodeEvent, Made, Reply, Beginning, quiet_made, stopped_node, opened_node, restarted_node, made_while_running, made_by_event}
-use Rattle.vote_wire.specs.Request.{without_lf}
+use Rattle.client_lines.specs.Request.{without_lf}
 use Rattle.cluster_sim.specs.Answered.{IsAskedIn, IsSaidIn, BelongsToPass, TellTruth, IsAnsweredIn, AreAnswered}
 use Rattle.cluster_sim.specs.World.{World, Note, Told, Act, Says, Deliver, Ticks, Noise, WorldEvent, Happens, Cut, Restart, Lost, Anew, floor_in, has_store, lost_node, may_be_anew, note_anew, opening_node, world_after_anew, world_after_loss, acting_node, delivered_event, noise_event, node_event_of, place_at, told_reply, note_of, world_with_made, world_after_turn, world_after_act, node_of, world_after_restart, with_told_of, world_after_event, world_after_events, opening_world, begun_with, begun_in, acceptance_in, passes_in, passes_of, world_of, Start}
 use Rattle.cluster_sim.proofs.Acts.{noise_cases}

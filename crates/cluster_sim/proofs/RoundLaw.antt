@@ -29,11 +29,11 @@ use Rattle.vote_core.proofs.Basics.{put_size}
 use Rattle.vote_core.specs.Rows.{row, row_with_gate}
 use Rattle.vote_core.specs.Schedule.{envelope_from}
 use Rattle.vote_core.specs.Voting.{VoterState}
-use Rattle.vote_wire.specs.Answer.{answer_bytes}
-use Rattle.vote_wire.specs.Request.{without_lf}
-use Rattle.vote_wire.specs.declared.answer.Answer.TheVariants.{BadLine, Reply as ReplyAnswer}
-use Rattle.vote_wire.specs.declared.answer.Outcome.TheVariants.{Refused}
-use Rattle.vote_wire.specs.declared.answer.Reason.{Reason}
+use Rattle.client_lines.specs.Answer.{answer_bytes}
+use Rattle.client_lines.specs.Request.{without_lf}
+use Rattle.client_lines.specs.declared.answer.Answer.TheVariants.{BadLine, Reply as ReplyAnswer}
+use Rattle.client_lines.specs.declared.answer.Outcome.TheVariants.{Refused}
+use Rattle.client_lines.specs.declared.answer.Reason.{Reason}
 
 abbrev tokens_of : Config → ℕ
 tokens_of config = length config.book

@@ -16,7 +16,7 @@ use Rattle.vote_core.specs.Schedule.{Envelope, envelope_from, last_boot}
 use Rattle.vote_core.specs.Voting.{Ballot, Voted, VoterState, accept, count_deny, count_grant, denied_one, granted_one, is_grant, of_this_boot, on_ask, on_deny, on_floor, on_grant, on_message, propose, propose_alone, propose_among, quiet_step, raise, replace, reply_step, tick, with_granting, with_pending}
 use Rattle.vote_core.specs.declared.message.Message.{Message}
 use Rattle.vote_core.specs.declared.message.Message.TheVariants.{Ask, Deny, Floor, Grant}
-use Rattle.vote_wire.specs.Request.{without_lf}
+use Rattle.client_lines.specs.Request.{without_lf}
 
 -- at most one more
 abbrev OneMore : ℕ → Voted → Type 0

@@ -18,7 +18,7 @@ use Rattle.vote_core.specs.Schedule.{last_boot, opening_rows}
 use Rattle.vote_core.specs.Voting.{Ballot, Voted, VoterState, accept, count_deny, count_grant, denied_one, granted_one, is_grant, of_this_boot, on_ask, on_deny, on_floor, on_grant, on_message, proposal_of, propose, propose_alone, propose_among, quiet_step, raise, replace, reply_step, tick, turn_after, with_granting, with_pending}
 use Rattle.vote_core.specs.declared.message.Message.{Message}
 use Rattle.vote_core.specs.declared.message.Message.TheVariants.{Ask, Deny, Floor, Grant}
-use Rattle.vote_wire.specs.Request.{without_lf}
+use Rattle.client_lines.specs.Request.{without_lf}
 
 abbrev pub IsUnder : ℕ → Option (ProposalRecord × SpanRecord) → Type 0
 IsUnder next None = Unit {0}

@@ -22,7 +22,7 @@ use Rattle.vote_core.specs.declared.message.Message.TheVariants.{Ask, Grant, Den
 use Rattle.vote_core.proofs.Basics.{Each, each_append, each_filter, each_flat_map, each_get, each_get_or, each_map, opening_size, each_weaker, put_size, row_cases}
 use Rattle.vote_core.proofs.Lists.{deny_found, each_remove, each_replace, find_each, grant_fits}
 use Rattle.vote_wire.specs.Body.{HasEnds, HasSpelling, IsVoteOn}
-use Rattle.vote_wire.specs.Request.{without_lf}
+use Rattle.client_lines.specs.Request.{without_lf}
 use Rattle.oath_node.specs.Grounds.{HasGrounds}
 use Rattle.oath_node.specs.Machine.{Config, Made, NodeEvent, NodeState, Client, Peer, Tick, made_by_event, made_by_datagram, made_by_ruling, stopped_node, is_heard, made_while_running, opened_node, made_by_proposal, quiet_made, restarted_node, standing_at, made_by_vote}
 use Rattle.oath_node.specs.declared.ruling.Ruling.{Ruling}

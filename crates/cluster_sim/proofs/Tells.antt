@@ -11,17 +11,17 @@ use Rattle.vote_core.specs.Voting.{Ballot, Voted, same_proposal, propose, on_mes
 use Rattle.vote_core.specs.declared.step.Decision.{Decision}
 use Rattle.vote_core.specs.declared.step.Decision.TheVariants.{Accepted as Won, Spent as Lost, Timeout as Late}
 use Rattle.vote_core.proofs.Basics.{Each, each_append, each_filter, each_flat_map, each_map, each_weaker, is_same}
-use Rattle.vote_wire.specs.Answer.{answer_bytes}
+use Rattle.client_lines.specs.Answer.{answer_bytes}
 use Rattle.answer_ring.specs.Answers.{KeptAnswer}
 use Rattle.oath_node.specs.Grounds.{HasGrounds}
 use Rattle.oath_node.specs.Machine.{Config, NodeState, NodeEvent, Client, Peer, Tick, Made, Reply, Owner, Beginning, quiet_made, reply_made, stopped_node, node_with_answer, node_with_failure, owner_with, answer_to_decision, answers_to_decisions, is_pending, reply_with, made_by_vote, next_beginning, made_by_proposal, made_by_ruling, made_by_datagram, is_heard, made_while_running, ruling_at, standing_at}
-use Rattle.vote_wire.specs.Request.{without_lf}
+use Rattle.client_lines.specs.Request.{without_lf}
 use Rattle.oath_node.specs.declared.ruling.Ruling.{Ruling}
 use Rattle.oath_node.specs.declared.ruling.Ruling.TheVariants.{Outside, Again, Waiting, Denied, Wrong, Fitting}
-use Rattle.vote_wire.specs.declared.answer.Answer.TheVariants.{BadLine, Reply as Answered}
-use Rattle.vote_wire.specs.declared.answer.Outcome.TheVariants.{Refused}
-use Rattle.vote_wire.specs.declared.answer.Reason.{Reason}
-use Rattle.vote_wire.specs.declared.answer.Reason.TheVariants.{Spent, Timeout}
+use Rattle.client_lines.specs.declared.answer.Answer.TheVariants.{BadLine, Reply as Answered}
+use Rattle.client_lines.specs.declared.answer.Outcome.TheVariants.{Refused}
+use Rattle.client_lines.specs.declared.answer.Reason.{Reason}
+use Rattle.client_lines.specs.declared.answer.Reason.TheVariants.{Spent, Timeout}
 use Rattle.cluster_sim.specs.Answered.{IsOk, ok_bytes, IsTextOf, IsAskedIn, IsSaidIn, BelongsToPass}
 use Rattle.cluster_sim.specs.World.{WorldEvent, Note, Told, begun_with, begun_in, acceptance_in, passes_in, note_of, told_reply}
 use Rattle.cluster_sim.proofs.BelowLaws.{GroundLaw}

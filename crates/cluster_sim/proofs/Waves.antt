@@ -7,7 +7,7 @@ use Rattle.cluster_sim.specs.World.{Deliver, Happens, Says, Ticks, World, WorldE
 use Rattle.oath_node.specs.Machine.{Client, Config, NodeEvent, NodeState, Peer, Tick, is_heard, made_by_datagram, made_by_event, made_by_ruling, made_by_vote, made_while_running, quiet_made, ruling_at, token_of}
 use Rattle.vote_core.specs.Schedule.{Envelope, is_member}
 use Rattle.vote_core.specs.Voting.{on_message, tick}
-use Rattle.vote_wire.specs.Request.{without_lf}
+use Rattle.client_lines.specs.Request.{without_lf}
 
 pub run_append : (config : Config) (xs ys : List WorldEvent) (e : ℕ) (w : World) → world_after_events config e (xs ++ ys) w ≡ world_after_events config (length xs + e) ys (world_after_events config e xs w)
 unfolding world_after_events

@@ -2,11 +2,11 @@
 use Rattle.std.specs.Prelude.{◌≡◌, ℕ, ◌<◌, ◌≤◌, true, false, List, take, Option, Some, None, slice_get, codes}
 use Rattle.otp_core.specs.Acceptance.{Acceptance}
 use Rattle.otp_core.specs.Range.{IsFactor}
-use Rattle.vote_wire.specs.Answer.{answer_bytes}
-use Rattle.vote_wire.specs.Field.{IsNonce}
-use Rattle.vote_wire.specs.Request.{Request, IsLine, without_lf}
-use Rattle.vote_wire.specs.declared.answer.Answer.TheVariants.{Reply}
-use Rattle.vote_wire.specs.declared.answer.Outcome.TheVariants.{Accepted}
+use Rattle.client_lines.specs.Answer.{answer_bytes}
+use Rattle.client_lines.specs.Field.{IsNonce}
+use Rattle.client_lines.specs.Request.{Request, IsLine, without_lf}
+use Rattle.client_lines.specs.declared.answer.Answer.TheVariants.{Reply}
+use Rattle.client_lines.specs.declared.answer.Outcome.TheVariants.{Accepted}
 use Rattle.cluster_sim.specs.World.{Act, Says, Deliver, Ticks, Noise, WorldEvent, Happens, Cut, Restart, Lost, Anew, Told}
 
 -- a reply begins as an OK

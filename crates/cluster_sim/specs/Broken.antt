@@ -2,7 +2,7 @@
 use Rattle.std.specs.Prelude.{ℕ, ◌^◌, List, [], ◌∷◌, codes}
 use Rattle.vote_core.specs.Broken.{small_ballot}
 use Rattle.vote_core.specs.State.{ballot_of}
-use Rattle.vote_wire.specs.declared.answer.Outcome.TheVariants.{Accepted}
+use Rattle.client_lines.specs.declared.answer.Outcome.TheVariants.{Accepted}
 use Rattle.oath_node.specs.Machine.{NodeState, stopped_node}
 use Rattle.cluster_sim.specs.Examples.{config, line_at, three, told_outcome}
 use Rattle.cluster_sim.specs.RoundExamples.{round_at}

@@ -10,9 +10,9 @@ use Rattle.token_file.specs.declared.token.Password.TheVariants.{NoneAllowed, Eq
 use Rattle.vote_core.specs.Schedule.{Envelope}
 use Rattle.vote_core.specs.declared.message.Message.TheVariants.{Ask}
 use Rattle.oath_node.specs.Machine.{Config}
-use Rattle.vote_wire.specs.Answer.{answer_bytes}
-use Rattle.vote_wire.specs.declared.answer.Answer.TheVariants.{BadLine, Reply}
-use Rattle.vote_wire.specs.declared.answer.Outcome.{Outcome}
+use Rattle.client_lines.specs.Answer.{answer_bytes}
+use Rattle.client_lines.specs.declared.answer.Answer.TheVariants.{BadLine, Reply}
+use Rattle.client_lines.specs.declared.answer.Outcome.{Outcome}
 use Rattle.cluster_sim.specs.Answered.{AreAnswered, NamePasses, TellTruth}
 use Rattle.cluster_sim.specs.Drifts.{drift_after, moment_in}
 use Rattle.cluster_sim.specs.Justified.{IsJustified}

@@ -5,7 +5,7 @@ use Rattle.token_file.specs.Credential.{Credential}
 use Rattle.admit_core.specs.Entitled.{IsEntitled}
 use Rattle.admit_core.specs.Throttle.{Result}
 use Rattle.oath_node.specs.Machine.{Config}
-use Rattle.vote_wire.specs.Request.{Request, IsLine}
+use Rattle.client_lines.specs.Request.{Request, IsLine}
 use Rattle.cluster_sim.specs.Drifts.{drift_before}
 use Rattle.cluster_sim.specs.Results.{results_before}
 use Rattle.cluster_sim.specs.World.{Act, Says, Deliver, Ticks, Noise, WorldEvent, Happens, Cut, Restart, Lost, Anew, floor_before, Start}

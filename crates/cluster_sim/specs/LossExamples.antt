@@ -5,7 +5,7 @@ use Rattle.floor_store.specs.Records.{span_of}
 use Rattle.vote_core.specs.Schedule.{Envelope}
 use Rattle.vote_core.specs.declared.message.Message.{Message}
 use Rattle.vote_core.specs.declared.message.Message.TheVariants.{Grant, Floor}
-use Rattle.vote_wire.specs.declared.answer.Outcome.TheVariants.{Accepted}
+use Rattle.client_lines.specs.declared.answer.Outcome.TheVariants.{Accepted}
 use Rattle.cluster_sim.specs.Examples.{acceptance, delivery, first_at_1, line_at, one_behind, report_with, told_outcome}
 use Rattle.cluster_sim.specs.World.{Cut, Lost, Anew, ReportValue, Restart, Start, Ticks, WorldEvent}
 

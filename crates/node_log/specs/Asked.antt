@@ -2,7 +2,7 @@
 use Rattle.std.specs.Prelude.{ℕ, ◌==◌, ◌&&◌, nat_lt, Bool, if◌then◌else◌, List, [], ◌∷◌, ◌++◌, length, drop, position, Option, Some, None, option_map, slice_get}
 use Rattle.std.specs.List.{remove, slice_split}
 use Rattle.std.specs.Str.{bytes_eq}
-use Rattle.vote_wire.specs.Request.{Request, request_at}
+use Rattle.client_lines.specs.Request.{Request, request_at}
 
 -- a line that isn't answered yet: who asks, by which nonce, and for whom. Codes and passwords are not among it.
 pub record AskedLine : Type 0 where

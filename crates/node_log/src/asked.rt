@@ -3,12 +3,12 @@
 ghost use Rattle.std.specs.Prelude.{◌≡◌, ◌<◌, ◌∷◌, [], ◌++◌, ◌==◌, ◌&&◌, drop, length, position, nat_lt, if◌then◌else◌, IfSome, option_map};
 ghost use Rattle.std.specs.Str.{bytes_eq};
 ghost use Rattle.node_log.specs.Asked.{AskedLine as AskedRecord, is_of, nonce_of, place_of, user_at, with_line, with_one, without};
-ghost use Rattle.vote_wire.specs.Request.{Request};
+ghost use Rattle.client_lines.specs.Request.{Request};
 
 use arrayvec::ArrayVec;
+use client_lines::{Line, Nonce, read_line};
 use field_text::cut_at;
 use std::marker::Model;
-use vote_wire::{Line, Nonce, read_line};
 
 /// How many lines are remembered at most: those of a batch, and those that wait for votes.
 pub const MAX_ASKED: usize = 96;

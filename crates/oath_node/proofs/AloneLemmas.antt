@@ -12,10 +12,10 @@ use Rattle.floor_store.specs.Records.{PassRecord, RowRecord, span_of}
 use Rattle.vote_core.specs.Rows.{granted_row, no_row, row, row_with_gate}
 use Rattle.vote_core.specs.Voting.{Ballot, pass_of, propose, propose_alone}
 use Rattle.vote_core.specs.declared.step.Decision.TheVariants.{Accepted as Won}
-use Rattle.vote_wire.specs.Answer.{answer_bytes}
-use Rattle.vote_wire.specs.Request.{without_lf}
-use Rattle.vote_wire.specs.declared.answer.Answer.TheVariants.{Reply as ReplyAnswer}
-use Rattle.vote_wire.specs.declared.answer.Outcome.TheVariants.{Accepted}
+use Rattle.client_lines.specs.Answer.{answer_bytes}
+use Rattle.client_lines.specs.Request.{without_lf}
+use Rattle.client_lines.specs.declared.answer.Answer.TheVariants.{Reply as ReplyAnswer}
+use Rattle.client_lines.specs.declared.answer.Outcome.TheVariants.{Accepted}
 use Rattle.oath_node.specs.Alone.{IsAlone, ServesAlone, alone_place, drifts_in, floors_in, gates_in, gates_of}
 use Rattle.oath_node.specs.Grounds.{HasGrounds, IsSameStanding}
 use Rattle.oath_node.specs.Machine.{Client, Config, Made, NodeState, Owner, answers_to_decisions, content_with_failure, kept_with_all, gate_with_failure, made_by_event, made_by_proposal, made_by_ruling, made_by_vote, made_while_running, next_beginning, quiet_made, reply_with, ruling_at, standing_at, stopped_node}

@@ -18,7 +18,7 @@ use Rattle.vote_core.specs.declared.message.Message.{Message}
 use Rattle.vote_core.specs.declared.message.Message.TheVariants.{Ask, Grant, Deny, Floor}
 use Rattle.vote_core.specs.declared.step.Decision.{Decision}
 use Rattle.vote_core.specs.declared.step.Decision.TheVariants.{Timeout}
-use Rattle.vote_wire.specs.Request.{without_lf}
+use Rattle.client_lines.specs.Request.{without_lf}
 use Rattle.oath_node.specs.Machine.{Beginning, Config, Made, NodeEvent, Client, Peer, Tick, NodeState, Owner, answer_to_decision, answers_to_decisions, is_heard, made_by_datagram, made_by_event, made_by_message, made_by_proposal, made_by_ruling, made_by_vote, made_while_running, next_beginning, next_owner, owner_with, quiet_made, reply_with, ruling_at, stopped_node}
 use Rattle.oath_node.specs.Outputs.{datagram_item, outputs_of, reply_item}
 use Rattle.oath_node.specs.declared.ruling.Ruling.{Ruling}

@@ -17,8 +17,8 @@ use Rattle.oath_node.specs.declared.ruling.Ruling.{Ruling}
 use Rattle.oath_node.specs.declared.ruling.Ruling.TheVariants.{Outside, Again, Waiting, Denied, Wrong, Fitting}
 use Rattle.oath_node.proofs.ColumnLemmas.{decides_column}
 use Rattle.oath_node.proofs.GroundLemmas.{FitLaw}
-use Rattle.vote_wire.specs.Request.{Request}
-use Rattle.vote_wire.specs.declared.answer.Reason.TheVariants.{Exhausted, Password, Throttled}
+use Rattle.client_lines.specs.Request.{Request}
+use Rattle.client_lines.specs.declared.answer.Reason.TheVariants.{Exhausted, Password, Throttled}
 
 -- a proposed span is of the token, and free from a factor on
 abbrev pub Suits : ℕ → ℕ → Ruling → Type 0

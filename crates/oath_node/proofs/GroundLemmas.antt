@@ -15,14 +15,14 @@ use Rattle.floor_store.specs.Range.{IsSpan}
 use Rattle.floor_store.specs.Records.{span_of}
 use Rattle.oath_node.specs.Column.{column_fits}
 use Rattle.oath_node.specs.Grounds.{HasGrounds, IsSameStanding}
-use Rattle.vote_wire.specs.Request.{Request, IsLine, request_at}
+use Rattle.client_lines.specs.Request.{Request, IsLine, request_at}
 use Rattle.oath_node.specs.Rules.{Standing, fit_ruling, fitting_span, remaining_ruling, open_ruling, token_ruling, place_ruling, user_ruling, room_ruling, request_ruling, ruling_unless_known, ruling_of, ruling}
 use Rattle.oath_node.specs.declared.ruling.Ruling.{Ruling}
 use Rattle.oath_node.specs.declared.ruling.Ruling.TheVariants.{Waiting, Denied, Wrong}
-use Rattle.vote_wire.specs.declared.answer.Reason.TheVariants.{Busy, Clock, Exhausted, Password, Throttled}
+use Rattle.client_lines.specs.declared.answer.Reason.TheVariants.{Busy, Clock, Exhausted, Password, Throttled}
 use Rattle.oath_node.proofs.BookLemmas.{place_named}
 use Rattle.oath_node.proofs.ColumnLemmas.{decides_column}
-use Rattle.vote_wire.proofs.RequestLemmas.{line_of_request}
+use Rattle.client_lines.proofs.RequestLemmas.{line_of_request}
 
 -- what is found is the least fit: a law of admit_core
 abbrev pub FitLaw : Type 0

@@ -6,7 +6,7 @@ use Rattle.otp_core.specs.Limits.{Limits}
 use Rattle.token_file.specs.Credential.{Credential}
 use Rattle.vote_core.specs.State.{VoterRecord, ballot_of}
 use Rattle.floor_store.specs.Content.{Content}
-use Rattle.vote_wire.specs.Request.{Request, request_at, without_lf}
+use Rattle.client_lines.specs.Request.{Request, request_at, without_lf}
 use Rattle.answer_ring.specs.Answers.{KeptAnswer, kept_answer}
 use Rattle.oath_node.specs.Hosted.{running_state}
 use Rattle.oath_node.specs.Recording.{standing_in}

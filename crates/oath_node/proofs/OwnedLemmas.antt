@@ -17,7 +17,7 @@ use Rattle.oath_node.specs.Machine.{Beginning, Config, Made, NodeEvent, Client, 
 use Rattle.oath_node.specs.declared.ruling.Ruling.{Ruling}
 use Rattle.oath_node.specs.declared.ruling.Ruling.TheVariants.{Outside, Again, Waiting, Denied, Wrong, Fitting}
 use Rattle.oath_node.proofs.OwnerLemmas.{apart_filter, apart_push, pending_filter}
-use Rattle.vote_wire.specs.Request.{without_lf}
+use Rattle.client_lines.specs.Request.{without_lf}
 
 -- ---- the number of the next proposal
 

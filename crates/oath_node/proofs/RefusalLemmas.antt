@@ -12,7 +12,7 @@ use Rattle.oath_node.specs.Machine.{Config, Client, Made, NodeState, gate_with_f
 use Rattle.oath_node.specs.Refusals.{KeepsFloors, IsRefusal, SparesToken}
 use Rattle.oath_node.specs.declared.ruling.Ruling.{Ruling}
 use Rattle.oath_node.specs.declared.ruling.Ruling.TheVariants.{Outside, Again, Waiting, Denied, Wrong, Fitting}
-use Rattle.vote_wire.specs.Request.{without_lf}
+use Rattle.client_lines.specs.Request.{without_lf}
 
 -- what a new element has in common with the old one at its place, the list has
 shared : {X Y : Type 0} (f : X → Y) (xs : List X) (i j : ℕ) (v d : X) → f v ≡ f (get_or xs i d) → f (get_or (set xs i v) j d) ≡ f (get_or xs j d)

@@ -16,7 +16,7 @@ use Rattle.admit_core.specs.Window.{InWindow}
 use Rattle.floor_store.specs.Records.{span_of}
 use Rattle.oath_node.specs.Grounds.{HasGrounds as HasRulingGrounds}
 use Rattle.oath_node.specs.ReferenceServer.{Server, Line, drift_of, drifts_after, floor_of, floors_after, results_of, ruling_of_line, service_by, standing_of}
-use Rattle.vote_wire.specs.Request.{Request, IsLine}
+use Rattle.client_lines.specs.Request.{Request, IsLine}
 use Rattle.oath_node.specs.declared.ruling.Ruling.{Ruling}
 use Rattle.oath_node.specs.declared.ruling.Ruling.TheVariants.{Outside, Again, Waiting, Denied, Wrong, Fitting}
 use Rattle.oath_node.proofs.GroundLemmas.{FitLaw, ruling_grounds}

@@ -7,7 +7,7 @@ use Rattle.admit_core.specs.Drift.{kept_drift}
 use Rattle.admit_core.specs.Fit.{IsLeastFit}
 use Rattle.admit_core.specs.Password.{PasswordFits}
 use Rattle.floor_store.specs.Range.{IsSpan}
-use Rattle.vote_wire.specs.Request.{Request, IsLine}
+use Rattle.client_lines.specs.Request.{Request, IsLine}
 use Rattle.oath_node.specs.Rules.{Standing}
 use Rattle.oath_node.specs.declared.ruling.Ruling.{Ruling}
 use Rattle.oath_node.specs.declared.ruling.Ruling.TheVariants.{Outside, Again, Waiting, Denied, Wrong, Fitting}

@@ -17,12 +17,12 @@ use Rattle.vote_core.specs.declared.message.Message.{Message}
 use Rattle.vote_core.specs.declared.message.Message.TheVariants.{Ask, Grant, Deny, Floor}
 use Rattle.vote_core.specs.declared.step.Decision.{Decision}
 use Rattle.vote_core.specs.declared.step.Decision.TheVariants.{Accepted as Won, Spent as Lost, Timeout as Late}
-use Rattle.vote_wire.specs.Answer.{answer_bytes}
-use Rattle.vote_wire.specs.Request.{without_lf}
-use Rattle.vote_wire.specs.declared.answer.Answer.TheVariants.{BadLine, Reply as ReplyAnswer}
-use Rattle.vote_wire.specs.declared.answer.Outcome.{Outcome}
-use Rattle.vote_wire.specs.declared.answer.Outcome.TheVariants.{Accepted, Refused}
-use Rattle.vote_wire.specs.declared.answer.Reason.TheVariants.{Spent, Timeout}
+use Rattle.client_lines.specs.Answer.{answer_bytes}
+use Rattle.client_lines.specs.Request.{without_lf}
+use Rattle.client_lines.specs.declared.answer.Answer.TheVariants.{BadLine, Reply as ReplyAnswer}
+use Rattle.client_lines.specs.declared.answer.Outcome.{Outcome}
+use Rattle.client_lines.specs.declared.answer.Outcome.TheVariants.{Accepted, Refused}
+use Rattle.client_lines.specs.declared.answer.Reason.TheVariants.{Spent, Timeout}
 use Rattle.answer_ring.specs.Answers.{KeptAnswer, kept_answer, kept_with}
 use Rattle.oath_node.specs.Rules.{Standing, ruling}
 use Rattle.oath_node.specs.declared.ruling.Ruling.{Ruling}

@@ -5,11 +5,11 @@ use Rattle.otp_core.specs.Limits.{Limits}
 use Rattle.token_file.specs.Credential.{Credential}
 use Rattle.admit_core.specs.Throttle.{Result, Failed, Accepted as Passed, wait_after}
 use Rattle.answer_ring.specs.Answers.{KeptAnswer, kept_answer, kept_with}
-use Rattle.vote_wire.specs.Answer.{answer_bytes}
-use Rattle.vote_wire.specs.Request.{without_lf}
-use Rattle.vote_wire.specs.declared.answer.Answer.TheVariants.{BadLine, Reply}
-use Rattle.vote_wire.specs.declared.answer.Outcome.TheVariants.{Accepted, Refused}
-use Rattle.vote_wire.specs.declared.answer.Reason.{Reason}
+use Rattle.client_lines.specs.Answer.{answer_bytes}
+use Rattle.client_lines.specs.Request.{without_lf}
+use Rattle.client_lines.specs.declared.answer.Answer.TheVariants.{BadLine, Reply}
+use Rattle.client_lines.specs.declared.answer.Outcome.TheVariants.{Accepted, Refused}
+use Rattle.client_lines.specs.declared.answer.Reason.{Reason}
 use Rattle.oath_node.specs.Rules.{Standing, ruling}
 use Rattle.oath_node.specs.declared.ruling.Ruling.{Ruling}
 use Rattle.oath_node.specs.declared.ruling.Ruling.TheVariants.{Outside, Again, Waiting, Denied, Wrong, Fitting}

@@ -8,7 +8,7 @@ use Rattle.admit_core.specs.Drift.{kept_drift}
 use Rattle.admit_core.specs.Entitled.{IsEntitled}
 use Rattle.admit_core.specs.Throttle.{Result}
 use Rattle.oath_node.specs.ReferenceServer.{Server, Line, TokenSpan, Told, Service, floor_of, results_of, service_of, server_after, server_at}
-use Rattle.vote_wire.specs.Request.{Request, IsLine}
+use Rattle.client_lines.specs.Request.{Request, IsLine}
 
 -- an accepted line: its number from 0, the token, and the factors that it uses up
 pub record LinePass : Type 0 where

@@ -8,8 +8,8 @@ use Rattle.admit_core.specs.Drift.{kept_drift}
 use Rattle.admit_core.specs.Fit.{Submission, least_fit}
 use Rattle.floor_store.specs.Records.{span_of, SpanRecord}
 use Rattle.oath_node.specs.Column.{column_fits}
-use Rattle.vote_wire.specs.Request.{Request, request_at}
-use Rattle.vote_wire.specs.declared.answer.Reason.TheVariants.{Unknown, Password, Throttled, Invalid, Busy, Clock, Exhausted}
+use Rattle.client_lines.specs.Request.{Request, request_at}
+use Rattle.client_lines.specs.declared.answer.Reason.TheVariants.{Unknown, Password, Throttled, Invalid, Busy, Clock, Exhausted}
 use Rattle.oath_node.specs.declared.ruling.Ruling.{Ruling}
 use Rattle.oath_node.specs.declared.ruling.Ruling.TheVariants.{Outside, Again, Waiting, Denied, Wrong, Fitting}
 

@@ -12,7 +12,7 @@ ghost use Rattle.oath_node.specs.Recording.{IfKept, IfProposes, IsRecordable};
 ghost use Rattle.otp_core.specs.Range.{IsMoment};
 ghost use Rattle.vote_core.specs.Calls.{FitsVoter, IsOther, IsStoreOf};
 ghost use Rattle.vote_core.specs.Rows.{row};
-ghost use Rattle.vote_wire.specs.Request.{without_lf as spec_without_lf};
+ghost use Rattle.client_lines.specs.Request.{without_lf as spec_without_lf};
 
 use crate::fault::NodeFault;
 use crate::outputs::{Outputs, Scratch};
@@ -23,14 +23,12 @@ use crate::ruling::{KeptText, Ruling};
 use crate::settling::{finish_tick, finish_vote, line_of};
 use answer_ring::{Answers, answer_again, keep};
 use arrayvec::ArrayVec;
+use client_lines::{Answer, Nonce, Outcome, read_line, without_lf, write_answer, write_reply};
 use floor_store::{FloorStore, Span, StoreFault};
 use otp_core::{Drift, Settings};
 use token_file::Book;
 use vote_core::{Message, VoteFault, Voter};
-use vote_wire::{
-    Answer, ClusterKey, MAX_SENT_LEN, Nonce, Outcome, read_line, read_message, without_lf,
-    write_answer, write_reply,
-};
+use vote_wire::{ClusterKey, MAX_SENT_LEN, read_message};
 
 /// Whether a message is heard: it comes from the member that it says, is for this node, and may be handed to
 /// its voter.

@@ -22,7 +22,7 @@ ghost use Rattle.vote_core.specs.State.{IsPlace, ballot_of};
 ghost use Rattle.vote_core.specs.Voting.{fresh_voter};
 ghost use Rattle.vote_core.specs.declared.message.Message.TheVariants.{Ask, Floor, Grant};
 ghost use Rattle.oath_node.specs.Examples.{IsJustifiedByClock, IsJustifiedInRun, drift_of_passes, kept_in, lines_given_again, lines_of_a_run, outcome_of, outcome_of_clock, pass_with, server_of, silver_before, ruling_by_clock, ruling_on, narrow_limits, one_clock, standing_with, three_tokens};
-ghost use Rattle.vote_wire.specs.declared.answer.Reason.TheVariants.{Clock, Exhausted, Invalid, Password, Throttled, Unknown};
+ghost use Rattle.client_lines.specs.declared.answer.Reason.TheVariants.{Clock, Exhausted, Invalid, Password, Throttled, Unknown};
 ghost use Rattle.oath_node.specs.declared.ruling.Ruling.TheVariants.{Again, Denied, Fitting, Outside, Waiting, Wrong};
 ghost use Rattle.floor_store.specs.Broken.{broken_at, fallen_at, small_held, store_at, unsettled_at};
 ghost use Rattle.floor_store.specs.Examples.{content_at, granted_row, later_row, two_rows};

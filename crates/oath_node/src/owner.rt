@@ -6,8 +6,8 @@ ghost use Rattle.oath_node.specs.Machine.{is_owned, owner_with as spec_owner_wit
 
 use answer_ring::MAX_LINE_LEN;
 use arrayvec::ArrayVec;
+use client_lines::Nonce;
 use std::marker::Model;
-use vote_wire::Nonce;
 
 /// Whose line a pending proposal is for. The line stands without an LF at its end.
 #[derive(Default, Drop)]

@@ -2,7 +2,7 @@ ghost use Rattle.std.specs.Prelude.{◌≡◌, ◌<◌, ◌≤◌, ◌-◌, ℕ,
 ghost use Rattle.floor_store.specs.Held.{Reads};
 ghost use Rattle.otp_core.specs.Range.{IsMoment};
 ghost use Rattle.vote_core.specs.Rows.{row as row_in};
-ghost use Rattle.vote_wire.specs.Codes.{submission_of};
+ghost use Rattle.client_lines.specs.Codes.{submission_of};
 ghost use Rattle.oath_node.specs.Recording.{IfProposes, IsRecordable, standing_in};
 ghost use Rattle.oath_node.specs.Rules as spec;
 
@@ -10,10 +10,10 @@ use crate::ruling::Ruling;
 use admit_core::{
     drift_after, find_check, find_resync, least_fit_is_least, password_fits, resync_window, window,
 };
+use client_lines::{Codes, Line, Reason};
 use floor_store::{FloorStore, Row, Span, StoreFault};
 use otp_core::{Drift, FACTORS_END, MOMENTS_END, Next, Settings};
 use token_file::{Book, Token, TokenId};
-use vote_wire::{Codes, Line, Reason};
 
 /// The password, the factors that are left, and the window, at a token that is open.
 fn open_ruling(

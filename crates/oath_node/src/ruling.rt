@@ -2,11 +2,12 @@ ghost use Rattle.std.specs.Prelude.{◌≡◌, ◌≤◌, length};
 
 use crate::settling::text_of;
 use arrayvec::ArrayVec;
+use client_lines::{Nonce, Reason};
 use floor_store::Span;
 use otp_core::Drift;
 use std::marker::Model;
 use token_file::TokenId;
-use vote_wire::{MAX_SENT_LEN, Nonce, Reason};
+use vote_wire::MAX_SENT_LEN;
 
 /// An answer that is kept.
 #[derive(Debug, Drop)]

@@ -9,8 +9,9 @@ use crate::outputs::{Outputs, Reply, Scratch};
 use crate::owner::{Owner, owner_with};
 use answer_ring::{Answers, MAX_LINE_LEN, keep};
 use arrayvec::ArrayVec;
+use client_lines::{Outcome, Reason, write_reply};
 use vote_core::{Decision, MAX_PENDING, TickStep, VoteStep, Voter};
-use vote_wire::{ClusterKey, MAX_SENT_LEN, Outcome, Reason, write_reply};
+use vote_wire::{ClusterKey, MAX_SENT_LEN};
 
 /// A line that waits.
 pub(crate) fn line_of(bytes: &[u8]) -> ArrayVec<u8, MAX_LINE_LEN>

@@ -2,16 +2,17 @@ ghost use Rattle.std.specs.Prelude.{◌≡◌, IfErr, IfOk, Ok, replicate};
 ghost use Rattle.std.specs.Result.{result_err};
 ghost use Rattle.hex.specs.Hex.{decode_of};
 ghost use Rattle.vote_wire.specs.Key.{key_refusal_of};
-ghost use Rattle.vote_wire.specs.Request.{without_lf};
+ghost use Rattle.client_lines.specs.Request.{without_lf};
 ghost use Rattle.oathd_memory.specs.Nodes.{IsKeyOf, IsOfKey};
 
 use crate::fault::Fault;
+use client_lines::without_lf;
 use secret_text::SecretFault;
 use std::alloc::Global;
 use std::fs;
 use std::io::{ErrorKind, Read};
 use std::rt::Files;
-use vote_wire::{ClusterKey, without_lf};
+use vote_wire::ClusterKey;
 
 /// The most bytes of a key file, of which the longest key has 128, and of a cluster file.
 pub(crate) const MAX_KEY_FILE_LEN: u32 = 65_536;

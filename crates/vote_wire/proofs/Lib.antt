@@ -1,5 +1,3 @@
-pub mod FieldLemmas
 pub mod FormatLemmas
-pub mod RequestLemmas
 pub mod SpellingLemmas
 pub mod TagLemmas

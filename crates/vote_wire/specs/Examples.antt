@@ -1,38 +1,9 @@
--- Lines and datagrams that the laws work through.
+-- Datagrams that the laws work through.
 use Rattle.std.specs.Prelude.{ℕ, List, [], ◌∷◌, ◌++◌, replicate, Option, Some, codes, slice_set}
-use Rattle.admit_core.specs.Fit.{Check}
 use Rattle.floor_store.specs.Records.{span_of}
 use Rattle.vote_core.specs.declared.message.Message.{Message}
 use Rattle.vote_core.specs.declared.message.Message.TheVariants.{Ask, Grant, Deny, Floor}
 use Rattle.vote_wire.specs.Body.{body_at, body_bytes}
-use Rattle.vote_wire.specs.Request.{Request}
-
--- ---- Lines
-
--- a CHECK with nonce 1, the user silver and the first code of the key
-abbrev pub check_with : Option (List ℕ) → Option Request
-check_with password = Some (record {
-  nonce = codes "1";
-  user = codes "silver";
-  submission = Check (codes "755224");
-  password = password;
-})
-
--- so many letters
-abbrev pub letters : ℕ → List ℕ
-letters count = replicate count 97
-
--- a CHECK with this nonce, user, code and password
-abbrev pub check_text : List ℕ → List ℕ → List ℕ → List ℕ → List ℕ
-check_text nonce user code password =
-    codes "CHECK " ++ nonce ++ codes " " ++ user ++ codes " " ++ code ++ codes " " ++ password
-
--- the request of a CHECK with this nonce, user, code and password
-abbrev pub check_request : List ℕ → List ℕ → List ℕ → List ℕ → Option Request
-check_request nonce user code password =
-    Some (record { nonce = nonce; user = user; submission = Check code; password = Some password })
-
--- ---- Datagrams
 
 -- node 1 asks for factor 1 of token 0, by its first proposal of boot 2
 abbrev pub ask : Message

@@ -1,9 +1,5 @@
-pub mod Answer
 pub mod Body
 pub mod Bytes
-pub mod Codes
 pub mod Datagram
 pub mod Examples
-pub mod Field
 pub mod Key
-pub mod Request

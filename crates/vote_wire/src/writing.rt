@@ -22,7 +22,7 @@ pub(crate) const MARK: [u8; 2] = *b"OV";
 pub(crate) const VERSION: u8 = 2;
 
 /// Appends the bytes.
-pub(crate) fn push_all(out: &mut ArrayVec<u8, MAX_SENT_LEN>, bytes: &[u8])
+fn push_all(out: &mut ArrayVec<u8, MAX_SENT_LEN>, bytes: &[u8])
     requires { array_vec_len out.old + length bytes.now ≤ 64 }
     ensures { out.new.items ≡ out.old.items ++ bytes.now }
 {

@@ -8,8 +8,8 @@ use Rattle.admit_core.specs.Fit.{Check, code_at}
 use Rattle.sha1.specs.Sha1.{first_words, schedule, rounds, compress, hash_after, digest_bytes, sha1}
 use Rattle.vote_core.specs.Voting.{propose, propose_alone, propose_among, tick}
 use Rattle.oath_node.specs.Machine.{NodeState, made_by_proposal, made_by_ruling, made_by_datagram, made_while_running, made_by_event}
-use Rattle.vote_wire.specs.Request.{Request}
-use Rattle.vote_wire.proofs.RequestLemmas.{line_of_request, request_of_line}
+use Rattle.client_lines.specs.Request.{Request}
+use Rattle.client_lines.proofs.RequestLemmas.{line_of_request, request_of_line}
 use Rattle.cluster_sim.specs.Answered.{IsTextOf, ok_bytes}
 use Rattle.cluster_sim.specs.World.{Told}
 use Rattle.cluster_law.specs.Answered.{EndsProcess, HasYetToOffer, IsLost, IsOfferedOrEnds}

@@ -4,10 +4,10 @@ use Rattle.std.specs.Prelude.{codes, slice_get, slice_index}
 use Rattle.std.specs.Fmt.{digits}
 use Rattle.otp_core.specs.Acceptance.{Acceptance}
 use Rattle.admit_core.specs.Fit.{Check}
-use Rattle.vote_wire.specs.Field.{IsNonce}
-use Rattle.vote_wire.specs.Request.{Request}
-use Rattle.vote_wire.specs.declared.answer.Outcome.TheVariants.{Accepted}
-use Rattle.vote_wire.proofs.RequestLemmas.{line_of_request, request_of_line}
+use Rattle.client_lines.specs.Field.{IsNonce}
+use Rattle.client_lines.specs.Request.{Request}
+use Rattle.client_lines.specs.declared.answer.Outcome.TheVariants.{Accepted}
+use Rattle.client_lines.proofs.RequestLemmas.{line_of_request, request_of_line}
 use Rattle.cluster_sim.specs.Answered.{BelongsToPass, HasAnswer, IsAskedIn, IsOk, IsPassOf, IsSaidIn, IsTextOf, TellTruth, ok_bytes}
 use Rattle.cluster_sim.specs.Examples.{acceptance, delivery, eight_ticks, first_at_1, first_pass, fresh_token, line_at, nothing_happens, old_grants, second_factor_elsewhere, stop_in_a_line, told_outcome}
 use Rattle.cluster_sim.specs.LossExamples.{after_loss}

@@ -10,8 +10,8 @@ use Rattle.vote_core.specs.Voting.{propose, propose_alone, propose_among, on_ask
 use Rattle.oath_node.specs.Machine.{made_by_proposal, made_by_ruling, made_by_datagram, made_while_running, made_by_event}
 use Rattle.token_file.specs.Credential.{Credential}
 use Rattle.token_file.specs.declared.token.Kind.TheVariants.{Time30}
-use Rattle.vote_wire.specs.Request.{Request, request_at}
-use Rattle.vote_wire.proofs.RequestLemmas.{request_of_line}
+use Rattle.client_lines.specs.Request.{Request, request_at}
+use Rattle.client_lines.proofs.RequestLemmas.{request_of_line}
 use Rattle.cluster_sim.specs.Drifts.{drift_before}
 use Rattle.cluster_sim.specs.Examples.{acceptance, clock_alone, clock_config, clock_lines, config, user_named}
 use Rattle.cluster_sim.specs.Justified.{IsGround}

@@ -12,8 +12,8 @@ use Rattle.token_file.specs.declared.token.Password.TheVariants.{Equal, NoneAllo
 use Rattle.oath_node.specs.Examples.{IsJustifiedInRun, drifting, line_at, lines_of_a_clock, lines_of_a_run, narrowest_limits, one_clock, three_tokens, token_of}
 use Rattle.oath_node.specs.ReferenceServer.{Line, server_after}
 use Rattle.oath_node.specs.Report.{LinePass, drift_before, floor_before, report_from, results_before}
-use Rattle.vote_wire.specs.Request.{Request, request_at}
-use Rattle.vote_wire.proofs.RequestLemmas.{request_of_line}
+use Rattle.client_lines.specs.Request.{Request, request_at}
+use Rattle.client_lines.proofs.RequestLemmas.{request_of_line}
 use Rattle.oath_node.proofs.laws.promises_can_be_broken.Goals as goal
 
 same_some : {A : Type 0} (x y : A) → Some x ≡ Some y → x ≡ y

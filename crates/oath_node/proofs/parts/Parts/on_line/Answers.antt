@@ -1,5 +1,5 @@
 use Rattle.std.proofs.Common.{◌≡◌, ℕ, List, ◌∙◌, ap}
-use Rattle.vote_wire.specs.Request.{without_lf}
+use Rattle.client_lines.specs.Request.{without_lf}
 use Rattle.oath_node.specs.Machine.{made_by_line, made_by_ruling}
 use Rattle.oath_node.specs.Parts.{state_in}
 use Rattle.oath_node.specs.declared.ruling.Ruling.{Ruling}

@@ -1,6 +1,6 @@
 -- Each case is computed.
 use Rattle.std.proofs.Common.{refl}
-use Rattle.vote_wire.proofs.laws.lines_are_worked.Goals as goal
+use Rattle.client_lines.proofs.laws.lines_are_worked.Goals as goal
 
 pub returns-clause-check : goal.returns-clause-check
 returns-clause-check c = refl

@@ -1,7 +1,7 @@
 -- The codes of a line, as the program holds them.
 use Rattle.admit_core.specs.Fit.{Submission, Check, Resync}
-use Rattle.vote_wire.specs.declared.line.Codes.{Codes}
-use Rattle.vote_wire.specs.declared.line.Codes.TheVariants.{One, Two}
+use Rattle.client_lines.specs.declared.line.Codes.{Codes}
+use Rattle.client_lines.specs.declared.line.Codes.TheVariants.{One, Two}
 
 -- one code is submitted by a CHECK, and two by a RESYNC
 abbrev pub submission_of : Codes → Submission

@@ -1,12 +1,12 @@
 -- What a client is answered.
 use Rattle.std.specs.Prelude.{ℕ, List, ◌++◌, codes}
 use Rattle.std.specs.Fmt.{decimal}
-use Rattle.vote_wire.specs.declared.answer.Answer.{Answer}
-use Rattle.vote_wire.specs.declared.answer.Answer.TheVariants.{BadLine, Reply}
-use Rattle.vote_wire.specs.declared.answer.Outcome.{Outcome}
-use Rattle.vote_wire.specs.declared.answer.Outcome.TheVariants.{Accepted, Refused}
-use Rattle.vote_wire.specs.declared.answer.Reason.{Reason}
-use Rattle.vote_wire.specs.declared.answer.Reason.TheVariants.{Unknown, Password, Throttled, Invalid, Spent, Timeout, Busy, Clock, Exhausted}
+use Rattle.client_lines.specs.declared.answer.Answer.{Answer}
+use Rattle.client_lines.specs.declared.answer.Answer.TheVariants.{BadLine, Reply}
+use Rattle.client_lines.specs.declared.answer.Outcome.{Outcome}
+use Rattle.client_lines.specs.declared.answer.Outcome.TheVariants.{Accepted, Refused}
+use Rattle.client_lines.specs.declared.answer.Reason.{Reason}
+use Rattle.client_lines.specs.declared.answer.Reason.TheVariants.{Unknown, Password, Throttled, Invalid, Spent, Timeout, Busy, Clock, Exhausted}
 
 -- why a line is refused, after a space; numbers are decimal, without leading zeros
 abbrev pub reason_bytes : Reason → List ℕ

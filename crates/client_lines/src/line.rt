@@ -1,8 +1,8 @@
 ghost use Rattle.std.specs.Prelude.{◌≡◌, [], ◌∷◌, IfSome, IfNone};
 ghost use Rattle.std.specs.Option.{option_copied};
-ghost use Rattle.vote_wire.specs.Codes.{submission_of};
-ghost use Rattle.vote_wire.specs.Request as spec;
-ghost use Rattle.vote_wire.specs.Request.{Request, IsLine, Reads, fields_of, given_in};
+ghost use Rattle.client_lines.specs.Codes.{submission_of};
+ghost use Rattle.client_lines.specs.Request as spec;
+ghost use Rattle.client_lines.specs.Request.{Request, IsLine, Reads, fields_of, given_in};
 
 use crate::answer::{Nonce, is_nonce};
 use field_text::cut_at;
@@ -31,9 +31,9 @@ pub struct Line<'a> {
 
 impl<'a> Model for Line<'a> {
     ghost use Rattle.std.specs.Option.{option_copied};
-    ghost use Rattle.vote_wire.specs.Codes.{submission_of};
-    ghost use Rattle.vote_wire.specs.Field.{IsNonce};
-    ghost use Rattle.vote_wire.specs.Request.{Request};
+    ghost use Rattle.client_lines.specs.Codes.{submission_of};
+    ghost use Rattle.client_lines.specs.Field.{IsNonce};
+    ghost use Rattle.client_lines.specs.Request.{Request};
 
     ghost Value = { Request };
 
@@ -50,8 +50,8 @@ impl<'a> Model for Line<'a> {
 impl<'a> Line<'a> {
     ghost use Rattle.std.specs.Prelude.{◌≡◌};
     ghost use Rattle.std.specs.Option.{option_copied};
-    ghost use Rattle.vote_wire.specs.Codes.{submission_of};
-    ghost use Rattle.vote_wire.specs.Field.{IsNonce};
+    ghost use Rattle.client_lines.specs.Codes.{submission_of};
+    ghost use Rattle.client_lines.specs.Field.{IsNonce};
 
     /// By what the client tells the answer to this line from another.
     pub fn nonce(&self) -> &'a [u8]

@@ -6,7 +6,7 @@ use Rattle.std.specs.Str.{bytes_eq}
 use Rattle.otp_core.specs.Code.{IsCode}
 use Rattle.token_file.specs.Credential.{is_word}
 use Rattle.admit_core.specs.Fit.{Submission, Check, Resync}
-use Rattle.vote_wire.specs.Field.{IsNonce}
+use Rattle.client_lines.specs.Field.{IsNonce}
 
 -- what a line asks for: the codes that it submits for a user, and the password, where one is given
 pub record Request : Type 0 where

@@ -2,7 +2,7 @@
 use Rattle.std.proofs.Common.{◌≡◌, ℕ, ◌<◌, List, [], ◌∷◌, length, ap, subst, ◌∙◌, arith}
 use Rattle.std.specs.Prelude.{◌==◌}
 use Rattle.std.proofs.lemmas.List.Splits.{length-slice_split}
-use Rattle.vote_wire.specs.Request.{Request, IsRequest, fields_of}
+use Rattle.client_lines.specs.Request.{Request, IsRequest, fields_of}
 
 no_seventh : (a b c d e f : List ℕ) (rest : List (List ℕ)) → 0 < length rest → (r : Request) → IsRequest (a ∷ b ∷ c ∷ d ∷ e ∷ f ∷ rest) r → ⊥
 no_seventh a b c d e f [] more r h = absurd (omega arith)

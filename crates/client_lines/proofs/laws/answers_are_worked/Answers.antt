@@ -1,7 +1,7 @@
 -- Each case is computed.
 use Rattle.std.proofs.Common.{refl}
 use Rattle.std.specs.Fmt.{digits}
-use Rattle.vote_wire.proofs.laws.answers_are_worked.Goals as goal
+use Rattle.client_lines.proofs.laws.answers_are_worked.Goals as goal
 
 pub returns-clause-bad_line : goal.returns-clause-bad_line
 unfolding digits

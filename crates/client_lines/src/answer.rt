@@ -1,14 +1,17 @@
 ghost use Rattle.std.specs.Prelude.{◌≡◌, ◌↔◌, ◌+◌, ◌≤◌, ◌++◌, length, IsTrue, IsSome, IfSome};
 ghost use Rattle.std.specs.Fmt.{decimal};
-ghost use Rattle.vote_wire.specs.Answer.{answer_bytes, reply_bytes};
-ghost use Rattle.vote_wire.specs.Field.{IsNonce};
-ghost use Rattle.vote_wire.specs.declared.answer.Outcome.TheVariants.{Refused};
+ghost use Rattle.arrayvec.specs.ArrayVec.{array_vec_len};
+ghost use Rattle.client_lines.specs.Answer.{answer_bytes, reply_bytes};
+ghost use Rattle.client_lines.specs.Field.{IsNonce};
+ghost use Rattle.client_lines.specs.declared.answer.Outcome.TheVariants.{Refused};
 
-use crate::writing::{MAX_SENT_LEN, push_all};
 use arrayvec::ArrayVec;
 use itoa::Buffer;
 use otp_core::Factor;
 use std::marker::Model;
+
+/// The room of an answer in bytes: that of a datagram to a peer, so a node keeps both in arrays of one kind.
+pub const MAX_ANSWER_LEN: usize = 64;
 
 /// The most bytes of a nonce.
 const MAX_NONCE_LEN: usize = 20;
@@ -21,7 +24,7 @@ pub struct Nonce {
 
 impl Model for Nonce {
     ghost use Rattle.std.specs.Prelude.{ℕ, List};
-    ghost use Rattle.vote_wire.specs.Field.{IsNonce};
+    ghost use Rattle.client_lines.specs.Field.{IsNonce};
 
     ghost Value = { List ℕ };
 
@@ -109,8 +112,16 @@ pub enum Answer {
     Reply(Nonce, Outcome),
 }
 
+/// Appends the bytes.
+fn push_all(out: &mut ArrayVec<u8, MAX_ANSWER_LEN>, bytes: &[u8])
+    requires { array_vec_len out.old + length bytes.now ≤ 64 }
+    ensures { out.new.items ≡ out.old.items ++ bytes.now }
+{
+    let _ = out.try_extend_from_slice(bytes);
+}
+
 /// A nonce between two texts.
-fn around(front: &[u8], nonce: &Nonce, back: &[u8]) -> ArrayVec<u8, MAX_SENT_LEN>
+fn around(front: &[u8], nonce: &Nonce, back: &[u8]) -> ArrayVec<u8, MAX_ANSWER_LEN>
     requires { length front.now + length back.now ≤ 44 }
     ensures text { result.items ≡ front.now ++ nonce.now ++ back.now }
     ensures len { length result.items ≤ length front.now + 20 + length back.now }
@@ -123,7 +134,7 @@ fn around(front: &[u8], nonce: &Nonce, back: &[u8]) -> ArrayVec<u8, MAX_SENT_LEN
 }
 
 /// A nonce between two texts, and a number.
-fn numbered(front: &[u8], nonce: &Nonce, back: &[u8], number: u64) -> ArrayVec<u8, MAX_SENT_LEN>
+fn numbered(front: &[u8], nonce: &Nonce, back: &[u8], number: u64) -> ArrayVec<u8, MAX_ANSWER_LEN>
     requires { length front.now + length back.now ≤ 24 }
     ensures { result.items ≡ front.now ++ nonce.now ++ back.now ++ decimal number }
 {
@@ -133,7 +144,7 @@ fn numbered(front: &[u8], nonce: &Nonce, back: &[u8], number: u64) -> ArrayVec<u
 }
 
 /// The bytes of a refusal of a line with this nonce.
-fn write_refusal(nonce: &Nonce, reason: Reason) -> ArrayVec<u8, MAX_SENT_LEN>
+fn write_refusal(nonce: &Nonce, reason: Reason) -> ArrayVec<u8, MAX_ANSWER_LEN>
     ensures { result.items ≡ reply_bytes nonce.now (Refused reason) }
 {
     match reason {
@@ -150,7 +161,7 @@ fn write_refusal(nonce: &Nonce, reason: Reason) -> ArrayVec<u8, MAX_SENT_LEN>
 }
 
 /// The bytes of the answer to a line with this nonce.
-pub fn write_reply(nonce: &Nonce, outcome: Outcome) -> ArrayVec<u8, MAX_SENT_LEN>
+pub fn write_reply(nonce: &Nonce, outcome: Outcome) -> ArrayVec<u8, MAX_ANSWER_LEN>
     ensures { result.items ≡ reply_bytes nonce.now outcome }
 {
     match outcome {
@@ -160,7 +171,7 @@ pub fn write_reply(nonce: &Nonce, outcome: Outcome) -> ArrayVec<u8, MAX_SENT_LEN
 }
 
 /// The bytes of an answer, without a line end.
-pub fn write_answer(answer: &Answer) -> ArrayVec<u8, MAX_SENT_LEN>
+pub fn write_answer(answer: &Answer) -> ArrayVec<u8, MAX_ANSWER_LEN>
     ensures { result.items ≡ answer_bytes answer.now }
 {
     match answer {

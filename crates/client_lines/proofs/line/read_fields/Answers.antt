@@ -1,5 +1,5 @@
-use Rattle.vote_wire.proofs.FieldLemmas.{too_many}
-use Rattle.vote_wire.proofs.line.read_fields.Goals as goal
+use Rattle.client_lines.proofs.FieldLemmas.{too_many}
+use Rattle.client_lines.proofs.line.read_fields.Goals as goal
 
 pub returns-in-Some-cut_at : goal.returns-in-Some-cut_at
 returns-in-Some-cut_at c =

@@ -12,8 +12,8 @@ use Rattle.std.proofs.lemmas.Slice.Eq.{bytes_eq-Decides}
 use Rattle.otp_core.specs.Code.{IsCode}
 use Rattle.admit_core.specs.Fit.{Submission, Check, Resync}
 use Rattle.token_file.specs.Credential.{is_word}
-use Rattle.vote_wire.specs.Field.{IsNonce}
-use Rattle.vote_wire.specs.Request.{Request, IsRequest, IsLine, Reads, has_length, is_nonce, is_code, are_common, given_in, request_of, request_at, fields_of, without_lf}
+use Rattle.client_lines.specs.Field.{IsNonce}
+use Rattle.client_lines.specs.Request.{Request, IsRequest, IsLine, Reads, has_length, is_nonce, is_code, are_common, given_in, request_of, request_at, fields_of, without_lf}
 
 decides_le : (a b : ℕ) → Decides (nat_le a b) (a ≤ b)
 decides_le a b = (leb-true a b, le-leb a b)

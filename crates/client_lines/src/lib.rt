@@ -1,0 +1,13 @@
+//! The lines of clients and the answers to them, as bytes.
+//!
+//! A client's line is read by [`read_line`], which takes exactly the grammar (the law [`grammar_is_read`]), and
+//! answered with what [`write_answer`] writes. Nothing here takes memory.
+#![tactic(auto)]
+
+mod answer;
+mod laws;
+mod line;
+
+pub use answer::{Answer, MAX_ANSWER_LEN, Nonce, Outcome, Reason, write_answer, write_reply};
+pub use laws::{answers_are_worked, grammar_is_read, lines_are_worked};
+pub use line::{Codes, Line, read_line, without_lf};
