@@ -1,7 +1,7 @@
 -- Which factors a token accepts at a moment: for an event token those from the first free one on (RFC
 -- 4226, sections 7.2 and 7.4), for a time token those around the time step at its clock (RFC 6238,
 -- sections 5.2 and 6). None below the first free one is accepted (RFC 6238, section 5.2: one time only).
-use Rattle.std.specs.Prelude.{ℕ, ◌+◌, ◌-◌, ◌^◌, ◌<◌, ◌≤◌, ◌↔◌, nat_lt, max, ℤ, pos, negsuc, ◌+ℤ◌, ◌-ℤ◌, ◌≤ℤ◌, List, filter, Option, Some, None}
+use Rattle.std.specs.Prelude.{ℕ, ◌+◌, ◌-◌, ◌^◌, ◌≤◌, ◌↔◌, nat_lt, max, ℤ, pos, negsuc, ◌+ℤ◌, ◌-ℤ◌, ◌≤ℤ◌, List, filter, Option, Some, None}
 use Rattle.std.specs.List.{range_with_len}
 use Rattle.otp_core.specs.Limits.{Limits}
 use Rattle.otp_core.specs.Range.{IsFactor}

@@ -3,5 +3,6 @@ ghost use Rattle.command_line.specs.Number.{is_up_to};
 
 /// The ends of a range, worked through.
 pub fn numbers_are_worked()
-    ensures { map (is_up_to 9) (None ∷ Some 0 ∷ Some 9 ∷ Some 10 ∷ []) ≡ false ∷ true ∷ true ∷ false ∷ [] }
+    ensures in_range { map (is_up_to 9) (Some 0 ∷ Some 9 ∷ []) ≡ true ∷ true ∷ [] }
+    ensures out_of_range { map (is_up_to 9) (None ∷ Some 10 ∷ []) ≡ false ∷ false ∷ [] }
 {}

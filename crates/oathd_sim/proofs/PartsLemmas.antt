@@ -1,5 +1,5 @@
 -- The two parts of an input.
-use Rattle.std.proofs.Common.{◌≡◌, ℕ, ◌+◌, Bool, List, [], ◌∷◌, length, take, map, Option, Some, None, IfSome, refl, sym, ap, subst, ◌∙◌}
+use Rattle.std.proofs.Common.{◌≡◌, ℕ, Bool, List, take, Option, Some, None, IfSome, refl, sym, ap, subst, ◌∙◌}
 use Rattle.std.specs.Prelude.{Ok}
 use Rattle.std.specs.Option.{option_map}
 use Rattle.std.proofs.lemmas.Option.{IfSome_then}
@@ -7,7 +7,7 @@ use Rattle.otp_core.specs.Limits.{Limits}
 use Rattle.token_file.specs.Credential.{Credential}
 use Rattle.token_file.specs.Source.{OfText, Stays}
 use Rattle.token_file.specs.UsersFile.{Import, book_of, import_of, instant_of}
-use Rattle.users_input.specs.Input.{IsReadTo, TextLine, lines_between, lines_of, pieces_of, rest_part, users_part}
+use Rattle.users_input.specs.Input.{IsReadTo, lines_between, lines_of, pieces_of}
 use Rattle.users_input.specs.Users.{HasRest, NumberedLine, numbered, rest_behind, users_text}
 use Rattle.users_input.specs.declared.fault.InputFault.{InputFault}
 use Rattle.users_input.specs.declared.fault.InputFault.TheVariants as input

@@ -56,7 +56,9 @@ pub fn gates_are_worked()
         ≡ record { fails = 1; until = 105 } ∷ record { fails = 2; until = 110 }
         ∷ record { fails = 10000; until = 50100 } ∷ record { fails = 10000; until = 50100 } ∷ [] }
     ensures clear { clear_gate ≡ record { fails = 0; until = 0 } }
-    ensures ranges { IsGate 10000 1099511677776 × (IsGate 10001 0 → ⊥) × (IsGate 0 1099511677777 → ⊥) }
+    ensures widest { IsGate 10000 1099511677776 }
+    ensures too_many_failures { IsGate 10001 0 → ⊥ }
+    ensures too_late { IsGate 0 1099511677777 → ⊥ }
 {}
 
 /// The ranges of a drift at their ends, and drifts brought into those that settings allow.

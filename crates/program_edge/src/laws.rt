@@ -1,7 +1,8 @@
 ghost use Rattle.std.specs.Prelude.{◌≡◌, [], ◌∷◌, codes};
 ghost use Rattle.program_edge.specs.Line.{line_of};
 
-/// A line of output, worked through.
+/// Lines of output, worked through.
 pub fn lines_are_worked()
-    ensures { line_of (codes "OK") ≡ 79 ∷ 75 ∷ 10 ∷ [] }
+    ensures line { line_of (codes "OK") ≡ 79 ∷ 75 ∷ 10 ∷ [] }
+    ensures empty { line_of [] ≡ 10 ∷ [] }
 {}

@@ -17,7 +17,7 @@ use Rattle.field_text.specs.Number.{number_of}
 use Rattle.cluster_sim.specs.Rounds.{IsAscending, RoundLine, is_live}
 use Rattle.sim_script.specs.Lines.{fields_of}
 use Rattle.sim_script.specs.Event.{Act, Says, Deliver, Ticks, Noise, Event, Happens, Cut, Restart, Lost, Anew}
-use Rattle.sim_script.specs.Grammar.{AreNumbers, AreUpTo, IsActLine, IsAnewLine, IsDeliverLine, IsEventLine, IsHex, IsLiveLine, IsNoiseLine, IsRoundLine, IsSaidLine, IsTickLine, kept_word}
+use Rattle.sim_script.specs.Grammar.{AreNumbers, AreUpTo, IsActLine, IsDeliverLine, IsEventLine, IsHex, IsLiveLine, IsNoiseLine, IsRoundLine, IsSaidLine, IsTickLine, kept_word}
 use Rattle.sim_script.specs.Script.{◌>>=◌, act_line, act_of_word, anew_event, lost_event, next_of, nexts_of, bytes_of, client_act, cut_event, deliver_act, event_line, event_of_word, kept_of_word, line_among, live_line, live_members, member_above, members_above, noise_act, restart_event, round_among, said_line, tick_act}
 
 -- ---- A text cut at its first space

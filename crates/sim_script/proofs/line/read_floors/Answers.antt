@@ -3,7 +3,7 @@ use Rattle.std.specs.Prelude.{◌==◌}
 use Rattle.std.proofs.lemmas.Iterator.Consumers.{YieldsList-at, YieldsList-end, YieldsList-turn}
 use Rattle.std.proofs.lemmas.Iterator.Splits.{YieldsList-from_slice_split}
 use Rattle.sim_script.specs.Lines.{fields_of}
-use Rattle.sim_script.proofs.FloorLemmas.{HasFloors, floors_all, floors_bad, floors_next, floors_none}
+use Rattle.sim_script.proofs.FloorLemmas.{HasFloors, floors_all, floors_bad, floors_next}
 use Rattle.sim_script.proofs.line.read_floors.Goals as goal
 
 pub loop-field-preserved : goal.loop-field-preserved
