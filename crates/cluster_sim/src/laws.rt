@@ -176,7 +176,7 @@ pub fn losses_are_worked()
     ensures not_lost { report_of config three (after_loss (Anew 3 2 (1 ∷ []))) ≡ first_accepted }
     ensures there { report_of config three failed_and_there
         ≡ report_with [] (told_outcome 0 1 7 (codes "a") (Refused Invalid)
-        ∷ told_outcome 2 1 7 (codes "b") (Refused (Throttled 1)) ∷ []) 0 }
+        ∷ told_outcome 2 1 7 (codes "b") (Refused (Throttled 5)) ∷ []) 0 }
     ensures no_member { report_of config three (after_loss (Anew 4 2 (1 ∷ []))) ≡ first_accepted }
     ensures two_of_three { report_of config three two_lost ≡ first_accepted }
     ensures one_of_two { report_of config (first_start ((0 ∷ []) ∷ (0 ∷ []) ∷ [])) one_of_two

@@ -87,7 +87,8 @@ rows_stay old new rows floors drifts held token row got =
 pub passes_stay : (old new : Trees) (passes : List PassRecord) → new 2 ≡ old 2 → HoldsPasses old passes → HoldsPasses new passes
 passes_stay old new passes same held = subst (λ rows. IsPermutation (pass_rows 1 passes) (map pass_columns rows)) (sym same) held
 
-row_put : (token : ℕ) (row : RowRecord) (c : Content) (old new : Database) (passes : List PassRecord) → Holds old.trees c passes → PutsRow token row old new → Holds new.trees (with_row c token row None) passes
+row_put : (token : ℕ) (row : RowRecord) (c : Content) (old new : Database) (passes : List PassRecord) → Holds old.trees c passes
+    → PutsRow token row old new → Holds new.trees (with_row c token row None) passes
 row_put token row c old new passes it change = record {
   rows = rows_put old new token row c.rows change it.rows;
   node = it.node;
@@ -108,7 +109,8 @@ pass_put number p c old new passes is it change = record {
 }
 
 pub puts : (token : ℕ) (row : RowRecord) (count : ℕ) (pass : Option PassRecord) (c : Content) → Alters (Puts token row (count + 1) pass) c count (with_row c token row pass) (option_to_list pass)
-puts token row count None c old new passes schema it counted change = (change.2.schema, subst (Holds new.trees (with_row c token row None)) (sym (append-nil passes)) (row_put token row c old new passes it change))
+puts token row count None c old new passes schema it counted change =
+    (change.2.schema, subst (Holds new.trees (with_row c token row None)) (sym (append-nil passes)) (row_put token row c old new passes it change))
 puts token row count (Some p) c old new passes schema it counted change =
     let first = row_put token row c old change.0 passes it change.1 in
     (change.2.schema, pass_put (count + 1) p (with_row c token row None) change.0 new passes (ap (λ n. n + 1) (sym counted)) first change.2)
@@ -118,7 +120,13 @@ raises count c old new passes schema it counted change =
     let was = change.was in
     let same = one_self old.trees was.node it.node was.tokens (length c.rows) was.boot c.boot was.held it.self in
     let row = self_row was.node was.tokens (c.boot + 1) in
-    let held : HoldsSelf new.trees was.node was.tokens (c.boot + 1) = record { found = row; place = ap (find (has_rowid (pos 1))) change.self ∙ find-put_row (pos 1) row refl (without_rowid (pos 1) (old.trees 0)); shows = refl } in
+    let held : HoldsSelf new.trees was.node was.tokens (c.boot + 1) =
+    record {
+      found = row;
+      place =
+          ap (find (has_rowid (pos 1))) change.self ∙ find-put_row (pos 1) row refl (without_rowid (pos 1) (old.trees 0));
+      shows = refl;
+    } in
     let now : Holds new.trees (with_next_boot c) passes = record {
       rows = rows_stay old.trees new.trees c.rows (change.others 1 (λ (e : 1 ≡ 0). omega arith)) (change.others 3 (λ (e : 3 ≡ 0). omega arith)) it.rows;
       node = it.node;

@@ -86,7 +86,9 @@ module _ {S : Type 0} (g : Ghosts S) (old new : Held S) (mirror : Content) (coun
   mirrored clean now = let before : HasCleanDisk (state g old) = omega arith in kept.tables before (kept.is_open refl before)
 
   -- a write that failed has broken the store, and left the tables as they were
-  pub kept_broken : (e : StoreFault) → IsTrue (is_failure e) → new.in_transaction ≡ false → doubt (state g old).is_clean ≤ doubt (state g new).is_clean → (HasCleanDisk (state g new) → KeepsCommit (state g old) (state g new)) → IsKept g new mirror count (Some e)
+  pub kept_broken : (e : StoreFault) → IsTrue (is_failure e) → new.in_transaction ≡ false
+      → doubt (state g old).is_clean ≤ doubt (state g new).is_clean → (HasCleanDisk (state g new) → KeepsCommit (state g old) (state g new))
+      → IsKept g new mirror count (Some e)
   kept_broken e failure idle clean back = record {
     idle = idle;
     is_open = λ none now. absurd (cc);
@@ -106,7 +108,8 @@ module _ {S : Type 0} (g : Ghosts S) (old new : Held S) (mirror : Content) (coun
 
   module _ (IsChange : Database → Database → Type 0) (after : Content) (more : List PassRecord) (alters : Alters IsChange mirror count after more) where
     -- a write that is done has changed the mirror as the tables
-    pub kept_changed : new.in_transaction ≡ false → doubt (state g old).is_clean ≤ doubt (state g new).is_clean → count + length more ≤ 2 ^ 62 → (HasCleanDisk (state g new) → Commits IsChange (state g old) (state g new)) → IsKept g new after (count + length more) None
+    pub kept_changed : new.in_transaction ≡ false → doubt (state g old).is_clean ≤ doubt (state g new).is_clean → count + length more ≤ 2 ^ 62
+        → (HasCleanDisk (state g new) → Commits IsChange (state g old) (state g new)) → IsKept g new after (count + length more) None
     kept_changed idle clean room done = record {
       idle = idle;
       is_open = λ none now. (done now).is_open;
@@ -126,7 +129,8 @@ module _ {S : Type 0} (g : Ghosts S) (old new : Held S) (mirror : Content) (coun
     }
 
     -- a write that is done has made the audit list longer
-    pub audit_changed : doubt (state g old).is_clean ≤ doubt (state g new).is_clean → HasCleanDisk (state g new) → Commits IsChange (state g old) (state g new) → (passes : List PassRecord) → Holds (state g old).committed.trees mirror passes
+    pub audit_changed : doubt (state g old).is_clean ≤ doubt (state g new).is_clean → HasCleanDisk (state g new)
+        → Commits IsChange (state g old) (state g new) → (passes : List PassRecord) → Holds (state g old).committed.trees mirror passes
         → Holds (state g new).committed.trees after (passes ++ more)
     audit_changed clean now it passes had =
         let was = mirrored clean now in
@@ -243,7 +247,8 @@ module _ {S : Type 0} (g : Ghosts S) (old new : Held S) (base mirror : Content) 
         let trees : (state g old).committed.trees ≡ (state g old).now.trees = ap (λ (d : Database). d.trees) (sym mirrored.settled) in
         let same : it.base ≡ base = one_content (state g old).now.trees it.base base had.passes mirrored.passes (subst (λ (t : Trees). Holds t it.base had.passes) trees it.holds) mirrored.holds in
         let held : Holds (state g old).committed.trees base had.passes = subst (λ (c : Content). Holds (state g old).committed.trees c had.passes) same it.holds in
-        let holds = audit_changed g old new base count kept (MakesAll count staged boot) (with_boot boot (with_puts base staged)) (passes_in staged) alters s.clean clean (done clean) had.passes held in
+        let holds = audit_changed g old new base count kept (MakesAll count staged boot) (with_boot boot (with_puts base staged))
+        (passes_in staged) alters s.clean clean (done clean) had.passes held in
         record {
           passes = had.passes ++ passes_in staged;
           committed = record {

@@ -44,7 +44,9 @@ version_raised old new it h =
     let w = runs_as update_version params old new floor_schema it.schema (Update 0 (plain_program version_query)) update_version_is update_version_plain 1 h in
     let u = updated 0 self refl version_query _ params old new 1 it.schema w in
     let one = only u.shown (sym u.counted) in
-    let row : one.0 ≡ eval_all version_terms (params ∷ was ∷ []) = changed_row by_one version_terms params 0 db was one.0 refl there (picks_one params was keyed) (subst (IsAnswer version_query (overlay db []) params) one.1 u.answer) in
+    let row : one.0 ≡ eval_all version_terms (params ∷ was ∷ []) =
+    changed_row by_one version_terms params 0 db was one.0 refl there (picks_one params was keyed)
+    (subst (IsAnswer version_query (overlay db []) params) one.1 u.answer) in
     let out : Row = Int (pos 1) ∷ Int (pos 1) ∷ Null ∷ Int (pos 2) ∷ Int (pos it.node) ∷ Int (pos it.tokens) ∷ Int (pos it.boot) ∷ [] in
     let eval : eval_all version_terms (params ∷ was ∷ []) ≡ out = rw (keyed, node, tokens, boot) in
     let shown : u.shown ≡ out ∷ [] = one.1 ∙ ap (λ r. r ∷ []) (row ∙ eval) in

@@ -26,7 +26,8 @@ module _ (id : ℤ) where
     filter-put_row [] none = rw (finds_new id new keyed)
     filter-put_row (r ∷ rows) none = split (has_rowid id r) refl none (filter-put_row rows)
       where
-        go : (o : Ordering) → value_cmp (rowid r) (rowid new) ≡ o → has_rowid id r ≡ false → filter (has_rowid id) rows ≡ [] → filter (has_rowid id) (put_row new rows) ≡ new ∷ [] → filter (has_rowid id) (Put o new r rows) ≡ new ∷ []
+        go : (o : Ordering) → value_cmp (rowid r) (rowid new) ≡ o → has_rowid id r ≡ false → filter (has_rowid id) rows ≡ []
+            → filter (has_rowid id) (put_row new rows) ≡ new ∷ [] → filter (has_rowid id) (Put o new r rows) ≡ new ∷ []
         go Less is other rest later = rw (other, later)
         go Equal is other rest later =
             let also : has_rowid id r ≡ true = ap (λ v. is_eq (value_cmp (rowid r) v)) (sym keyed) ∙ ap is_eq is in

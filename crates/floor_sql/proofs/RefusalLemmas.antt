@@ -94,11 +94,18 @@ counts_part : (task : Task) (db : Trees) (counter : Option Row) (top : ℤ) (e :
 counts_part task db counter top e h = match_free e _ h (counts_free task db counter top (sequence task.schema) e) (gives_free db e)
 
 inserts_free : (task : Task) (from : Source) (db : Trees) (e : Error) → Inserts task from db (Err (Some e)) → is_of_schema e ≡ false
-inserts_free task from db e h = then_free h (λ stop. sourced_free task.limit (record { schema = task.schema; trees = db }) _ from e stop) (λ rows given. then_free given (λ stop. counter_part task db e stop)
-    (λ counter counted. then_free counted (λ stop. edited_free _ _ _ _ e stop) (λ mid edited. then_free edited (λ stop. counts_part task mid counter (fold higher (count_of counter) (edit_of db task.table [] (rowids_for task.table (count_of counter)) 0 rows).news) e stop) (λ next done. absurd (cc)))))
+inserts_free task from db e h =
+    then_free h (λ stop. sourced_free task.limit (record { schema = task.schema; trees = db }) _ from e stop)
+    (λ rows given. then_free given (λ stop. counter_part task db e stop)
+    (λ counter counted. then_free counted (λ stop. edited_free _ _ _ _ e stop)
+    (λ mid edited. then_free edited
+    (λ stop. counts_part task mid counter
+    (fold higher (count_of counter) (edit_of db task.table [] (rowids_for task.table (count_of counter)) 0 rows).news) e stop) (λ next done. absurd (cc)))))
 
 updates_free : (task : Task) (q : Program) (params : Row) (db : Trees) (e : Error) → Updates task q params db (Err (Some e)) → is_of_schema e ≡ false
-updates_free task q params db e h = then_free h (λ stop. query_free task.limit (record { schema = task.schema; trees = db }) q params e stop) (λ rows given. then_free given (λ stop. edited_free _ _ _ _ e stop) (λ next done. absurd (cc)))
+updates_free task q params db e h =
+    then_free h (λ stop. query_free task.limit (record { schema = task.schema; trees = db }) q params e stop)
+    (λ rows given. then_free given (λ stop. edited_free _ _ _ _ e stop) (λ next done. absurd (cc)))
 
 concludes_free : (task : Task) (mode : Mode) (w : Written) (e : Error) → Concludes task mode None w (Err (Some e)) → is_of_schema e ≡ false
 concludes_free task mode w e h = then_free h (λ stop. let same : e ≡ SqliteFailure (code.ConstraintViolation ForeignKey) = let is = stop.1 in cc in ap is_of_schema same)
@@ -172,7 +179,8 @@ module _ (sql : List ℕ) (params : Row) (old new : State) (schema : Schema) (ha
   command_free c known now (inr fails) = ap is_of_schema fails.1 ∙ of_store fails.0
 
   alone_free : (shows : Bool) (c : Compiled) → understood old.now.schema sql ≡ Ok c → (now : ℕ)
-      → MatchBool shows ((◌≡◌ {A = Result ℕ Error} (Err e) (Err ExecuteReturnedResults)) × IsUnchanged old new) (RunsCommand old new sql c (timed params c.formats now) (Err e)) → is_of_schema e ≡ false
+      → MatchBool shows ((◌≡◌ {A = Result ℕ Error} (Err e) (Err ExecuteReturnedResults)) × IsUnchanged old new)
+      (RunsCommand old new sql c (timed params c.formats now) (Err e)) → is_of_schema e ≡ false
   alone_free true c known now h = let same : e ≡ ExecuteReturnedResults = let one = h.0 in cc in ap is_of_schema same
   alone_free false c known now h = command_free c known now h
 
@@ -191,6 +199,7 @@ commit_free old new e (inl fails) = ap is_of_schema fails.1 ∙ of_store fails.0
 commit_free old new e (inr h) = ap is_of_schema h.0
 
 pub never_of_text : (sql : List ℕ) (params : Row) (old new : State) (schema : Schema) → old.now.schema ≡ schema → (command : Command) → command_of (understood schema sql) ≡ command
-    → IsPlain (understood schema sql) → IsOwn (statement_of sql (understood schema sql)) command → (fault : StoreFault) → IsFaultOf (λ error. ExecutesInside 0 sql params old new (Err error)) fault → fault ≢ Unusable
+    → IsPlain (understood schema sql) → IsOwn (statement_of sql (understood schema sql)) command → (fault : StoreFault)
+    → IsFaultOf (λ error. ExecutesInside 0 sql params old new (Err error)) fault → fault ≢ Unusable
 never_of_text sql params old new schema has command is plain own fault cause =
     subst (λ f. f ≢ Unusable) (sym cause.is) (not_of_text cause.error (inside_free sql params old new schema has command is plain own cause.error cause.refused))

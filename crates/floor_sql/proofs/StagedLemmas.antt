@@ -113,7 +113,9 @@ audit_put g conn mirror after staged more_staged count fault put all pushed made
 
 -- how many passes they have
 pub passes_in-next : (xs : List Put) (i : ℕ) (x : Put) → slice_get xs i ≡ Some x → length (passes_in (take (i + 1) xs)) ≡ length (passes_in (take i xs)) + length (option_to_list x.pass)
-passes_in-next xs i x is = ap (λ (l : List Put). length (passes_in l)) (take_next xs i x is) ∙ ap length (passes_in-append (take i xs) x) ∙ length-append (passes_in (take i xs)) (option_to_list x.pass)
+passes_in-next xs i x is =
+    ap (λ (l : List Put). length (passes_in l)) (take_next xs i x is) ∙ ap length (passes_in-append (take i xs) x)
+    ∙ length-append (passes_in (take i xs)) (option_to_list x.pass)
 
 -- tables of which puts are made have the row of `self`
 pub has_self_in : (count : ℕ) (puts : List Put) (old new : Database) → CanPut old count puts → MakesPuts count puts old new → HasSelf new
@@ -127,7 +129,8 @@ pub lacks_row : (trees : Trees) (puts : List Put) (boot : Option ℕ) → ¬ Has
 lacks_row trees puts None lacks = lacks
 lacks_row trees puts (Some boot) lacks = λ rows one. lacks rows
 
-module _ {S A : Type 0} (g : Ghosts S) (old mid new : SqlHeld S) (made : Content) (works : old.fault ≡ None) (still : mid.fault ≡ None) (conn : mid.conn ≡ old.conn) (put : mid.mirror ≡ made) (tokens : length made.rows ≡ length old.mirror.rows) where
+module _ {S A : Type 0} (g : Ghosts S) (old mid new : SqlHeld S) (made : Content) (works : old.fault ≡ None) (still : mid.fault ≡ None)
+    (conn : mid.conn ≡ old.conn) (put : mid.mirror ≡ made) (tokens : length made.rows ≡ length old.mirror.rows) where
   -- the put that fills the list is made in memory, and then written with the others
   pub puts_through : (r : Result A StoreFault) → Writes (sql_held g) mid new mid.mirror r → PutsContent (sql_held g) old new made r
   puts_through r w = record {

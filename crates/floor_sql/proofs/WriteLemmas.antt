@@ -67,15 +67,21 @@ version_counted old new params count has h it =
 
 module _ (old new : State) (fault : StoreFault) (has : old.now.schema ≡ floor_schema) where
   pub floor_unusable : (token : ℕ) (more : Row) → ChangesNotOne update_floor (Int (pos token) ∷ more) old new fault → fault ≡ Unusable → ¬ HasOneRow (old.now.trees 1) token
-  floor_unusable token more (inl cause) is one = never_of_text update_floor (Int (pos token) ∷ more) old new floor_schema has (Update 1 (plain_program (changed_query 1 floor_terms))) update_floor_is update_floor_plain tt fault cause is
+  floor_unusable token more (inl cause) is one =
+      never_of_text update_floor (Int (pos token) ∷ more) old new floor_schema has
+      (Update 1 (plain_program (changed_query 1 floor_terms))) update_floor_is update_floor_plain tt fault cause is
   floor_unusable token more (inr ran) is one = ran.1 (floor_counted old new token more ran.0 has ran.2 one)
 
   pub drift_unusable : (token : ℕ) (more : Row) → ChangesNotOne update_drift (Int (pos token) ∷ more) old new fault → fault ≡ Unusable → ¬ HasOneRow (old.now.trees 3) token
-  drift_unusable token more (inl cause) is one = never_of_text update_drift (Int (pos token) ∷ more) old new floor_schema has (Update 3 (plain_program (changed_query 3 drift_terms))) update_drift_is update_drift_plain tt fault cause is
+  drift_unusable token more (inl cause) is one =
+      never_of_text update_drift (Int (pos token) ∷ more) old new floor_schema has
+      (Update 3 (plain_program (changed_query 3 drift_terms))) update_drift_is update_drift_plain tt fault cause is
   drift_unusable token more (inr ran) is one = ran.1 (drift_counted old new token more ran.0 has ran.2 one)
 
   pub version_unusable : (params : Row) → ChangesNotOne update_version params old new fault → fault ≡ Unusable → ¬ HasOneRow (old.now.trees 0) 1
-  version_unusable params (inl cause) is one = never_of_text update_version params old new floor_schema has (Update 0 (plain_program version_query)) update_version_is update_version_plain tt fault cause is
+  version_unusable params (inl cause) is one =
+      never_of_text update_version params old new floor_schema has
+      (Update 0 (plain_program version_query)) update_version_is update_version_plain tt fault cause is
   version_unusable params (inr ran) is one = ran.1 (version_counted old new params ran.0 has ran.2 one)
 
   pub boot_unusable : (params : Row) → ChangesNotOne update_boot params old new fault → fault ≡ Unusable → ¬ HasOneRow (old.now.trees 0) 1

@@ -7,14 +7,14 @@ use Rattle.std.specs.Prelude.{◌≡◌, Result, IsTrue, IfOk, IfErr, OnOk, OnEr
 use Rattle.sqlite.specs.Store.{Ghosts}
 use Rattle.sqlite.specs.Effect.{Database}
 use Rattle.sqlite.specs.Held.{Held, state}
-use Rattle.sqlite.specs.State.{HasCleanDisk, KeepsCommit, Survives}
+use Rattle.sqlite.specs.State.{HasCleanDisk, KeepsCommit, State, Survives}
 use Rattle.sqlite.specs.declared.transaction.Transaction.{Transaction}
 use Rattle.floor_store.specs.Fault.{is_failure}
 use Rattle.floor_store.specs.declared.fault.StoreFault.{StoreFault}
 use Rattle.floor_store.specs.declared.fault.StoreFault.TheVariants.{Unusable}
 use Rattle.floor_sql.specs.declared.read.Refusal.{Refusal}
 use Rattle.floor_sql.specs.Shown.{IsRead, IsLeft}
-use Rattle.floor_sql.specs.Stored.{Commits, MayCommit, KeepsCommit as KeepsLast}
+use Rattle.floor_sql.specs.Stored.{Commits, MayCommit}
 
 module _ {S : Type 0} (g : Ghosts S) where
   -- ---- in a transaction
@@ -69,15 +69,17 @@ module _ {S : Type 0} (g : Ghosts S) where
     -- after `Unusable` they are not usable
     pub unusable : HasCleanDisk (state g new) → IfErr result (λ e. e.0 ≡ Unusable → ¬ IsUsable (state g old).now)
 
-  -- A change that is made in one transaction, whole or not at all. `fault` is the fault that an error tells.
+  -- A change that is made in one transaction, whole or not at all, behind any reads. `fault` is the fault that an error
+  -- tells, and `Stays` says what is left then: with nothing read before, the tables as last committed.
   pub record Transacts {A E : Type 0} (fault : E → StoreFault) (old new : Held S)
-      (IsChange : Database → Database → Type 0) (Lacks : Database → Type 0) (result : Result A E) : Type 0 where
+      (IsChange : Database → Database → Type 0) (Stays : State → State → Type 0) (Lacks : Database → Type 0)
+      (result : Result A E) : Type 0 where
     -- the transaction has ended
     pub idle : new.in_transaction ≡ false
     -- after Ok the change is committed
     pub ok : HasCleanDisk (state g new) → OnOk result (Commits IsChange (state g old) (state g new))
-    -- after Err the tables are as they were last committed
-    pub err : HasCleanDisk (state g new) → OnErr result (KeepsLast (state g old) (state g new))
+    -- after Err that is left
+    pub err : HasCleanDisk (state g new) → OnErr result (Stays (state g old) (state g new))
     -- the error is one that breaks a store
     pub failure : IfErr result (λ e. IsTrue (is_failure (fault e)))
     -- after `Unusable` the tables lacked what the change needs

@@ -172,18 +172,18 @@ pub fn calls_can_be_broken<S: Alter>()
     ensures reads_tables_unusable { (conn : Conn S) → HasCleanDisk (state S.Store conn)
         → ReadsTables S.Store {A = ℕ} conn conn IsOne (λ db. ⊤) (Err (refused Unusable)) → ⊥ }
     ensures transacts_idle { (conn : Conn S) → Transacts S.Store {A = ℕ} (λ fault. fault) conn
-        (record conn { in_transaction = true }) (λ old new. ⊤) (λ db. ⊤) (Err Disk) → ⊥ }
+        (record conn { in_transaction = true }) (λ old new. ⊤) KeepsCommit (λ db. ⊤) (Err Disk) → ⊥ }
     ensures transacts_ok { (conn : Conn S) → HasCleanDisk (state S.Store conn)
-        → Transacts S.Store {A = ℕ} (λ fault. fault) conn conn (λ old new. ⊥) (λ db. ⊤) (Ok 0) → ⊥ }
+        → Transacts S.Store {A = ℕ} (λ fault. fault) conn conn (λ old new. ⊥) KeepsCommit (λ db. ⊤) (Ok 0) → ⊥ }
     ensures transacts_err { (conn : Conn S) → HasCleanDisk (state S.Store conn)
         → IsTrue (state S.Store conn).is_open → (state S.Store conn).now ≢ (state S.Store conn).committed
-        → Transacts S.Store {A = ℕ} (λ fault. fault) conn conn (λ old new. ⊤) (λ db. ⊤) (Err Disk) → ⊥ }
+        → Transacts S.Store {A = ℕ} (λ fault. fault) conn conn (λ old new. ⊤) KeepsCommit (λ db. ⊤) (Err Disk) → ⊥ }
     ensures transacts_failure { (conn : Conn S)
-        → Transacts S.Store {A = ℕ} (λ fault. fault) conn conn (λ old new. ⊤) (λ db. ⊤) (Err Spent) → ⊥ }
+        → Transacts S.Store {A = ℕ} (λ fault. fault) conn conn (λ old new. ⊤) KeepsCommit (λ db. ⊤) (Err Spent) → ⊥ }
     ensures transacts_unusable { (conn : Conn S) → HasCleanDisk (state S.Store conn)
-        → Transacts S.Store {A = ℕ} (λ fault. fault) conn conn (λ old new. ⊤) (λ db. ⊥) (Err Unusable) → ⊥ }
+        → Transacts S.Store {A = ℕ} (λ fault. fault) conn conn (λ old new. ⊤) KeepsCommit (λ db. ⊥) (Err Unusable) → ⊥ }
     ensures transacts_crash { (conn : Conn S) → conn.step_limit ≡ None → Transacts S.Store {A = ℕ} (λ fault. fault) conn
-        (record conn { step_limit = Some 7 }) (λ old new. ⊤) (λ db. ⊤) (Err Disk) → ⊥ }
+        (record conn { step_limit = Some 7 }) (λ old new. ⊤) KeepsCommit (λ db. ⊤) (Err Disk) → ⊥ }
     ensures keeps_tables_idle { (conn : Conn S)
         → KeepsTables S.Store conn (record conn { in_transaction = true }) → ⊥ }
     ensures keeps_tables_read { (conn : Conn S) → HasCleanDisk (state S.Store conn) → conn.schema ≡ floor_schema

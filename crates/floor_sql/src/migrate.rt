@@ -1,15 +1,13 @@
 //! The tables of version 1, and what makes those of version 2 of them.
 
-ghost use Rattle.std.specs.Prelude.{◌≡◌, ◌<◌, ◌≤◌, ℕ, false, IsTrue, IfErr, OnOk, OnErr};
+ghost use Rattle.std.specs.Prelude.{◌≡◌, ◌<◌, ◌≤◌, ℕ, false, IsTrue};
 ghost use Rattle.sqlite.specs.Held.{state};
-ghost use Rattle.sqlite.specs.State.{HasCleanDisk, Survives};
-ghost use Rattle.floor_store.specs.Fault.{is_failure};
-ghost use Rattle.floor_store.specs.declared.fault.StoreFault.TheVariants.{Unusable};
+ghost use Rattle.sqlite.specs.State.{HasCleanDisk};
 ghost use Rattle.floor_sql.specs.Schema as tables;
 ghost use Rattle.floor_sql.specs.Schema.{undrifted_schema, floor_schema, IsOfStore};
 ghost use Rattle.floor_sql.specs.Shown.{IsLeft};
 ghost use Rattle.floor_sql.specs.Steps.{Changes, ReadsTables, Transacts};
-ghost use Rattle.floor_sql.specs.Stored.{HasOneRow, HasVersion, Commits, MayCommit, rows_of};
+ghost use Rattle.floor_sql.specs.Stored.{HasOneRow, HasVersion, KeepsCommit, rows_of};
 ghost use Rattle.floor_sql.specs.Usable.{HasUsableFloor};
 ghost use Rattle.floor_sql.specs.Migrate.{HasUndrifted, IsUndrifted, IsUsableUndrifted, RaisesVersion, AddsVersion, Migrates};
 
@@ -84,7 +82,7 @@ fn write_version<S: Alter>(conn: &mut Connection<S>, tokens: u32) -> Result<(), 
     requires idle { conn.old.in_transaction ≡ false }
     requires there { HasCleanDisk (state S.Store conn.old)
         → HasVersion (state S.Store conn.old).now undrifted_schema 1 }
-    ensures { Transacts S.Store (λ e. e.0) conn.old conn.new (AddsVersion tokens)
+    ensures { Transacts S.Store (λ e. e.0) conn.old conn.new (AddsVersion tokens) KeepsCommit
         (λ db. ¬ HasOneRow (rows_of tables.self db.trees) 1) result }
 {
     let mut tx = conn.transaction();
@@ -106,16 +104,8 @@ pub fn migrate_tables<S: Alter>(
 ) -> Result<(), Refusal>
     requires idle { conn.old.in_transaction ≡ false }
     requires tokens { tokens ≤ 10000 }
-    ensures idle { conn.new.in_transaction ≡ false }
-    ensures ok { HasCleanDisk (state S.Store conn.new)
-        → OnOk result (Commits (Migrates node tokens) (state S.Store conn.old) (state S.Store conn.new)) }
-    ensures left { HasCleanDisk (state S.Store conn.new)
-        → OnErr result (IsLeft (state S.Store conn.old) (state S.Store conn.new)) }
-    ensures failure { IfErr result (λ e. IsTrue (is_failure e.0)) }
-    ensures unusable { HasCleanDisk (state S.Store conn.new) → IfErr result (λ e. e.0 ≡ Unusable
-        → ¬ IsUsableUndrifted (state S.Store conn.old).now node tokens) }
-    ensures crash { Survives (state S.Store conn.old) (state S.Store conn.new) (MayCommit (Migrates node tokens)
-        (state S.Store conn.old)) }
+    ensures { Transacts S.Store (λ e. e.0) conn.old conn.new (Migrates node tokens) IsLeft
+        (λ db. ¬ IsUsableUndrifted db node tokens) result }
 {
     check_tables(conn, node, tokens)?;
     write_version(conn, tokens)?;
