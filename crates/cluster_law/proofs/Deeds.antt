@@ -3,7 +3,7 @@ use Rattle.std.proofs.Common.{◌≡◌, ℕ, zero, suc, ◌%◌, Bool, true, fa
 use Rattle.std.proofs.lemmas.Bool.{cond-true, eq-eqb}
 use Rattle.std.proofs.lemmas.List.{map-append}
 use Rattle.oath_node.specs.Machine.{NodeEvent, Tick}
-use Rattle.node_turns.specs.Turns.{Receipt, FromPeer, FromClient, Nothing, Failure, events_of_turn, events_of_turns, received_after, received_with}
+use Rattle.oath_node.specs.Turns.{Receipt, FromPeer, FromClient, Nothing, Failure, events_of_turn, events_of_turns, received_after, received_with}
 use Rattle.cluster_law.specs.Lives.{Deed, Takes, Input, Line, Datagram, Time, Setting, event_of}
 use Rattle.cluster_law.specs.Processes.{AreServing, CanTakeSome, CanTakeTurns, inputs_at}
 

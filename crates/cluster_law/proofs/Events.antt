@@ -7,8 +7,8 @@ use Rattle.oath_node.specs.Outputs.{outputs_of}
 use Rattle.oath_node.specs.declared.item.Item.{Item}
 use Rattle.oath_node.specs.declared.item.Item.TheVariants.{Datagram, Reply}
 use Rattle.datagram_port.specs.Port.{PortEvent, Received, Quiet, Faulted, Offered}
-use Rattle.node_turns.specs.Turns.{Member, Receipt, Run, FromPeer, FromClient, Nothing, Failure, entry_of, events_of_turn, events_of_turns, offer_of, offers_in, receipts_in, received_after, received_with, run_at, run_with_batch, run_with_batches, run_with_event, run_with_events, run_with_receipt, run_with_receipts, tally_with, while_going}
-use Rattle.node_turns.specs.declared.fault.ServeFault.{ServeFault}
+use Rattle.oath_node.specs.Turns.{Member, Receipt, Run, FromPeer, FromClient, Nothing, Failure, entry_of, events_of_turn, events_of_turns, offer_of, offers_in, receipts_in, received_after, received_with, run_at, run_with_batch, run_with_batches, run_with_event, run_with_events, run_with_receipt, run_with_receipts, tally_with, while_going}
+use Rattle.oath_node.specs.declared.serve_fault.ServeFault.{ServeFault}
 use Rattle.cluster_law.specs.Processes.{AreEvents}
 
 offers-append : (xs ys : List PortEvent) → offers_in (xs ++ ys) ≡ offers_in xs ++ offers_in ys

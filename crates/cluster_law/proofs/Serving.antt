@@ -9,14 +9,14 @@ use Rattle.floor_store.specs.Held.{Held, IsSettled}
 use Rattle.oath_node.specs.declared.fault.NodeFault.{NodeFault}
 use Rattle.oath_node.specs.Hosted.{Hosted, state_of}
 use Rattle.oath_node.specs.Outputs.{outputs_of}
-use Rattle.node_turns.specs.Serving.{EndsSettled, FailsAfter, IsAmong, Serves, Stands, run_over as run_of}
-use Rattle.node_turns.specs.declared.turns.Served.{Served}
+use Rattle.oath_node.specs.TurnServing.{EndsSettled, FailsAfter, IsAmong, Serves, Stands, run_over as run_of}
+use Rattle.oath_node.specs.declared.turns.Served.{Served}
 use Rattle.std.proofs.lemmas.Option.{same_Some}
 use Rattle.std.specs.Prelude.{Result, Ok, Err}
-use Rattle.node_turns.specs.declared.fault.ServeFault.{ServeFault}
-use Rattle.node_turns.specs.declared.fault.ServeFault.TheVariants.{Clock, Node, Port}
+use Rattle.oath_node.specs.declared.serve_fault.ServeFault.{ServeFault}
+use Rattle.oath_node.specs.declared.serve_fault.ServeFault.TheVariants.{Clock, Node, Port}
 use Rattle.datagram_port.specs.Port.{PortEvent}
-use Rattle.node_turns.specs.Turns.{Receipt, Run, entry_of, events_of_turns, member_of, offer_of, offers_in, receipts_in, receives_in, run_at, run_with_batches, run_with_event, run_with_events, run_with_receipts}
+use Rattle.oath_node.specs.Turns.{Receipt, Run, entry_of, events_of_turns, member_of, offer_of, offers_in, receipts_in, receives_in, run_at, run_with_batches, run_with_event, run_with_events, run_with_receipts}
 use Rattle.cluster_law.specs.Lives.{Deed, Opens, FailsToOpen, Takes, Offers, Stops, StopsIn, Loses, Remakes, Handout, Input, Scene, Setting, Site, Down, Up, LeaveStore, LeavesStore, can_be, event_of, handouts_of, has_store, lost_after, made_by_input, node_of_deed, nodes_of, offers_by, own_offers, own_site, place_in, scene_after, scene_after_deed, scene_at, site_after}
 use Rattle.cluster_law.specs.Processes.{AreServing, IsEndedNode, IsFailedNode, IsMemberIn, IsNoFaultOfNode, IsServed, IsServedNode, IsServing, IsStopped, TakesSome, TakesTurns, events_after, input_of, inputs_at, item_of, member_in, offer_of_handout, run_over}
 use Rattle.cluster_law.proofs.Calls.{put_out}

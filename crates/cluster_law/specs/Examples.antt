@@ -8,7 +8,7 @@ use Rattle.vote_wire.specs.Datagram.{datagram_bytes}
 use Rattle.oath_node.specs.Machine.{Made, NodeState, opened_node, quiet_made}
 use Rattle.otp_core.specs.Acceptance.{Acceptance}
 use Rattle.client_lines.specs.declared.answer.Outcome.TheVariants.{Accepted}
-use Rattle.node_turns.specs.Turns.{FromClient, Receipt}
+use Rattle.oath_node.specs.Turns.{FromClient, Receipt}
 use Rattle.cluster_sim.specs.Examples.{acceptance, clock_config, config, told_outcome}
 use Rattle.cluster_sim.specs.World.{Told}
 use Rattle.cluster_law.specs.Lives.{Answer, Datagram, Deed, FailsToOpen, Handout, Input, Line, Loses, Offers, Opens, Post, Remakes, Scene, Setting, Stops, StopsIn, Takes, first_setting, scene_of}

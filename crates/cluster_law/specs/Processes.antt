@@ -7,10 +7,10 @@ use Rattle.oath_node.specs.Machine.{NodeEvent, NodeState}
 use Rattle.oath_node.specs.declared.item.Item.{Item}
 use Rattle.oath_node.specs.declared.item.Item.TheVariants.{Datagram as DatagramItem, Reply}
 use Rattle.datagram_port.specs.Port.{PortEvent}
-use Rattle.node_turns.specs.Turns.{Member, Receipt, Run, entry_of, events_of_turns, offer_of, offers_in, receipts_in, received_after, receives_in, run_at, run_with_batches, run_with_events}
-use Rattle.node_turns.specs.declared.fault.ServeFault.{ServeFault}
-use Rattle.node_turns.specs.declared.fault.ServeFault.TheVariants.{Node}
-use Rattle.node_turns.specs.declared.turns.Served.{Served}
+use Rattle.oath_node.specs.Turns.{Member, Receipt, Run, entry_of, events_of_turns, offer_of, offers_in, receipts_in, received_after, receives_in, run_at, run_with_batches, run_with_events}
+use Rattle.oath_node.specs.declared.serve_fault.ServeFault.{ServeFault}
+use Rattle.oath_node.specs.declared.serve_fault.ServeFault.TheVariants.{Node}
+use Rattle.oath_node.specs.declared.turns.Served.{Served}
 use Rattle.cluster_law.specs.Lives.{Deed, Opens, FailsToOpen, Takes, Offers, Stops, StopsIn, Loses, Remakes, Handout, Post, Answer, Input, Setting, Down, Up, event_of, node_of_deed, own_offers, own_site, place_in, site_half_opened}
 
 -- ---- The node

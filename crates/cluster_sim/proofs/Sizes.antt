@@ -1,5 +1,5 @@
 -- In every cluster of voters each node keeps as many rows as it had.
-use Rattle.std.proofs.Common.{◌≡◌, ℕ, ℤ, ◌^◌, true, false, cond, length, Option, Some, None, refl, ◌∙◌, eqb, leb, ltb}
+use Rattle.std.proofs.Common.{◌≡◌, ℕ, ℤ, ◌^◌, true, false, cond, List, length, Option, Some, None, refl, ◌∙◌, eqb, leb, ltb}
 use Rattle.std.specs.List.{slice_get}
 use Rattle.std.proofs.lemmas.Bool.{cond_both}
 use Rattle.floor_store.specs.Content.{Content, with_row}
@@ -7,9 +7,10 @@ use Rattle.floor_store.specs.Records.{ProposalRecord, span_of}
 use Rattle.otp_core.specs.Acceptance.{size, majority_of}
 use Rattle.vote_core.specs.NodeSet.{PlaceRecord, with_node}
 use Rattle.vote_core.specs.Rows.{row, granted_row, row_with_next}
-use Rattle.vote_core.specs.Voting.{VoterState, Voted, Ballot, with_pending, replace, with_granting, accept, granted_one, of_this_boot, denied_one, propose_alone, propose_among, propose, is_grant, reply_step, on_ask, count_grant, on_grant, raise, count_deny, on_deny, on_floor, on_message, tick, quiet_step}
-use Rattle.vote_core.specs.Schedule.{Member, Envelope, Cluster, Act, Begin, Deliver, Tick, Throttle, Idle, Event, Happens, Cut, Restart, Lost, Replaced, opening_member, may_replace, after_loss, after_replacement, lost_member, has_store, is_running, place_of, set_node, cluster_after, with_proposal_begun, with_member, stopped_member, may_begin, after_proposal, after_delivery, content_with_gate, after_act, node_of, restarted_member, last_boot, after_restart, with_sent_of, after_event}
+use Rattle.vote_core.specs.Voting.{VoterState, Voted, Ballot, with_pending, replace, with_granting, accept, granted_one, of_this_boot, denied_one, propose_alone, propose_among, propose, is_grant, reply_step, on_ask, count_grant, on_grant, raise, count_deny, on_deny, on_floor, on_message, tick, tick_telling, tell, quiet_step}
+use Rattle.vote_core.specs.Schedule.{Member, Envelope, Cluster, Act, Begin, Deliver, Tick, Throttle, Idle, TickTelling, Tell, Raise, raised_member, Event, Happens, Cut, Restart, Lost, Replaced, opening_member, may_replace, after_loss, after_replacement, lost_member, has_store, is_running, place_of, set_node, cluster_after, with_proposal_begun, with_member, stopped_member, may_begin, after_proposal, after_delivery, content_with_gate, after_act, node_of, restarted_member, last_boot, after_restart, with_sent_of, after_event}
 use Rattle.vote_core.proofs.Basics.{put_size, opening_size}
+use Rattle.vote_core.proofs.Rows.{raise_all_size}
 use Rattle.vote_core.specs.declared.message.Message.{Message}
 use Rattle.vote_core.specs.declared.message.Message.TheVariants.{Ask, Grant, Deny, Floor}
 
@@ -65,6 +66,14 @@ tick_size : (place : PlaceRecord) (c : Content) (v : VoterState) → Same c (tic
 unfolding tick
 tick_size place c v = refl
 
+telling_size : (place : PlaceRecord) (told : List ℕ) (c : Content) (v : VoterState) → Same c (tick_telling place told c v)
+unfolding tick_telling
+telling_size place told c v = refl
+
+tell_size : (place : PlaceRecord) (told : List ℕ) (c : Content) (v : VoterState) → Same c (tell place told c v)
+unfolding tell
+tell_size place told c v = refl
+
 -- ---- worlds
 
 -- each node has so many rows
@@ -103,6 +112,15 @@ act_sized k e (Tick i) w h =
     let s = tick (place_of w i) (w.nodes i).content (w.nodes i).voter in
     cond_both (is_running w i) (cluster_after e i s w) w (λ x. Sized k x) (λ _. after_sized k e i s w h (tick_size (place_of w i) (w.nodes i).content (w.nodes i).voter)) (λ _. h)
 act_sized k e (Idle i) w h = h
+act_sized k e (TickTelling i told) w h =
+    let s = tick_telling (place_of w i) told (w.nodes i).content (w.nodes i).voter in
+    cond_both (is_running w i) (cluster_after e i s w) w (λ x. Sized k x) (λ _. after_sized k e i s w h (telling_size (place_of w i) told (w.nodes i).content (w.nodes i).voter)) (λ _. h)
+act_sized k e (Tell i told) w h =
+    let s = tell (place_of w i) told (w.nodes i).content (w.nodes i).voter in
+    cond_both (is_running w i) (cluster_after e i s w) w (λ x. Sized k x) (λ _. after_sized k e i s w h (tell_size (place_of w i) told (w.nodes i).content (w.nodes i).voter)) (λ _. h)
+act_sized k e (Raise i floor) w h =
+    cond_both (has_store w i) (with_member i (raised_member floor (w.nodes i)) w) w (λ x. Sized k x)
+    (λ _. set_sized k w i (raised_member floor (w.nodes i)) h (raise_all_size (length (w.nodes i).content.rows) floor (w.nodes i).content)) (λ _. h)
 act_sized k e (Throttle i t gate) w h =
     let s = quiet_step (content_with_gate t gate (w.nodes i).content) (w.nodes i).voter in
     cond_both (is_running w i) (cluster_after e i s w) w (λ x. Sized k x) (λ _. after_sized k e i s w h (put_size (w.nodes i).content t _ None)) (λ _. h)

@@ -41,7 +41,11 @@ pub trait Port {
     fn poll(&mut self, buffer: &mut [u8; 512]) -> Option<Received>
         ensures within { IfSome result IsWithin }
         ensures waits { result ≢ Some QuietReceive }
-        ensures event { Grows (events self.old) (events self.new) (entries_of_poll result buffer.new) };
+        ensures event { Grows (events self.old) (events self.new) (entries_of_poll result buffer.new) }
+    {
+        let _nothing = buffer;
+        None
+    }
 
     /// Offers a datagram, and tells whether it was taken. A datagram that isn't taken is lost.
     fn send(&mut self, to: Sender, bytes: &[u8]) -> bool

@@ -14,3 +14,10 @@ pub mod RulingLemmas
 pub mod SafetyLemmas
 pub mod ServingLemmas
 pub mod StepLemmas
+pub mod BatchLemmas
+pub mod FailureLemmas
+pub mod GrowLemmas
+pub mod OrderLemmas
+pub mod ReceiptLemmas
+pub mod TurnLemmas
+pub mod TurnStepLemmas

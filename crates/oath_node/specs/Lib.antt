@@ -17,3 +17,8 @@ pub mod Refusals
 pub mod Report
 pub mod Rules
 pub mod Serving
+pub mod TurnExamples
+pub mod TurnServing
+pub mod TurnSteps
+pub mod Turns
+pub mod TurnsBroken

@@ -54,10 +54,15 @@ mod owner;
 mod parts;
 mod rules;
 mod ruling;
+mod serve_fault;
 mod server;
 mod settling;
+mod turn_laws;
+mod turns;
 
+pub use answer_ring::{Answers, Count, Kept};
 pub use client_line::ClientLine;
+pub use datagram_port::{Clock, Port, Received, Sender};
 pub use event::Event;
 pub use fault::{NodeFault, OpenFault};
 pub use item::Item;
@@ -72,4 +77,10 @@ pub use laws::{
 pub use node::Node;
 pub use outputs::{Outputs, Scratch};
 pub use ruling::{KeptText, Ruling};
+pub use serve_fault::ServeFault;
 pub use server::LineServer;
+pub use turn_laws::{
+    batches_are_turns, batches_are_worked, differences_are_seen, ends_can_be_broken,
+    entries_are_worked, faults_change_no_offer, turns_are_worked, turns_can_be_broken,
+};
+pub use turns::{Served, TURNS_END, offer, run_turns};

@@ -7,7 +7,7 @@ use crate::fault::Fault;
 use crate::line::NodeLine;
 use datagram_port::{MAX_DATAGRAM_LEN, Port, Received, Sender};
 use floor_store::MemStore;
-use node_turns::offer;
+use oath_node::offer;
 use oath_node::{Event, Node, Scratch};
 
 /// A line whose reply hasn't come after so many rounds has none.

@@ -8,11 +8,12 @@ use Rattle.otp_core.specs.Acceptance.{majority_of, size}
 use Rattle.vote_core.specs.NodeSet.{PlaceRecord, others, with_node}
 use Rattle.vote_core.specs.Rows.{granted_row, row, row_with_next}
 use Rattle.vote_core.specs.Safety.{IsOfEarlierBoot, MayOpen}
-use Rattle.vote_core.specs.Schedule.{Member, Envelope, Cluster, Act, Begin, Deliver, Tick, Throttle, Idle, Event, Happens, Cut, Restart, Lost, Replaced, Opening, after_act, after_delivery, after_event, after_loss, after_proposal, after_replacement, after_restart, all_most, cluster_after, content_with_gate, envelope_from, envelopes, has_store, is_member, is_running, last_boot, lost_member, may_begin, may_replace, node_of, opening_member, place_of, restarted_member, run, set_node, start, stopped_member, with_member, with_proposal_begun, with_sent_of}
-use Rattle.vote_core.specs.Voting.{Ballot, VoterState, Voted, accept, asks_again, count_deny, count_grant, denied_one, floor_sends, fresh_voter, granted_one, is_grant, of_this_boot, on_ask, on_deny, on_floor, on_grant, on_message, proposal_of, propose, propose_alone, propose_among, quiet_step, raise, replace, reply_step, tick, to_each, with_denying, with_granting, with_pending, young_ballots}
+use Rattle.vote_core.specs.Schedule.{Member, Envelope, Cluster, Act, Begin, Deliver, Tick, Throttle, Idle, TickTelling, Tell, Raise, raised_member, Event, Happens, Cut, Restart, Lost, Replaced, Opening, after_act, after_delivery, after_event, after_loss, after_proposal, after_replacement, after_restart, all_most, cluster_after, content_with_gate, envelope_from, envelopes, has_store, is_member, is_running, last_boot, lost_member, may_begin, may_replace, node_of, opening_member, place_of, restarted_member, run, set_node, start, stopped_member, with_member, with_proposal_begun, with_sent_of}
+use Rattle.vote_core.specs.Voting.{Ballot, VoterState, Voted, accept, asks_again, count_deny, count_grant, denied_one, floor_sends, fresh_voter, granted_one, is_grant, of_this_boot, on_ask, on_deny, on_floor, on_grant, on_message, proposal_of, propose, propose_alone, propose_among, quiet_step, raise, replace, reply_step, tell, tells, tick, tick_telling, to_each, with_denying, with_granting, with_pending, young_ballots}
 use Rattle.vote_core.specs.declared.message.Message.{Message}
 use Rattle.vote_core.specs.declared.message.Message.TheVariants.{Ask, Grant, Deny, Floor}
 use Rattle.vote_core.proofs.Basics.{Each, each_all, each_append, each_flat_map, each_get, each_map, each_weaker}
+use Rattle.vote_core.proofs.Rows.{raise_all_boot}
 
 -- what the message says of a proposal is of no later boot than this one of the proposal's node
 abbrev pub IsOfBoot : (ℕ → ℕ) → Message → Type 0
@@ -108,6 +109,26 @@ tick_dated boot place c v h =
           (each_flat_map (SendIsOf boot) (asks_again place c.boot) young asks) (floors_dated boot place c v.turn);
     }
 
+tells_dated : (boot : ℕ → ℕ) (place : PlaceRecord) (c : Content) (told : List ℕ) → Each (SendIsOf boot) (tells place c told)
+tells_dated boot place c told =
+    each_flat_map (SendIsOf boot) (floor_sends place c) told (each_all (λ t. Each (SendIsOf boot) (floor_sends place c t)) (floors_dated boot place c) told)
+
+telling_dated : (boot : ℕ → ℕ) (place : PlaceRecord) (told : List ℕ) (c : Content) (v : VoterState) → c.boot ≤ boot place.me → StepDated boot c (tick_telling place told c v)
+unfolding tick_telling
+telling_dated boot place told c v h =
+    let young = young_ballots v.pending in
+    let asks : Each (λ (q : Ballot). Each (SendIsOf boot) (asks_again place c.boot q)) young =
+    each_all (λ (q : Ballot). Each (SendIsOf boot) (asks_again place c.boot q)) (λ q. to_each_dated boot (Ask (record { node = place.me; boot = c.boot; seq = q.seq }) q.token (span_of q.lo q.hi)) _ h) young in
+    record {
+      same = refl;
+      sends = each_append (SendIsOf boot) (flat_map (asks_again place c.boot) young) (tells place c told)
+          (each_flat_map (SendIsOf boot) (asks_again place c.boot) young asks) (tells_dated boot place c told);
+    }
+
+tell_dated : (boot : ℕ → ℕ) (place : PlaceRecord) (told : List ℕ) (c : Content) (v : VoterState) → StepDated boot c (tell place told c v)
+unfolding tell
+tell_dated boot place told c v = record { same = refl; sends = tells_dated boot place c told }
+
 propose_dated : (boot : ℕ → ℕ) (place : PlaceRecord) (t lo hi : ℕ) (drift : ℤ) (c : Content) (v : VoterState) → c.boot ≤ boot place.me → StepDated boot c (propose place t lo hi drift c v)
 unfolding propose propose_alone propose_among
 propose_dated boot place t lo hi drift c v h =
@@ -186,6 +207,18 @@ act_goes event (Throttle i t gate) w k =
     let s = quiet_step (content_with_gate t gate (w.nodes i).content) (w.nodes i).voter in
     cond_both (is_running w i) (cluster_after event i s w) w (λ x. Goes w x) (λ _. step_goes event i s w k (record { same = refl; sends = tt })) (λ _. stays w k)
 act_goes event (Idle i) w k = stays w k
+act_goes event (TickTelling i told) w k =
+    let s = tick_telling (place_of w i) told (w.nodes i).content (w.nodes i).voter in
+    cond_both (is_running w i) (cluster_after event i s w) w (λ x. Goes w x)
+    (λ _. step_goes event i s w k (telling_dated (boots_of w) (place_of w i) told (w.nodes i).content (w.nodes i).voter (omega arith))) (λ _. stays w k)
+act_goes event (Tell i told) w k =
+    let s = tell (place_of w i) told (w.nodes i).content (w.nodes i).voter in
+    cond_both (is_running w i) (cluster_after event i s w) w (λ x. Goes w x)
+    (λ _. step_goes event i s w k (tell_dated (boots_of w) (place_of w i) told (w.nodes i).content (w.nodes i).voter)) (λ _. stays w k)
+act_goes event (Raise i floor) w k =
+    let same = raise_all_boot (length (w.nodes i).content.rows) floor (w.nodes i).content in
+    cond_both (has_store w i) (with_member i (raised_member floor (w.nodes i)) w) w (λ x. Goes w x)
+    (λ _. swap_goes i (raised_member floor (w.nodes i)) w k (omega (arith, same))) (λ _. stays w k)
 
 restart_goes : (o : Option ℕ) (w : Cluster) → IsDated w → Goes w (after_restart o w)
 unfolding after_restart

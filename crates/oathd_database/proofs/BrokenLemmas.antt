@@ -18,9 +18,9 @@ use Rattle.floor_sql.specs.Migrate.{IsMigrated}
 use Rattle.floor_sql.specs.Stored.{Holds}
 use Rattle.floor_sql.proofs.BrokenLemmas.{count_of_none, own_row_is}
 use Rattle.oath_node.specs.Hosted.{Hosted}
-use Rattle.node_turns.specs.Serving.{EndsSo, Serves}
-use Rattle.node_turns.specs.Turns.{AreBatches, Receipt, receipts_in}
-use Rattle.node_turns.specs.declared.turns.Served.{Served}
+use Rattle.oath_node.specs.TurnServing.{EndsSo, Serves}
+use Rattle.oath_node.specs.Turns.{AreBatches, Receipt, receipts_in}
+use Rattle.oath_node.specs.declared.turns.Served.{Served}
 use Rattle.oathd_database.specs.Broken.{IsOfOne, disk_of, fallen, new_store, one_book, small_conn, so_much, store_of}
 use Rattle.oathd_database.specs.Commands.{HasImport}
 use Rattle.oathd_database.specs.Tables.{WritesAudit}

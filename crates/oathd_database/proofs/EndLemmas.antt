@@ -13,10 +13,10 @@ use Rattle.floor_sql.specs.Held.{SqlHeld, sql_held}
 use Rattle.oath_node.specs.Calls.{IsOpened}
 use Rattle.oath_node.specs.Hosted.{Hosted}
 use Rattle.oath_node.specs.declared.fault.NodeFault.TheVariants as node
-use Rattle.node_turns.specs.Serving.{Serves}
-use Rattle.node_turns.specs.declared.fault.ServeFault.{ServeFault}
-use Rattle.node_turns.specs.declared.fault.ServeFault.TheVariants as turns
-use Rattle.node_turns.specs.declared.turns.Served.{Served}
+use Rattle.oath_node.specs.TurnServing.{Serves}
+use Rattle.oath_node.specs.declared.serve_fault.ServeFault.{ServeFault}
+use Rattle.oath_node.specs.declared.serve_fault.ServeFault.TheVariants as turns
+use Rattle.oath_node.specs.declared.turns.Served.{Served}
 use Rattle.oathd_database.specs.Commands.{EndsOutput, EndsServing, HasAudited, HasExported, HasImport, HasOpened, HasServed, IsRefused}
 use Rattle.oathd_database.specs.Fault.{IsOpenFault, IsOutputFault, serve_end, serve_fault_of}
 use Rattle.oathd_database.specs.NodeKey.{tag_key}

@@ -9,7 +9,7 @@ use Rattle.floor_store.specs.Records.{RowRecord}
 use Rattle.token_file.specs.Credential.{Credential, place_from, place_of}
 use Rattle.vote_core.specs.Rows.{no_row, row}
 use Rattle.vote_core.specs.Safety.{KeepsStore, MayOpen}
-use Rattle.vote_core.specs.Schedule.{Act, Begin, Deliver, Tick, Throttle, Idle, Cluster, Envelope, Event, Happens, Cut, Restart, Lost, Replaced, Opening, after_act, after_delivery, after_event, after_loss, after_proposal, after_replacement, after_restart, all_most, cluster_after, cluster_before, floor_before, greatest, has_store, is_running, may_begin, may_replace, node_of, run, start, with_proposal_begun, with_sent_of}
+use Rattle.vote_core.specs.Schedule.{Act, Begin, Deliver, Tick, Throttle, Idle, TickTelling, Tell, Raise, Cluster, Envelope, Event, Happens, Cut, Restart, Lost, Replaced, Opening, after_act, after_delivery, after_event, after_loss, after_proposal, after_replacement, after_restart, all_most, cluster_after, cluster_before, floor_before, greatest, has_store, is_running, may_begin, may_replace, node_of, run, start, with_proposal_begun, with_sent_of}
 use Rattle.vote_core.proofs.Runs.{all_members}
 use Rattle.floors_file.specs.Floors.{FloorRecord, FloorsRecord}
 use Rattle.floors_file.specs.Gathered.{count_fault, files_fault, floor_in, gathered_floors, greater, greater_of, greatest_of, is_among, is_of_files, lost_fault, members_of, missing_from}
@@ -39,6 +39,9 @@ act_least e t (Deliver k) w = delivered_least e t (slice_get w.sent k) w
 act_least e t (Tick i) w = cond_both (is_running w i) _ w (λ (x : Cluster). x.least t ≡ w.least t) (λ _. refl) (λ _. refl)
 act_least e t (Throttle i token gate) w = cond_both (is_running w i) _ w (λ (x : Cluster). x.least t ≡ w.least t) (λ _. refl) (λ _. refl)
 act_least e t (Idle i) w = refl
+act_least e t (TickTelling i told) w = cond_both (is_running w i) _ w (λ (x : Cluster). x.least t ≡ w.least t) (λ _. refl) (λ _. refl)
+act_least e t (Tell i told) w = cond_both (is_running w i) _ w (λ (x : Cluster). x.least t ≡ w.least t) (λ _. refl) (λ _. refl)
+act_least e t (Raise i floor) w = cond_both (has_store w i) _ w (λ (x : Cluster). x.least t ≡ w.least t) (λ _. refl) (λ _. refl)
 
 restart_least : (t : ℕ) (o : Option ℕ) (w : Cluster) → (after_restart o w).least t ≡ w.least t
 unfolding after_restart

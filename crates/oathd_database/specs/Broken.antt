@@ -26,7 +26,7 @@ use Rattle.floor_sql.specs.Schema.{floor_schema}
 use Rattle.floors_file.specs.Examples.{text_of}
 use Rattle.floors_file.specs.declared.fault.LineFault.{LineFault as FloorsLineFault}
 use Rattle.floors_file.specs.declared.gathered.Asked.{Asked}
-use Rattle.node_turns.specs.declared.turns.Served.{Served}
+use Rattle.oath_node.specs.declared.turns.Served.{Served}
 use Rattle.oathd_database.specs.Users.{IsImported}
 use Rattle.oathd_database.specs.declared.fault.Fault.{Fault}
 use Rattle.oathd_database.specs.declared.fault.Fault.TheVariants.{Users}

@@ -11,8 +11,8 @@ use Rattle.floor_sql.specs.Held.{SqlHeld, sql_held}
 use Rattle.floor_sql.specs.Migrate.{IsMigrated}
 use Rattle.oath_node.specs.Calls.{IsOpened as IsOpenedNode}
 use Rattle.oath_node.specs.Hosted.{Hosted}
-use Rattle.node_turns.specs.Serving.{Serves}
-use Rattle.node_turns.specs.declared.turns.Served.{Served}
+use Rattle.oath_node.specs.TurnServing.{Serves}
+use Rattle.oath_node.specs.declared.turns.Served.{Served}
 use Rattle.oathd_database.specs.NodeKey.{tag_key}
 use Rattle.oathd_database.specs.Tables.{KeepsTables, WritesAudit}
 use Rattle.oathd_database.specs.Text.{export_text}

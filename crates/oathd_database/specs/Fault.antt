@@ -5,9 +5,9 @@ use Rattle.floor_store.specs.declared.fault.StoreFault.TheVariants.{Spent}
 use Rattle.oath_node.specs.declared.fault.NodeFault.TheVariants as node
 use Rattle.oath_node.specs.declared.fault.OpenFault.{OpenFault}
 use Rattle.oath_node.specs.declared.fault.OpenFault.TheVariants as opening
-use Rattle.node_turns.specs.declared.fault.ServeFault.{ServeFault}
-use Rattle.node_turns.specs.declared.fault.ServeFault.TheVariants as turns
-use Rattle.node_turns.specs.declared.turns.Served.{Served}
+use Rattle.oath_node.specs.declared.serve_fault.ServeFault.{ServeFault}
+use Rattle.oath_node.specs.declared.serve_fault.ServeFault.TheVariants as turns
+use Rattle.oath_node.specs.declared.turns.Served.{Served}
 use Rattle.oathd_database.specs.declared.fault.Fault.{Fault}
 use Rattle.oathd_database.specs.declared.fault.Fault.TheVariants.{Memory, CannotWrite, NoClock, Users, Store, Socket}
 

@@ -2,7 +2,7 @@ ghost use Rattle.std.specs.Prelude.{◌≡◌};
 ghost use Rattle.oathd_database.specs.declared.fault.Fault.TheVariants.{Store, Users};
 
 use floor_store::StoreFault;
-use node_turns::ServeFault;
+use oath_node::ServeFault;
 use oath_node::{NodeFault, OpenFault};
 use program_edge::ProgramFault;
 use thiserror::Error;

@@ -28,7 +28,7 @@ ghost use Rattle.floors_file.specs.declared.gathered.FileFault.TheVariants.{Boot
 ghost use Rattle.floors_file.specs.declared.gathered.FilesFault.TheVariants.{File, NotLost, TooManyLost};
 ghost use Rattle.oath_node.specs.declared.fault.NodeFault.TheVariants.{Spent as NodeSpent, Stopped, Store as NodeStore};
 ghost use Rattle.oath_node.specs.declared.fault.OpenFault.TheVariants.{Memory as OpenMemory, Store as OpenStore};
-ghost use Rattle.node_turns.specs.declared.fault.ServeFault.TheVariants.{Clock, Node, Port};
+ghost use Rattle.oath_node.specs.declared.serve_fault.ServeFault.TheVariants.{Clock, Node, Port};
 ghost use Rattle.oathd_database.specs.Anew.{AreAbove, AreMadeAnew, IsSameUser};
 ghost use Rattle.oathd_database.specs.Broken.{IsOfClock, IsOfOne, asked_for, booting, conn_of, drifting, failing, fallen, floors_fault, floors_text, lost_nodes, migrating, new_store, no_floors, no_users, one_book, serving_for, small_conn, so_much, still, two_disks, users_fault, whole};
 ghost use Rattle.oathd_database.specs.Commands.{EndsOutput, EndsServing, HasAudited, HasExported, HasImport, HasMade, HasMigrated, HasOpened, HasServed, IsRefused};

@@ -1,9 +1,9 @@
 //! The command `serve`: a node is served over a store and a socket.
 
 ghost use Rattle.std.specs.Prelude.{◌≡◌, ◌<◌, ◌^◌, None, length, Result, IfErr, IfOk, IfSome};
-ghost use Rattle.node_turns.specs.Serving.{Serves};
-ghost use Rattle.node_turns.specs.declared.fault.ServeFault.{ServeFault};
-ghost use Rattle.node_turns.specs.declared.turns.Served.{Served};
+ghost use Rattle.oath_node.specs.TurnServing.{Serves};
+ghost use Rattle.oath_node.specs.declared.serve_fault.ServeFault.{ServeFault};
+ghost use Rattle.oath_node.specs.declared.turns.Served.{Served};
 ghost use Rattle.oath_node.specs.Calls.{IsOpened};
 ghost use Rattle.oathd_database.specs.Commands.{EndsServing, HasImport, HasServed};
 ghost use Rattle.oathd_database.specs.Fault.{IsOpenFault, serve_end};
@@ -18,7 +18,7 @@ use cluster_file::fingerprint;
 use datagram_port::{Clock, Port};
 use floor_store::FloorStore;
 use node_log::{LogPort, MAX_OTHERS, Member, Start, write_start};
-use node_turns::{Served, run_turns};
+use oath_node::{Served, run_turns};
 use oath_node::Node;
 use otp_core::Settings;
 use sqlite::Alter;

@@ -3,7 +3,7 @@
 use datagram_port::{Coming, ListClock, ListPort, PortEntry, Sender};
 use floor_sql::SqlStore;
 use floor_store::StoreFault;
-use node_turns::Served;
+use oath_node::Served;
 use oathd_database::{
     Database, Fault, init_store, open_node, open_store, serve_node, write_audit, write_rows,
 };

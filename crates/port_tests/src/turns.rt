@@ -2,7 +2,7 @@
 
 use datagram_port::{Coming, ListClock, ListPort, PortEntry, Sender};
 use floor_store::{FloorStore, FuseStore, MemStore};
-use node_turns::{Served, run_turns};
+use oath_node::{Served, run_turns};
 use oath_node::Node;
 use otp_core::{Next, Settings};
 use std::alloc::Global;

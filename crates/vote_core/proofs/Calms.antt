@@ -1,19 +1,19 @@
 -- What no store's loss changes: floors rise, and the lost stay the lost.
-use Rattle.std.proofs.Common.{◌≡◌, ℕ, ℤ, suc, ◌+◌, ◌^◌, ◌≤◌, ⊎_elim, true, ◌&&◌, ◌||◌, cond, length, Option, Some, None, refl, sym, ◌∙◌, subst, arith, eqb, leb, ltb}
+use Rattle.std.proofs.Common.{◌≡◌, ℕ, ℤ, suc, ◌+◌, ◌^◌, ◌≤◌, ⊎_elim, true, ◌&&◌, ◌||◌, cond, List, length, Option, Some, None, refl, sym, ◌∙◌, subst, arith, eqb, leb, ltb}
 use Rattle.std.specs.List.{slice_get}
-use Rattle.std.proofs.lemmas.Bool.{cond_both, eqb-true, ltb-true, leb-true, and_parts, or_cases}
+use Rattle.std.proofs.lemmas.Bool.{cond_both, eqb-true, leb-true, and_parts, or_cases}
 use Rattle.floor_store.specs.Content.{Content, accepted_row, with_row}
 use Rattle.floor_store.specs.Records.{ProposalRecord, RowRecord, span_of}
 use Rattle.otp_core.specs.Acceptance.{majority_of, size}
 use Rattle.vote_core.specs.NodeSet.{PlaceRecord, with_node}
-use Rattle.vote_core.specs.Rows.{row, granted_row, row_with_next, row_with_gate}
-use Rattle.vote_core.specs.Schedule.{Member, Envelope, Cluster, Act, Begin, Deliver, Tick, Throttle, Idle, has_store, is_running, place_of, cluster_after, with_proposal_begun, with_member, stopped_member, may_begin, after_proposal, after_delivery, content_with_gate, after_act, restarted_member, last_boot, after_restart, with_sent_of}
-use Rattle.vote_core.specs.Voting.{Ballot, VoterState, Voted, quiet_step, reply_step, with_pending, replace, with_granting, propose, propose_alone, propose_among, pass_of, is_grant, on_ask, granted_one, of_this_boot, accept, count_grant, on_grant, raise, denied_one, on_deny, on_floor, on_message, tick}
+use Rattle.vote_core.specs.Rows.{row, granted_row, row_with_gate}
+use Rattle.vote_core.specs.Schedule.{Member, Envelope, Cluster, Act, Begin, Deliver, Tick, Throttle, Idle, TickTelling, Tell, Raise, raised_member, has_store, is_running, place_of, cluster_after, with_proposal_begun, with_member, stopped_member, may_begin, after_proposal, after_delivery, content_with_gate, after_act, restarted_member, last_boot, after_restart, with_sent_of}
+use Rattle.vote_core.specs.Voting.{Ballot, VoterState, Voted, quiet_step, reply_step, with_pending, replace, with_granting, propose, propose_alone, propose_among, pass_of, is_grant, on_ask, granted_one, of_this_boot, accept, count_grant, on_grant, raise, denied_one, on_deny, on_floor, on_message, tick, tick_telling, tell}
 use Rattle.vote_core.specs.declared.message.Message.{Message}
 use Rattle.vote_core.specs.declared.message.Message.TheVariants.{Ask, Grant, Deny, Floor}
 use Rattle.vote_core.proofs.Basics.{Each, each_get, same_size}
 use Rattle.vote_core.proofs.Kept.{History, Book, LetterAgrees, At, Calm}
-use Rattle.vote_core.proofs.Rows.{rise_put}
+use Rattle.vote_core.proofs.Rows.{rise_put, raise_rises, raise_all_rises}
 use Rattle.vote_core.proofs.StepLemmas.{count_deny_content}
 
 abbrev pub Rises : Content → Content → Type 0
@@ -34,13 +34,6 @@ ordered R e B l h = of l.message h
     of (Grant p t span) k = tt
     of (Deny p t next) k = tt
     of (Floor t next) k = tt
-
-raise_rises : (t next : ℕ) (c : Content) → Rises c (raise t next c)
-unfolding raise
-raise_rises t next c =
-    cond_both (ltb (row c t).next next) (with_row c t (row_with_next next (row c t)) None) c (λ c'. Rises c c')
-    (λ q. let above = ltb-true (row c t).next next q in rise_put c t (row_with_next next (row c t)) None (omega (arith, above)))
-    (λ _ u. omega arith)
 
 ask_rises : (from : ℕ) (p : ProposalRecord) (t lo hi : ℕ) (c : Content) (v : VoterState) → lo ≤ hi → Rises c (on_ask from p t lo hi c v).content
 unfolding on_ask
@@ -128,7 +121,15 @@ tick_rises : (place : PlaceRecord) (c : Content) (v : VoterState) → Rises c (t
 unfolding tick
 tick_rises place c v t = omega arith
 
-act_leaves : (e : ℕ) (a : Act) (w : Cluster) → ((k : ℕ) (l : Envelope) → slice_get w.sent k ≡ Some l → Ordered l.message) → Leaves w (after_act e a w)
+telling_rises : (place : PlaceRecord) (ts : List ℕ) (c : Content) (v : VoterState) → Rises c (tick_telling place ts c v).content
+unfolding tick_telling
+telling_rises place ts c v t = omega arith
+
+tell_rises : (place : PlaceRecord) (ts : List ℕ) (c : Content) (v : VoterState) → Rises c (tell place ts c v).content
+unfolding tell
+tell_rises place ts c v t = omega arith
+
+pub act_leaves : (e : ℕ) (a : Act) (w : Cluster) → ((k : ℕ) (l : Envelope) → slice_get w.sent k ≡ Some l → Ordered l.message) → Leaves w (after_act e a w)
 unfolding after_act
 act_leaves e (Begin i t lo hi drift) w h =
     cond_both (may_begin w i t lo hi) (after_proposal e i t lo hi drift w) w (λ x. Leaves w x)
@@ -152,6 +153,15 @@ act_leaves e (Throttle i t gate) w h =
     cond_both (is_running w i) (cluster_after e i s w) w (λ x. Leaves w x)
     (λ _. leaves_step e i s w (rise_put (w.nodes i).content t (row_with_gate gate (row (w.nodes i).content t)) None (omega arith))) (λ _. leaves_same w)
 act_leaves e (Idle i) w h = leaves_same w
+act_leaves e (TickTelling i ts) w h =
+    cond_both (is_running w i) (cluster_after e i (tick_telling (place_of w i) ts (w.nodes i).content (w.nodes i).voter) w) w (λ x. Leaves w x)
+    (λ _. leaves_step e i (tick_telling (place_of w i) ts (w.nodes i).content (w.nodes i).voter) w (telling_rises (place_of w i) ts (w.nodes i).content (w.nodes i).voter)) (λ _. leaves_same w)
+act_leaves e (Tell i ts) w h =
+    cond_both (is_running w i) (cluster_after e i (tell (place_of w i) ts (w.nodes i).content (w.nodes i).voter) w) w (λ x. Leaves w x)
+    (λ _. leaves_step e i (tell (place_of w i) ts (w.nodes i).content (w.nodes i).voter) w (tell_rises (place_of w i) ts (w.nodes i).content (w.nodes i).voter)) (λ _. leaves_same w)
+act_leaves e (Raise i floor) w h =
+    cond_both (has_store w i) (with_member i (raised_member floor (w.nodes i)) w) w (λ x. Leaves w x)
+    (λ _. leaves_swap w i (raised_member floor (w.nodes i)) (raise_all_rises (length (w.nodes i).content.rows) floor (w.nodes i).content)) (λ _. leaves_same w)
 
 pub restart_leaves : (w : Cluster) (o : Option ℕ) → Leaves w (after_restart o w)
 unfolding after_restart

@@ -10,11 +10,12 @@ use Rattle.vote_core.specs.Calls.{IsOther, FitsVoter}
 use Rattle.vote_core.specs.NodeSet.{PlaceRecord, with_node, members, others}
 use Rattle.vote_core.specs.Rows.{row, granted_row, row_with_next}
 use Rattle.vote_core.specs.Safety.{IsDeliverable, AreDeliverable, MayOpen}
-use Rattle.vote_core.specs.Schedule.{Member, Envelope, Cluster, Act, Begin, Deliver, Tick, Throttle, Idle, Event, Happens, Cut, Restart, Lost, Replaced, Opening, is_member, has_store, is_running, place_of, envelope_from, cluster_after, with_proposal_begun, with_member, stopped_member, may_begin, after_proposal, after_delivery, content_with_gate, after_act, node_of, restarted_member, last_boot, after_restart, lost_member, after_loss, opening_member, may_replace, after_replacement, with_sent_of, after_event, run, start, envelopes}
-use Rattle.vote_core.specs.Voting.{Ballot, VoterState, Voted, quiet_step, reply_step, to_each, remove, replace, with_pending, propose, propose_alone, propose_among, is_grant, on_ask, granted_one, of_this_boot, with_granting, accept, count_grant, on_grant, raise, denied_one, with_denying, count_deny, on_deny, on_floor, on_message, older_ballot, older_ballots, is_young, young_ballots, asks_again, floor_sends, tick}
+use Rattle.vote_core.specs.Schedule.{Member, Envelope, Cluster, Act, Begin, Deliver, Tick, Throttle, Idle, TickTelling, Tell, Raise, raised_member, Event, Happens, Cut, Restart, Lost, Replaced, Opening, is_member, has_store, is_running, place_of, envelope_from, cluster_after, with_proposal_begun, with_member, stopped_member, may_begin, after_proposal, after_delivery, content_with_gate, after_act, node_of, restarted_member, last_boot, after_restart, lost_member, after_loss, opening_member, may_replace, after_replacement, with_sent_of, after_event, run, start, envelopes}
+use Rattle.vote_core.specs.Voting.{Ballot, VoterState, Voted, quiet_step, reply_step, to_each, remove, replace, with_pending, propose, propose_alone, propose_among, is_grant, on_ask, granted_one, of_this_boot, with_granting, accept, count_grant, on_grant, raise, denied_one, with_denying, count_deny, on_deny, on_floor, on_message, older_ballot, older_ballots, is_young, young_ballots, asks_again, floor_sends, tick, tells, tick_telling, tell}
 use Rattle.vote_core.specs.declared.message.Message.{Message}
 use Rattle.vote_core.specs.declared.message.Message.TheVariants.{Ask, Grant, Deny, Floor}
-use Rattle.vote_core.proofs.Basics.{Each, each_get, each_append, each_weaker, each_map, each_filter, each_passes, each_flat_map, put_size, opening_size}
+use Rattle.vote_core.proofs.Basics.{Each, each_all, each_get, each_append, each_weaker, each_map, each_filter, each_passes, each_flat_map, put_size, opening_size}
+use Rattle.vote_core.proofs.Rows.{raise_all_size}
 use Rattle.vote_core.proofs.Lists.{find_each, each_replace, each_remove, grant_fits, deny_found}
 use Rattle.vote_core.proofs.Runs.{act_n, all_members}
 
@@ -179,18 +180,43 @@ floors_reach place tokens c t member rows =
     (λ q. each_reaches place tokens (Floor t (row c t).next) (others place) member (others_hear place) (λ node. omega (arith, ltb-true t (length c.rows) q, rows)))
     (λ _. tt)
 
+young_fits : (tokens : ℕ) (v : VoterState) → Each (MayAsk tokens) v.pending → Each (MayAsk tokens) (young_ballots v.pending)
+young_fits tokens v h =
+    let older = each_map (MayAsk tokens) older_ballot v.pending (each_weaker (MayAsk tokens) (λ q. MayAsk tokens (older_ballot q)) (λ q may. record { token = may.token; span = may.span }) v.pending h) in
+    each_filter (MayAsk tokens) is_young (older_ballots v.pending) older
+
+young_reach : (place : PlaceRecord) (tokens boot : ℕ) (v : VoterState) → IsMember place → Each (MayAsk tokens) (young_ballots v.pending) → Each (Reaches place tokens) (flat_map (asks_again place boot) (young_ballots v.pending))
+young_reach place tokens boot v member young =
+    each_flat_map (Reaches place tokens) (asks_again place boot) (young_ballots v.pending)
+    (each_weaker (MayAsk tokens) (λ q. Each (Reaches place tokens) (asks_again place boot q)) (λ q may. asks_reach place tokens boot q member may) (young_ballots v.pending) young)
+
+tells_reach : (place : PlaceRecord) (tokens : ℕ) (ts : List ℕ) (c : Content) → IsMember place → length c.rows ≡ tokens → Each (Reaches place tokens) (tells place c ts)
+tells_reach place tokens ts c member rows =
+    each_flat_map (Reaches place tokens) (floor_sends place c) ts (each_all (λ t. Each (Reaches place tokens) (floor_sends place c t)) (λ t. floors_reach place tokens c t member rows) ts)
+
 tick_fits : (place : PlaceRecord) (tokens : ℕ) (c : Content) (v : VoterState) → IsMember place → NodeFits tokens c v → StepFits place tokens (tick place c v)
 unfolding tick
 tick_fits place tokens c v member k =
-    let older = each_map (MayAsk tokens) older_ballot v.pending (each_weaker (MayAsk tokens) (λ q. MayAsk tokens (older_ballot q)) (λ q may. record { token = may.token; span = may.span }) v.pending k.pending) in
-    let young : Each (MayAsk tokens) (young_ballots v.pending) = each_filter (MayAsk tokens) is_young (older_ballots v.pending) older in
+    let young = young_fits tokens v k.pending in
     record {
       node = record { rows = k.rows; pending = young };
       sends = each_append (Reaches place tokens) (flat_map (asks_again place c.boot) (young_ballots v.pending)) (floor_sends place c v.turn)
-          (each_flat_map (Reaches place tokens) (asks_again place c.boot) (young_ballots v.pending)
-          (each_weaker (MayAsk tokens) (λ q. Each (Reaches place tokens) (asks_again place c.boot q)) (λ q may. asks_reach place tokens c.boot q member may) (young_ballots v.pending) young))
-          (floors_reach place tokens c v.turn member k.rows);
+          (young_reach place tokens c.boot v member young) (floors_reach place tokens c v.turn member k.rows);
     }
+
+telling_fits : (place : PlaceRecord) (tokens : ℕ) (ts : List ℕ) (c : Content) (v : VoterState) → IsMember place → NodeFits tokens c v → StepFits place tokens (tick_telling place ts c v)
+unfolding tick_telling
+telling_fits place tokens ts c v member k =
+    let young = young_fits tokens v k.pending in
+    record {
+      node = record { rows = k.rows; pending = young };
+      sends = each_append (Reaches place tokens) (flat_map (asks_again place c.boot) (young_ballots v.pending)) (tells place c ts)
+          (young_reach place tokens c.boot v member young) (tells_reach place tokens ts c member k.rows);
+    }
+
+tell_fits : (place : PlaceRecord) (tokens : ℕ) (ts : List ℕ) (c : Content) (v : VoterState) → IsMember place → NodeFits tokens c v → StepFits place tokens (tell place ts c v)
+unfolding tell
+tell_fits place tokens ts c v member k = record { node = record { rows = k.rows; pending = k.pending }; sends = tells_reach place tokens ts c member k.rows }
 
 propose_fits : (place : PlaceRecord) (tokens t lo hi : ℕ) (drift : ℤ) (c : Content) (v : VoterState) → IsMember place → t < tokens → IsSpan lo hi → NodeFits tokens c v → StepFits place tokens (propose place t lo hi drift c v)
 unfolding propose propose_alone propose_among
@@ -278,6 +304,21 @@ act_posts tokens event (Throttle i t gate) w k =
     (λ _. step_posts tokens event i s w k (record { node = record { rows = put_size c t _ None ∙ (k.nodes i).rows; pending = (k.nodes i).pending }; sends = tt }))
     (λ _. k)
 act_posts tokens event (Idle i) w k = k
+act_posts tokens event (TickTelling i ts) w k =
+    let s = tick_telling (place_of w i) ts (w.nodes i).content (w.nodes i).voter in
+    cond_both (is_running w i) (cluster_after event i s w) w (λ x. Posts tokens x)
+    (λ q. step_posts tokens event i s w k (telling_fits (place_of w i) tokens ts (w.nodes i).content (w.nodes i).voter (runs_member w i q) (k.nodes i)))
+    (λ _. k)
+act_posts tokens event (Tell i ts) w k =
+    let s = tell (place_of w i) ts (w.nodes i).content (w.nodes i).voter in
+    cond_both (is_running w i) (cluster_after event i s w) w (λ x. Posts tokens x)
+    (λ q. step_posts tokens event i s w k (tell_fits (place_of w i) tokens ts (w.nodes i).content (w.nodes i).voter (runs_member w i q) (k.nodes i)))
+    (λ _. k)
+act_posts tokens event (Raise i floor) w k =
+    let x = raised_member floor (w.nodes i) in
+    cond_both (has_store w i) (with_member i x w) w (λ y. Posts tokens y)
+    (λ _. swap_posts tokens i x w k (record { rows = raise_all_size (length (w.nodes i).content.rows) floor (w.nodes i).content ∙ (k.nodes i).rows; pending = (k.nodes i).pending }))
+    (λ _. k)
 
 restart_posts : (tokens : ℕ) (o : Option ℕ) (w : Cluster) → Posts tokens w → Posts tokens (after_restart o w)
 unfolding after_restart
@@ -305,11 +346,11 @@ replacement_posts tokens i boot floor w k =
     let new = swap_posts tokens i (opening_member boot size floor) w k (record { rows = opening_size size floor ∙ (k.nodes i).rows; pending = tt }) in
     cond_both (may_replace w i boot floor) _ w (λ x. Posts tokens x) (λ _. record { nodes = new.nodes; sent = k.sent }) (λ _. k)
 
-all_deliverable : (n tokens : ℕ) (ls : List Envelope) → ((i : ℕ) (l : Envelope) → slice_get ls i ≡ Some l → IsDeliverable n tokens l) → Each (IsDeliverable n tokens) ls
+pub all_deliverable : (n tokens : ℕ) (ls : List Envelope) → ((i : ℕ) (l : Envelope) → slice_get ls i ≡ Some l → IsDeliverable n tokens l) → Each (IsDeliverable n tokens) ls
 all_deliverable n tokens [] h = tt
 all_deliverable n tokens (l ∷ ls) h = (h 0 l refl, all_deliverable n tokens ls (λ i m at. h (suc i) m at))
 
-event_posts : (tokens event : ℕ) (x : Event) (w : Cluster) → Posts tokens w → Posts tokens (after_event event x w)
+pub event_posts : (tokens event : ℕ) (x : Event) (w : Cluster) → Posts tokens w → Posts tokens (after_event event x w)
 unfolding after_event
 event_posts tokens event (Happens a) w k = act_posts tokens event a w k
 event_posts tokens event (Cut true a) w k = restart_posts tokens (node_of a w) (with_sent_of w (after_act event a w)) (same_n tokens event a w k (act_posts tokens event a w k))

@@ -11,6 +11,9 @@ mod laws;
 mod reading;
 mod writing;
 
+pub use client_lines::{
+    Answer, Codes, Line, Nonce, Outcome, Reason, read_line, write_answer, write_reply,
+};
 pub use key::{ClusterKey, tag};
 pub use laws::{bodies_are_worked, datagrams_are_worked, keys_are_worked, one_spelling};
 pub use reading::read_message;

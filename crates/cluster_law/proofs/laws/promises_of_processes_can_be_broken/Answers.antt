@@ -6,7 +6,7 @@ use Rattle.vote_core.specs.Rows.{row}
 use Rattle.vote_core.specs.Voting.{propose, propose_alone, propose_among, tick}
 use Rattle.oath_node.specs.Machine.{NodeState, made_by_proposal, made_by_ruling, made_by_datagram, made_while_running, made_by_event}
 use Rattle.datagram_port.specs.Port.{PortEvent, Quiet}
-use Rattle.node_turns.specs.Turns.{FromPeer, FromClient, Nothing, Failure, Receipt, entry_of, events_of_turns, offers_in, receipts_in, receives_in}
+use Rattle.oath_node.specs.Turns.{FromPeer, FromClient, Nothing, Failure, Receipt, entry_of, events_of_turns, offers_in, receipts_in, receives_in}
 use Rattle.cluster_law.specs.Broken.{content_with_pass, just_opened, tick_made, told_by_tick}
 use Rattle.cluster_law.specs.Examples.{content_of_boot, one_node, quiet_node, three_nodes}
 use Rattle.cluster_law.specs.Lives.{Down, Handout, Setting, Site, Takes, Time, Up, content_at, own_offers, own_site, site_half_opened}

@@ -15,7 +15,7 @@ use Rattle.floor_sql.specs.Schema.{floor_schema, undrifted_schema}
 use Rattle.floor_sql.specs.Stored.{Holds}
 use Rattle.floor_sql.proofs.BrokenLemmas.{none_holds, own_row_is}
 use Rattle.floors_file.specs.Writing.{head_text, floors_text}
-use Rattle.node_turns.specs.declared.turns.Served.{Served}
+use Rattle.oath_node.specs.declared.turns.Served.{Served}
 use Rattle.oathd_database.specs.Broken.{booting, conn_of, old_and_new, new_store, one_book, so_much, small_conn, two_tables}
 use Rattle.oathd_database.specs.Floors.{told_floors}
 use Rattle.oathd_database.specs.Text.{export_text}

@@ -1,6 +1,6 @@
 use Rattle.std.proofs.Common.{ap, sym, ◌∙◌}
 use Rattle.std.specs.Prelude.{Result, Err}
-use Rattle.node_turns.specs.declared.turns.Served.{Served}
+use Rattle.oath_node.specs.declared.turns.Served.{Served}
 use Rattle.oathd_database.specs.Fault.{serve_end}
 use Rattle.oathd_database.specs.declared.fault.Fault.{Fault}
 use Rattle.oathd_database.proofs.serve.serve_node.Goals as goal

@@ -1,9 +1,0 @@
-use Rattle.std.proofs.Common.{take}
-use Rattle.node_turns.specs.Steps.{items_in}
-use Rattle.node_turns.proofs.GrowLemmas.{AreOffered}
-use Rattle.node_turns.proofs.turns.offer_waiting.Given as goal
-
--- what was taken so far is offered, and its replies are counted
-abbrev pub invariant-loop-outputs : goal.invariant-loop-outputs
-invariant-loop-outputs g l =
-    AreOffered (g.P.Port.events l.initial.port) (g.P.Port.events l.port) (items_in (take l.outputs-index l.waiting)) l.replies

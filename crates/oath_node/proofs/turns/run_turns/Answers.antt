@@ -1,0 +1,68 @@
+use Rattle.std.proofs.Common.{ℕ, ◌+◌, length, arith, sym, subst}
+use Rattle.std.specs.Prelude.{Result}
+use Rattle.oath_node.specs.TurnServing.{Serves}
+use Rattle.oath_node.specs.TurnSteps.{scene}
+use Rattle.oath_node.specs.declared.serve_fault.ServeFault.{ServeFault}
+use Rattle.oath_node.specs.declared.turns.Served.{Served}
+use Rattle.oath_node.specs.declared.turns.Tally.{Tally}
+use Rattle.oath_node.proofs.GrowLemmas.{err_is}
+use Rattle.oath_node.proofs.TurnLemmas.{IsSoFar, ends_by_clock, serves_less, so_far_few, so_far_next, so_far_start, zero_tally}
+use Rattle.oath_node.proofs.turns.run_turns.Goals as goal
+
+pub loop-left-init : goal.loop-left-init
+loop-left-init g c =
+    let held = g.S.FloorStore.held in
+    let first = g.P.Port.events c.args.port.now in
+    let asked = g.C.Clock.moments c.args.clock.now in
+    let zeros = c.default-tally.ensures in (
+      0,
+      omega arith,
+      subst (λ (t : Tally). IsSoFar held c.args.node.now first asked 0 (scene g.P.Port.events c.args.node.now c.args.port.now t) asked)
+          (sym (zero_tally c.default-tally.result zeros.0 zeros.1.0 zeros.1.1)) (so_far_start held c.args.node.now first asked),
+    )
+
+pub take_batch-requires-clause-few : goal.take_batch-requires-clause-few
+take_batch-requires-clause-few g c =
+    let h = c.loop-left.invariant in
+    so_far_few g.S.FloorStore.held c.args.node.now (g.P.Port.events c.args.port.now) (g.C.Clock.moments c.args.clock.now) h.0
+    c.loop-left.left c.args.turns (scene g.P.Port.events c.loop-left.node c.loop-left.port c.loop-left.tally)
+    (g.C.Clock.moments c.loop-left.clock) h.2 h.1 c.requires.few
+
+pub returns-in_err-left-clause-serves : goal.returns-in_err-left-clause-serves
+returns-in_err-left-clause-serves g c =
+    let held = g.S.FloorStore.held in
+    let first = g.P.Port.events c.args.port.now in
+    let asked = g.C.Clock.moments c.args.clock.now in
+    let now = scene g.P.Port.events c.loop-left.node c.loop-left.port c.loop-left.tally in
+    let new = scene g.P.Port.events c.take_batch.new.node c.take_batch.new.port c.take_batch.new.tally in
+    let told = g.C.Clock.moments c.take_batch.new.clock in
+    let fault = c.in_err-left.field-0.0 in
+    let h = c.loop-left.invariant in
+    subst (λ (r : Result Served ServeFault). Serves held c.args.node.now new.node first new.entries asked told c.args.turns r)
+    (sym (err_is c.from_residual.result fault c.from_residual.ensures.1))
+    (serves_less held c.args.node.now first asked h.0 c.loop-left.left c.args.turns now new (g.C.Clock.moments c.loop-left.clock) told
+    fault c.requires.few h.1 h.2 c.in_err-left.ensures)
+
+pub returns-in_err-left-clause-clock : goal.returns-in_err-left-clause-clock
+returns-in_err-left-clause-clock g c =
+    let fault = c.in_err-left.field-0.0 in
+    let h = c.loop-left.invariant in
+    ends_by_clock g.S.FloorStore.held c.args.node.now (g.P.Port.events c.args.port.now)
+    (g.C.Clock.moments c.args.clock.now) h.0 c.loop-left.left c.args.turns
+    (scene g.P.Port.events c.loop-left.node c.loop-left.port c.loop-left.tally)
+    (scene g.P.Port.events c.take_batch.new.node c.take_batch.new.port c.take_batch.new.tally)
+    (g.C.Clock.moments c.loop-left.clock) (g.C.Clock.moments c.take_batch.new.clock) fault c.requires.few h.1
+    h.2 c.in_err-left.ensures c.from_residual.result (err_is c.from_residual.result fault c.from_residual.ensures.1)
+
+pub loop-left-preserved : goal.loop-left-preserved
+loop-left-preserved g c =
+    let h = c.loop-left.invariant in
+    let b = c.in_ok-left.ensures in
+    let taken = b.count in (
+      h.0 + length b.batch,
+      omega (arith, h.1, taken, b.most),
+      so_far_next ℕ g.S.FloorStore.held c.args.node.now (g.P.Port.events c.args.port.now) (g.C.Clock.moments c.args.clock.now) h.0
+          (scene g.P.Port.events c.loop-left.node c.loop-left.port c.loop-left.tally)
+          (scene g.P.Port.events c.take_batch.new.node c.take_batch.new.port c.take_batch.new.tally) b.batch (g.C.Clock.moments c.loop-left.clock)
+          (g.C.Clock.moments c.take_batch.new.clock) c.in_ok-left.field-0 h.2 b.is_batch b.steps,
+    )

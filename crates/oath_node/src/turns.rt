@@ -1,0 +1,321 @@
+//! The turns of a node.
+
+ghost use Rattle.std.specs.Prelude.{◌≡◌, ◌↔◌, ◌<◌, ◌≤◌, ◌+◌, ◌^◌, [], Err, map, true};
+ghost use Rattle.arrayvec.specs.ArrayVec.{array_vec_len};
+ghost use Rattle.floor_store.specs.Held.{IsSettled};
+ghost use Rattle.datagram_port.specs.Port.{Grows, IsWithin, event_of_receive};
+ghost use Rattle.oath_node.specs.TurnServing.{EndsByClock, Serves};
+ghost use Rattle.oath_node.specs.TurnSteps.{GathersBatch, SettlesBatch, TakesBatch, TakesDatagram, TakesReceived, TakesTick, items_in, reply_count, scene, ticks_of};
+ghost use Rattle.oath_node.specs.Turns.{offer_of};
+
+use crate::serve_fault::ServeFault;
+use arrayvec::ArrayVec;
+use datagram_port::{Clock, MAX_DATAGRAM_LEN, Port, Received, Sender};
+use floor_store::FloorStore;
+use crate::event::Event;
+use crate::fault::NodeFault;
+use crate::item::Item;
+use crate::node::Node;
+use crate::outputs::{Outputs, Scratch};
+
+/// A run has fewer turns than this: 500 years of them at a million datagrams a second.
+pub const TURNS_END: u64 = 1 << 54;
+
+/// So many faults of a port in a row end a run.
+const MAX_FAULTS: u8 = 16;
+
+/// After each so many datagrams some time has passed.
+const DATAGRAMS_OF_A_TICK: u64 = 64;
+
+/// What a run of turns came to: the datagrams that were handed in, and the replies that were offered.
+#[derive(Clone, Copy, Debug, Default, PartialEq, Eq)]
+pub struct Served {
+    pub received: u64,
+    pub replied: u64,
+}
+
+/// What a run has counted so far: the datagrams that were handed in, the replies that were offered, and the faults of
+/// the port in a row.
+#[derive(Clone, Copy, Default)]
+struct Tally {
+    received: u64,
+    replied: u64,
+    faults: u8,
+}
+
+/// Offers what a call of a node sends and replies, in order. How many of these are replies.
+pub fn offer<P: Port>(port: &mut P, outputs: &Outputs<'_>) -> u64
+    ensures offers { Grows (P.events port.old) (P.events port.new) (map offer_of outputs.now.items) }
+    ensures replies { reply_count outputs.now.items < 2 ^ 64 → result ≡ reply_count outputs.now.items }
+    ensures few { result ≤ reply_count outputs.now.items }
+{
+    let mut replies = 0u64;
+    for item in outputs.items() {
+        match item {
+            Item::Datagram { to, bytes } => {
+                let _taken = port.send(Sender::Peer(to), bytes.as_slice());
+            }
+            Item::Reply { client, bytes } => {
+                let _taken = port.send(Sender::Client(client), bytes.as_slice());
+                replies = replies.saturating_add(1);
+            }
+        }
+    }
+    replies
+}
+
+/// What follows a receive in its batch.
+#[derive(Clone, Copy)]
+enum BatchEnd {
+    /// What is there already.
+    More,
+    /// The commit.
+    Commit,
+    /// A tick, and then the commit.
+    Tick,
+    /// The commit, and then the end of the run: the port has failed.
+    Port,
+    /// The commit, and then the end of the run: the clock has failed.
+    Clock,
+}
+
+impl BatchEnd {
+    /// Whether the batch goes on.
+    fn is_more(self) -> bool
+        ensures { (result ≡ true) ↔ (self ≡ BatchEnd.More) }
+    {
+        match self {
+            BatchEnd::More => true,
+            BatchEnd::Commit | BatchEnd::Tick | BatchEnd::Port | BatchEnd::Clock => false,
+        }
+    }
+}
+
+/// How many receives a batch had, and what follows the last one.
+#[derive(Clone, Copy)]
+struct Gathered {
+    turns: u64,
+    end: BatchEnd,
+}
+
+/// The outputs of a batch, which wait for its commit.
+type Outbox<'b> = ArrayVec<Option<Outputs<'b>>, 64>;
+
+/// Hands a datagram to a node, a client's at the moment that the clock tells now. What the node sends and replies, or
+/// None where the clock tells none.
+fn hand_in<'b, S: FloorStore, C: Clock>(
+    node: &mut Node<'b, S>,
+    clock: &mut C,
+    sender: Sender,
+    bytes: &[u8],
+) -> Result<Option<Outputs<'b>>, NodeFault>
+    ensures { TakesDatagram S.held node.old node.new sender bytes.now (C.moments clock.old)
+        (C.moments clock.new) result }
+{
+    match sender {
+        Sender::Peer(from) => Ok(Some(node.take_datagram(from, bytes)?)),
+        Sender::Client(client) => match clock.moment() {
+            Some(moment) => Ok(Some(node.take_line(client, moment, bytes)?)),
+            None => Ok(None),
+        },
+    }
+}
+
+/// Hands what was received to a node. What it sends and replies then waits for the commit.
+fn take_received<'b, S: FloorStore, C: Clock>(
+    node: &mut Node<'b, S>,
+    clock: &mut C,
+    outbox: &mut Outbox<'b>,
+    tally: &mut Tally,
+    received: Received,
+    buffer: &[u8; 512],
+) -> Result<BatchEnd, NodeFault>
+    requires within { IsWithin received }
+    requires few { (tally.old.received < 2 ^ 54) × (tally.old.faults < 16) }
+    requires room { array_vec_len outbox.old < 64 }
+    ensures { TakesReceived S.held node.old node.new (event_of_receive received buffer.now)
+        (C.moments clock.old) (C.moments clock.new) tally.old tally.new outbox.old.items outbox.new.items result }
+{
+    match received {
+        Received::Datagram { sender, len } => {
+            tally.faults = 0;
+            tally.received += 1;
+            let Some(outputs) = hand_in(node, clock, sender, &buffer[..len])? else {
+                return Ok(BatchEnd::Clock);
+            };
+            outbox.push(Some(outputs));
+            if tally.received % DATAGRAMS_OF_A_TICK == 0 {
+                return Ok(BatchEnd::Tick);
+            }
+            Ok(BatchEnd::More)
+        }
+        Received::Quiet => {
+            tally.faults = 0;
+            Ok(BatchEnd::Tick)
+        }
+        Received::Fault => {
+            tally.faults += 1;
+            if tally.faults == MAX_FAULTS {
+                return Ok(BatchEnd::Port);
+            }
+            Ok(BatchEnd::Commit)
+        }
+    }
+}
+
+/// Hands a node what comes next, and all that is there already behind it, for at most so many turns.
+fn gather<'b, S: FloorStore, P: Port, C: Clock>(
+    node: &mut Node<'b, S>,
+    port: &mut P,
+    clock: &mut C,
+    outbox: &mut Outbox<'b>,
+    tally: &mut Tally,
+    turns: u64,
+) -> Result<Gathered, NodeFault>
+    requires some { 0 < turns }
+    requires few { (tally.old.received + turns < 2 ^ 54) × (tally.old.faults < 16) }
+    requires empty { outbox.old.items ≡ [] }
+    ensures { GathersBatch S.held (scene P.events node.old port.old tally.old)
+        (scene P.events node.new port.new tally.new) (C.moments clock.old) (C.moments clock.new)
+        (items_in outbox.new.items) turns result }
+{
+    let mut buffer = [0; MAX_DATAGRAM_LEN];
+    let first = port.receive(&mut buffer);
+    let mut end = take_received(node, clock, outbox, tally, first, &buffer)?;
+    let mut taken = 1;
+    while end.is_more() && taken < turns && !outbox.is_full() {
+        let Some(next) = port.poll(&mut buffer) else {
+            break;
+        };
+        end = take_received(node, clock, outbox, tally, next, &buffer)?;
+        taken += 1;
+    }
+    Ok(Gathered { turns: taken, end })
+}
+
+/// Hands a node the tick that is due, if one is.
+fn take_tick<'k, 'b: 'k, S: FloorStore>(
+    node: &mut Node<'b, S>,
+    scratch: &'k mut Scratch,
+    end: BatchEnd,
+) -> Result<Option<Outputs<'k>>, NodeFault>
+    ensures { TakesTick S.held node.old node.new (ticks_of end) result }
+{
+    match end {
+        BatchEnd::Tick => Ok(Some(node.take(Event::Tick, scratch)?)),
+        BatchEnd::More | BatchEnd::Commit | BatchEnd::Port | BatchEnd::Clock => Ok(None),
+    }
+}
+
+/// Offers what waited for the commit of a node, in order. How many of these are replies.
+fn offer_waiting<S: FloorStore, P: Port>(
+    node: &Node<'_, S>,
+    port: &mut P,
+    waiting: &[Option<Outputs<'_>>],
+) -> u64
+    requires settled { (S.held node.now.store).is_clean → IsSettled (S.held node.now.store) }
+    ensures offers { Grows (P.events port.old) (P.events port.new) (map offer_of (items_in waiting.now)) }
+    ensures replies { reply_count (items_in waiting.now) < 2 ^ 64 → result ≡ reply_count (items_in waiting.now) }
+    ensures few { result ≤ reply_count (items_in waiting.now) }
+{
+    let mut replies = 0u64;
+    for outputs in waiting {
+        if let Some(outputs) = outputs {
+            replies = replies.saturating_add(offer(port, outputs));
+        }
+    }
+    replies
+}
+
+/// Ends a batch: the tick that is due, the commit, and then all that waits for it.
+fn settle<'b, S: FloorStore, P: Port>(
+    node: &mut Node<'b, S>,
+    port: &mut P,
+    scratch: &mut Scratch,
+    outbox: &Outbox<'b>,
+    tally: &mut Tally,
+    end: BatchEnd,
+) -> Result<(), NodeFault>
+    ensures { SettlesBatch S.held (scene P.events node.old port.old tally.old)
+        (scene P.events node.new port.new tally.new) (ticks_of end) (items_in outbox.now.items) result }
+{
+    let last = take_tick(node, scratch, end)?;
+    node.commit()?;
+    let replies = offer_waiting(node, port, outbox.as_slice());
+    tally.replied = tally.replied.saturating_add(replies);
+    let replies = offer_waiting(node, port, &[last]);
+    tally.replied = tally.replied.saturating_add(replies);
+    Ok(())
+}
+
+/// A batch of turns: what comes next and all that is there already behind it is handed to the node, which commits it
+/// at once; and then what it sends and replies is offered. How many turns it had, at most so many.
+fn take_batch<'b, S: FloorStore, P: Port, C: Clock>(
+    node: &mut Node<'b, S>,
+    port: &mut P,
+    clock: &mut C,
+    scratch: &mut Scratch,
+    outbox: &mut Outbox<'b>,
+    tally: &mut Tally,
+    turns: u64,
+) -> Result<u64, ServeFault>
+    requires some { 0 < turns }
+    requires few { (tally.old.received + turns < 2 ^ 54) × (tally.old.faults < 16) }
+    ensures { TakesBatch S.held (scene P.events node.old port.old tally.old)
+        (scene P.events node.new port.new tally.new) (C.moments clock.old) (C.moments clock.new) turns result }
+{
+    outbox.clear();
+    let batch = gather(node, port, clock, outbox, tally, turns)?;
+    settle(node, port, scratch, outbox, tally, batch.end)?;
+    match batch.end {
+        BatchEnd::Port => Err(ServeFault::Port),
+        BatchEnd::Clock => Err(ServeFault::Clock),
+        _ => Ok(batch.turns),
+    }
+}
+
+/// Serves a node over a port for so many turns, fewer than [`TURNS_END`]. Each turn is a receive, or a poll that finds
+/// something.
+///
+/// A datagram is handed to the node, a client's at the moment that the clock tells then. After a quiet turn, and
+/// after each 64th datagram, some time has passed for the node. What is there already behind a datagram is handed in
+/// with it, and the node commits all of that at once: nothing that it sends or replies is offered to the port before,
+/// and then all of it is, in order. What the port doesn't take is lost. It takes no memory.
+///
+/// # Errors
+/// `Node` where the node answers a fault: nothing of that batch is offered. `Port` at the 16th fault of the port in a
+/// row, and `Clock` where the clock tells no moment: the datagram is then not handed to the node, and what was there
+/// before it is served.
+pub fn run_turns<'b, S: FloorStore, P: Port, C: Clock>(
+    node: &mut Node<'b, S>,
+    port: &mut P,
+    clock: &mut C,
+    turns: u64,
+) -> Result<Served, ServeFault>
+    requires few { turns < 2 ^ 54 }
+    ensures serves { Serves S.held node.old node.new (P.events port.old) (P.events port.new)
+        (C.moments clock.old) (C.moments clock.new) turns result }
+    // a clock that fails changes nothing of the node, whatever the store is
+    ensures clock { result ≡ Err ServeFault.Clock
+        → EndsByClock S.held node.old node.new (P.events port.old) (C.moments clock.old) turns }
+{
+    let mut scratch = Scratch::new();
+    let mut outbox = Outbox::new();
+    let mut tally = Tally::default();
+    let mut left = turns;
+    while left > 0 {
+        left -= take_batch(
+            node,
+            port,
+            clock,
+            &mut scratch,
+            &mut outbox,
+            &mut tally,
+            left,
+        )?;
+    }
+    Ok(Served {
+        received: tally.received,
+        replied: tally.replied,
+    })
+}

@@ -1,0 +1,4 @@
+pub mod OpenLemmas
+pub mod PortLemmas
+pub mod RunLemmas
+pub mod WorldLemmas

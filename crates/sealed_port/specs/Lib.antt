@@ -1,0 +1,5 @@
+pub mod Asked
+pub mod Gate
+pub mod Port
+pub mod Runs
+pub mod World

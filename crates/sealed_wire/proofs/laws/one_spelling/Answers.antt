@@ -1,0 +1,11 @@
+use Rattle.sealed_wire.proofs.TagLemmas.{again, client_law, reading_law}
+use Rattle.sealed_wire.proofs.laws.one_spelling.Goals as goal
+
+pub returns-clause-reading : goal.returns-clause-reading
+returns-clause-reading c = reading_law
+
+pub returns-clause-again : goal.returns-clause-again
+returns-clause-again c = again
+
+pub returns-clause-client : goal.returns-clause-client
+returns-clause-client c = client_law

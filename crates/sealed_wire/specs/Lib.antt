@@ -1,0 +1,6 @@
+pub mod Body
+pub mod Bytes
+pub mod Examples
+pub mod Key
+pub mod Making
+pub mod Sealed

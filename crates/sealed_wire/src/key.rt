@@ -1,0 +1,108 @@
+ghost use Rattle.std.specs.Prelude.{◌≡◌, ◌↔◌, IsSome, IsTrue, IfOk, IfSome, Ok};
+ghost use Rattle.std.specs.Result.{result_err};
+ghost use Rattle.hex.specs.Hex.{decode_of};
+ghost use Rattle.sealed_wire.specs.Key.{IsClientKey, key_refusal_of, tag_of};
+
+use arrayvec::ArrayVec;
+use hmac_core::{Hash, Keyed};
+use secret_text::{SecretFault, read_hex};
+use std::fmt;
+use std::marker::Model;
+
+/// The fewest bytes of a key.
+const MIN_KEY_LEN: usize = 16;
+
+/// The most bytes of a key.
+const MAX_KEY_LEN: usize = 64;
+
+/// The bytes of a tag.
+pub const TAG_LEN: usize = 32;
+
+/// The key that a client shares with the nodes, of 16 to 64 bytes, set up for the tags of datagrams.
+#[derive(Drop)]
+pub struct ClientKey {
+    bytes: ArrayVec<u8, MAX_KEY_LEN>,
+    keyed: Keyed,
+}
+
+impl Model for ClientKey {
+    ghost use Rattle.std.specs.Prelude.{ℕ, List};
+    ghost use Rattle.hmac_core.specs.Keyed.{IsKeyed};
+    ghost use Rattle.hmac_core.specs.declared.hash.Hash.{Hash};
+    ghost use Rattle.sealed_wire.specs.Key.{IsClientKey};
+
+    ghost Value = { List ℕ };
+
+    ghost view = { λ key. key.bytes.items };
+
+    ghost invariant = { λ key. IsClientKey key.bytes.items × IsKeyed key.keyed Hash.Sha256 key.bytes.items };
+}
+
+impl ClientKey {
+    /// The key of these bytes, or `None` where there are fewer than 16 or more than 64.
+    pub fn new(bytes: &[u8]) -> Option<Self>
+        ensures valid { IsSome result ↔ IsClientKey bytes.now }
+        ensures value { IfSome result (λ key. key ≡ bytes.now) }
+    {
+        if bytes.len() < MIN_KEY_LEN {
+            return None;
+        }
+        let keyed = Keyed::new(Hash::Sha256, bytes);
+        let bytes = ArrayVec::try_from(bytes).ok()?;
+        Some(ClientKey { bytes, keyed })
+    }
+
+    /// Reads a key in hexadecimal: two digits a byte, in either case, and nothing else.
+    ///
+    /// # Errors
+    /// Those of [`read_hex`], in its order; then `BadLength` where the key has fewer than 16 bytes, and
+    /// `TooLong` where it has more than 64.
+    pub fn read(text: &[u8]) -> Result<Self, SecretFault>
+        ensures fault { result_err result ≡ key_refusal_of text.now }
+        ensures value { IfOk result (λ key. decode_of text.now ≡ Ok key) }
+    {
+        let secret = read_hex(text)?;
+        let bytes = secret.as_slice();
+        if bytes.len() < MIN_KEY_LEN {
+            return Err(SecretFault::BadLength);
+        }
+        ClientKey::new(bytes).ok_or(SecretFault::TooLong)
+    }
+
+    /// The bytes of the key.
+    pub fn as_slice(&self) -> &[u8]
+        ensures value { result.now ≡ self.now }
+        ensures len { IsClientKey result.now }
+    {
+        &self.bytes
+    }
+}
+
+/// It shows no byte of the key.
+impl fmt::Debug for ClientKey {
+    fn fmt<W: fmt::Write>(&self, f: &mut fmt::Formatter<W>) -> fmt::Result {
+        f.write_str("ClientKey(..)")
+    }
+}
+
+/// The tag of bytes under a key: their HMAC-SHA-256 (RFC 2104).
+#[tactic(auto, unfolding(crate::specs::Key::tag_of))]
+pub fn tag(key: &ClientKey, bytes: &[u8]) -> [u8; TAG_LEN]
+    ensures { result ≡ tag_of key.now bytes.now }
+{
+    let mac = key.keyed.mac(bytes);
+    let mut tag = [0; TAG_LEN];
+    tag.copy_from_slice(mac.as_slice());
+    tag
+}
+
+/// Whether two tags are equal. All their bytes are looked at, wherever the first difference is.
+pub(crate) fn are_equal(left: &[u8; TAG_LEN], right: &[u8; TAG_LEN]) -> bool
+    ensures { IsTrue result ↔ (left.now ≡ right.now) }
+{
+    let mut differing = 0;
+    for place in 0..TAG_LEN {
+        differing += u32::from(left[place] != right[place]);
+    }
+    differing == 0
+}

@@ -1,0 +1,72 @@
+ghost use Rattle.std.specs.Prelude.{◌≡◌, ◌↔◌, ◌∷◌, ◌++◌, ◌≤◌, [], ℕ, List, Some, None, codes, length, replicate, slice_set, take};
+ghost use Rattle.sealed_wire.specs.Body.{IsHead, head_at, head_bytes};
+ghost use Rattle.sealed_wire.specs.Bytes.{AreBytes};
+ghost use Rattle.sealed_wire.specs.Examples.{answer_head, answer_head_bytes, line_head, line_head_bytes, line_tag, sealed_answer, sealed_line};
+ghost use Rattle.sealed_wire.specs.Making.{AreMakings, IsAnswerTo, IsMade, IsUnforged, Making, bound_len, making_tag};
+ghost use Rattle.sealed_wire.specs.Sealed.{IsSealedOf, client_of, sealed_at, sealed_bytes};
+ghost use Rattle.sealed_wire.specs.declared.head.Head.{Head};
+ghost use Rattle.sealed_wire.specs.declared.head.Kind.TheVariants.{Answer, Report, Request};
+
+/// Under each key a head and a text have one spelling, and a datagram one reading.
+pub fn one_spelling()
+    ensures reading { (key bound bytes text : List ℕ) (head : Head) → AreBytes bytes → IsHead head →
+        IsSealedOf key bound head text bytes ↔ (sealed_at key bound bytes ≡ Some (head, text)) }
+    ensures again { (key bound text : List ℕ) (head : Head) → IsHead head → length text ≤ 256 →
+        sealed_at key bound (sealed_bytes key bound head text) ≡ Some (head, text) }
+    // The client whose key opens a datagram is the one that it names.
+    ensures client { (key bound bytes text : List ℕ) (head : Head) → sealed_at key bound bytes ≡ Some (head, text) →
+        client_of bytes ≡ Some head.client }
+{}
+
+/// What is read under a key was made by a holder of the key, bound so: where nobody forges a tag. A line was made for
+/// the node and the moment that it names, whatever address it comes from.
+pub fn what_is_read_was_made()
+    ensures { (key bytes bound text : List ℕ) (head : Head) (made : List Making) → AreBytes bytes →
+        AreMakings key made → length bound ≡ bound_len head.kind → IsUnforged key made bound bytes →
+        sealed_at key bound bytes ≡ Some (head, text) →
+        IsMade made (record { bound = bound; head = head; text = text }) }
+{}
+
+/// An answer that a client reads of a datagram, under its key and bound to its line's tag, was made by a holder of the
+/// key for that very line: where nobody forges a tag, and no two texts that were sealed have one tag.
+pub fn answers_are_for_their_lines()
+    ensures { (key bytes answer : List ℕ) (head : Head) (made : List Making) (line : Making) → AreBytes bytes →
+        AreMakings key made → IsMade made line → IsUnforged key made (making_tag key line) bytes →
+        sealed_at key (making_tag key line) bytes ≡ Some (head, answer) → head.kind ≡ Answer →
+        IsAnswerTo key made line head answer }
+{}
+
+/// A line and its answer under a key of 32 zeros, and what is read of them under that key and another, bound to
+/// nothing and to the line's tag, with another tag and with another byte of the head.
+pub fn sealed_are_worked()
+    ensures line { sealed_bytes (replicate 32 0) [] line_head (codes "CHECK k1 ann 755224 -") ≡ sealed_line }
+    ensures answer { sealed_bytes (replicate 32 0) line_tag answer_head (codes "OK k1 0") ≡ sealed_answer }
+    ensures line_read { sealed_at (replicate 32 0) [] sealed_line
+        ≡ Some (line_head, codes "CHECK k1 ann 755224 -") }
+    ensures answer_read { sealed_at (replicate 32 0) line_tag sealed_answer ≡ Some (answer_head, codes "OK k1 0") }
+    ensures unbound { sealed_at (replicate 32 0) [] sealed_answer ≡ None }
+    ensures bound { sealed_at (replicate 32 0) line_tag sealed_line ≡ None }
+    ensures key { sealed_at (replicate 32 1) [] sealed_line ≡ None }
+    ensures last_byte { sealed_at (replicate 32 0) [] (slice_set sealed_line 67 0) ≡ None }
+    ensures node { sealed_at (replicate 32 0) [] (slice_set sealed_line 6 3) ≡ None }
+    ensures no_tag { sealed_at (replicate 32 0) [] (line_head_bytes ++ codes "CHECK k1 ann 755224 -") ≡ None }
+    ensures client { client_of sealed_line ≡ Some 258 }
+    ensures short { client_of (replicate 46 0) ≡ None }
+{}
+
+/// Heads, and what is read where a byte is another.
+pub fn heads_are_worked()
+    ensures line { head_bytes line_head ≡ line_head_bytes }
+    ensures answer { head_bytes answer_head ≡ answer_head_bytes }
+    ensures read { head_at line_head_bytes ≡ Some line_head }
+    ensures longest { head_at (line_head_bytes ++ replicate 256 32) ≡ Some line_head }
+    ensures too_long { head_at (line_head_bytes ++ replicate 257 32) ≡ None }
+    ensures too_short { head_at (take 14 line_head_bytes) ≡ None }
+    ensures mark_0 { head_at (slice_set line_head_bytes 0 0x4e) ≡ None }
+    ensures mark_1 { head_at (slice_set line_head_bytes 1 0x56) ≡ None }
+    ensures version { head_at (slice_set line_head_bytes 2 2) ≡ None }
+    ensures kind_0 { head_at (slice_set line_head_bytes 3 0) ≡ None }
+    ensures kind_5 { head_at (slice_set line_head_bytes 3 5) ≡ None }
+    ensures request { head_at (slice_set line_head_bytes 3 3) ≡ Some (record line_head { kind = Request }) }
+    ensures report { head_at (slice_set line_head_bytes 3 4) ≡ Some (record line_head { kind = Report }) }
+{}

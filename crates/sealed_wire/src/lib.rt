@@ -1,0 +1,23 @@
+//! Sealed datagrams between clients and nodes, as bytes.
+//!
+//! A client's line and a node's answer each stand between a head and a tag, which is HMAC-SHA-256 under the key that
+//! the client shares with the nodes. An answer's tag is over the line's tag as well, so that it answers that line and
+//! no other. [`open`] takes exactly what [`seal`] writes, and nothing else (the law [`one_spelling`]). Nothing here
+//! takes memory.
+#![tactic(auto)]
+
+mod bytes;
+mod head;
+mod key;
+mod laws;
+mod reading;
+mod writing;
+
+pub use head::{Head, Kind};
+pub use key::{ClientKey, TAG_LEN, tag};
+pub use laws::{
+    answers_are_for_their_lines, heads_are_worked, one_spelling, sealed_are_worked,
+    what_is_read_was_made,
+};
+pub use reading::{client_of, open};
+pub use writing::{MAX_SEALED_LEN, MAX_TEXT_LEN, seal};
