@@ -2,31 +2,17 @@
 import base64
 import json
 import os
-import random
 import shutil
 import socket
 import subprocess
 import time
 import urllib.request
 
+from serving import free_ports
+
 
 def is_there():
     return shutil.which("etcd") is not None
-
-
-def free_ports(count):
-    """TCP ports of 127.0.0.1 that nobody has."""
-    ports = []
-    while len(ports) < count:
-        port = random.randrange(20000, 32768)
-        with socket.socket() as each:
-            try:
-                each.bind(("127.0.0.1", port))
-            except OSError:
-                continue
-        if port not in ports:
-            ports.append(port)
-    return ports
 
 
 def encoded(text):
@@ -39,7 +25,7 @@ class Etcd:
     def __init__(self, folder, count, limits):
         self.folder = os.path.join(folder, "etcd")
         os.mkdir(self.folder)
-        self.ports, peers = free_ports(count), free_ports(count)
+        self.ports, peers = free_ports(count, socket.SOCK_STREAM), free_ports(count, socket.SOCK_STREAM)
         names = ["m%d" % (member + 1) for member in range(count)]
         cluster = ",".join("%s=http://127.0.0.1:%d" % each for each in zip(names, peers))
         self.processes = []

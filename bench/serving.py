@@ -3,48 +3,27 @@
 OATHD in the environment is the program, else ./oathd.
 """
 import hashlib
-import hmac
 import os
 import random
 import resource
 import shutil
 import signal
 import socket
-import struct
 import subprocess
 import sys
 import tempfile
 import time
 
 TOP = os.path.dirname(os.path.dirname(os.path.abspath(__file__)))
+sys.path.insert(0, os.path.join(TOP, "tools/lib"))
+from net import free_ports
+from otp import code  # those that import this module take it from here
+
 PROGRAM = os.environ.get("OATHD", os.path.join(TOP, "oathd"))
-
-
-def code(key, factor):
-    """The six digits of RFC 4226."""
-    mac = hmac.digest(key, struct.pack(">Q", factor), hashlib.sha1)
-    at = mac[-1] & 15
-    return "%06d" % ((struct.unpack(">I", mac[at:at + 4])[0] & 0x7FFFFFFF) % 1_000_000)
 
 
 def key_of(token):
     return hashlib.sha1(b"token %d" % token).digest()
-
-
-def free_ports(count):
-    """UDP ports of 127.0.0.1 that nobody has. They are below those that the system gives to a socket that asks for any,
-    so no client gets one while its node is down."""
-    ports = []
-    while len(ports) < count:
-        port = random.randrange(20000, 32768)
-        with socket.socket(socket.AF_INET, socket.SOCK_DGRAM) as each:
-            try:
-                each.bind(("127.0.0.1", port))
-            except OSError:
-                continue
-        if port not in ports:
-            ports.append(port)
-    return ports
 
 
 def client_of(port, seconds):

@@ -1,11 +1,11 @@
 #!/usr/bin/env python3
-"""Edits of a crate that are to be refused: what a file of must-fail/, wrong/ or tied/ says, and how it is made in a copy.
+"""Reads the edits that have to be refused, in crates/CRATE/must-fail/ and in mutants/, and makes them in a copy.
 
-    tools/edits.py    whether each edit of the repository can be made, and counts them; tries nothing
+    tools/edits.py    says which edits can't be made, and counts them. It tries nothing
 
-An edit is a file of lines `file: PATH`, and after each of them pairs of lines `old: TEXT` and `new: TEXT`. Each old text
-stands in that file exactly once. In tied/ and wrong/ a `⏎` in a text is the end of a line.
+mutants/README.md has the format. Each old text stands in its file exactly once.
 """
+import re
 import subprocess
 import sys
 from pathlib import Path
@@ -14,35 +14,90 @@ TOP = Path(__file__).resolve().parent.parent
 
 
 class BadEdit(Exception):
-    """An edit that can't be made: its file says why."""
+    """An edit that can't be made, with the reason."""
+
+
+class Edit:
+    """A change of sources, with what has to refuse it (of a definition) and the line of its last try."""
+
+    def __init__(self, path, name):
+        self.path, self.name = path, name
+        self.refused_by, self.state, self.changes = None, None, []
+        self.file = self.old = None
+
+    def take(self, line):
+        """Reads a line of its section."""
+        key, _, text = line.partition(": ") if ": " in line else line.partition(":")
+        text = text.replace("⏎", "\n")
+        if key in ("tried", "untried"):
+            self.state = line
+        elif key == "refused by":
+            self.refused_by = text
+        elif key == "file":
+            self.file = text
+        elif key == "old":
+            self.old = text
+        elif key == "new" and self.file and self.old is not None:
+            self.changes.append((self.file, self.old, text))
+            self.old = None
+        else:
+            raise BadEdit(f"{self.path} [{self.name}]: what is this line? {line}")
 
 
 def read_edit(path):
-    """The text behind `refused:`, or None, and the changes: file, old text, new text."""
-    refused, file, old, changes = None, None, None, []
+    """Returns the edit of a file of must-fail/."""
+    edit = Edit(path, path.stem)
     for line in path.read_text().splitlines():
-        key, _, text = line.partition(": ") if ": " in line else line.partition(":")
-        text = text.replace("⏎", "\n")
-        if key == "refused":
-            refused = text
-        elif key == "file":
-            file = text
-        elif key == "old":
-            old = text
-        elif key == "new" and file and old is not None:
-            changes.append((file, old, text))
-            old = None
-        elif line:
-            raise BadEdit(f"{path}: what is this line? {line}")
-    if not changes:
-        raise BadEdit(f"{path}: no change")
-    return refused, changes
+        if line:
+            edit.take(line)
+    return edit
 
 
-def texts(folder, changes):
-    """What stands in the files of the changes, and what they make of it."""
+def read_mutants(kind, crate):
+    """Returns the edits of mutants/KIND/CRATE.txt, in order."""
+    path, edits = mutants_file(kind, crate), []
+    if not path.exists():
+        return edits
+    for line in path.read_text().split("\n"):
+        if line.startswith("["):
+            edits.append(Edit(path, line.strip("[]")))
+        elif line and not line.startswith("#"):
+            if not edits:
+                raise BadEdit(f"{path}: a line before the first [NAME]: {line}")
+            edits[-1].take(line)
+    names = [edit.name for edit in edits]
+    if len(set(names)) < len(names):
+        raise BadEdit(f"{path}: {max(names, key=names.count)} is there twice")
+    for edit in edits:
+        if not edit.state:
+            raise BadEdit(f"{path} [{edit.name}]: neither `tried:` nor `untried`")
+        if (kind == "definitions") != (edit.refused_by is not None):
+            raise BadEdit(f"{path} [{edit.name}]: `refused by:` is for definitions")
+    return edits
+
+
+def mutants_file(kind, crate):
+    return TOP / "mutants" / kind / f"{crate}.txt"
+
+
+def crates_with_mutants(kind):
+    """The crates that have a file in mutants/KIND, by name."""
+    return sorted(path.stem for path in (TOP / "mutants" / kind).glob("*.txt"))
+
+
+def record_state(edit, state):
+    """Writes the state of an edit into its section."""
+    text = edit.path.read_text()
+    found = re.search(rf"^\[{re.escape(edit.name)}\]\n(?:refused by: .*\n)?((?:tried: .*|untried))$", text, re.M)
+    edit.path.write_text(text[:found.start(1)] + state + text[found.end(1):])
+
+
+def texts(folder, edit):
+    """Returns what stands in the files of the edit, and what the edit makes of it."""
     before, after = {}, {}
-    for file, old, new in changes:
+    if not edit.changes:
+        raise BadEdit(f"{edit.path} [{edit.name}]: no change")
+    for file, old, new in edit.changes:
         if not (folder / file).exists():
             raise BadEdit(f"{file}: there is no such file")
         text = after.get(file, (folder / file).read_text())
@@ -53,21 +108,21 @@ def texts(folder, changes):
     return before, after
 
 
-def changed(folder, changes):
-    """Makes the changes, and gives the texts that stood in their files before."""
-    before, after = texts(folder, changes)
+def changed(folder, edit):
+    """Makes the edit, and returns the texts that stood in its files before."""
+    before, after = texts(folder, edit)
     put_back(folder, after)
     return before
 
 
 def put_back(folder, before):
-    """Makes the files what they were."""
+    """Writes these texts into their files."""
     for file, text in before.items():
         (folder / file).write_text(text)
 
 
 def crates_below(crate):
-    """The crate and all that it uses, each with its line of crates.txt."""
+    """Returns the crate and all that it uses, each with its line of crates.txt."""
     uses, lines = {}, {}
     for line in (TOP / "crates.txt").read_text().splitlines():
         name, colon, low = line.split("#")[0].partition(":")
@@ -84,7 +139,7 @@ def crates_below(crate):
 
 
 def copied(crate, work):
-    """Copies the crate and those below it, with what earlier checks kept, into the folder. The crate's folder there."""
+    """Copies the crate and those below it, with what earlier checks kept. Returns the crate's folder there."""
     below = crates_below(crate)
     if crate not in below:
         raise BadEdit(f"crates.txt has no crate {crate}")
@@ -95,26 +150,32 @@ def copied(crate, work):
 
 
 def run(folder, *words):
-    """The status and the whole output of a command of the toolchain."""
+    """Returns the status and the whole output of a command of the toolchain."""
     done = subprocess.run(("rt",) + words, cwd=folder, stdout=subprocess.PIPE, stderr=subprocess.STDOUT, text=True)
     return done.returncode, done.stdout
 
 
 def main():
-    """Says which edits can't be made."""
-    crates = TOP / "crates"
-    edits = [(path, path.parent.parent) for path in crates.glob("*/must-fail/*.edit")]
-    edits += [(path, crates / path.parent.name) for kind in ("wrong", "tied") for path in (TOP / kind).glob("*/*.edit")]
-    bad = 0
-    for path, folder in sorted(edits):
+    """Prints which edits can't be made."""
+    crates, good, bad = TOP / "crates", 0, []
+    edits = [(read_edit(path), path.parent.parent) for path in sorted(crates.glob("*/must-fail/*.edit"))]
+    for kind in ("bodies", "definitions"):
+        for crate in crates_with_mutants(kind):
+            edits += [(edit, crates / crate) for edit in read_mutants(kind, crate)]
+    for edit, folder in edits:
         try:
-            texts(folder, read_edit(path)[1])
+            texts(folder, edit)
+            good += 1
         except BadEdit as why:
-            bad += 1
-            print(f"{path.relative_to(TOP)}: {why}")
-    print(f"{len(edits) - bad} edits can be made, {bad} not")
-    sys.exit(bad != 0)
+            bad.append(f"{edit.path.relative_to(TOP)} [{edit.name}]: {why}")
+    for line in bad:
+        print(line)
+    print(f"{good} edits can be made, {len(bad)} not")
+    sys.exit(bool(bad))
 
 
 if __name__ == "__main__":
-    main()
+    try:
+        main()
+    except BadEdit as bad_edit:
+        sys.exit(f"tools/edits.py: {bad_edit}")

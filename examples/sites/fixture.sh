@@ -1,4 +1,4 @@
-# A cluster of three nodes on free ports of 127.0.0.1, for the scripts run-it of examples/ and package/. It is sourced
+# A cluster of three nodes on free ports of 127.0.0.1, for the scripts run-it of examples/ and dist/. It is sourced
 # by a script of bash, which has set `site` to the name that its messages have.
 #
 #   need COMMAND..                ends with status 77 where a command isn't there, and names it; need_root likewise
