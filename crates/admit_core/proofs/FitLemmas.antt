@@ -13,7 +13,8 @@ use Rattle.token_file.specs.declared.token.Kind.{Kind}
 use Rattle.otp_core.specs.Totp.{step_of}
 use Rattle.otp_core.specs.Limits.{Limits}
 use Rattle.admit_core.specs.Window.{InPeriodWindow, InWindow, AreEnds, factors_below, period_window_numbers, window_numbers}
-use Rattle.admit_core.specs.Fit.{Submission, Check, Resync, code_at, Fits, IsLeastBetween, NoneBetween, IsLeastIn, NoneIn, fits_from, last_used, first_fit}
+use Rattle.admit_core.specs.Fit.{code_at, Fits, IsLeastBetween, NoneBetween, IsLeastIn, NoneIn, fits_from, last_used, first_fit}
+use Rattle.otp_core.specs.Submission.{Submission, Check, Resync}
 use Rattle.admit_core.specs.Drift.{token_step}
 use Rattle.admit_core.proofs.WindowLemmas.{IsFactorBelow, IsWithinReach-below, IsWithinSkew-below}
 

@@ -3,7 +3,8 @@ use Rattle.std.specs.Prelude.{ℕ, ℤ, List, Option}
 use Rattle.otp_core.specs.Limits.{Limits}
 use Rattle.otp_core.specs.Range.{IsMoment}
 use Rattle.token_file.specs.Credential.{Credential}
-use Rattle.admit_core.specs.Fit.{Submission, IsLeastFit}
+use Rattle.admit_core.specs.Fit.{IsLeastFit}
+use Rattle.otp_core.specs.Submission.{Submission}
 use Rattle.admit_core.specs.Password.{PasswordFits}
 use Rattle.admit_core.specs.Throttle.{Result, IsOpenAfter}
 

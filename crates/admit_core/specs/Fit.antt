@@ -7,12 +7,8 @@ use Rattle.otp_core.specs.Digits.{count_of}
 use Rattle.otp_core.specs.Hotp.{code_of}
 use Rattle.token_file.specs.Credential.{Credential}
 use Rattle.otp_core.specs.Limits.{Limits}
+use Rattle.otp_core.specs.Submission.{Submission, Check, Resync}
 use Rattle.admit_core.specs.Window.{InWindow, window_numbers}
-
--- one code, or two in a row, by which a token is resynchronized (section 7.4)
-pub data Submission : Type 0 where
-  Check : (code : List ℕ) → Submission
-  Resync : (first second : List ℕ) → Submission
 
 -- the code of a token at a factor
 unfoldable pub code_at : Credential → ℕ → List ℕ

@@ -10,12 +10,12 @@ mod search;
 mod windows;
 
 pub use drift::drift_after;
-pub use otp_core::Gate;
 pub use laws::{
     drifts_are_worked, failures_are_spaced, fits_are_worked, gate_keeps_throttle,
     least_fit_is_least, no_drift_is_as_before, promises_can_be_broken, throttle_is_worked,
     windows_are_worked,
 };
+pub use otp_core::Gate;
 pub use password::password_fits;
 pub use search::{find_check, find_resync};
 pub use windows::{resync_window, window};

@@ -1,5 +1,6 @@
 ghost use Rattle.std.specs.Prelude.{◌≡◌, ◌+◌, IfSome, IfNone};
-ghost use Rattle.admit_core.specs.Fit.{Check, Resync, code_at, IsLeastBetween, NoneBetween};
+ghost use Rattle.admit_core.specs.Fit.{code_at, IsLeastBetween, NoneBetween};
+ghost use Rattle.otp_core.specs.Submission.{Check, Resync};
 ghost use Rattle.otp_core.specs.Codes.{AreCodesOf};
 ghost use Rattle.otp_core.specs.Digits.{count_of};
 ghost use Rattle.token_file.specs.Credential.{Credential};

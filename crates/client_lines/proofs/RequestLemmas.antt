@@ -10,8 +10,8 @@ use Rattle.std.proofs.lemmas.Bool.{leb-true, le-leb, lt-leb, or_cases, or_left, 
 use Rattle.std.proofs.lemmas.Bool.Decides.{Decides-and, Decides-by_and}
 use Rattle.std.proofs.lemmas.Slice.Eq.{bytes_eq-Decides}
 use Rattle.otp_core.specs.Code.{IsCode}
-use Rattle.admit_core.specs.Fit.{Submission, Check, Resync}
-use Rattle.token_file.specs.Credential.{is_word}
+use Rattle.otp_core.specs.Submission.{Submission, Check, Resync}
+use Rattle.field_text.specs.Word.{is_word}
 use Rattle.client_lines.specs.Field.{IsNonce}
 use Rattle.client_lines.specs.Request.{Request, IsRequest, IsLine, Reads, has_length, is_nonce, is_code, are_common, given_in, request_of, request_at, fields_of, without_lf}
 

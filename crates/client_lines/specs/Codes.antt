@@ -1,5 +1,5 @@
 -- The codes of a line, as the program holds them.
-use Rattle.admit_core.specs.Fit.{Submission, Check, Resync}
+use Rattle.otp_core.specs.Submission.{Submission, Check, Resync}
 use Rattle.client_lines.specs.declared.line.Codes.{Codes}
 use Rattle.client_lines.specs.declared.line.Codes.TheVariants.{One, Two}
 

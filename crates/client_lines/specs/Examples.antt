@@ -1,6 +1,6 @@
 -- Lines that the laws work through.
 use Rattle.std.specs.Prelude.{ℕ, List, ◌++◌, replicate, Option, Some, codes}
-use Rattle.admit_core.specs.Fit.{Check}
+use Rattle.otp_core.specs.Submission.{Check}
 use Rattle.client_lines.specs.Request.{Request}
 
 -- a CHECK with nonce 1, the user silver and the first code of the key

@@ -4,8 +4,8 @@ use Rattle.std.specs.Char.{is_ascii_alphanumeric, is_ascii_digit}
 use Rattle.std.specs.List.{slice_split, list_all}
 use Rattle.std.specs.Str.{bytes_eq}
 use Rattle.otp_core.specs.Code.{IsCode}
-use Rattle.token_file.specs.Credential.{is_word}
-use Rattle.admit_core.specs.Fit.{Submission, Check, Resync}
+use Rattle.field_text.specs.Word.{is_word}
+use Rattle.otp_core.specs.Submission.{Submission, Check, Resync}
 use Rattle.client_lines.specs.Field.{IsNonce}
 
 -- what a line asks for: the codes that it submits for a user, and the password, where one is given

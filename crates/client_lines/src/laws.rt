@@ -1,5 +1,5 @@
 ghost use Rattle.std.specs.Prelude.{◌≡◌, ◌↔◌, ◌∷◌, ◌++◌, [], ℕ, List, Some, None, codes, map};
-ghost use Rattle.admit_core.specs.Fit.{Check, Resync};
+ghost use Rattle.otp_core.specs.Submission.{Check, Resync};
 ghost use Rattle.client_lines.specs.Answer.{answer_bytes};
 ghost use Rattle.client_lines.specs.Codes.{submission_of};
 ghost use Rattle.client_lines.specs.Examples.{check_request, check_text, check_with, letters};

@@ -5,10 +5,9 @@ ghost use Rattle.client_lines.specs.Request as spec;
 ghost use Rattle.client_lines.specs.Request.{Request, IsLine, Reads, fields_of, given_in};
 
 use crate::answer::{Nonce, is_nonce};
-use field_text::cut_at;
+use field_text::{cut_at, is_word};
 use otp_core::Code;
 use std::marker::Model;
-use token_file::is_word;
 
 /// The most bytes of a client's line, its LF with them.
 const MAX_LINE_LEN: usize = 256;

@@ -9,7 +9,8 @@ use Rattle.std.specs.Net.Reader.{Read, read_socket_v4, whole_value}
 use Rattle.std.proofs.NetLemmas.Sockets.{read_socket_v4_sound}
 use Rattle.field_text.specs.Number.{number_of}
 use Rattle.otp_core.specs.Limits.{AreLimits}
-use Rattle.token_file.specs.Credential.{Credential, is_word}
+use Rattle.token_file.specs.Credential.{Credential}
+use Rattle.field_text.specs.Word.{is_word}
 use Rattle.token_file.specs.Fields.{fields_of, lines_of}
 use Rattle.token_file.specs.Writing.{IsCredential}
 use Rattle.cluster_file.specs.declared.cluster.Cluster.{Cluster}

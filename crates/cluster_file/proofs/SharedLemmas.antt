@@ -8,7 +8,8 @@ use Rattle.std.proofs.lemmas.Fmt.{decimal_by_steps, decimal_injective}
 use Rattle.std.specs.Net.Text.{ipv4_text}
 use Rattle.std.proofs.lemmas.List.Folds.{list_all-append}
 use Rattle.otp_core.specs.Limits.{Limits, AreLimits}
-use Rattle.token_file.specs.Credential.{Credential, is_visible, is_word}
+use Rattle.token_file.specs.Credential.{Credential}
+use Rattle.field_text.specs.Word.{is_visible, is_word}
 use Rattle.token_file.specs.Fields.{fields_of, is_line_end, lines_of}
 use Rattle.token_file.specs.Row.{row_of}
 use Rattle.token_file.specs.Writing.{IsCredential, row_line}

@@ -6,7 +6,7 @@ use Rattle.hex.specs.Hex.{decode_of}
 use Rattle.hex.specs.declared.error.FromHexError.{FromHexError}
 use Rattle.field_text.specs.Number.{number_of}
 use Rattle.secret_text.specs.declared.fault.SecretFault.{SecretFault}
-use Rattle.token_file.specs.Credential.{is_word}
+use Rattle.field_text.specs.Word.{is_word}
 use Rattle.vote_wire.specs.Key.{key_refusal_of}
 use Rattle.cluster_file.specs.declared.fault.LineFault.{LineFault}
 use Rattle.cluster_file.specs.declared.fault.LineFault.TheVariants.{MissingField, SurplusField, Twice, BadNumber, BadKey, BadLife}

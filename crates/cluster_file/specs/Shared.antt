@@ -3,7 +3,8 @@ use Rattle.std.specs.Prelude.{ℕ, ◌+◌, List, [], ◌∷◌, ◌++◌, codes
 use Rattle.std.specs.Fmt.{decimal}
 use Rattle.std.specs.List.{flat_map, AllByRecursion}
 use Rattle.otp_core.specs.Limits.{Limits, AreLimits}
-use Rattle.token_file.specs.Credential.{Credential, is_word}
+use Rattle.token_file.specs.Credential.{Credential}
+use Rattle.field_text.specs.Word.{is_word}
 use Rattle.token_file.specs.Writing.{IsCredential, row_text}
 use Rattle.cluster_file.specs.Address.{Address, IsAddress, address_text}
 use Rattle.cluster_file.specs.ClusterFile.{ClusterRecord}

@@ -1,13 +1,12 @@
 ghost use Rattle.std.specs.Prelude.{◌≡◌, ◌∷◌, [], ◌≤◌, length, IfOk, IfSome, IsTrue, MatchOption};
 ghost use Rattle.std.specs.List.{list_all, position_from};
-ghost use Rattle.token_file.specs.Credential.{is_blank, is_visible};
+ghost use Rattle.field_text.specs.Word.{is_blank, is_visible};
 ghost use Rattle.token_file.specs.Fields.{fields_of};
 ghost use Rattle.cluster_file.specs.Fields.{field_value, fields_value, key_of, life_of, number_up_to, one_field, setting_of, two_fields};
 ghost use Rattle.field_text.specs.Number.{number_of};
 
 use crate::fault::LineFault;
-use field_text::read_number;
-use token_file::is_word;
+use field_text::{is_word, read_number};
 use vote_wire::ClusterKey;
 
 /// Whether a byte divides fields.

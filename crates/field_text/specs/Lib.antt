@@ -1,2 +1,3 @@
 pub mod Cut
 pub mod Number
+pub mod Word

@@ -5,7 +5,7 @@ use Rattle.std.specs.List.{flat_map, list_all}
 use Rattle.std.specs.Fmt.{decimal}
 use Rattle.std.proofs.lemmas.Bool.{and_parts, leb-true}
 use Rattle.std.proofs.lemmas.Fmt.{length-decimal-le}
-use Rattle.token_file.specs.Credential.{is_visible, is_word}
+use Rattle.field_text.specs.Word.{is_visible, is_word}
 use Rattle.floors_file.specs.declared.reading.HeadLine.{HeadLine}
 use Rattle.floors_file.specs.Floors.{FloorRecord, FloorsRecord}
 use Rattle.floors_file.specs.Writing.{AreFloors, AreRows, floors_text, head_text, row_text}

@@ -12,7 +12,7 @@ use Rattle.std.proofs.lemmas.List.Folds.{list_all-append}
 use Rattle.std.proofs.lemmas.List.Splits.{length-slice_split}
 use Rattle.std.proofs.lemmas.Str.Parse.{IsNumeralModel, numerals_by_value}
 use Rattle.field_text.specs.Number.{number_of}
-use Rattle.token_file.specs.Credential.{is_visible, is_word}
+use Rattle.field_text.specs.Word.{is_visible, is_word}
 use Rattle.token_file.specs.Fields.{is_line_end, lines_of}
 use Rattle.token_file.proofs.WritingLemmas.{split_at, split_whole}
 use Rattle.floors_file.specs.declared.reading.HeadLine.{HeadLine}

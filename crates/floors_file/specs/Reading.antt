@@ -2,7 +2,7 @@
 use Rattle.std.specs.Prelude.{ℕ, ◌+◌, ◌^◌, nat_le, nat_lt, Bool, true, false, ◌&&◌, List, [], ◌∷◌, ◌++◌, length, Result, Ok, Err, codes, if◌then◌else◌}
 use Rattle.std.specs.List.{list_any}
 use Rattle.std.specs.Str.{bytes_eq}
-use Rattle.token_file.specs.Credential.{is_word}
+use Rattle.field_text.specs.Word.{is_word}
 use Rattle.token_file.specs.Fields.{has_bytes, lines_of}
 use Rattle.floors_file.specs.declared.fault.LineFault.{LineFault}
 use Rattle.floors_file.specs.declared.fault.LineFault.TheVariants.{NotFloors, Version, Range, UserName, Twice, TooFew, TooMany, NoEnd, Memory}

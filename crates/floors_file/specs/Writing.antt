@@ -2,7 +2,7 @@
 use Rattle.std.specs.Prelude.{◌≡◌, ℕ, ◌≤◌, ◌^◌, false, true, List, [], ◌∷◌, ◌++◌, length, codes}
 use Rattle.std.specs.Fmt.{decimal}
 use Rattle.std.specs.List.{flat_map}
-use Rattle.token_file.specs.Credential.{is_word}
+use Rattle.field_text.specs.Word.{is_word}
 use Rattle.floors_file.specs.declared.floors.Floor.{Floor}
 use Rattle.floors_file.specs.declared.floors.Head.{Head}
 use Rattle.floors_file.specs.Floors.{FloorRecord, FloorsRecord, floor_value}

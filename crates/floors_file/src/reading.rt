@@ -9,10 +9,9 @@ ghost use Rattle.floors_file.specs.Reading.{end_of, first_line, floors_of, has_u
 use crate::fault::{FloorsFault, LineFault};
 use crate::fields::{last_number, next_field, number_field};
 use crate::floors::{Floor, Floors, Head};
-use field_text::cut_at;
+use field_text::{cut_at, is_word};
 use otp_core::Next;
 use std::alloc::Global;
-use token_file::is_word;
 
 /// The most members of a cluster.
 const MAX_MEMBERS: u64 = 9;

@@ -8,7 +8,8 @@ use Rattle.otp_core.specs.Range.{IsMoment}
 use Rattle.token_file.specs.Credential.{Credential, place_of}
 use Rattle.token_file.specs.declared.token.Kind.{Kind}
 use Rattle.token_file.specs.declared.token.Kind.TheVariants.{Event, Time30, Time60}
-use Rattle.admit_core.specs.Fit.{Submission, Check, Resync, Fits, IsLeastFit, least_fit, reach_of}
+use Rattle.admit_core.specs.Fit.{Fits, IsLeastFit, least_fit, reach_of}
+use Rattle.otp_core.specs.Submission.{Submission, Check, Resync}
 use Rattle.admit_core.specs.Password.{PasswordFits}
 use Rattle.admit_core.specs.Window.{InWindow}
 use Rattle.floor_store.specs.Range.{IsSpan}

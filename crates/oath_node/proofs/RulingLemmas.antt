@@ -10,7 +10,8 @@ use Rattle.token_file.specs.declared.token.Kind.{Kind}
 use Rattle.token_file.specs.declared.token.Kind.TheVariants.{Event, Time30, Time60}
 use Rattle.admit_core.specs.Drift.{kept_drift}
 use Rattle.admit_core.specs.Entitled.{IsEntitled}
-use Rattle.admit_core.specs.Fit.{Submission, Check, Resync, Fits, reach_of}
+use Rattle.admit_core.specs.Fit.{Fits, reach_of}
+use Rattle.otp_core.specs.Submission.{Submission, Check, Resync}
 use Rattle.admit_core.specs.Throttle.{Result, Failed, Accepted, AreGated, IsOpenAfter, counted_failures, last_failure, wait_after}
 use Rattle.admit_core.specs.Window.{InWindow}
 use Rattle.floor_store.specs.Records.{span_of}

@@ -5,7 +5,8 @@ use Rattle.otp_core.specs.Limits.{Limits}
 use Rattle.token_file.specs.Credential.{Credential, place_of}
 use Rattle.token_file.specs.declared.token.Kind.{Kind}
 use Rattle.admit_core.specs.Drift.{kept_drift}
-use Rattle.admit_core.specs.Fit.{Submission, least_fit}
+use Rattle.admit_core.specs.Fit.{least_fit}
+use Rattle.otp_core.specs.Submission.{Submission}
 use Rattle.floor_store.specs.Records.{span_of, SpanRecord}
 use Rattle.oath_node.specs.Column.{column_fits}
 use Rattle.client_lines.specs.Request.{Request, request_at}

@@ -8,15 +8,15 @@ ghost use Rattle.oath_node.specs.TurnServing.{EndsByClock, Serves};
 ghost use Rattle.oath_node.specs.TurnSteps.{GathersBatch, SettlesBatch, TakesBatch, TakesDatagram, TakesReceived, TakesTick, items_in, reply_count, scene, ticks_of};
 ghost use Rattle.oath_node.specs.Turns.{offer_of};
 
-use crate::serve_fault::ServeFault;
-use arrayvec::ArrayVec;
-use datagram_port::{Clock, MAX_DATAGRAM_LEN, Port, Received, Sender};
-use floor_store::FloorStore;
 use crate::event::Event;
 use crate::fault::NodeFault;
 use crate::item::Item;
 use crate::node::Node;
 use crate::outputs::{Outputs, Scratch};
+use crate::serve_fault::ServeFault;
+use arrayvec::ArrayVec;
+use datagram_port::{Clock, MAX_DATAGRAM_LEN, Port, Received, Sender};
+use floor_store::FloorStore;
 
 /// A run has fewer turns than this: 500 years of them at a million datagrams a second.
 pub const TURNS_END: u64 = 1 << 54;

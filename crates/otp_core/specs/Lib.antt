@@ -7,4 +7,5 @@ pub mod Gate
 pub mod Hotp
 pub mod Limits
 pub mod Range
+pub mod Submission
 pub mod Totp

@@ -74,11 +74,6 @@ impl<P: Port + Drop, C: Clock + Drop> SealedPort<P, C> {
         SealedPort { port, clock, gate }
     }
 
-    /// The port under it.
-    pub fn inner(&mut self) -> &mut P {
-        &mut self.port
-    }
-
     /// What is handed in of a datagram from the address of a client that doesn't speak plainly.
     fn open(&mut self, address: u64, len: usize, buffer: &mut [u8; 512]) -> Received
         requires { len ≤ 512 }

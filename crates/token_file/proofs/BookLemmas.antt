@@ -11,7 +11,8 @@ use Rattle.std.proofs.lemmas.Slice.Eq.{bytes_eq-Decides}
 use Rattle.std.specs.BTreeMap as tree
 use Rattle.std.specs.BTreeMap.{BTreeMap}
 use Rattle.arrayvec.specs.ArrayVec.{ArrayVec}
-use Rattle.token_file.specs.Credential.{Credential, is_word, place_from, place_of}
+use Rattle.token_file.specs.Credential.{Credential, place_from, place_of}
+use Rattle.field_text.specs.Word.{is_word}
 use Rattle.token_file.specs.Book.{IsIndexed, name_cmp}
 
 -- the first of two places that there is

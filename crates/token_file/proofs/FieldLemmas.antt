@@ -3,7 +3,7 @@ use Rattle.std.proofs.Common.{◌≡◌, ℕ, suc, ◌+◌, ◌<◌, ◌≤◌, 
 use Rattle.std.specs.Prelude.{not, filter, unwrap_or}
 use Rattle.std.specs.List.{position_from, slice_split, onto_first, list_all}
 use Rattle.std.proofs.lemmas.List.Splits.{slice_split-cons_yes, slice_split-cons_no}
-use Rattle.token_file.specs.Credential.{is_blank, is_visible}
+use Rattle.field_text.specs.Word.{is_blank, is_visible}
 use Rattle.token_file.specs.Fields.{has_bytes, fields_of}
 
 -- a blank at the front changes no field

@@ -24,7 +24,8 @@ use Rattle.token_file.specs.declared.token.Kind.TheVariants.{Event, Time30, Time
 use Rattle.token_file.specs.declared.token.Password.{Password}
 use Rattle.token_file.specs.declared.token.Password.TheVariants.{NoneAllowed, NotChecked, Equal}
 use Rattle.token_file.specs.declared.type_word.TokenType.{TokenType}
-use Rattle.token_file.specs.Credential.{Credential, is_blank, is_visible, is_word, is_mark, is_password, is_hash_of}
+use Rattle.token_file.specs.Credential.{Credential, is_mark, is_password, is_hash_of}
+use Rattle.field_text.specs.Word.{is_blank, is_visible, is_word}
 use Rattle.token_file.specs.Fields.{has_bytes, fields_of, is_line_end, lines_of}
 use Rattle.token_file.specs.Row.{Holds, counter_row, counter_of, credential_of, is_counter, kind_row, named_row, password_of, row_of, row_with, secret_of}
 use Rattle.token_file.specs.TypeWord.{type_of}

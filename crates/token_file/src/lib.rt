@@ -16,11 +16,12 @@ mod write;
 
 pub use book::{Book, TokenId};
 pub use fault::{FileFault, LineFault};
+pub use field_text::is_word;
 pub use laws::{
     files_are_worked, files_read_back, promises_can_be_broken, rows_are_worked, rows_read_back,
     tokens_are_credentials,
 };
 pub use reading::{MAX_FILE_LEN, MAX_LINE_LEN, read_book};
 pub use source::{FromRead, Pulled, Source};
-pub use token::{Kind, MAX_NAME_LEN, Password, Token, is_word};
+pub use token::{Kind, MAX_NAME_LEN, Password, Token};
 pub use write::write_row;

@@ -1,5 +1,6 @@
 ghost use Rattle.std.specs.Prelude.{◌≡◌, ◌^◌, ◌≤◌, true, false, IfErr, IfOk, IfSome, IsTrue};
-ghost use Rattle.token_file.specs.Credential.{Credential, is_hash_of, is_password, is_word};
+ghost use Rattle.token_file.specs.Credential.{Credential, is_hash_of, is_password};
+ghost use Rattle.field_text.specs.Word.{is_word};
 ghost use Rattle.token_file.specs.Entry.{entry_row, event_entry_row, line_row};
 ghost use Rattle.token_file.specs.Fields.{fields_of};
 ghost use Rattle.token_file.specs.UsersFile.{is_read};

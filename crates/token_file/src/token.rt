@@ -1,8 +1,9 @@
 ghost use Rattle.std.specs.Prelude.{◌≡◌, ◌≤◌, ◌↔◌, IsSome, IfSome, IsTrue, length};
-ghost use Rattle.std.specs.List.{list_all};
-ghost use Rattle.token_file.specs.Credential.{is_blank, is_credential, is_hash_of, is_mark, is_password, is_visible, is_word as spec_is_word, period_of};
+ghost use Rattle.token_file.specs.Credential.{is_credential, is_hash_of, is_mark, is_password, period_of};
+ghost use Rattle.field_text.specs.Word.{is_word as spec_is_word};
 
 use arrayvec::ArrayVec;
+use field_text::is_word;
 use hmac_core::Hash;
 use otp_core::{Digits, Secret};
 use std::fmt;
@@ -189,27 +190,6 @@ pub(crate) fn array_of(text: &[u8]) -> ArrayVec<u8, MAX_NAME_LEN>
     ensures { result.items ≡ text.now }
 {
     ArrayVec::try_from(text).unwrap()
-}
-
-/// Whether a byte divides fields or ends a line.
-pub(crate) fn is_blank_byte(byte: u8) -> bool
-    ensures { result ≡ is_blank byte }
-{
-    byte == b'\t' || byte == b'\n' || byte == b'\r' || byte == b' '
-}
-
-/// Whether no byte of a text is a blank.
-fn has_no_blank(text: &[u8]) -> bool
-    ensures { result ≡ list_all is_visible text.now }
-{
-    text.iter().all(|&byte| !is_blank_byte(byte))
-}
-
-/// Whether a text can be a user's name or a password: 1 to 64 bytes, none of them a space, TAB, CR or LF.
-pub fn is_word(text: &[u8]) -> bool
-    ensures { result ≡ spec_is_word text.now }
-{
-    1 <= text.len() && text.len() <= MAX_NAME_LEN && has_no_blank(text)
 }
 
 /// Whether a column is one of the marks `-` and `+`.

@@ -5,7 +5,8 @@ use Rattle.std.specs.Fmt.{digits}
 use Rattle.std.specs.List.{slice_get}
 use Rattle.std.proofs.lemmas.Option.{none-some, same_Some}
 use Rattle.otp_core.specs.Acceptance.{Acceptance}
-use Rattle.admit_core.specs.Fit.{Check, code_at}
+use Rattle.admit_core.specs.Fit.{code_at}
+use Rattle.otp_core.specs.Submission.{Check}
 use Rattle.sha1.specs.Sha1.{first_words, schedule, rounds, compress, hash_after, digest_bytes, sha1}
 use Rattle.vote_core.specs.Voting.{propose, propose_alone, propose_among, tick}
 use Rattle.oath_node.specs.Machine.{made_by_proposal, made_by_ruling, made_by_datagram, made_while_running, made_by_event}

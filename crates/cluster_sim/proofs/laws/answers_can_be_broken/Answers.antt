@@ -3,7 +3,7 @@ use Rattle.std.proofs.Common.{◌≡◌, ℕ, zero, suc, ◌<◌, ◌≤◌, tru
 use Rattle.std.specs.Prelude.{codes, slice_get, slice_index}
 use Rattle.std.specs.Fmt.{digits}
 use Rattle.otp_core.specs.Acceptance.{Acceptance}
-use Rattle.admit_core.specs.Fit.{Check}
+use Rattle.otp_core.specs.Submission.{Check}
 use Rattle.client_lines.specs.Field.{IsNonce}
 use Rattle.client_lines.specs.Request.{Request}
 use Rattle.client_lines.specs.declared.answer.Outcome.TheVariants.{Accepted}

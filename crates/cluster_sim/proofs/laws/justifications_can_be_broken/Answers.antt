@@ -3,7 +3,8 @@ use Rattle.std.proofs.Common.{◌≡◌, ℕ, ◌≤◌, List, [], Some, None, �
 use Rattle.std.specs.Prelude.{codes, slice_index}
 use Rattle.std.proofs.lemmas.Int.{ints}
 use Rattle.admit_core.specs.Entitled.{IsEntitled}
-use Rattle.admit_core.specs.Fit.{Check, InWindowOf, code_at}
+use Rattle.admit_core.specs.Fit.{InWindowOf, code_at}
+use Rattle.otp_core.specs.Submission.{Check}
 use Rattle.admit_core.specs.Throttle.{Result}
 use Rattle.sha1.specs.Sha1.{first_words, schedule, rounds, compress, hash_after, digest_bytes, sha1}
 use Rattle.vote_core.specs.Voting.{propose, propose_alone, propose_among, on_ask, accept, count_grant, on_grant, raise, count_deny, on_deny, on_floor, on_message, tick}

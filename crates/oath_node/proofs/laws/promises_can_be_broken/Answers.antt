@@ -4,7 +4,8 @@ use Rattle.std.specs.Fmt.{digits}
 use Rattle.std.specs.Prelude.{codes, slice_get, slice_index}
 use Rattle.std.proofs.lemmas.Int.{ints}
 use Rattle.admit_core.specs.Entitled.{IsEntitled}
-use Rattle.admit_core.specs.Fit.{Check, InWindowOf, code_at}
+use Rattle.admit_core.specs.Fit.{InWindowOf, code_at}
+use Rattle.otp_core.specs.Submission.{Check}
 use Rattle.hmac_core.specs.Unfolded.sha1_steps
 use Rattle.token_file.specs.Credential.{Credential}
 use Rattle.token_file.specs.declared.token.Kind.TheVariants.{Time30}

@@ -1,5 +1,5 @@
 use Rattle.std.proofs.Common.{Option, sym, ap, subst, ◌∙◌}
-use Rattle.admit_core.specs.Fit.{Submission}
+use Rattle.otp_core.specs.Submission.{Submission}
 use Rattle.admit_core.specs.Password.{PasswordFits}
 use Rattle.floor_store.specs.Records.{SpanRecord}
 use Rattle.oath_node.specs.Rules.{fit_ruling, fitting_span}
