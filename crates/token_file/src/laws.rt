@@ -1,11 +1,9 @@
-ghost use Rattle.std.specs.Prelude.{◌≡◌, ℕ, ◌*◌, ◌≤◌, ◌++◌, ◌∷◌, [], List, length, map, filter, replicate, codes, true, false, Some, None, Ok, Err, is_ok};
-ghost use Rattle.std.specs.List.{range_with_len};
+ghost use Rattle.std.specs.Prelude.{◌≡◌, ℕ, ◌*◌, ◌≤◌, ◌++◌, ◌∷◌, [], List, length, map, replicate, codes, true, false, Some, None, Ok, Err, is_ok};
 ghost use Rattle.hex.specs.Hex.{IsBytes};
 ghost use Rattle.hmac_core.specs.declared.hash.Hash.{Hash};
 ghost use Rattle.otp_core.specs.Range.{IsNext};
 ghost use Rattle.otp_core.specs.declared.digits.Digits.{Digits};
 ghost use Rattle.token_file.specs.Credential.{Credential, is_hash_of, is_password, period_of, place_of};
-ghost use Rattle.field_text.specs.Word.{is_blank, is_word};
 ghost use Rattle.token_file.specs.Examples.{appendix_token, at_59, columns, comment_of, event_token, faults, many_tokens, named, password, row, row_of_line, time_token, token_of, two_rows, word_of, written_rows};
 ghost use Rattle.token_file.specs.Fields.{fields_of, lines_of};
 ghost use Rattle.token_file.specs.Row.{Faulty, Holds, Ignored, first_free, password_of, row_of, secret_of};
@@ -83,7 +81,6 @@ pub fn rows_are_worked()
         ∷ codes "HOTP/T90" ∷ codes "HOTP/T30/" ∷ codes "HOTP/T30/5" ∷ codes "HOTP/T30/9" ∷ codes "HOTP/T30/6/SHA1"
         ∷ codes "HOTP/T30/SHA256" ∷ codes "HOTP/T30/6/SHA384" ∷ codes "HOTP/T60/6/sha256" ∷ codes "hotp"
         ∷ codes "HOT" ∷ codes "XHOTP" ∷ codes "#HOTP" ∷ [] ∷ []) ≡ replicate 22 None }
-    ensures blanks { filter is_blank (range_with_len 0 256) ≡ 9 ∷ 10 ∷ 13 ∷ 32 ∷ [] }
     ensures fields { fields_of (32 ∷ 97 ∷ 98 ∷ 9 ∷ 13 ∷ 10 ∷ 32 ∷ 32 ∷ 99 ∷ 11 ∷ 12 ∷ 9 ∷ [])
         ≡ (97 ∷ 98 ∷ []) ∷ (99 ∷ 11 ∷ 12 ∷ []) ∷ [] }
     ensures lines { lines_of (97 ∷ 10 ∷ 10 ∷ 98 ∷ 13 ∷ 10 ∷ []) ≡ (97 ∷ []) ∷ [] ∷ (98 ∷ 13 ∷ []) ∷ [] ∷ [] }
@@ -122,8 +119,6 @@ pub fn rows_are_worked()
         ∷ (columns (codes "u") (codes "-") (codes "zz") ++ codes "x" ∷ []) ∷ [])
         ≡ Faulty LineFault.MissingField ∷ Faulty LineFault.NameTooLong ∷ Faulty LineFault.NameTooLong
         ∷ Faulty LineFault.BadSecret ∷ [] }
-    ensures words { map is_word ([] ∷ word_of 1 ∷ word_of 64 ∷ word_of 65 ∷ codes "u u" ∷ [])
-        ≡ false ∷ true ∷ true ∷ false ∷ false ∷ [] }
     ensures marks { map is_password (Password.NoneAllowed ∷ Password.NotChecked ∷ password (codes "-")
         ∷ password (codes "+") ∷ password (codes "--") ∷ password [] ∷ password (word_of 65) ∷ [])
         ≡ true ∷ true ∷ false ∷ false ∷ true ∷ false ∷ false ∷ [] }

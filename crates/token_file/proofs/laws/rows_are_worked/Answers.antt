@@ -15,9 +15,6 @@ returns-clause-types_of_60 c = refl
 pub returns-clause-no_types : goal.returns-clause-no_types
 returns-clause-no_types c = refl
 
-pub returns-clause-blanks : goal.returns-clause-blanks
-returns-clause-blanks c = refl
-
 pub returns-clause-fields : goal.returns-clause-fields
 returns-clause-fields c = refl
 
@@ -62,9 +59,6 @@ returns-clause-secrets c = refl
 pub returns-clause-first_faults : goal.returns-clause-first_faults
 unfolding decode_pairs
 returns-clause-first_faults c = refl
-
-pub returns-clause-words : goal.returns-clause-words
-returns-clause-words c = refl
 
 pub returns-clause-marks : goal.returns-clause-marks
 returns-clause-marks c = refl
