@@ -2,12 +2,19 @@
 
 use floor_store::{Proposal, Span};
 use floors_file::{read_floors, write_floors};
-use otp_core::{Factor, Next, Settings};
+use hmac_core::Hash;
+use otp_core::{Digits, Factor, Next, Settings};
 use std::alloc::{AllocError, Global};
 use std::io::{self, Error, ErrorKind, Read};
-use token_file::{Book, FileFault, FromRead, LineFault, Pulled, Source, read_book, write_row};
+use token_file::{
+    Book, FileFault, FromRead, Kind, LineFault, Password, Pulled, Source, TokenId, read_book,
+    write_row,
+};
 use vote_core::Message;
 use vote_wire::{ClusterKey, read_message, write_message};
+
+/// A row with all parts of a type, and two fields that are not looked at.
+const WHOLE_TYPE: &[u8] = b"HOTP/T60/8/SHA256 gold pw 3132333435363738393031323334353637383930 x y";
 
 /// Users files with the moments of their imports, and the first free factors of their tokens.
 const FILES: &[(&[u8], u64, &[u64])] = &[
@@ -57,6 +64,7 @@ const FILES: &[(&[u8], u64, &[u64])] = &[
         0,
         &[4],
     ),
+    (WHOLE_TYPE, 0, &[2]),
     (b"# HOTP\n \t\r\nhotp a - 31\n\n", 0, &[]),
     (
         b"HOTP silver - 31 7\n\r\nHOTP/T60 gold + 32 x y",
@@ -93,19 +101,139 @@ fn are(floors: &[Next], want: &[u64]) -> bool {
     floors.len() == want.len()
 }
 
-/// Whether a users file has these first free factors.
-fn has_floors(alloc: Global, file: &[u8], moment: u64, want: &[u64]) -> bool {
-    match read_at(alloc, &mut FromRead::new(file), moment) {
-        Some(Ok((book, floors))) => book.len() == want.len() && are(&floors, want),
+/// A reader that gives a text, at most some bytes at once.
+#[derive(Drop)]
+struct Pieces<'a> {
+    text: &'a [u8],
+    size: usize,
+}
+
+impl Read for Pieces<'_> {
+    fn read(&mut self, buf: &mut [u8]) -> io::Result<usize> {
+        let len = buf.len().min(self.size);
+        self.text.read(&mut buf[..len])
+    }
+}
+
+/// The sizes of the pieces in which each file is handed in, of which the last is the whole file.
+const SIZES: [usize; 4] = [1, 7, 4096, 65_536];
+
+/// What a file that is handed in by pieces of a size gives at a moment.
+fn read_pieces(
+    alloc: Global,
+    text: &[u8],
+    size: usize,
+    moment: u64,
+) -> Option<Result<(Book, Vec<Next>), FileFault>> {
+    read_at(alloc, &mut FromRead::new(Pieces { text, size }), moment)
+}
+
+/// Whether two books have the same tokens in the same order.
+fn are_same(one: &Book, other: &Book) -> bool {
+    if one.len() != other.len() {
+        return false;
+    }
+    for number in 0..one.len() {
+        let Some(id) = TokenId::new(number as u32) else {
+            return false;
+        };
+        if one.token(id) != other.token(id) {
+            return false;
+        }
+    }
+    true
+}
+
+/// Whether a users file in pieces of a size has these first free factors, and the tokens of the whole file.
+fn has_floors(alloc: Global, file: &[u8], size: usize, moment: u64, want: &[u64]) -> bool {
+    let Some(Ok((whole, _))) = read_at(alloc, &mut FromRead::new(file), moment) else {
+        return false;
+    };
+    match read_pieces(alloc, file, size, moment) {
+        Some(Ok((book, floors))) => {
+            book.len() == want.len() && are(&floors, want) && are_same(&book, &whole)
+        }
         _ => false,
     }
 }
 
+/// A file gives the same tokens and first free factors in pieces of any size.
 #[test]
 fn users_rows(rt: HostRuntime) {
     for (file, moment, want) in FILES {
-        assert!(rt; has_floors(rt.alloc(), file, *moment, want));
+        for size in SIZES {
+            assert!(rt; has_floors(rt.alloc(), file, size, *moment, want), "{size}");
+        }
     }
+}
+
+/// Whether a file has one token, of 60 seconds, eight digits, SHA-256, and this password.
+fn has_whole_type(alloc: Global, file: &[u8], password: &[u8]) -> bool {
+    let Some(Ok((book, _))) = read_at(alloc, &mut FromRead::new(file), 0) else {
+        return false;
+    };
+    let Some(id) = book.find(b"gold") else {
+        return false;
+    };
+    let token = book.token(id);
+    let has_password = match token.password() {
+        Password::Equal(text) => text.as_slice() == password,
+        _ => false,
+    };
+    book.len() == 1
+        && has_password
+        && token.kind() == Kind::Time60
+        && token.digits() == Digits::Eight
+        && token.hash() == Hash::Sha256
+}
+
+#[test]
+fn row_of_a_whole_type(rt: HostRuntime) {
+    assert!(rt; has_whole_type(rt.alloc(), WHOLE_TYPE, b"pw"));
+}
+
+/// Users files that are refused, with the line and its fault.
+const REFUSED: &[(&[u8], u32, LineFault)] = &[
+    (
+        b"HOTP silver - 3132333435363738393031323334353637383930\nHOTP silver - 31\n",
+        2,
+        LineFault::DuplicateUser,
+    ),
+    (b"HOTP silver -", 1, LineFault::MissingField),
+    (
+        b"HOTP silver - 3132333435363738393031323334353637383930 4611686018427387905",
+        1,
+        LineFault::BadCounter,
+    ),
+    (
+        b"HOTP aaaaaaaaaaaaaaaaaaaaaaaaaaaaaaaaaaaaaaaaaaaaaaaaaaaaaaaaaaaaaaaaa - zz",
+        1,
+        LineFault::NameTooLong,
+    ),
+];
+
+/// Whether a file is refused so in pieces of each size.
+fn is_refused(alloc: Global, file: &[u8], line: u32, kind: LineFault) -> bool {
+    for size in SIZES {
+        match read_pieces(alloc, file, size, 0) {
+            Some(Err(fault)) if fault == FileFault { line, kind } => {}
+            _ => return false,
+        }
+    }
+    true
+}
+
+/// A file has the same fault in pieces of any size; a line of 4,097 bytes without an end is too long, a comment too.
+#[test]
+fn refused_rows(rt: HostRuntime) {
+    for (file, line, kind) in REFUSED {
+        assert!(rt; is_refused(rt.alloc(), file, *line, *kind));
+    }
+    let mut comment = [b'x'; 4097];
+    comment[0] = b'#';
+    comment[1] = b' ';
+    assert!(rt; is_refused(rt.alloc(), &comment, 1, LineFault::LineTooLong));
+    assert!(rt; !is_refused(rt.alloc(), &comment[..4096], 1, LineFault::LineTooLong));
 }
 
 /// The fault of a users file at moment 0.

@@ -69,11 +69,35 @@ impl<S: Alter> SqlStore<S> {
     ghost use Rattle.floor_sql.specs.Usable.{HasUsableNode, HasUsablePasses, IsNode, IsUsable};
     ghost use Rattle.floor_sql.specs.Calls.{HandsBack, IsMade, IsOfNode, IsOpened, KeepsTables, ReadsAudit};
 
-    /// Makes the store of this node, at this boot and with these first free factors, in a database that has no table.
+    /// Makes the store of this node with these first free factors, at boot 0, in a database that has no table.
     /// The connection stands outside a transaction and has no limit on its steps. Beside a refusal it
-    /// is handed back: `AlreadyThere` where a table with the name of one of a store's is there,
-    /// `Unusable` where none is and something else is.
+    /// is handed back: `AlreadyThere` if a table with the name of one of a store's is there,
+    /// `Unusable` if none is and something else is.
     pub fn init(
+        alloc: Global,
+        conn: Connection<S>,
+        node: u8,
+        floors: &[Next],
+    ) -> Result<Self, (Connection<S>, StoreFault)>
+        requires idle { conn.in_transaction ≡ false }
+        requires node { IsNode node }
+        requires tokens { length floors.now ≤ 10000 }
+        ensures opening { IfOk result (IsMade S.Store conn node 0 floors.now) }
+        ensures found { has_own_table conn.schema ≡ true
+            → IsErrAnd result (λ e. (e.0 ≡ conn) × (e.1 ≡ StoreFault.AlreadyThere)) }
+        ensures there { IfErr result (λ e. e.1 ≡ StoreFault.AlreadyThere → has_own_table conn.schema ≡ true) }
+        ensures foreign { IsForeign conn.schema → IsErrAnd result (λ e. (e.0 ≡ conn) × (e.1 ≡ StoreFault.Unusable)) }
+        ensures unusable { IfErr result (λ e. e.1 ≡ StoreFault.Unusable → HasCleanDisk (state S.Store e.0)
+            → IsForeign conn.schema) }
+        ensures failure { IfErr result (λ e. e.1 ≢ StoreFault.AlreadyThere → IsTrue (is_failure e.1)) }
+        ensures refused { IfErr result (λ e. HandsBack S.Store conn e.0
+            (MayCommit (Opens node 0 floors.now) (state S.Store conn))) }
+    {
+        SqlStore::init_at(alloc, conn, node, 0, floors)
+    }
+
+    /// Makes it at another boot, below 2^62, as the store that takes the place of a lost one.
+    pub fn init_at(
         alloc: Global,
         mut conn: Connection<S>,
         node: u8,

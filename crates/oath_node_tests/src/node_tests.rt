@@ -5,6 +5,7 @@ use crate::steps::{
 };
 use floor_store::MemStore;
 use oath_node::{Event, Node, Scratch};
+use otp_core::Next;
 use std::alloc::Global;
 use vote_core::Place;
 
@@ -77,6 +78,36 @@ fn second_vote(rt: HostRuntime) {
 #[test]
 fn gate_survives_restart(rt: HostRuntime) {
     assert!(rt; count_of_node(rt.alloc(), 1, 1, RESTARTED) == Some(4));
+}
+
+/// The code of a time step is taken once, and not in the step after it.
+const TIME_STEPS: &[Step] = &[
+    Step::Line(
+        7,
+        59,
+        b"CHECK 1 silver 287082 -",
+        &[Out::Told(7, b"OK 1 1")],
+    ),
+    Step::Line(
+        7,
+        61,
+        b"CHECK 2 silver 287082 -",
+        &[Out::Told(7, b"NO 2 INVALID")],
+    ),
+];
+
+/// How many of them go as they say, at a node alone of a time token whose first free factor is 0.
+fn count_of_time_steps(alloc: Global) -> Option<usize> {
+    let users = b"HOTP/T30 silver - 3132333435363738393031323334353637383930";
+    let (place, key, floors) = (Place::new(1, 1)?, zeros()?, [Next::new(0)?]);
+    let (book, _imported) = book_of(alloc, users)?;
+    let mut node = opened(alloc, &book, &key, &floors, place)?;
+    Some(count_steps(&mut node, TIME_STEPS))
+}
+
+#[test]
+fn time_step_is_taken_once(rt: HostRuntime) {
+    assert!(rt; count_of_time_steps(rt.alloc()) == Some(2));
 }
 
 /// The names of 33 users.

@@ -2,8 +2,7 @@ ghost use Rattle.std.specs.Prelude.{◌≡◌};
 ghost use Rattle.oathd_database.specs.declared.fault.Fault.TheVariants.{Store, Users};
 
 use floor_store::StoreFault;
-use oath_node::ServeFault;
-use oath_node::{NodeFault, OpenFault};
+use oath_node::{NodeFault, OpenFault, ServeFault};
 use program_edge::ProgramFault;
 use thiserror::Error;
 use token_file::FileFault;

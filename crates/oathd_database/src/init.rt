@@ -43,7 +43,7 @@ pub fn init_store<R: Read + Drop, S: Alter + Drop, D: Database<S>>(
         return Err(Fault::Memory);
     };
     let conn = database.connect()?;
-    match SqlStore::init(alloc, conn, node, 0, &floors) {
+    match SqlStore::init(alloc, conn, node, &floors) {
         Ok(store) => Ok(store),
         Err((_, fault)) => Err(Fault::Store(fault)),
     }

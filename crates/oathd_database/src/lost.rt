@@ -127,7 +127,7 @@ pub fn init_lost_store<R: Read + Drop, S: Alter + Drop, D: Database<S>>(
         Ok(conn) => conn,
         Err(fault) => return Err(GatherFault::Command(Fault::Store(fault))),
     };
-    match SqlStore::init(alloc, conn, lost.node, boot, &floors) {
+    match SqlStore::init_at(alloc, conn, lost.node, boot, &floors) {
         Ok(store) => Ok(store),
         Err((_, fault)) => Err(GatherFault::Command(Fault::Store(fault))),
     }

@@ -54,6 +54,49 @@ fn answers_lines(rt: HostRuntime) {
     }
 }
 
+/// The lines of one token of six digits, and the answers: each failure closes the token for 5 s more than the one
+/// before it, and an acceptance opens it.
+const THROTTLED: &[(&str, &str)] = &[
+    ("7 100 CHECK 1 silver 000000 -\n", "NO 1 INVALID\n"),
+    ("7 104 CHECK 2 silver 755224 -\n", "NO 2 THROTTLED 1\n"),
+    ("7 105 CHECK 3 silver 000000 -\n", "NO 3 INVALID\n"),
+    ("7 114 CHECK 4 silver 359152 -\n", "NO 4 THROTTLED 1\n"),
+    ("7 115 CHECK 5 silver 359152 -\n", "OK 5 2\n"),
+    ("7 115 CHECK 6 silver 000000 -\n", "NO 6 INVALID\n"),
+    ("7 119 CHECK 7 silver 969429 -\n", "NO 7 THROTTLED 1\n"),
+    ("7 120 CHECK 8 silver 969429 -\n", "OK 8 3\n"),
+];
+
+/// A run with a look-ahead of 5 and a range of 9.
+#[test]
+fn failures_close_a_token(rt: HostRuntime) -> Result<(), Fail> {
+    let settings = Settings::new(5, 1, 9).unwrap();
+    let key = ClusterKey::new(&[0; 32]).unwrap();
+    let mut text = String::from_str(
+        rt.alloc(),
+        "HOTP silver - 3132333435363738393031323334353637383930\n%%\n",
+    )?;
+    let mut wanted = String::new(rt.alloc());
+    for (line, answer) in THROTTLED {
+        text.push_str(line)?;
+        wanted.push_str(answer)?;
+    }
+    let mut reader = text.as_bytes();
+    let mut written = Vec::new(rt.alloc());
+    let end = serve_lines(
+        rt.alloc(),
+        settings,
+        0,
+        &key,
+        1000,
+        &mut reader,
+        &mut written,
+    );
+    assert!(rt; end == Ok(()));
+    assert!(rt; written.as_slice() == wanted.as_bytes());
+    Ok(())
+}
+
 /// A fault of the users file in this line.
 fn users_fault(line: u32, kind: LineFault) -> Fault {
     Fault::Users(FileFault { line, kind })

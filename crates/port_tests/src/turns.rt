@@ -2,8 +2,7 @@
 
 use datagram_port::{Coming, ListClock, ListPort, PortEntry, Sender};
 use floor_store::{FloorStore, FuseStore, MemStore};
-use oath_node::{Served, run_turns};
-use oath_node::Node;
+use oath_node::{Node, ServeFault, Served, run_turns};
 use otp_core::{Next, Settings};
 use std::alloc::Global;
 use std::test::Fail;
@@ -30,14 +29,15 @@ fn store_of(alloc: Global, book: &Book, floors: &[Next]) -> Result<MemStore, Fai
     Ok(MemStore::new(alloc, floors)?)
 }
 
-/// A node alone over a store.
-fn node_alone<'b, S: FloorStore + Drop>(
+/// Node 1 of the given number of nodes over a store.
+fn first_of<'b, S: FloorStore + Drop>(
     alloc: Global,
+    nodes: u8,
     book: &'b Book,
     key: &'b ClusterKey,
     store: S,
 ) -> Result<Node<'b, S>, Fail> {
-    let place = Place::new(1, 1).ok_or("a place")?;
+    let place = Place::new(1, nodes).ok_or("a place")?;
     if usize::try_from(store.tokens()) != Ok(book.len()) {
         return Err("another number of tokens".into());
     }
@@ -56,7 +56,7 @@ fn served(
     let key = ClusterKey::new(&[0; 32]).ok_or("a key")?;
     let (book, floors) = silver(alloc)?;
     let store = store_of(alloc, &book, &floors)?;
-    let mut node = node_alone(alloc, &book, &key, store)?;
+    let mut node = first_of(alloc, 1, &book, &key, store)?;
     match run_turns(&mut node, port, clock, 5) {
         Ok(served) => Ok(served),
         Err(fault) => Err(fault.into()),
@@ -137,7 +137,7 @@ fn batch_of_three(
     let key = ClusterKey::new(&[0; 32]).ok_or("a key")?;
     let (book, floors) = silver(alloc)?;
     let store = FuseStore::new(store_of(alloc, &book, &floors)?, writes, false);
-    let mut node = node_alone(alloc, &book, &key, store)?;
+    let mut node = first_of(alloc, 1, &book, &key, store)?;
     let mut clock = ListClock::new(alloc, &[100, 100, 100]);
     let end = run_turns(&mut node, port, &mut clock, 3);
     Ok((end.ok(), node.close().passed()))
@@ -201,5 +201,72 @@ fn lines_that_come_apart_are_kept_apart(rt: HostRuntime) -> Result<(), Fail> {
     let entries = port.record().ok_or("no record")?;
     assert!(rt; is_answer(entries.get(1), b"NO - BADLINE"));
     assert!(rt; entries.len() == 6 && is_answer(entries.get(5), b"NO - BADLINE"));
+    Ok(())
+}
+
+/// Whether an entry is a datagram to a member.
+fn is_to_member(entry: &PortEntry) -> bool {
+    match entry {
+        PortEntry::Offered {
+            to: Sender::Peer(_),
+            ..
+        } => true,
+        _ => false,
+    }
+}
+
+/// How the given number of turns of node 1 of three ends over a port, and how many ticks they have: at each of them two
+/// datagrams go to members, and at nothing else.
+fn turns_of_three(
+    alloc: Global,
+    comings: &[Coming<'_>],
+    turns: u32,
+) -> Result<(Result<Served, ServeFault>, usize), Fail> {
+    let key = ClusterKey::new(&[0; 32]).ok_or("a key")?;
+    let (book, floors) = silver(alloc)?;
+    let store = store_of(alloc, &book, &floors)?;
+    let mut node = first_of(alloc, 3, &book, &key, store)?;
+    let mut port = ListPort::new(alloc, comings);
+    let mut clock = ListClock::new(alloc, &[100; 64]);
+    let end = run_turns(&mut node, &mut port, &mut clock, u64::from(turns));
+    let mut sent: usize = 0;
+    for entry in port.record().ok_or("no record")? {
+        if is_to_member(entry) {
+            sent = sent.saturating_add(1);
+        }
+    }
+    Ok((end, sent / 2))
+}
+
+/// A tick comes after each quiet turn and after each 64th datagram, and none after a fault. The 16th fault in a row
+/// ends a run.
+#[test]
+fn turns_tick_and_end(rt: HostRuntime) -> Result<(), Fail> {
+    let bad_line = Coming::Datagram {
+        sender: Sender::Client(7),
+        bytes: b"CHECK".as_slice(),
+    };
+    let (none, all) = (
+        Served {
+            received: 0,
+            replied: 0,
+        },
+        Served {
+            received: 64,
+            replied: 64,
+        },
+    );
+    for (coming, turns, wanted) in [
+        (Coming::Quiet, 10, (Ok(none), 10)),
+        (bad_line, 64, (Ok(all), 1)),
+        (Coming::Fault, 16, (Err(ServeFault::Port), 0)),
+        (Coming::Fault, 15, (Ok(none), 0)),
+    ] {
+        let comings = [coming; 64];
+        assert!(rt;
+            turns_of_three(rt.alloc(), &comings, turns)? == wanted,
+            "{turns}"
+        );
+    }
     Ok(())
 }
