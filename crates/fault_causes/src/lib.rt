@@ -1,4 +1,4 @@
-//! What is told behind a fault: the path or the address that it is of, and what was found there.
+//! The cause of a fault: the path or the address that it is of, and what was found there.
 //!
 //! A fault of a command says what failed, and no more. What is told here was found when the program looked, after it
 //! had failed. So it may be another thing than what made it fail, where the file or the address changed in between.

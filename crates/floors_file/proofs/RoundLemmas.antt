@@ -17,7 +17,7 @@ use Rattle.token_file.specs.Fields.{is_line_end, lines_of}
 use Rattle.token_file.proofs.WritingLemmas.{split_at, split_whole}
 use Rattle.floors_file.specs.declared.reading.HeadLine.{HeadLine}
 use Rattle.floors_file.specs.declared.floors.Head.{Head}
-use Rattle.floors_file.specs.Fields.{fields_of, has_leading_zero, last_number, number_field, plain_number}
+use Rattle.floors_file.specs.Fields.{fields_of, has_leading_zero, is_digits, last_number, number_field, or_most, plain_number}
 use Rattle.floors_file.specs.Floors.{FloorRecord, FloorsRecord}
 use Rattle.floors_file.specs.Reading.{floors_of, has_user, head_numbers, head_of, is_head, next_row, row_of, rows_from}
 use Rattle.floors_file.specs.Writing.{AreFloors, AreRows, floors_text, head_text, row_text}
@@ -126,8 +126,10 @@ number_back n fits =
     let some = lt_true 0 (length (decimal n)) (decimal_nonempty n fits) in
     let small : nat_lt (digits_value 10 (decimal n)) (2 ^ 64) ≡ true = rw value (lt_true n (2 ^ 64) fits) in
     let plain = (decimal_by_steps Plain one_plain more_plain n fits).plain in
-    ap (λ b. cond b None (number_of (decimal n))) plain
-    ∙ ap (λ b. cond b (Some (digits_value 10 (decimal n))) None)
+    ap (λ b. cond b None (cond (is_digits (decimal n)) (Some (or_most (number_of (decimal n)))) None)) plain
+    ∙ ap (λ b. cond b (Some (or_most (number_of (decimal n)))) None)
+    (and_both (list_all is_ascii_digit (decimal n)) (nat_lt 0 (length (decimal n))) digits some)
+    ∙ ap (λ b. Some (or_most (cond b (Some (digits_value 10 (decimal n))) None)))
     (and_both (list_all is_ascii_digit (decimal n)) (nat_lt 0 (length (decimal n)) && nat_lt (digits_value 10 (decimal n)) (2 ^ 64)) digits
     (and_both (nat_lt 0 (length (decimal n))) (nat_lt (digits_value 10 (decimal n)) (2 ^ 64)) some small))
     ∙ ap Some value

@@ -1,7 +1,8 @@
 -- The fields of a line, between single spaces, and the numbers that they are.
-use Rattle.std.specs.Prelude.{ℕ, ◌==◌, Bool, false, List, [], ◌∷◌, Option, Some, None, Result, Ok, Err, if◌then◌else◌}
+use Rattle.std.specs.Prelude.{ℕ, ◌==◌, ◌-◌, ◌^◌, ◌&&◌, nat_lt, Bool, false, List, [], ◌∷◌, length, Option, Some, None, Result, Ok, Err, if◌then◌else◌}
 use Rattle.std.specs.Borrow.{Bor}
-use Rattle.std.specs.List.{slice_split}
+use Rattle.std.specs.Char.{is_ascii_digit}
+use Rattle.std.specs.List.{list_all, slice_split}
 use Rattle.field_text.specs.Number.{number_of}
 use Rattle.floors_file.specs.declared.fault.LineFault.{LineFault}
 use Rattle.floors_file.specs.declared.fault.LineFault.TheVariants.{MissingField, SurplusField, Number}
@@ -32,9 +33,21 @@ has_leading_zero [] = false
 has_leading_zero (digit ∷ []) = false
 has_leading_zero (digit ∷ next ∷ digits) = digit == 48
 
--- the number that decimal digits are, below 2^64 and without leading zeros
+-- whether a text is decimal digits alone, at least one
+abbrev pub is_digits : List ℕ → Bool
+is_digits text = list_all is_ascii_digit text && nat_lt 0 (length text)
+
+-- a number below 2^64, or 2^64 - 1 in the place of any other, which is above the range of each field too
+abbrev pub or_most : Option ℕ → ℕ
+or_most None = 2 ^ 64 - 1
+or_most (Some number) = number
+
+-- the number that decimal digits are, without leading zeros
 abbrev pub plain_number : List ℕ → Option ℕ
-plain_number text = if has_leading_zero text then None else number_of text
+plain_number text =
+    if has_leading_zero text then None
+    else if is_digits text then Some (or_most (number_of text))
+    else None
 
 -- a number that was read, with the fields behind it
 abbrev pub with_fields : Option ℕ → List (List ℕ) → Result (ℕ × List (List ℕ)) LineFault

@@ -28,7 +28,7 @@ pub enum LineFault {
     /// A field is no number in decimal digits without leading zeros.
     #[error("Number")]
     Number,
-    /// A number is out of its range.
+    /// A number is out of its range, as any from 2^64 on is.
     #[error("Range")]
     Range,
     /// The user is no name of 1 to 64 bytes without blanks.

@@ -1,5 +1,5 @@
 ghost use Rattle.std.specs.Prelude.{◌≡◌};
-ghost use Rattle.floors_file.specs.Fields.{field_value, fields_left, has_leading_zero, last_number, next_field, number_field, number_value, plain_number};
+ghost use Rattle.floors_file.specs.Fields.{field_value, fields_left, has_leading_zero, is_digits, last_number, next_field, number_field, number_value, plain_number};
 
 use crate::fault::LineFault;
 use field_text::{cut_at, read_number};
@@ -27,14 +27,25 @@ fn has_leading_zero(text: &[u8]) -> bool
     }
 }
 
-/// The number that decimal digits are, without leading zeros.
+/// Returns whether a text is decimal digits alone, at least one.
+fn is_digits(text: &[u8]) -> bool
+    ensures { result ≡ is_digits text.now }
+{
+    text.iter().all(|byte| byte.is_ascii_digit()) && !text.is_empty()
+}
+
+/// Returns the number that decimal digits are, or None if the text is not digits alone or has a leading zero. A number
+/// from 2^64 on is 2^64 - 1, which is above the range of each field too.
 fn read_plain(text: &[u8]) -> Option<u64>
     ensures { result ≡ plain_number text.now }
 {
-    if has_leading_zero(text) {
+    if has_leading_zero(text) || !is_digits(text) {
         return None;
     }
-    read_number(text)
+    match read_number(text) {
+        Some(number) => Some(number),
+        None => Some(u64::MAX),
+    }
 }
 
 /// The number of the first field, and what stands behind it.

@@ -25,8 +25,10 @@ pub fn floors_fit()
 /// Floors files, worked through.
 pub fn files_are_worked()
     ensures numbers { map plain_number (codes "0" ∷ codes "10" ∷ codes "00" ∷ codes "01" ∷ codes "+1" ∷ []
-        ∷ codes "1x" ∷ [])
-        ≡ Some 0 ∷ Some 10 ∷ replicate 5 None }
+        ∷ codes "1x" ∷ codes "018446744073709551616" ∷ codes "18446744073709551616x" ∷ [])
+        ≡ Some 0 ∷ Some 10 ∷ replicate 7 None }
+    ensures great_numbers { map plain_number (codes "18446744073709551615" ∷ codes "18446744073709551616"
+        ∷ codes "99999999999999999999999" ∷ []) ≡ replicate 3 (Some 18446744073709551615) }
     ensures two { said_by (codes "floors 1 1 3 7 100 2" ∷ codes "a 5" ∷ codes "b 0" ∷ []) ≡ Ok first_floors }
     ensures written { floors_text first_floors ≡ text_of (codes "floors 1 1 3 7 100 2" ∷ codes "a 5" ∷ codes "b 0"
         ∷ []) }
@@ -50,20 +52,25 @@ pub fn files_are_worked()
         ≡ replicate 2 (Err (1, LineFault.SurplusField)) }
     ensures no_number { map said_by_first (codes "floors 1 x 3 7 5 0" ∷ codes "floors 1 1 03 7 5 0"
         ∷ codes "floors 1 1 3  5 0"
-        ∷ codes "floors 1 1 3 7 -5 0" ∷ codes "floors 1 1 3 7 5 18446744073709551616" ∷ [])
+        ∷ codes "floors 1 1 3 7 -5 0" ∷ codes "floors 1 18446744073709551616 3 7 5 x" ∷ [])
         ≡ replicate 5 (Err (1, LineFault.Number)) }
     ensures range { map said_by_first (codes "floors 1 0 3 7 5 0" ∷ codes "floors 1 4 3 7 5 0"
         ∷ codes "floors 1 1 10 7 5 0"
         ∷ codes "floors 1 1 3 4611686018427387904 5 0" ∷ codes "floors 1 1 3 7 1099511627776 0"
         ∷ codes "floors 1 1 3 7 5 10001" ∷ []) ≡ replicate 6 (Err (1, LineFault.Range)) }
+    ensures great { map said_by_first (codes "floors 1 18446744073709551617 3 7 5 0"
+        ∷ codes "floors 1 1 18446744073709551617 7 5 0" ∷ codes "floors 1 1 3 18446744073709551616 5 0"
+        ∷ codes "floors 1 1 3 7 18446744073709551616 0" ∷ codes "floors 1 1 3 7 5 18446744073709551616" ∷ [])
+        ≡ replicate 5 (Err (1, LineFault.Range)) }
     ensures most_tokens { said_by_first (codes "floors 1 1 3 7 5 10000") ≡ Err (2, LineFault.TooFew) }
     ensures rows { map said_by_row (codes "a 4611686018427387904" ∷ (word_of 64 ++ codes " 0") ∷ [])
         ≡ Ok (record { head = head_of_node 2 3; rows = row (codes "a") 4611686018427387904 ∷ [] })
         ∷ Ok (record { head = head_of_node 2 3; rows = row (word_of 64) 0 ∷ [] }) ∷ [] }
     ensures row_faults { map said_by_row (codes "a" ∷ codes "a 1 2" ∷ codes "a 01" ∷ codes "a 4611686018427387905"
-        ∷ (word_of 65 ++ codes " 0") ∷ codes " 1" ∷ [])
+        ∷ codes "a 18446744073709551616" ∷ (word_of 65 ++ codes " 0") ∷ codes " 1" ∷ [])
         ≡ Err (2, LineFault.MissingField) ∷ Err (2, LineFault.SurplusField) ∷ Err (2, LineFault.Number)
-        ∷ Err (2, LineFault.Range) ∷ Err (2, LineFault.UserName) ∷ Err (2, LineFault.UserName) ∷ [] }
+        ∷ Err (2, LineFault.Range) ∷ Err (2, LineFault.Range) ∷ Err (2, LineFault.UserName)
+        ∷ Err (2, LineFault.UserName) ∷ [] }
     ensures twice { said_by (codes "floors 1 2 3 7 5 3" ∷ codes "a 1" ∷ codes "b 1" ∷ codes "a 1" ∷ [])
         ≡ Err (4, LineFault.Twice) }
     ensures too_few { said_by (codes "floors 1 2 3 7 5 2" ∷ codes "a 1" ∷ []) ≡ Err (3, LineFault.TooFew) }

@@ -14,6 +14,6 @@ status_of (Database fault) = database.status_of fault
 status_of (Floors fault) = 1
 status_of (Unlock fault) = unlock_status fault
 
--- the same, whatever is told behind the fault
+-- the same, whatever the cause is
 abbrev pub told_status : ToldFault → ℕ
 told_status told = status_of told.fault

@@ -1,4 +1,4 @@
-//! What is told behind a fault of a command over a database.
+//! The cause of a fault of a command over a database, which is told on a line of its own.
 
 use crate::fault::Fault;
 use cluster_file::{ClusterFault, KeySource, LineFault, read_cluster};
@@ -20,9 +20,6 @@ use thiserror::Error;
 /// The path or the address that a fault is of, and what was found there after it.
 #[derive(Clone, Copy, Debug, PartialEq, Eq, Error)]
 pub(crate) enum Cause<'a> {
-    /// What the file is whose path the fault tells.
-    #[error("{0}")]
-    Found(FileCause),
     #[error("{0}")]
     Path(&'a str),
     #[error("{0}: {1}")]
@@ -213,7 +210,7 @@ fn of_cluster<'a>(path: &'a str, text: &[u8], fault: ClusterFault) -> Cause<'a> 
     }
 }
 
-/// What is told behind a fault of a command that reads files.
+/// The cause of a fault of a command that reads files, if it has one.
 fn of_reading<'a>(
     alloc: Global,
     rt: &HostRuntime,
@@ -223,7 +220,7 @@ fn of_reading<'a>(
 ) -> Option<Cause<'a>> {
     match fault {
         oathd_memory::Fault::CannotReadFile(path) => match file_cause(rt, path) {
-            Some(cause) => Some(Cause::Found(cause)),
+            Some(cause) => Some(Cause::File(path, cause)),
             None => None,
         },
         oathd_memory::Fault::Run(oathd_lines::Fault::BadKey(fault)) => {
@@ -238,7 +235,7 @@ fn of_reading<'a>(
     }
 }
 
-/// What is told behind a fault of a command over a database.
+/// The cause of a fault of a command over a database, if it has one.
 fn of_database<'a>(
     alloc: Global,
     rt: &HostRuntime,
@@ -257,8 +254,8 @@ fn of_database<'a>(
     }
 }
 
-/// What is told behind a fault with which a command over a database has ended, by the text of the cluster file that its
-/// words name.
+/// Returns the cause of a fault with which a command over a database has ended, by the text of the cluster file that its
+/// words name; or None if the fault has none.
 pub(crate) fn cause_of<'a>(
     alloc: Global,
     rt: &HostRuntime,

@@ -8,6 +8,7 @@ ghost use Rattle.oathd.specs.Cluster.{IsImportOf};
 
 use crate::fault::Fault;
 use crate::floors::{floors_texts, with_paths};
+use crate::users::{open_users, users_text};
 use cluster_file::Cluster;
 use datagram_port::Clock;
 use oathd_database::{
@@ -19,9 +20,7 @@ use oathd_memory::{cluster_in, cluster_key, member_place, read_key};
 use oathd_words::{Action, ClusterWords, CountWords, FormerWords, ImportWords};
 use otp_core::{MOMENTS_END, Settings};
 use std::alloc::{AllocError, Global};
-use std::fs;
 use std::io::Write;
-use std::rt::Files;
 use std::time::Clock as TimeSource;
 use udp_port::SystemClock;
 use vote_core::Place;
@@ -34,14 +33,6 @@ fn present_moment<'a, T: TimeSource>(source: &T) -> Result<u64, Fault<'a>>
     match SystemClock::new(source).moment() {
         Some(moment) if moment < MOMENTS_END => Ok(moment),
         _ => Err(Fault::Database(oathd_database::Fault::NoClock)),
-    }
-}
-
-/// The users file at this path.
-fn open_users<'a, F: Files>(files: &F, path: &'a str) -> Result<F::File, Fault<'a>> {
-    match fs::open(files, path) {
-        Ok(file) => Ok(file),
-        Err(_) => Err(Fault::Memory(oathd_memory::Fault::CannotReadFile(path))),
     }
 }
 
@@ -183,7 +174,7 @@ fn remake<'a>(
     requires node { IsNode node }
     requires moment { IsMoment moment }
 {
-    let file = open_users(rt, users)?;
+    let users = users_text(alloc, rt, users, settings, moment)?;
     let texts = floors_texts(alloc, rt, &former.floors)?;
     let lost = match &former.lost {
         Some(lost) => Some(lost.as_slice()),
@@ -194,7 +185,8 @@ fn remake<'a>(
         lost,
         since: former.since,
     };
-    match init_lost_file(alloc, rt, database, file, settings, moment, lost, &texts) {
+    let users = users.as_slice();
+    match init_lost_file(alloc, rt, database, users, settings, moment, lost, &texts) {
         Ok(()) => Ok(()),
         Err(fault) => Err(with_paths(&former.floors, fault)),
     }
@@ -209,9 +201,9 @@ fn level<'a>(
     node: u8,
     floors: Vec<&'a str>,
 ) -> Result<(), Fault<'a>> {
-    let file = open_users(rt, users)?;
+    let users = users_text(alloc, rt, users, Settings::default(), 0)?;
     let texts = floors_texts(alloc, rt, &floors)?;
-    match level_file(alloc, rt, database, file, node, &texts) {
+    match level_file(alloc, rt, database, users.as_slice(), node, &texts) {
         Ok(()) => Ok(()),
         Err(fault) => Err(with_paths(&floors, fault)),
     }

@@ -36,9 +36,9 @@ impl ProgramFault for Fault<'_> {
     }
 }
 
-/// A fault, and what is told behind it.
+/// A fault, and its cause on a line of its own, which begins with two spaces.
 #[derive(Clone, Copy, Debug, PartialEq, Eq, Error)]
-#[error("{fault}: {cause}")]
+#[error("{fault}\n  {cause}")]
 pub(crate) struct ToldFault<'a> {
     pub(crate) fault: Fault<'a>,
     pub(crate) cause: Cause<'a>,

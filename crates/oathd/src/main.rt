@@ -6,6 +6,7 @@ mod databases;
 mod fault;
 mod floors;
 mod run;
+mod users;
 
 use program_edge::process_words;
 use run::run;

@@ -40,4 +40,5 @@ pub use fault::Fault;
 pub use laws::{
     ends_are_told, faults_are_in_order, offsets_are_worked, plans_are_worked, times_are_worked,
 };
+pub use time::{TimeFault, read_time};
 pub use words::{MAX_WINDOW, Mode, Words};

@@ -12,10 +12,10 @@ use thiserror::Error;
 /// The seconds of a day.
 const SECONDS_A_DAY: u64 = 86_400;
 
-/// Why a text gives no time.
+/// The reason why a text gives no time.
 #[derive(Clone, Copy, Debug, PartialEq, Eq, Error)]
-pub(crate) enum TimeFault {
-    /// An allocation was refused.
+pub enum TimeFault {
+    /// The allocator refused the memory.
     #[error("out of memory")]
     Memory,
     /// The text has neither form, names no day of the calendar, or is out of range.
@@ -167,9 +167,13 @@ fn read_either(text: &[u8]) -> Result<u64, TimeFault>
     }
 }
 
-/// The time that a text gives, in seconds since 1970-01-01 00:00:00 UTC: `@SECONDS`, or
-/// `YYYY-MM-DD hh:mm:ss UTC`.
-pub(crate) fn read_time(_alloc: Global, text: &[u8]) -> Result<u64, TimeFault>
+/// Reads a time in one of two forms, `@SECONDS` or `YYYY-MM-DD hh:mm:ss UTC`, and returns its seconds since 1970-01-01
+/// 00:00:00 UTC. They are below 2^40. The second form has exactly 23 bytes, and names a day of the Gregorian calendar.
+///
+/// # Errors
+/// Returns `BadTime` if the text has neither form, names no day, or gives a time before 1970 or from 2^40 seconds on. The
+/// calendar's `Memory` is passed on; reading takes no memory.
+pub fn read_time(_alloc: Global, text: &[u8]) -> Result<u64, TimeFault>
     ensures some { IfOk result (IsTimeText text.now) }
     ensures bad { (result ≡ Err TimeFault.BadTime) ↔ ((seconds : ℕ) → IsTimeText text.now seconds → ⊥) }
 {

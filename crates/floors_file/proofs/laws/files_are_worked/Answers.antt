@@ -7,6 +7,9 @@ use Rattle.floors_file.proofs.laws.files_are_worked.Goals as goal
 pub returns-clause-numbers : goal.returns-clause-numbers
 returns-clause-numbers c = refl
 
+pub returns-clause-great_numbers : goal.returns-clause-great_numbers
+returns-clause-great_numbers c = refl
+
 pub returns-clause-two : goal.returns-clause-two
 returns-clause-two c = refl
 
@@ -40,6 +43,9 @@ returns-clause-no_number c = refl
 
 pub returns-clause-range : goal.returns-clause-range
 returns-clause-range c = refl
+
+pub returns-clause-great : goal.returns-clause-great
+returns-clause-great c = refl
 
 pub returns-clause-most_tokens : goal.returns-clause-most_tokens
 returns-clause-most_tokens c = refl
