@@ -1,4 +1,6 @@
 ghost use Rattle.std.specs.Prelude.{◌≡◌};
+ghost use Rattle.std.specs.Char.{is_ascii_digit};
+ghost use Rattle.std.specs.List.{list_all};
 ghost use Rattle.floors_file.specs.Fields.{field_value, fields_left, has_leading_zero, is_digits, last_number, next_field, number_field, number_value, plain_number};
 
 use crate::fault::LineFault;
@@ -27,11 +29,18 @@ fn has_leading_zero(text: &[u8]) -> bool
     }
 }
 
+/// Returns whether a text has nothing but decimal digits.
+fn has_only_digits(text: &[u8]) -> bool
+    ensures { result ≡ list_all is_ascii_digit text.now }
+{
+    text.iter().all(|byte| byte.is_ascii_digit())
+}
+
 /// Returns whether a text is decimal digits alone, at least one.
 fn is_digits(text: &[u8]) -> bool
     ensures { result ≡ is_digits text.now }
 {
-    text.iter().all(|byte| byte.is_ascii_digit()) && !text.is_empty()
+    has_only_digits(text) && text.len() > 0
 }
 
 /// Returns the number that decimal digits are, or None if the text is not digits alone or has a leading zero. A number
