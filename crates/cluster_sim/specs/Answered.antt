@@ -1,4 +1,4 @@
--- Which acceptance an OK belongs to, and which OK an acceptance has.
+-- The acceptance to which an OK belongs, and the OK of an acceptance.
 use Rattle.std.specs.Prelude.{◌≡◌, ℕ, ◌<◌, ◌≤◌, true, false, List, take, Option, Some, None, slice_get, codes}
 use Rattle.otp_core.specs.Acceptance.{Acceptance}
 use Rattle.otp_core.specs.Range.{IsFactor}
@@ -9,29 +9,29 @@ use Rattle.client_lines.specs.declared.answer.Answer.TheVariants.{Reply}
 use Rattle.client_lines.specs.declared.answer.Outcome.TheVariants.{Accepted}
 use Rattle.cluster_sim.specs.World.{Act, Says, Deliver, Ticks, Noise, WorldEvent, Happens, Cut, Restart, Lost, Anew, Told}
 
--- a reply begins as an OK
+-- the reply begins as an OK
 abbrev pub IsOk : List ℕ → Type 0
 IsOk bytes = take 3 bytes ≡ codes "OK "
 
--- the OK with this nonce and this last factor
+-- the OK with the nonce and the last factor `hi`
 abbrev pub ok_bytes : List ℕ → ℕ → List ℕ
 ok_bytes nonce hi = answer_bytes (Reply nonce (Accepted hi))
 
--- a text in the line grammar with this nonce, which without an LF at its end is this line
+-- a text in the line grammar with the nonce; without an LF at its end it is the line
 pub record IsTextOf (line nonce text : List ℕ) : Type 0 where
   pub request : Request
   pub grammar : IsLine text request
   pub nonce_is : nonce ≡ request.nonce
   pub line_is : without_lf text ≡ line
 
--- the act is this line of the client at the node, with this nonce
+-- the act is the client's line at the node, with the nonce
 abbrev pub IsAskedBy : ℕ → ℕ → List ℕ → List ℕ → Act → Type 0
 IsAskedBy node client line nonce (Says at by moment text) = (at ≡ node) × (by ≡ client) × IsTextOf line nonce text
 IsAskedBy node client line nonce (Deliver at k) = ⊥
 IsAskedBy node client line nonce (Ticks at) = ⊥
 IsAskedBy node client line nonce (Noise at from read) = ⊥
 
--- the event is that act, or a stop inside it that kept its change
+-- the event is the client's line, or a stop inside it that kept its change
 abbrev pub IsAskedIn : ℕ → ℕ → List ℕ → List ℕ → Option WorldEvent → Type 0
 IsAskedIn node client line nonce None = ⊥
 IsAskedIn node client line nonce (Some (Happens act)) = IsAskedBy node client line nonce act
@@ -41,14 +41,14 @@ IsAskedIn node client line nonce (Some (Restart at)) = ⊥
 IsAskedIn node client line nonce (Some (Lost at)) = ⊥
 IsAskedIn node client line nonce (Some (Anew at boot floors)) = ⊥
 
--- the event is that client sending the line at the node, an LF at its end aside
+-- in the event the client sends the line at the node, except for an LF at its end
 abbrev pub IsSaidIn : ℕ → ℕ → List ℕ → Option WorldEvent → Type 0
 IsSaidIn node client line (Some (Happens (Says at by moment text))) =
     (at ≡ node) × (by ≡ client) × (without_lf text ≡ line)
 IsSaidIn node client line _ = ⊥
 
--- There is an acceptance at the node of a reply with this last factor, whose line came from its client with this nonce.
--- If it ended in an earlier event, the client sent that line again.
+-- An acceptance for a reply at the reply's node, with the last factor `hi`. The acceptance's line came from the reply's
+-- client with the nonce. If the acceptance ended in an earlier event, the client sent the line again.
 pub record IsPassOf (events : List WorldEvent) (passes : List Acceptance) (told : Told) (nonce : List ℕ)
     (hi : ℕ) : Type 0 where
   pub place : ℕ
@@ -61,7 +61,7 @@ pub record IsPassOf (events : List WorldEvent) (passes : List Acceptance) (told 
   pub asked : IsAskedIn told.node told.client line nonce (slice_get events pass.began)
   pub again : pass.ended < told.event → IsSaidIn told.node told.client line (slice_get events told.event)
 
--- what was told is the OK with some nonce and factor of which there is such an acceptance
+-- the reply is the OK with some nonce and last factor, and has its acceptance
 pub record BelongsToPass (events : List WorldEvent) (passes : List Acceptance) (told : Told) : Type 0 where
   pub nonce : List ℕ
   pub hi : ℕ
@@ -79,7 +79,7 @@ NamePasses events passes answers =
     (i : ℕ) (told : Told) (nonce : List ℕ) (hi : ℕ) → slice_get answers i ≡ Some told → IsNonce nonce → IsFactor hi
     → told.bytes ≡ ok_bytes nonce hi → IsPassOf events passes told nonce hi
 
--- the client with whose line an acceptance began is told its OK in the event in which it ended
+-- the client whose line began the acceptance gets the OK in the event in which the acceptance ended
 pub record HasAnswer (events : List WorldEvent) (answers : List Told) (pass : Acceptance) : Type 0 where
   pub place : ℕ
   pub answer : Told
@@ -91,7 +91,7 @@ pub record HasAnswer (events : List WorldEvent) (answers : List Told) (pass : Ac
   pub asked : IsAskedIn pass.node answer.client line nonce (slice_get events pass.began)
   pub bytes : answer.bytes ≡ ok_bytes nonce pass.hi
 
--- it is told, unless the node stopped in that event
+-- the acceptance has its OK, unless the node stopped in the event
 abbrev pub IsAnsweredIn : List WorldEvent → List Told → Acceptance → Option WorldEvent → Type 0
 IsAnsweredIn events answers pass None = ⊥
 IsAnsweredIn events answers pass (Some (Happens act)) = HasAnswer events answers pass
@@ -101,7 +101,7 @@ IsAnsweredIn events answers pass (Some (Restart node)) = ⊥
 IsAnsweredIn events answers pass (Some (Lost node)) = ⊥
 IsAnsweredIn events answers pass (Some (Anew node boot floors)) = ⊥
 
--- each acceptance has its OK so
+-- each acceptance has its OK, unless the node stopped in the event
 abbrev pub AreAnswered : List WorldEvent → List Told → List Acceptance → Type 0
 AreAnswered events answers passes =
     (i : ℕ) (pass : Acceptance) → slice_get passes i ≡ Some pass

@@ -1,4 +1,4 @@
--- Small worlds, each of which breaks one field of what is said of rounds. No contract cites them.
+-- Small worlds, each of which breaks one field of a promise about rounds. No contract cites them.
 use Rattle.std.specs.Prelude.{ℕ, ◌^◌, List, [], ◌∷◌, codes}
 use Rattle.vote_core.specs.Broken.{small_ballot}
 use Rattle.vote_core.specs.State.{ballot_of}
@@ -16,37 +16,37 @@ start_world = opening_world config three
 abbrev pub first_two : List ℕ
 first_two = 1 ∷ 2 ∷ []
 
--- the same nodes, but for the second
+-- the same nodes, with another second node
 abbrev pub with_second : NodeState → World
 with_second node = record start_world { nodes = with_state 2 node start_world.nodes }
 
--- the second node is stopped
+-- the second node stopped
 abbrev pub second_stopped : World
 second_stopped = with_second (stopped_node (start_world.nodes 2))
 
--- a proposal waits there
+-- the second node with a pending proposal
 abbrev pub second_waiting : World
 second_waiting =
     let node = start_world.nodes 2 in
     with_second (record node { voter = record node.voter { pending = ballot_of small_ballot ∷ [] } })
 
--- a line waits there
+-- the second node with a waiting line
 abbrev pub second_line_waiting : World
 second_line_waiting =
     let node = start_world.nodes 2 in
     with_second (record node { owners = record { seq = 0; client = 7; line = []; nonce = [] } ∷ [] })
 
--- it has no number left
+-- the second node without a number left
 abbrev pub second_spent : World
 second_spent =
     let node = start_world.nodes 2 in
     with_second (record node { voter = record node.voter { seq = 2 ^ 62 } })
 
--- three nodes whose first free factor is 1
+-- three nodes whose floor (first free factor) is 1
 abbrev pub raised : Start
 raised = first_start ((1 ∷ []) ∷ (1 ∷ []) ∷ (1 ∷ []) ∷ [])
 
--- a line of client 7 at node 1, and what the server gives it
+-- a line of client 7 at node 1, and the server's service of it
 abbrev pub round_line : RoundLine
 round_line = round_at 1 7 1000 (codes "CHECK a silver 755224 -")
 
@@ -56,6 +56,6 @@ first_ok = told_outcome 2 1 7 (codes "a") (Accepted 0)
 abbrev pub ok_given : List ℕ
 ok_given = first_ok.bytes
 
--- a line that is none, at node 1
+-- a text that is not a line, at node 1
 abbrev pub no_line_at_1 : List WorldEvent
 no_line_at_1 = line_at 1 7 1000 (codes "CHECK") ∷ []

@@ -1,5 +1,5 @@
--- What the simulation keeps of a run, and what it is in the world. Private contracts alone cite it: no public one rests
--- on it.
+-- The journal of a simulation, and the world that it records. Only private contracts cite it: no public contract
+-- depends on it. Floor: the first free factor of a token at a node.
 use Rattle.std.specs.Prelude.{◌≡◌, ℕ, suc, ◌+◌, ◌==◌, ◌<◌, Bool, true, false, if◌then◌else◌, List, [], ◌∷◌, ◌++◌, length, map, take, Option, Some, None, Result, OnOk, slice_get, slice_index_or}
 use Rattle.floor_store.specs.Content.{Content}
 use Rattle.floor_store.specs.Held.{Held}
@@ -17,7 +17,7 @@ use Rattle.oath_node.specs.declared.item.Item.{Item}
 use Rattle.oath_node.specs.declared.item.Item.TheVariants.{Datagram, Reply}
 use Rattle.cluster_sim.specs.World.{World, Told, Act as WorldAct, WorldEvent as Event, begun_in, passes_in, with_state, with_told_of, world_after_act, world_after_event, world_after_events, world_after_turn}
 
--- a datagram, the node that sent it, and the one that it is for
+-- a datagram, with its sender and its receiver
 pub record Letter : Type 0 where
   pub sender : ℕ
   pub receiver : ℕ
@@ -28,14 +28,13 @@ pub record StartRecord : Type 0 where
   pub proposal : ProposalRecord
   pub event : ℕ
 
--- that a node's store is gone, with the last boot that the node used; or, without one, that a store was made for it
--- anew
+-- a loss of a node's store, with the last boot that the node used; without a boot, a replacement of the store
 pub record LossRecord : Type 0 where
   pub node : ℕ
   pub used : Option ℕ
 
--- all that was sent, begun, accepted and told, which stores were lost and made anew, each in order; and of each token
--- the first free factor that a store made anew has at least
+-- The record of everything sent, begun, accepted and replied, and of losses and replacements, each in order. It also
+-- has the least floor of each token that a replacement store needs.
 pub record JournalRecord : Type 0 where
   pub sent : List Letter
   pub starts : List StartRecord
@@ -44,36 +43,36 @@ pub record JournalRecord : Type 0 where
   pub losses : List LossRecord
   pub least : List ℕ
 
--- nothing yet
+-- the empty journal
 abbrev pub no_journal : JournalRecord
 no_journal = record { sent = []; starts = []; passes = []; answers = []; losses = []; least = [] }
 
 -- ---- Losses
 
--- the last boot that a node used whose store is gone, by these losses, or else this
+-- the last boot that a node without its store used, after the losses, from the given value on
 abbrev pub used_from : Option ℕ → List LossRecord → ℕ → Option ℕ
 used_from used [] node = used
 used_from used (loss ∷ losses) node = used_from (if node == loss.node then loss.used else used) losses node
 
--- the last boot that a node used whose store is gone; none where its store is there
+-- the last boot that a node without its store used, after the losses; None for a node with its store
 abbrev pub used_in : List LossRecord → ℕ → Option ℕ
 used_in losses node = used_from None losses node
 
--- the journal with a loss more, at which these were the greatest first free factors
+-- the journal with another loss, and the greatest floors at the loss
 abbrev pub journal_with_loss : ℕ → ℕ → List ℕ → JournalRecord → JournalRecord
 journal_with_loss node used least journal = record journal {
   losses = journal.losses ++ record { node = node; used = Some used } ∷ [];
   least = least;
 }
 
--- the journal with a store that was made anew for the node
+-- the journal with a replacement of the node's store
 abbrev pub journal_with_anew : ℕ → JournalRecord → JournalRecord
 journal_with_anew node journal =
     record journal { losses = journal.losses ++ record { node = node; used = None } ∷ [] }
 
--- ---- What a node's outputs make of the journal
+-- ---- The outputs of a node in the journal
 
--- the event of the last start of the proposal, or else this one
+-- the event of the last start of the proposal, or the given event
 abbrev pub start_event_from : ℕ → List StartRecord → ProposalRecord → ℕ
 start_event_from began [] proposal = began
 start_event_from began (start ∷ starts) proposal =
@@ -83,12 +82,12 @@ start_event_from began (start ∷ starts) proposal =
 abbrev pub start_event : List StartRecord → ProposalRecord → ℕ
 start_event starts proposal = start_event_from 0 starts proposal
 
--- the starts, with what was begun in this event
+-- the starts, with the proposal that was begun in the event
 abbrev pub starts_with_begun : ℕ → Option ProposalRecord → List StartRecord → List StartRecord
 starts_with_begun event None starts = starts
 starts_with_begun event (Some proposal) starts = starts ++ record { proposal = proposal; event = event } ∷ []
 
--- the acceptances, with that of the pass that the node wrote in this event
+-- the acceptances, with the acceptance of the pass that the node wrote in the event
 abbrev pub passes_with_pass : List StartRecord → ℕ → ℕ → Option PassRecord → List Acceptance → List Acceptance
 passes_with_pass starts event node None passes = passes
 passes_with_pass starts event node (Some pass) passes =
@@ -101,7 +100,7 @@ passes_with_pass starts event node (Some pass) passes =
       hi = pass.hi;
     } ∷ []
 
--- the journal with what the node began and accepted in this event
+-- the journal with the proposal and the acceptance of the node in the event
 abbrev pub journal_with_note : ℕ → ℕ → Option ProposalRecord → Option PassRecord → JournalRecord → JournalRecord
 journal_with_note event node begun pass journal =
     let starts = starts_with_begun event begun journal.starts in
@@ -114,34 +113,34 @@ sent_items node (Datagram to bytes ∷ items) =
     record { sender = node; receiver = to; bytes = bytes.items } ∷ sent_items node items
 sent_items node (Reply client bytes ∷ items) = sent_items node items
 
--- its replies, in this event
+-- the replies of the node among the items, in the event
 abbrev pub told_items : ℕ → ℕ → List Item → List Told
 told_items event node [] = []
 told_items event node (Datagram to bytes ∷ items) = told_items event node items
 told_items event node (Reply client bytes ∷ items) =
     record { event = event; node = node; client = client; bytes = bytes.items } ∷ told_items event node items
 
--- the journal with what the node sent and told in this event
+-- the journal with the datagrams and replies of the node in the event
 abbrev pub journal_with_told : ℕ → ℕ → List Item → JournalRecord → JournalRecord
 journal_with_told event node items journal = record journal {
   sent = journal.sent ++ sent_items node items;
   answers = journal.answers ++ told_items event node items;
 }
 
--- the journal with what the node put out in this event; what it sent and told is taken in, or lost
+-- the journal with the node's outputs of the event; its datagrams and replies are recorded or lost
 abbrev pub journal_with : ℕ → ℕ → Bool → OutputsRecord → JournalRecord → JournalRecord
 journal_with event node is_told outputs journal =
     let noted = journal_with_note event node outputs.begun outputs.pass journal in
     if is_told then journal_with_told event node outputs.items noted else noted
 
--- the journal with what the node put out, if anything
+-- the journal with the node's outputs, if any
 abbrev pub journal_with_outputs : ℕ → ℕ → Bool → Option OutputsRecord → JournalRecord → JournalRecord
 journal_with_outputs event node is_told None journal = journal
 journal_with_outputs event node is_told (Some outputs) journal = journal_with event node is_told outputs journal
 
--- ---- What the simulation is in the world
+-- ---- The simulation of a world
 
--- an envelope as a datagram under the key
+-- the datagram of an envelope under the key
 abbrev pub letter_of : List ℕ → Envelope → Letter
 letter_of key envelope = record {
   sender = envelope.sender;
@@ -149,12 +148,12 @@ letter_of key envelope = record {
   bytes = datagram_bytes key envelope.sender envelope.receiver envelope.message;
 }
 
--- what is to be seen of a store in memory
+-- the view of a store in memory
 abbrev pub memory_held : Content → Held
 memory_held content =
     record { content = content; fault = None; failures = 0; is_clean = Unit {0}; leaves = λ left. left ≡ content }
 
--- a node over its store in memory is the one of the world in this state, at this place
+-- a node over its store in memory, as a node of the world with the state and the place
 pub record IsHost (config : Config) (key : List ℕ) (at : PlaceRecord) (x : NodeState)
     (host : Hosted Content) : Type 0 where
   pub state : state_of memory_held host ≡ x
@@ -163,35 +162,35 @@ pub record IsHost (config : Config) (key : List ℕ) (at : PlaceRecord) (x : Nod
   pub key_is : host.key ≡ key
   pub place : host.voter.place ≡ at
 
--- nothing was put out, or these outputs were
+-- the outputs are the result's, or empty
 abbrev pub IsPutOut : Option OutputsRecord → OutputsRecord → Type 0
 IsPutOut None made = made ≡ no_outputs
 IsPutOut (Some outputs) made = outputs ≡ made
 
--- a node that was handed an event in this state, and what that put out
+-- a node after an event in the state, with its outputs
 pub record IsHanded (config : Config) (key : List ℕ) (at : PlaceRecord) (x : NodeState) (event : NodeEvent)
     (host : Hosted Content) (outputs : Option OutputsRecord) : Type 0 where
   pub left : IsHost config key at (made_by_event config at event x).state host
   pub put_out : IsPutOut outputs (outputs_of key at (made_by_event config at event x))
 
--- the node of number k + 1 of the world is the one at place k, if its store is there
+-- each node of the world that has its store is in the list: node k + 1 at index k
 abbrev pub AreHosts : Config → List ℕ → ℕ → (ℕ → Bool) → (ℕ → NodeState) → List (Hosted Content) → Type 0
 AreHosts config key n lost nodes hosts =
     (k : ℕ) (host : Hosted Content) → slice_get hosts k ≡ Some host → lost (suc k) ≡ false
     → IsHost config key (record { me = suc k; n = n }) (nodes (suc k)) host
 
--- the last boot that a node used, with so many tokens, if its store is gone
+-- the last boot that a node with `tokens` tokens used, if its store is lost
 abbrev pub IsLossOf : ℕ → Option ℕ → Bool → NodeState → Type 0
 IsLossOf tokens None lost state = lost ≡ false
 IsLossOf tokens (Some used) lost state =
     (lost ≡ true) × (state.content.boot ≡ used + 1) × (length state.content.rows ≡ tokens)
 
--- the journal has which stores of the world are gone
+-- the journal records which nodes of the world are lost
 pub record AreLosses (tokens : ℕ) (world : World) (journal : JournalRecord) : Type 0 where
   pub used : (node : ℕ) → IsLossOf tokens (used_in journal.losses node) (world.lost node) (world.nodes node)
   pub least : (token : ℕ) → token < tokens → slice_index_or journal.least token 0 ≡ world.least token
 
--- the journal has all that is of the world but its nodes
+-- the journal records everything of the world except its nodes
 pub record IsRecorded (key : List ℕ) (world : World) (journal : JournalRecord) : Type 0 where
   pub sent : journal.sent ≡ map (letter_of key) world.sent
   pub starts : (proposal : ProposalRecord)
@@ -199,23 +198,23 @@ pub record IsRecorded (key : List ℕ) (world : World) (journal : JournalRecord)
   pub passes : journal.passes ≡ passes_in world.history
   pub answers : journal.answers ≡ world.told
 
--- the nodes of a simulation, and what it keeps
+-- the nodes and the journal of a simulation
 pub record SimulationRecord : Type 0 where
   pub nodes : List (Hosted Content)
   pub journal : JournalRecord
 
--- the simulation of these nodes, which keeps this
+-- the simulation of the nodes and the journal
 abbrev pub simulation_of : List (Hosted Content) → JournalRecord → SimulationRecord
 simulation_of nodes journal = record { nodes = nodes; journal = journal }
 
--- a simulation is this world
+-- a simulation of the world
 pub record IsRun (config : Config) (key : List ℕ) (world : World) (simulation : SimulationRecord) : Type 0 where
   pub n : world.n ≡ length simulation.nodes
   pub hosts : AreHosts config key world.n world.lost world.nodes simulation.nodes
   pub recorded : IsRecorded key world simulation.journal
   pub losses : AreLosses (length config.book) world simulation.journal
 
--- what an event makes a node put out: nothing where it is no member
+-- the outputs of the node for an event; none if it isn't a member
 abbrev pub outputs_at : Config → List ℕ → ℕ → (ℕ → NodeState) → ℕ → NodeEvent → OutputsRecord
 outputs_at config key n nodes node event =
     let place : PlaceRecord = record { me = node; n = n } in
@@ -227,47 +226,47 @@ nodes_after config n nodes node event =
     let place : PlaceRecord = record { me = node; n = n } in
     if is_member n node then with_state node (made_by_event config place event (nodes node)).state nodes else nodes
 
--- the nodes of a world, one of which was handed an event, if there is that one, and what that put out
+-- the nodes of a world after an event at one of them, if there is such a node, with its outputs
 pub record IsAsked (config : Config) (key : List ℕ) (n : ℕ) (lost : ℕ → Bool) (nodes : ℕ → NodeState) (node : ℕ)
     (event : NodeEvent) (hosts : List (Hosted Content)) (outputs : Option OutputsRecord) : Type 0 where
   pub left : AreHosts config key n lost (nodes_after config n nodes node event) hosts
   pub put_out : IsPutOut outputs (outputs_at config key n nodes node event)
 
--- the new world, with what was sent and told since the old one, or without
+-- the new world, with or without the datagrams and replies since the old one
 abbrev pub told_world : Bool → World → World → World
 told_world is_told old new = if is_told then new else with_told_of old new
 
--- the world after this happened at a node in this event, with what it sent and told, or without
+-- the world after an event at a node, with or without its datagrams and replies
 abbrev pub told_turn : Bool → ℕ → ℕ → Option NodeEvent → Config → World → World
 told_turn is_told event node what config world =
     told_world is_told world (world_after_turn config event node what world)
 
--- the world after an act in this event, with what it sent and told, or without
+-- the world after an act in the event, with or without its datagrams and replies
 abbrev pub told_act : Bool → ℕ → WorldAct → Config → World → World
 told_act is_told event act config world = told_world is_told world (world_after_act config event act world)
 
--- the world after the event of that number
+-- the world after the event of the given number
 abbrev pub world_by_event : ℕ → Event → Config → World → World
 world_by_event event what config world = world_after_event config event what world
 
--- each datagram that was sent reads as it was meant
+-- the bytes of each datagram sent read as its envelope
 abbrev pub AreSpelled : World → Type 0
 AreSpelled world =
     (k : ℕ) (envelope : Envelope) → slice_get world.sent k ≡ Some envelope
     → HasSpelling envelope.sender envelope.receiver envelope.message
 
--- each datagram that is sent up to any of these events reads as it was meant
+-- the bytes of each datagram sent up to any of the events read as its envelope
 abbrev pub AreSpelledAlong : Config → List Event → World → Type 0
 AreSpelledAlong config events world = (k : ℕ) → AreSpelled (world_after_events config 0 (take k events) world)
 
--- A call on a simulation of nodes with this configuration. Whatever world it was, in which each datagram reads as it
--- was meant, it is afterwards what the call makes of that world, unless memory ran out.
+-- A call on a simulation of nodes with the configuration. If the simulation is a world whose datagrams read as their
+-- envelopes, it is afterwards the world after `makes`, unless the allocator refused the memory.
 abbrev pub PlaysAt : {A E : Type 0} → Config → List ℕ → (World → World) → SimulationRecord → SimulationRecord
     → Result A E → Type 0
 PlaysAt config key makes old new result =
     (world : World) → IsRun config key world old → AreSpelled world → OnOk result (IsRun config key (makes world) new)
 
--- a call that does so whatever the configuration is
+-- such a call for every configuration
 abbrev pub Plays : {A E : Type 0} → List ℕ → (Config → World → World) → SimulationRecord → SimulationRecord
     → Result A E → Type 0
 Plays key makes old new result = (config : Config) → PlaysAt config key (makes config) old new result

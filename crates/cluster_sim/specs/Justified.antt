@@ -1,4 +1,5 @@
--- When an acceptance is justified by a client's line. It knows no votes, grants or messages.
+-- The justification of an acceptance by a client's line. It doesn't use votes, grants or messages. Floor: the first
+-- free factor of a token at a node.
 use Rattle.std.specs.Prelude.{◌≡◌, ℕ, ℤ, true, false, List, Option, Some, None, slice_get}
 use Rattle.otp_core.specs.Acceptance.{Acceptance}
 use Rattle.token_file.specs.Credential.{Credential}
@@ -10,9 +11,8 @@ use Rattle.cluster_sim.specs.Drifts.{drift_before}
 use Rattle.cluster_sim.specs.Results.{results_before}
 use Rattle.cluster_sim.specs.World.{Act, Says, Deliver, Ticks, Noise, WorldEvent, Happens, Cut, Restart, Lost, Anew, floor_before, Start}
 
--- A line at a moment is in the line grammar, for the user of a token, and what it submits is entitled to the factors
--- lo to hi, where next is the token's first free factor, and drift and results are its drift and its results so far at
--- the node.
+-- A line at a moment that entitles its sender to the factors `lo` to `hi`. It is in the line grammar, for the user of
+-- the token. `next`, `drift` and `results` are the token's floor, drift and results so far at the node.
 pub record IsGround (config : Config) (moment : ℕ) (line : List ℕ) (token next : ℕ) (drift : ℤ)
     (results : List Result) (lo hi : ℕ) : Type 0 where
   pub request : Request
@@ -23,7 +23,7 @@ pub record IsGround (config : Config) (moment : ℕ) (line : List ℕ) (token ne
   pub entitled : IsEntitled credential config.limits moment request.submission request.password next drift results
       lo hi
 
--- the act is such a line at the node of the acceptance
+-- the act is a line that justifies the acceptance, at its node
 abbrev pub IsGroundIn : Config → ℕ → ℤ → List Result → Acceptance → Act → Type 0
 IsGroundIn config next drift results accepted (Says node client moment line) =
     (node ≡ accepted.node) × IsGround config moment line accepted.token next drift results accepted.lo accepted.hi
@@ -31,7 +31,7 @@ IsGroundIn config next drift results accepted (Deliver node k) = ⊥
 IsGroundIn config next drift results accepted (Ticks node) = ⊥
 IsGroundIn config next drift results accepted (Noise node from read) = ⊥
 
--- the event is that act, or a stop inside it that kept its change
+-- the event is an act that justifies the acceptance, or a stop inside it that kept its change
 abbrev pub IsGroundOf : Config → ℕ → ℤ → List Result → Acceptance → Option WorldEvent → Type 0
 IsGroundOf config next drift results accepted None = ⊥
 IsGroundOf config next drift results accepted (Some (Happens act)) = IsGroundIn config next drift results accepted act
@@ -41,7 +41,7 @@ IsGroundOf config next drift results accepted (Some (Restart node)) = ⊥
 IsGroundOf config next drift results accepted (Some (Lost node)) = ⊥
 IsGroundOf config next drift results accepted (Some (Anew node boot floors)) = ⊥
 
--- the event in which it began is its ground, by the first free factor, the drift and the results there before it
+-- the event in which the acceptance began justifies it, by the floor, the drift and the results there before it
 abbrev pub IsJustified : Config → Start → List WorldEvent → Acceptance → Type 0
 IsJustified config start events accepted =
     let next = floor_before config start events accepted.node accepted.token accepted.began in
@@ -49,7 +49,7 @@ IsJustified config start events accepted =
     let results = results_before config start events accepted.node accepted.token accepted.began in
     IsGroundOf config next drift results accepted (slice_get events accepted.began)
 
--- each of these acceptances is justified
+-- each of the acceptances is justified
 abbrev pub AreJustified : Config → Start → List WorldEvent → List Acceptance → Type 0
 AreJustified config start events passes =
     (i : ℕ) (accepted : Acceptance) → slice_get passes i ≡ Some accepted → IsJustified config start events accepted

@@ -1,4 +1,4 @@
-//! A node over a store in memory is the machine of the world.
+//! The calls of a node over a store in memory, which is a machine of the world.
 
 ghost use Rattle.std.specs.Prelude.{ℕ, List};
 ghost use Rattle.vote_core.specs.NodeSet.{PlaceRecord};
@@ -9,7 +9,7 @@ ghost use Rattle.cluster_sim.specs.Journal.{IsHanded, IsHost};
 use floor_store::MemStore;
 use oath_node::{Event, Node, Outputs, Scratch};
 
-/// What an event makes of a node, or `None` where it makes nothing.
+/// Passes `event` to `node`. Returns its outputs, or None if the event has no effect.
 pub(crate) fn hand<'b: 'k, 'k>(
     node: &mut Node<'b, MemStore>,
     event: Event<'_>,
@@ -25,7 +25,7 @@ pub(crate) fn hand<'b: 'k, 'k>(
     }
 }
 
-/// A new boot of a node; at the last one it stops.
+/// Restarts `node` in a new boot. At the last boot the node stops.
 pub(crate) fn reopen(node: &mut Node<'_, MemStore>)
     ensures { (config : Config) (key : List ℕ) (place : PlaceRecord) (x : NodeState)
         → IsHost config key place x node.old

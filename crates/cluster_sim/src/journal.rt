@@ -1,4 +1,6 @@
-//! What all nodes sent, began, accepted and told.
+//! The journal of a simulation: everything that its nodes sent, began, accepted and replied.
+//!
+//! Floor: the first free factor of a token at a node.
 
 ghost use Rattle.std.specs.Prelude.{◌≡◌, ◌++◌, ◌≤◌, IfNone, IfSome, None, OnOk, Some, length, slice_get};
 ghost use Rattle.cluster_sim.specs.Journal.{journal_with_anew, journal_with_loss, journal_with_note, journal_with_told, no_journal, sent_items, start_event, told_items, used_in};
@@ -12,7 +14,7 @@ use std::alloc::{AllocError, Global};
 use std::marker::Model;
 use vote_wire::MAX_SENT_LEN;
 
-/// A datagram, the node that sent it, and the one that it is for.
+/// A datagram, with its sender and its receiver.
 #[derive(Debug, Drop)]
 pub(crate) struct Datagram {
     pub(crate) from: u8,
@@ -49,8 +51,7 @@ impl Model for Start {
     ghost inverse = { λ start. record { proposal = start.proposal; event = start.event } };
 }
 
-/// That a node's store is gone, with the last boot that the node used; or, without one, that a store was made for it
-/// anew.
+/// A loss of a node's store, with the last boot that the node used. Without a boot it is a replacement of the store.
 #[derive(Clone, Copy, Debug)]
 pub(crate) struct Loss {
     pub(crate) node: u64,
@@ -67,8 +68,8 @@ impl Model for Loss {
     ghost inverse = { λ loss. record { node = loss.node; used = loss.used } };
 }
 
-/// What all nodes sent, began, accepted and told, and which stores were lost and made anew, each in order; and of each
-/// token the first free factor that a store made anew has at least.
+/// The record of everything sent, begun, accepted and replied, and of losses and replacements, each in order. It also
+/// has the least floor of each token that a replacement store needs.
 #[derive(Debug, Drop)]
 pub(crate) struct Journal {
     pub(crate) sent: Vec<Datagram>,
@@ -94,7 +95,7 @@ impl Model for Journal {
     } };
 }
 
-/// The last boot that a node used whose store is gone, by these losses.
+/// Returns the last boot that `node` used if `losses` end in a loss of its store, or else None.
 fn used_in(losses: &[Loss], node: u64) -> Option<u64>
     ensures { result ≡ used_in losses.now node }
 {
@@ -107,7 +108,7 @@ fn used_in(losses: &[Loss], node: u64) -> Option<u64>
     used
 }
 
-/// The event in which a proposal was begun last, or 0. It looks at the newest first.
+/// Returns the event in which `proposal` was begun last, or 0. Searches from the newest start.
 fn start_event_of(starts: &[Start], proposal: Proposal) -> u64
     ensures { result ≡ start_event starts.now proposal }
 {
@@ -121,7 +122,7 @@ fn start_event_of(starts: &[Start], proposal: Proposal) -> u64
 }
 
 impl Journal {
-    /// With nothing in it.
+    /// Creates an empty journal.
     pub(crate) fn new(alloc: Global) -> Self
         ensures { result ≡ no_journal }
     {
@@ -135,15 +136,14 @@ impl Journal {
         }
     }
 
-    /// The last boot that a node used whose store is gone; `None` where its store is there.
+    /// Returns the last boot that `node` used if its store is lost, or else None.
     pub(crate) fn used_boot(&self, node: u64) -> Option<u64>
         ensures { result ≡ used_in self.now.losses node }
     {
         used_in(self.losses.as_slice(), node)
     }
 
-    /// Takes in that a node's store is gone, the last boot that the node used, and the greatest first free factors of
-    /// the others.
+    /// Records the loss of a node's store, the last boot that the node used, and the greatest floors of the others.
     pub(crate) fn lose(&mut self, node: u64, used: u64, least: Vec<Next>) -> Result<(), AllocError>
         ensures { OnOk result (self.new ≡ journal_with_loss node used least.items self.old) }
     {
@@ -155,7 +155,7 @@ impl Journal {
         Ok(())
     }
 
-    /// Takes in that a store was made anew for a node.
+    /// Records the replacement of a node's store.
     pub(crate) fn renew(&mut self, node: u64) -> Result<(), AllocError>
         ensures { OnOk result (self.new ≡ journal_with_anew node self.old) }
     {
@@ -163,7 +163,7 @@ impl Journal {
         Ok(())
     }
 
-    /// The datagram that was sent as number `k`, from 0 on.
+    /// Returns the datagram number `k`, counted from 0, or None.
     pub(crate) fn datagram(&self, k: u64) -> Option<&Datagram>
         ensures some { IfSome result (λ datagram. slice_get self.now.sent k ≡ Some datagram.now) }
         ensures none { IfNone result (slice_get self.now.sent k ≡ None) }
@@ -171,14 +171,14 @@ impl Journal {
         self.sent.get(k as usize)
     }
 
-    /// How many datagrams were sent.
+    /// Returns the number of datagrams sent.
     pub(crate) fn sent_count(&self) -> u64
         ensures { result ≡ length self.now.sent }
     {
         self.sent.len() as u64
     }
 
-    /// Takes in what a node began and accepted in an event.
+    /// Records the proposal and the acceptance of a node in an event, if any.
     pub(crate) fn note(
         &mut self,
         event: u64,
@@ -208,7 +208,7 @@ impl Journal {
         Ok(())
     }
 
-    /// Takes in what a node sent and told in an event.
+    /// Records the datagrams and replies of a node in an event.
     pub(crate) fn tell(
         &mut self,
         event: u64,
@@ -227,7 +227,7 @@ impl Journal {
     }
 }
 
-/// Takes the items of a node, in an event, into the datagrams and the answers.
+/// Records the items of a node in an event, among the datagrams and the answers.
 fn tell_items(
     sent: &mut Vec<Datagram>,
     answers: &mut Vec<WorldAnswer>,

@@ -23,8 +23,10 @@ use admit_core::{failures_are_spaced, gate_keeps_throttle};
 use oath_node::{one_node_answers_as_the_server, rulings_have_grounds};
 use vote_core::votes_are_safe;
 
-/// Over every list of events, for every book and limits, from every start of any number of nodes, which may have been
-/// there before in earlier boots: what is accepted is safe and justified, and failures are far apart.
+/// Safety of the world: in every list of events, acceptances are safe and justified, and failures are far apart.
+///
+/// It holds for every book and limits, and from every start of any number of nodes. The nodes may have run in earlier
+/// boots.
 pub fn world_is_safe()
     ensures single_use { (config : Config) (start : Start) (events : List WorldEvent) → MayStart config start
         → HaveSingleUse (passes_of config start events) }
@@ -43,9 +45,10 @@ pub fn world_is_safe()
     failures_are_spaced();
 }
 
-/// Over every list of events: each `OK` belongs to a pass of the node that tells it, with its last factor, whose line
-/// came from the same client with its nonce; no other reply begins as an `OK`; and each pass that wasn't accepted in
-/// a stop has its `OK`.
+/// Truth of answers: each `OK` belongs to a pass of the node that gives it, and each pass has its `OK`.
+///
+/// The `OK` has the pass's last factor. The pass's line came from the same client with the same nonce. No other reply
+/// begins like an `OK`. A pass that was accepted in a stop may lack its `OK`.
 pub fn answers_belong_to_passes()
     ensures told { (config : Config) (start : Start) (events : List WorldEvent) → MayStart config start
         → let report = report_of config start events in NamePasses events report.passes report.answers }
@@ -59,8 +62,8 @@ pub fn answers_belong_to_passes()
     gate_keeps_throttle();
 }
 
-/// Over every list of events that uses up neither boots nor numbers, one node alone answers as the reference server
-/// does.
+/// Equivalence: a single node answers as the reference server does, in every list of events that leaves boots and
+/// numbers.
 pub fn one_node_is_the_reference()
     ensures { (config : Config) (floors : List ℕ) (events : List WorldEvent) → 1 + length events < 2 ^ 62 →
         (report_of config (first_start (floors ∷ [])) events).answers
@@ -69,8 +72,10 @@ pub fn one_node_is_the_reference()
     one_node_answers_as_the_server();
 }
 
-/// Whatever was before: the turn of a live member brings the others up to its floors, a sweep levels the floors of all
-/// live members, and both leave nothing waiting. A sweep of a strict majority settles it.
+/// Sweeps: from any world, a sweep levels the floors (first free factors) of all live members. A sweep of a strict
+/// majority settles it.
+///
+/// The turn of a live member brings the others up to its floors. Both leave nothing waiting.
 pub fn sweep_levels()
     ensures turn { TurnLevels }
     ensures sweep { SweepLevels }
@@ -78,8 +83,9 @@ pub fn sweep_levels()
     ensures settles_at_end { SweepEndSettles }
 {}
 
-/// Whatever was before: among a strict majority of settled members, lines that come one at a time are answered as one
-/// server with those members as its front ends answers them, as long as there are numbers for proposals.
+/// Rounds: a strict majority of settled members answers lines that arrive one at a time as one server does.
+///
+/// The members are front ends of this server. There must be numbers left for proposals.
 pub fn rounds_are_the_reference()
     ensures rounds { RoundsAreTheReference }
     ensures counted { RoundsByCount }
@@ -90,7 +96,7 @@ pub fn rounds_are_the_reference()
     gate_keeps_throttle();
 }
 
-/// Some scripts, worked through with the codes of RFC 4226, Appendix D.
+/// Worked cases.
 pub fn scripts_are_worked()
     ensures two_submissions { report_of config three two_submissions
         ≡ report_with (acceptance 0 4 1 0 0 ∷ []) (told_outcome 4 1 7 (codes "a") (Accepted 0)
@@ -140,8 +146,7 @@ pub fn scripts_are_worked()
         ≡ report_with [] (told_outcome 0 1 7 (codes "1") (Refused Exhausted) ∷ []) 0 }
 {}
 
-/// Stops inside each kind of act, worked through: what is written is kept or lost, all else is lost, and the node that
-/// is named restarts.
+/// Worked cases.
 pub fn stops_are_worked()
     ensures before_accepting { report_of config three stop_before_accepting
         ≡ report_with [] (told_outcome 3 1 7 (codes "a") (Refused Invalid) ∷ []) 3 }
@@ -154,15 +159,13 @@ pub fn stops_are_worked()
     ensures in_a_line_lost { report_of config three (stop_in_a_line false) ≡ report_with [] [] 2 }
 {}
 
-/// Of 33 submissions at once the first 32 wait, and the last is told that the node is busy.
+/// Worked cases.
 pub fn busy_script_is_worked()
     ensures { report_of many_users many_floors (letter_lines 33)
         ≡ report_with [] (told_outcome 32 1 7 (codes "n") (Refused Busy) ∷ []) 64 }
 {}
 
-/// Stores that are lost and made anew, worked through. A store is made anew where fewer nodes are lost than make a
-/// majority, at a boot that its node never used, with no first free factor below those of the others; else nothing
-/// changes. Gates, drifts and kept answers begin again with it.
+/// Worked cases.
 pub fn losses_are_worked()
     ensures made_anew { report_of config three (after_loss (Anew 2 2 (1 ∷ []))) ≡ both_accepted }
     ensures boot_anew { ((world_of config three (after_loss (Anew 2 2 (1 ∷ [])))).nodes 2).content.boot ≡ 2 }
@@ -198,9 +201,7 @@ pub fn losses_are_worked()
     ensures other_drift { drift_before (clock_config 10) clock_three (drifted_before 2) 1 0 5 ≡ negsuc 0 }
 {}
 
-/// Nodes that were there before, worked through: a Grant of a former boot counts for nothing where a node opens at a
-/// later one, and would count where it opened at that boot again, which is no start; a first free factor that was told
-/// before is taken, and counts. What comes from before is to a member, and of a token of the book.
+/// Worked cases.
 pub fn starts_are_worked()
     ensures first { MayStart config three }
     ensures grant_of_before { report_of config (three_after 2 old_grant) old_comes ≡ report_with [] [] 3 }
@@ -215,7 +216,7 @@ pub fn starts_are_worked()
     ensures floor_at_any_boot { MayStart config (three_after 1 old_floor) }
 {}
 
-/// The results of a token at a node, the newest first: its failures and its acceptances there, and nothing else.
+/// Worked cases.
 pub fn results_are_worked()
     ensures all { results_of config alone fresh_token 1 0
         ≡ Passed ∷ Failed 105 ∷ Failed 100 ∷ Passed ∷ [] }
@@ -224,9 +225,7 @@ pub fn results_are_worked()
     ensures other_token { results_of config alone fresh_token 1 1 ≡ [] }
 {}
 
-/// A clock that falls behind, under settings that allow a drift of ten steps, of one and of none. The drift is kept
-/// where the line is accepted, and a stop that keeps the acceptance keeps it; at another node, or where it is lost,
-/// there is none.
+/// Worked cases.
 pub fn drifts_are_worked()
     ensures ten { report_of (clock_config 10) clock_alone clock_lines
         ≡ report_with (acceptance 0 0 1 3 3 ∷ acceptance 1 1 1 4 4 ∷ acceptance 2 2 1 5 5 ∷ [])
@@ -262,9 +261,7 @@ pub fn drifts_are_worked()
     ensures no_line { moments_of_others ≡ None ∷ None ∷ None ∷ None ∷ [] }
 {}
 
-/// What is said of an acceptance can be broken: by another node, by an event that is no line or is a line that a stop
-/// lost, by another token, user or factor, by a line that came while the token was closed or its factor used up, and by
-/// a factor that the drift puts outside the window. Of a list of acceptances each is justified.
+/// Counterexamples: each condition on a justified acceptance fails for a minimal one.
 pub fn justifications_can_be_broken()
     ensures node { IsJustifiedAmong second_factor_elsewhere (acceptance 0 2 2 0 0) → ⊥ }
     ensures delivery { IsJustifiedAmong second_factor_elsewhere (acceptance 1 2 1 0 0) → ⊥ }
@@ -286,11 +283,7 @@ pub fn justifications_can_be_broken()
     ensures one_of_a_list { AreJustified config three second_factor_elsewhere (acceptance 0 2 2 0 0 ∷ []) → ⊥ }
 {}
 
-/// What is said of answers can be broken: an `OK` without an acceptance, of another node, client, nonce or factor, told
-/// too early, or again to a client that didn't ask again; one whose acceptance began in an event that is no line, no
-/// line of its client, or a line that a stop lost; and an acceptance whose `OK` is missing, comes from another node, in
-/// another event, to another client, or with another nonce or factor, or that ended in no event, in a stop that lost
-/// it, or in an event that accepts nothing.
+/// Counterexamples: each condition on answers and their acceptances fails for a minimal one.
 pub fn answers_can_be_broken()
     ensures no_pass { TellTruth second_factor_elsewhere [] (told_outcome 2 1 7 (codes "a") (Accepted 0) ∷ []) → ⊥ }
     ensures node { IsToldTruly (told_outcome 2 3 7 (codes "a") (Accepted 0)) → ⊥ }
@@ -349,8 +342,7 @@ pub fn answers_can_be_broken()
     ensures ended_in_anew { AreAnswered (after_loss (Anew 2 2 (1 ∷ []))) [] (acceptance 4 4 2 0 0 ∷ []) → ⊥ }
 {}
 
-/// Rounds worked through: two and three of them, after a node is lost, after a sweep, and those of a clock that falls
-/// behind; and what happens where members are no majority, where the line waits already, and where floors aren't level.
+/// Worked cases.
 pub fn rounds_are_worked()
     ensures two { report_of config three (rounds_from_start (1 ∷ 2 ∷ []) two_lines)
         ≡ report_with (acceptance 0 2 1 0 0 ∷ acceptance 3 5 2 1 1 ∷ [])
@@ -379,9 +371,7 @@ pub fn rounds_are_worked()
     ensures settled { IsSettled config (1 ∷ 2 ∷ []) (opening_world config three) }
 {}
 
-/// The reference server, worked through: where it opens with fewer first free factors than tokens, and with more; and
-/// with several front ends, which share the first free factors, and no answer, result or drift. Live members stand for
-/// the server that their rounds left.
+/// Worked cases.
 pub fn servers_are_worked()
     ensures opens_with_fewer { opening_server config [] ≡ server_at (0 ∷ []) }
     ensures opens_with_more { opening_server config (5 ∷ 6 ∷ []) ≡ server_at (5 ∷ []) }
@@ -401,9 +391,7 @@ pub fn servers_are_worked()
     } }
 {}
 
-/// What is said of settled members, of a node where nothing waits, of rounds among members and of a report that ends in
-/// rounds holds of the least that keeps it, and each field is broken by the least that keeps all others. Each line has
-/// one answer, to its client.
+/// Counterexamples: each promise of settled members, of rounds and of their reports fails for a minimal one.
 pub fn services_can_be_broken()
     ensures ascending { IsSettled config (2 ∷ 1 ∷ []) start_world → ⊥ }
     ensures majority { IsSettled config (1 ∷ []) start_world → ⊥ }

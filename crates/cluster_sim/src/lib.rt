@@ -1,11 +1,12 @@
-//! Every schedule of a cluster: nodes that answer clients' lines and vote, all datagrams that they send each other,
-//! and what happens to them: lines, deliveries in any order and number, ticks, noise, restarts, stops inside a step,
-//! stores that are lost, and stores that are made anew in their place.
+//! The world of a cluster: its nodes, all their datagrams, and every schedule of events.
 //!
-//! [`run_world`] runs a script and gives its report. Its contract says what holds of every script: no factor of a
-//! token is accepted twice, each acceptance is justified by the line with which it began, and each `OK` belongs to
-//! one. The same is said of the definitions alone by the laws [`world_is_safe`], [`answers_belong_to_passes`] and
-//! [`one_node_is_the_reference`].
+//! The nodes answer clients' lines and vote. The events are lines, deliveries in any order and number, ticks, noise,
+//! restarts, stops inside a step, losses of stores, and their replacements.
+//!
+//! [`run_world`] runs a script and returns its report. Its contract holds for every script. No factor of a token is
+//! accepted twice. The line with which an acceptance began justifies the acceptance. Each `OK` belongs to an
+//! acceptance. The laws [`world_is_safe`], [`answers_belong_to_passes`] and [`one_node_is_the_reference`] claim the
+//! same of the definitions.
 //!
 //! ```rust
 //! use cluster_sim::{Act, WorldEvent, run_world};

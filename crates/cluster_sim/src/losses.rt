@@ -1,4 +1,4 @@
-//! Stores that are lost, and stores that are made anew in their place.
+//! The losses of stores, and their replacements. Floor: the first free factor of a token at a node.
 
 ghost use Rattle.std.specs.Prelude.{◌≡◌, ◌<◌, ◌≤◌, ◌^◌, ◌&&◌, nat_le, nat_lt, ℕ, List, IfOk, length, true};
 ghost use Rattle.otp_core.specs.Acceptance.{majority_of, size};
@@ -21,7 +21,7 @@ use vote_core::{Place, majority};
 /// The last boot of a node.
 const LAST_BOOT: u64 = (1 << 62) - 1;
 
-/// The first free factor of a token of which none is used up.
+/// Returns the floor 0: no factor is used up.
 fn none_used() -> Next
     ensures { result ≡ 0 }
 {
@@ -31,7 +31,7 @@ fn none_used() -> Next
     }
 }
 
-/// The first free factor that a node has of a token, 0 where it has no such token.
+/// Returns the node's floor of `token`, or 0 if the node has no such token.
 fn next_of(node: &Node<'_, MemStore>, token: u32) -> Next
     ensures { result ≡ (row node.now.store token).next }
 {
@@ -44,7 +44,7 @@ fn next_of(node: &Node<'_, MemStore>, token: u32) -> Next
     none_used()
 }
 
-/// The greatest first free factor of a token that a node has but for one and for those whose stores are gone.
+/// Returns the greatest floor of `token` at the nodes, except the node `gone` and the lost nodes.
 fn greatest_next(nodes: &[Node<'_, MemStore>], journal: &Journal, gone: u64, token: u32) -> Next
     ensures { (config : Config) (key : List ℕ) (world : World)
         → IsRun config key world (simulation_of nodes.now journal.now)
@@ -64,8 +64,7 @@ fn greatest_next(nodes: &[Node<'_, MemStore>], journal: &Journal, gone: u64, tok
     greatest
 }
 
-/// Of each of so many tokens the greatest first free factor that a node has but for one and for those whose stores are
-/// gone.
+/// Returns the greatest floor of each of the `tokens` tokens at the nodes, except the node `gone` and the lost nodes.
 fn least_of(
     alloc: Global,
     nodes: &[Node<'_, MemStore>],
@@ -84,7 +83,7 @@ fn least_of(
     Ok(least)
 }
 
-/// Takes the store of a node away, if it is there.
+/// Removes the store of `node`, if it has one.
 pub(crate) fn lose(
     nodes: &[Node<'_, MemStore>],
     journal: &mut Journal,
@@ -108,7 +107,7 @@ pub(crate) fn lose(
     journal.lose(node, used, least)
 }
 
-/// How many of so many nodes have lost their stores.
+/// Returns the number of the nodes 1 to `nodes` that have lost their stores.
 fn lost_count(journal: &Journal, nodes: u8) -> u8
     ensures { result ≡ size nodes (are_lost journal.now.losses) }
 {
@@ -121,7 +120,7 @@ fn lost_count(journal: &Journal, nodes: u8) -> u8
     count
 }
 
-/// The first free factor of a token in a list of them, 0 where the list doesn't have it.
+/// Returns the floor of `token` in `floors`, or 0 if the list is too short.
 fn floor_of(floors: &[Next], token: usize) -> Next
     ensures { result ≡ floor_in floors.now token }
 {
@@ -131,7 +130,7 @@ fn floor_of(floors: &[Next], token: usize) -> Next
     }
 }
 
-/// A first free factor for each of so many tokens: that of the list, or 0.
+/// Returns a list of `tokens` floors: the first ones of `floors`, and 0 for each missing one.
 fn filled(alloc: Global, tokens: usize, floors: &[Next]) -> Result<Vec<Next>, AllocError>
     ensures { IfOk result (λ list. list.items ≡ list_of tokens (floor_in floors.now)) }
 {
@@ -142,7 +141,7 @@ fn filled(alloc: Global, tokens: usize, floors: &[Next]) -> Result<Vec<Next>, Al
     Ok(list)
 }
 
-/// Whether no first free factor is below the least one of its token.
+/// Returns whether no floor in `floors` is below the one in `least`.
 fn are_enough(least: &[Next], tokens: usize, floors: &[Next]) -> bool
     ensures { result ≡ all_most tokens (floor_in least.now) (floor_in floors.now) }
 {
@@ -154,8 +153,7 @@ fn are_enough(least: &[Next], tokens: usize, floors: &[Next]) -> bool
     true
 }
 
-/// Whether a store may be made anew at a boot for one of so many nodes, which lost its store and used the boots up to
-/// `used`.
+/// Returns whether a node that lost its store, and used the boots up to `used`, may get a replacement at `boot`.
 fn may_be_anew(
     journal: &Journal,
     nodes: u8,
@@ -176,7 +174,7 @@ fn may_be_anew(
         && are_enough(journal.least.as_slice(), tokens, floors)
 }
 
-/// Makes a store anew for a lost node, where that may be, and opens the node on it.
+/// Replaces the store of a lost node, if the rules allow it, and opens the node on it.
 pub(crate) fn renew<'b>(
     nodes: &mut [Node<'b, MemStore>],
     journal: &mut Journal,

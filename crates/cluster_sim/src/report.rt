@@ -5,8 +5,8 @@ use floor_store::Span;
 use std::marker::Model;
 use vote_wire::MAX_SENT_LEN;
 
-/// An accepted submission: the events in which it began and was accepted, the node, the number of the
-/// token, and the span that it used up.
+/// An accepted submission: the events in which it began and was accepted, the node, the token's number, and the span
+/// that it used up.
 #[derive(Clone, Copy, Debug, PartialEq, Eq)]
 pub struct WorldPass {
     pub began: u64,
@@ -40,7 +40,7 @@ impl Model for WorldPass {
     } };
 }
 
-/// What a client was told: in which event, by which node, and the bytes without a line end.
+/// A reply to a client: the event and the node that gave it, and its bytes without a line end.
 #[derive(Debug, Drop)]
 pub struct WorldAnswer {
     pub event: u64,
@@ -62,8 +62,7 @@ impl Model for WorldAnswer {
     } };
 }
 
-/// What a run tells: what was accepted and what was told, each in order, and how many datagrams were
-/// sent.
+/// The report of a run: the acceptances and the replies, each in order, and the number of datagrams sent.
 #[derive(Debug, Drop)]
 pub struct Report {
     passes: Vec<WorldPass>,
@@ -84,7 +83,7 @@ impl Model for Report {
 }
 
 impl Report {
-    /// The report of these acceptances, answers and number of datagrams.
+    /// Creates a report.
     pub(crate) fn new(passes: Vec<WorldPass>, answers: Vec<WorldAnswer>, sent: u64) -> Self
         ensures { result ≡ record { passes = passes.items; answers = answers.items; sent = sent } }
     {
@@ -95,21 +94,21 @@ impl Report {
         }
     }
 
-    /// What was accepted, in the order of acceptance.
+    /// Returns the acceptances, in order.
     pub fn passes(&self) -> &[WorldPass]
         ensures { result.now ≡ self.now.passes }
     {
         &self.passes
     }
 
-    /// What was told, in the order in which it was.
+    /// Returns the replies, in order.
     pub fn answers(&self) -> &[WorldAnswer]
         ensures { result.now ≡ self.now.answers }
     {
         &self.answers
     }
 
-    /// How many datagrams were sent.
+    /// Returns the number of datagrams sent.
     pub fn sent(&self) -> u64
         ensures { result ≡ self.now.sent }
     {

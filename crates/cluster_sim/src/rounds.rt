@@ -1,4 +1,4 @@
-//! Rounds: lines that come one at a time, each answered among the live members before the next one comes.
+//! Rounds: each line arrives alone, and the live members answer it before the next line arrives.
 
 ghost use Rattle.std.specs.Prelude.{[], ◌≡◌, ◌≤◌, ◌∷◌, ◌&&◌, ℕ, List, IfOk, Some, length, map, slice_get};
 ghost use Rattle.std.specs.Global.{Vec};
@@ -23,7 +23,7 @@ use std::fmt;
 use token_file::Book;
 use vote_wire::ClusterKey;
 
-/// A client's line at a node, at a moment in seconds since 1970-01-01 00:00:00 UTC. Nodes are counted from 1 on.
+/// A client's line at a node, with its moment in seconds since 1970-01-01 00:00:00 UTC. Nodes have numbers from 1 on.
 #[derive(Clone, Copy)]
 pub struct RoundLine<'a> {
     pub node: u64,
@@ -32,7 +32,7 @@ pub struct RoundLine<'a> {
     pub line: &'a [u8],
 }
 
-/// It shows no byte of the line, which may have codes and a password.
+/// Shows no byte of the line, because it may have codes and a password.
 impl<'a> fmt::Debug for RoundLine<'a> {
     fn fmt<W: fmt::Write>(&self, f: &mut fmt::Formatter<W>) -> fmt::Result {
         f.debug_struct("RoundLine")
@@ -43,7 +43,7 @@ impl<'a> fmt::Debug for RoundLine<'a> {
     }
 }
 
-/// Whether a node is one of these.
+/// Returns whether `node` is in `live`.
 fn is_among(live: &[u8], node: u8) -> bool
     ensures { result ≡ is_live live.now node }
 {
@@ -55,14 +55,14 @@ fn is_among(live: &[u8], node: u8) -> bool
     false
 }
 
-/// Whether a datagram goes from a live member to a live member.
+/// Returns whether a datagram goes from a live member to a live member.
 fn is_between_live(live: &[u8], datagram: &Datagram) -> bool
     ensures { result ≡ (is_live live.now datagram.now.sender && is_live live.now datagram.now.receiver) }
 {
     is_among(live, datagram.from) && is_among(live, datagram.to)
 }
 
-/// Does one act, and gives the number of the next event.
+/// Performs one act. Returns the number of the next event.
 fn play_one(
     nodes: &mut [Node<'_, MemStore>],
     journal: &mut Journal,
@@ -75,7 +75,7 @@ fn play_one(
         (simulation_of nodes.old journal.old) (simulation_of nodes.new journal.new) result }
     ensures len { length nodes.new ≡ length nodes.old }
 {
-    // No run has so many events.
+    // No run has 2^64 events.
     let Some(next) = number.checked_add(1) else {
         return Err(SimFault::Memory);
     };
@@ -83,8 +83,8 @@ fn play_one(
     Ok(next)
 }
 
-/// Hands on the datagram of a number, if it goes from a live member to a live member, and gives the number of the
-/// next event.
+/// Delivers the datagram number `k`, if it goes from a live member to a live member. Returns the number of the next
+/// event.
 fn hand_on_one(
     nodes: &mut [Node<'_, MemStore>],
     journal: &mut Journal,
@@ -108,8 +108,8 @@ fn hand_on_one(
     play_one(nodes, journal, key, number, Act::Deliver { node, k })
 }
 
-/// Hands on the datagrams from a number up to the last one that was sent before this call, of which each goes from a
-/// live member to a live member, and gives the number of the next event.
+/// Delivers the datagrams from number `first` on that were sent before this call, if they go between live members.
+/// Returns the number of the next event.
 fn hand_on(
     nodes: &mut [Node<'_, MemStore>],
     journal: &mut Journal,
@@ -130,7 +130,7 @@ fn hand_on(
     Ok(next)
 }
 
-/// Plays a round: the line, then what it sent between live members, then what those sent between them; and gives the
+/// Plays a round: the line, its datagrams between live members, and their datagrams between live members. Returns the
 /// number of the next event.
 fn play_round(
     nodes: &mut [Node<'_, MemStore>],
@@ -165,7 +165,7 @@ fn play_round(
     hand_on(nodes, journal, key, live, second, answered)
 }
 
-/// Plays a round for each line, in their order, and gives the number of the next event.
+/// Plays a round for each line, in order. Returns the number of the next event.
 fn play_rounds(
     nodes: &mut [Node<'_, MemStore>],
     journal: &mut Journal,
@@ -187,7 +187,7 @@ fn play_rounds(
     Ok(next)
 }
 
-/// Runs a script and then the rounds: opens the nodes, lets the events happen, plays the rounds, and makes the report.
+/// Runs a script and the rounds: opens the nodes, performs the events, plays the rounds, and returns the report.
 fn run_script_and_rounds(
     alloc: Global,
     book: &Book,
@@ -205,7 +205,7 @@ fn run_script_and_rounds(
         let all = events_with_rounds run.config run.start run.events live.now (round_lines lines.now) in
         IfOk result (λ report. report ≡ report_of run.config run.start all) }
 {
-    // At most 10,000 tokens.
+    // There are at most 10,000 tokens.
     let _tokens = book.len();
     rulings_have_grounds();
     floors_are_in_range(floors);
@@ -224,12 +224,13 @@ fn run_script_and_rounds(
     Ok(report_of_journal(journal))
 }
 
-/// Runs a script as [`run_world`](crate::run_world) does, and then a round for each line: the line comes at its node,
-/// and each datagram that is sent in this round from a live member to a live member comes to its receiver, in the order
-/// of sending, until none is left. What else is sent is lost. It tells what was accepted and answered in all.
+/// Runs a script in the way in which [`run_world`](crate::run_world) does, and plays a round for each line.
+///
+/// In a round the line arrives at its node. Each datagram from a live member to a live member arrives too, in the order
+/// of sending, until all have arrived. All other datagrams of the round are lost. Returns the report of all events.
 ///
 /// # Errors
-/// `Memory` where there is none, and then there is no report.
+/// Returns `Memory` if the allocator refuses the memory. There is no report.
 pub fn run_rounds(
     alloc: Global,
     book: &Book,
@@ -245,20 +246,20 @@ pub fn run_rounds(
     requires each { (k : ℕ) (list : Vec ℕ) → slice_get floors.now k ≡ Some list
         → length list.items ≡ length book.now }
 
-    // The report is exactly that of the events before, and then of a round for each line.
+    // The report is exactly the report of the earlier events followed by a round for each line.
     ensures report { let run = run_of book.now settings key.now floors.now before.now in
         let all = events_with_rounds run.config run.start run.events live.now (round_lines lines.now) in
         IfOk result (λ report. report ≡ report_of run.config run.start all) }
 
-    // Among a strict majority that is settled after the events before, each line is answered within its own round as
-    // one server answers it, and the members are settled again.
+    // If a strict majority is settled after the earlier events, each line is answered within its own round, as one
+    // server answers it. The members are settled again.
     ensures served { let run = run_of book.now settings key.now floors.now before.now in
         let old = world_of run.config run.start run.events in
         let rounds = rounds_events run.config live.now (length run.events) old (round_lines lines.now) in
         AreServable run.config live.now old (round_lines lines.now) → IfOk result (λ report.
         AreServed run.config run.start run.events rounds live.now (round_lines lines.now) report.answers) }
 
-    // A sweep at the end of the events before settles such a majority.
+    // A sweep at the end of the earlier events settles such a majority.
     ensures levelled { let run = run_of book.now settings key.now floors.now before.now in
         let old = world_of run.config run.start run.events in
         let rounds = rounds_events run.config live.now (length run.events) old (round_lines lines.now) in

@@ -1,4 +1,4 @@
-//! A run of a script, from the opening of the nodes to the report.
+//! The run of a script, from the opening of the nodes to the report. Floor: the first free factor of a token at a node.
 
 ghost use Rattle.std.specs.Prelude.{[], ◌≡◌, ◌≤◌, ◌++◌, ℕ, List, IfOk, OnOk, Some, length, map, slice_get, slice_index_or};
 ghost use Rattle.std.specs.Global.{Vec};
@@ -32,7 +32,7 @@ use token_file::Book;
 use vote_core::Place;
 use vote_wire::ClusterKey;
 
-/// Each of these first free factors is in range, as its type says.
+/// Proves that each floor of the list is in range, as its type says.
 fn list_is_in_range(list: &[Next])
     ensures { (token : ℕ) → IsNext (slice_index_or list.now token 0) }
 {
@@ -41,7 +41,7 @@ fn list_is_in_range(list: &[Next])
     }
 }
 
-/// Each first free factor of each node is in range.
+/// Proves that each floor of each node is in range.
 pub(crate) fn floors_are_in_range(floors: &[Vec<Next>])
     ensures { (node token : ℕ) → IsNext (floor_at (floor_lists floors.now) node token) }
 {
@@ -50,7 +50,7 @@ pub(crate) fn floors_are_in_range(floors: &[Vec<Next>])
     }
 }
 
-/// Opens a node for each list of first free factors, in that order.
+/// Opens a node for each list of floors, in order.
 pub(crate) fn open_nodes<'b>(
     alloc: Global,
     book: &'b Book,
@@ -76,7 +76,7 @@ pub(crate) fn open_nodes<'b>(
     Ok(nodes)
 }
 
-/// Lets these events happen, in their order.
+/// Performs the events, in order.
 pub(crate) fn play<'b>(
     nodes: &mut [Node<'b, MemStore>],
     journal: &mut Journal,
@@ -99,7 +99,7 @@ pub(crate) fn play<'b>(
     Ok(())
 }
 
-/// Each first free factor with which a store is made anew is in range.
+/// Proves that each floor of a replacement store is in range.
 pub(crate) fn events_are_in_range(events: &[WorldEvent<'_>])
     ensures { (key : List ℕ) → HaveFloorsInRange (map (event_of key) events.now) }
 {
@@ -110,7 +110,7 @@ pub(crate) fn events_are_in_range(events: &[WorldEvent<'_>])
     }
 }
 
-/// Runs a script: opens the nodes, lets the events happen, and makes the report.
+/// Runs a script: opens the nodes, performs the events, and returns the report.
 fn run_script(
     alloc: Global,
     book: &Book,
@@ -125,7 +125,7 @@ fn run_script(
     ensures { let run = run_of book.now settings key.now floors.now events.now in
         IfOk result (λ report. report ≡ report_of run.config run.start run.events) }
 {
-    // At most 10,000 tokens.
+    // There are at most 10,000 tokens.
     let _tokens = book.len();
     rulings_have_grounds();
     floors_are_in_range(floors);
@@ -142,7 +142,7 @@ fn run_script(
     Ok(report_of_journal(journal))
 }
 
-/// The report of all that was taken in.
+/// Returns the report of the journal.
 pub(crate) fn report_of_journal(journal: Journal) -> Report
     ensures { result ≡ record {
       passes = journal.passes;
@@ -161,12 +161,13 @@ pub(crate) fn report_of_journal(journal: Journal) -> Report
     Report::new(passes, answers, sent.len() as u64)
 }
 
-/// Runs a script over nodes that open with these first free factors, each over a store in memory of its own, and
-/// tells what was accepted and answered. The nodes are as many as the lists of `floors`, and have the same book,
+/// Runs a script, and returns its acceptances and replies.
+///
+/// Opens one node for each list of `floors`, each over a store in memory of its own. All nodes have the same book,
 /// settings and key.
 ///
 /// # Errors
-/// `Memory` where there is none, and then there is no report.
+/// Returns `Memory` if the allocator refuses the memory. There is no report.
 pub fn run_world(
     alloc: Global,
     book: &Book,
@@ -180,11 +181,11 @@ pub fn run_world(
     requires each { (k : ℕ) (list : Vec ℕ) → slice_get floors.now k ≡ Some list
         → length list.items ≡ length book.now }
 
-    // The report is exactly that of the run: what is accepted, what is answered, and how many datagrams are sent.
+    // The report is exactly the run's: the acceptances, the replies, and the number of datagrams sent.
     ensures report { let run = run_of book.now settings key.now floors.now events.now in
         IfOk result (λ report. report ≡ report_of run.config run.start run.events) }
 
-    // No factor is used up twice, and what begins after an acceptance is accepted above it.
+    // No factor is used up twice. A proposal that begins after an acceptance is accepted above it.
     ensures single_use { IfOk result (λ report. HaveSingleUse report.passes) }
     ensures in_order { IfOk result (λ report. KeepRealTimeOrder report.passes) }
 
@@ -193,12 +194,12 @@ pub fn run_world(
         let floor = floor_before run.config run.start run.events in
         IfOk result (λ report. HaveMajority (length floors.now) floor report.passes) }
 
-    // Each acceptance is justified by the client's line with which it began.
+    // The client's line with which it began justifies each acceptance.
     ensures justified { let run = run_of book.now settings key.now floors.now events.now in
         IfOk result (λ report. AreJustified run.config run.start run.events report.passes) }
 
-    // Each `OK` belongs to an acceptance, no other answer begins as one, and each acceptance that isn't of a stop is
-    // answered.
+    // Each `OK` belongs to an acceptance, and no other answer begins like one. Each acceptance is answered, except one
+    // in a stop.
     ensures told { let run = run_of book.now settings key.now floors.now events.now in
         IfOk result (λ report. NamePasses run.events report.passes report.answers) }
     ensures no_other { let run = run_of book.now settings key.now floors.now events.now in
@@ -206,14 +207,14 @@ pub fn run_world(
     ensures answered { let run = run_of book.now settings key.now floors.now events.now in
         IfOk result (λ report. AreAnswered run.events report.answers report.passes) }
 
-    // One node alone answers as the reference server does.
+    // A single node answers as the reference server does.
     ensures single_node { let run = run_of book.now settings key.now floors.now events.now in
         let server = opening_server run.config (slice_index_or (floor_lists floors.now) 0 []) in
         length floors.now ≡ 1
         → IfOk result (λ report. report.answers ≡ reference_answers run.config 0 run.events server) }
 
-    // Where the events end in rounds among members that are settled then, each line of those is answered within its own
-    // round as one server answers it, and the members are settled again.
+    // If the events end in rounds among members that are settled then, each line of the rounds is answered within its
+    // own round, as one server answers it. The members are settled again.
     ensures served { let run = run_of book.now settings key.now floors.now events.now in
         (before rounds : List Event) (live : List ℕ) (lines : List RoundLine) → run.events ≡ before ++ rounds
         → AreServable run.config live (world_of run.config run.start before) lines

@@ -1,28 +1,29 @@
 use otp_core::Next;
 use std::fmt;
 
-/// What is done at a node. Nodes are counted from 1 on. What names no node of the run, or no datagram that
-/// was sent, does nothing.
+/// An act at a node. Nodes have numbers from 1 on. An act that names no node of the run, or no datagram that was sent,
+/// has no effect.
 #[derive(Clone, Copy)]
 pub enum Act<'a> {
-    /// A client's line comes, at a moment in seconds since 1970-01-01 00:00:00 UTC.
+    /// A client's line, with its moment in seconds since 1970-01-01 00:00:00 UTC.
     Client {
         node: u64,
         client: u64,
         moment: u64,
         line: &'a [u8],
     },
-    /// The datagram that was sent as number `k`, from 0 on, comes from the node that sent it.
+    /// The delivery of the datagram number `k` to `node`, from its sender's address. Datagrams have numbers from 0 on,
+    /// in the order of sending.
     Deliver {
         node: u64,
         k: u64,
     },
-    /// Some time passes.
+    /// The passage of some time.
     Tick {
         node: u64,
     },
-    /// Bytes come from the address of a node. They do nothing where they are a datagram of that very node
-    /// under the key of the cluster, and where `from` is above 255.
+    /// Bytes from the address of the node `from`. They have no effect if they are a datagram of that node under the
+    /// cluster's key, or if `from` is above 255.
     Noise {
         node: u64,
         from: u64,
@@ -30,7 +31,7 @@ pub enum Act<'a> {
     },
 }
 
-/// It shows no byte of a client's line, which may have codes and a password.
+/// Shows no byte of a client's line, because it may have codes and a password.
 impl<'a> fmt::Debug for Act<'a> {
     fn fmt<W: fmt::Write>(&self, f: &mut fmt::Formatter<W>) -> fmt::Result {
         match self {
@@ -61,28 +62,32 @@ impl<'a> fmt::Debug for Act<'a> {
     }
 }
 
-/// What happens to the nodes.
+/// An event of a script.
 #[derive(Clone, Copy, Debug)]
 pub enum WorldEvent<'a> {
     Happens(Act<'a>),
-    /// A stop inside the act: what it writes is kept or lost, what it sends and replies is lost, and
-    /// the node restarts.
+    /// A stop inside the act. The node's change is kept or lost, its datagrams and replies are lost, and it restarts.
     Cut {
         kept: bool,
         act: Act<'a>,
     },
-    /// A node restarts: what waits there and the answers that it keeps are lost.
+    /// A restart of a node, which loses its waiting lines and its kept answers.
     Restart {
         node: u64,
     },
-    /// A node's store is gone, and the node does nothing more.
+    /// The loss of a node's store. The node does nothing more.
     Lost {
         node: u64,
     },
-    /// A store is made for a lost node at a boot, with a first free factor for each token, from 0 on (0 for those that
-    /// the list doesn't have), and the node opens on it at that boot. It does nothing where as many nodes are lost as
-    /// make a majority, where the node used that boot or a later one before or the boot is above 2^62 - 1, and where a
-    /// first free factor is below one that another node had when last a node was lost.
+    /// A replacement of a lost node's store at `boot`, on which the node opens. `floors` has a floor (first free
+    /// factor) for each token from 0 on, and a missing one is 0.
+    ///
+    /// The event has no effect in these cases:
+    ///
+    /// - A majority of the nodes is lost.
+    /// - The node used `boot` or a later boot before.
+    /// - `boot` is above 2^62 - 1.
+    /// - A floor is below one that another node had at the latest loss.
     Anew {
         node: u64,
         boot: u64,

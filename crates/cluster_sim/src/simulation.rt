@@ -1,4 +1,4 @@
-//! Nodes over stores in memory, and what each event makes of them.
+//! The nodes of a simulation, over stores in memory, and the effects of events on them.
 
 ghost use Rattle.std.specs.Prelude.{◌≡◌, ◌+◌, ◌<◌, ◌≤◌, ℕ, Bool, List, IfNone, IfSome, OnOk, Some, false, length, map, slice_get, true};
 ghost use Rattle.vote_core.specs.Schedule.{is_member};
@@ -20,7 +20,7 @@ use std::alloc::{AllocError, Global};
 use token_file::Book;
 use vote_wire::{ClusterKey, one_spelling, read_message};
 
-/// What all nodes of a cluster share, and where their memory comes from.
+/// The parts that all nodes of a cluster share, and the allocator.
 #[derive(Clone, Copy)]
 pub(crate) struct Shared<'b> {
     pub(crate) alloc: Global,
@@ -29,7 +29,7 @@ pub(crate) struct Shared<'b> {
     pub(crate) key: &'b ClusterKey,
 }
 
-/// The place of a node among so many.
+/// Returns the index of `node` among `len` nodes, or None if it isn't one of 1 to `len`.
 pub(crate) fn index_of(len: usize, node: u64) -> Option<usize>
     ensures place { IfSome result (λ k. k + 1 ≡ node) }
     ensures within { IfSome result (λ k. k < len) }
@@ -43,7 +43,7 @@ pub(crate) fn index_of(len: usize, node: u64) -> Option<usize>
     }
 }
 
-/// Hands an event to a node, if there is that one. Its store is there.
+/// Passes `event` to `node`, which has its store. Returns its outputs, or None if there is no such node or no output.
 fn ask<'b: 'k, 'k>(
     nodes: &mut [Node<'b, MemStore>],
     node: u64,
@@ -60,7 +60,7 @@ fn ask<'b: 'k, 'k>(
     hand(&mut nodes[index], event, scratch)
 }
 
-/// Takes what a node put out in an event into the journal.
+/// Records a node's outputs of an event in the journal.
 fn take(
     journal: &mut Journal,
     event: u64,
@@ -81,7 +81,7 @@ fn take(
     Ok(())
 }
 
-/// Hands an event to a node, and takes what it puts out into the journal.
+/// Passes an event to `node`, and records its outputs in the journal.
 fn turn(
     nodes: &mut [Node<'_, MemStore>],
     journal: &mut Journal,
@@ -103,7 +103,7 @@ fn turn(
     take(journal, event, node, is_told, &outputs)
 }
 
-/// Hands the datagram of a number to a node.
+/// Delivers the datagram number `k` to `node`.
 fn deliver(
     nodes: &mut [Node<'_, MemStore>],
     journal: &mut Journal,
@@ -133,7 +133,7 @@ fn deliver(
     take(journal, event, node, is_told, &outputs)
 }
 
-/// Whether bytes are a datagram of this node under the key.
+/// Returns whether `bytes` are a datagram of `node` under the key.
 fn is_from(key: &ClusterKey, node: u64, bytes: &[u8]) -> bool
     ensures { result ≡ spec.is_from node (envelope_at key.now bytes.now) }
 {
@@ -143,7 +143,7 @@ fn is_from(key: &ClusterKey, node: u64, bytes: &[u8]) -> bool
     }
 }
 
-/// Hands bytes to a node that come from an address, if they are noise.
+/// Passes bytes from the address of the node `from` to `node`, if they are noise.
 fn disturb(
     nodes: &mut [Node<'_, MemStore>],
     journal: &mut Journal,
@@ -175,7 +175,7 @@ fn disturb(
     )
 }
 
-/// Does an act in an event. What the node sends and replies is told, or lost.
+/// Performs an act in an event. The journal records the datagrams and replies if `is_told`; otherwise they are lost.
 pub(crate) fn perform(
     nodes: &mut [Node<'_, MemStore>],
     journal: &mut Journal,
@@ -215,7 +215,7 @@ pub(crate) fn perform(
     }
 }
 
-/// The node that a stop inside an act restarts.
+/// Returns the node that a stop inside `act` restarts, or None.
 fn target_of(journal: &Journal, act: Act<'_>) -> Option<u64>
     ensures { (key : List ℕ) (world : World) → journal.now.sent ≡ map (letter_of key) world.sent
         → result ≡ node_of (act_of key act.entry) world }
@@ -228,7 +228,7 @@ fn target_of(journal: &Journal, act: Act<'_>) -> Option<u64>
     }
 }
 
-/// Restarts a node, if there is that one and its store is there.
+/// Restarts `node`, if there is such a node and it has its store.
 fn reopen_at(nodes: &mut [Node<'_, MemStore>], journal: &Journal, node: u64)
     ensures restarts { (config : Config) (key : List ℕ) (world : World)
         → IsRun config key world (simulation_of nodes.old journal.now)
@@ -243,7 +243,7 @@ fn reopen_at(nodes: &mut [Node<'_, MemStore>], journal: &Journal, node: u64)
     }
 }
 
-/// Restarts a node, if one is named.
+/// Restarts `node`, if it is not None.
 fn reopen_if(nodes: &mut [Node<'_, MemStore>], journal: &Journal, node: Option<u64>)
     ensures restarts { (config : Config) (key : List ℕ) (world : World)
         → IsRun config key world (simulation_of nodes.old journal.now)
@@ -281,7 +281,7 @@ fn cut(
     }
 }
 
-/// Lets the event of a number happen.
+/// Performs the event `event`, which has the number `number`.
 pub(crate) fn happen<'b>(
     nodes: &mut [Node<'b, MemStore>],
     journal: &mut Journal,

@@ -1,4 +1,4 @@
--- A node of one, beside the reference server.
+-- A node that is alone, beside the reference server. Floor: the first free factor of a token.
 use Rattle.std.specs.Prelude.{◌≡◌, ℕ, ℤ, ◌+◌, ◌≤◌, true, List, [], ◌∷◌, map}
 use Rattle.std.specs.Option.{option_map}
 use Rattle.otp_core.specs.Gate.{GateRecord}
@@ -9,11 +9,11 @@ use Rattle.vote_core.specs.NodeSet.{PlaceRecord}
 use Rattle.oath_node.specs.Machine.{Made, NodeState}
 use Rattle.oath_node.specs.ReferenceServer.{Line, Server, Service, TokenSpan}
 
--- the place of a node that has no other members
+-- the place of a single node
 abbrev pub alone_place : PlaceRecord
 alone_place = record { me = 1; n = 1 }
 
--- the first free factor of each row
+-- the floor of each row
 abbrev pub floors_in : Content → List ℕ
 floors_in content = map (λ row. row.next) content.rows
 
@@ -29,9 +29,8 @@ drifts_in content = map (λ row. row.drift) content.rows
 abbrev pub gates_of : List (List Result) → List GateRecord
 gates_of results = map gate_after results
 
--- A node that runs is this state of the reference server: nothing waits, it keeps the server's answers, its rows have
--- the server's first free factors and drifts and the gates of its results, and it has begun no more proposals than
--- this.
+-- A running node in the state of the reference server. Nothing waits, and it keeps the server's answers. Its rows have
+-- the server's floors and drifts, and the gates of the server's results. It has begun at most `count` proposals.
 pub record IsAlone (count : ℕ) (state : NodeState) (server : Server) : Type 0 where
   pub running : state.running ≡ true
   pub pending : state.voter.pending ≡ []
@@ -46,8 +45,8 @@ pub record IsAlone (count : ℕ) (state : NodeState) (server : Server) : Type 0 
 abbrev pub token_span_of : PassRecord → TokenSpan
 token_span_of pass = record { token = pass.token; lo = pass.lo; hi = pass.hi }
 
--- What is made of a line is this service of the reference server: nothing is sent, the one reply is the server's, the
--- pass is what it accepted, and the state that is left is the server's next one.
+-- The result of a line is the reference server's service. Nothing is sent, the one reply is the server's, the pass is
+-- the accepted span, and the next state is the server's next state.
 pub record ServesAlone (count : ℕ) (made : Made) (line : Line) (service : Service) : Type 0 where
   pub sends : made.sends ≡ []
   pub replies : made.replies ≡ record { client = line.client; bytes = service.told.bytes } ∷ []

@@ -21,7 +21,7 @@ use Rattle.oath_node.specs.declared.fault.NodeFault.TheVariants.{Store, Stopped,
 
 -- ---- Nodes over a store
 
--- a node that is alone over a small store, with this key
+-- a node that is alone over a small store, with the given key
 abbrev pub node_over : SmallStore → List ℕ → Hosted SmallStore
 node_over store key = record {
   store = store;
@@ -34,19 +34,19 @@ node_over store key = record {
   running = true;
 }
 
--- such a node at boot 0
+-- the node at boot 0
 abbrev pub small_node : Hosted SmallStore
 small_node = node_over (store_at 0) []
 
--- such a node over a disk that returned something else
+-- the node over a disk that returned other bytes
 abbrev pub fallen_node : Hosted SmallStore
 fallen_node = node_over (fallen_at 0) []
 
--- the node, which runs no more
+-- the node, stopped
 abbrev pub stopped : Hosted SmallStore → Hosted SmallStore
 stopped node = record node { running = false }
 
--- what a failure of the disk makes of it
+-- the node after a failure of the disk
 abbrev pub failed_node : Hosted SmallStore
 failed_node = stopped (node_over (broken_at 0) [])
 
@@ -58,7 +58,7 @@ answering node = record node { answers = record { client = 7; line = codes "a"; 
 abbrev pub keyed : Hosted SmallStore → Hosted SmallStore
 keyed node = record node { key = 7 ∷ [] }
 
--- the node of the worked steps, with the next number
+-- the node of the worked steps, with the number of its next proposal
 abbrev pub node_of_three : ℕ → Hosted SmallStore
 node_of_three seq = record (node_over (holding (content_with rows_at_start)) []) {
   book = config.book;
@@ -70,58 +70,58 @@ node_of_three seq = record (node_over (holding (content_with rows_at_start)) [])
 abbrev pub under : List ℕ → Hosted SmallStore → Hosted SmallStore
 under key node = record node { key = key }
 
--- node 1 of nine, in which 34 proposals wait, which no call leaves there
+-- node 1 of nine with 34 pending proposals, which no call leaves there
 abbrev pub crowded_node : Hosted SmallStore
 crowded_node = record small_node {
   voter = record lone_voter { place = place 1 9; ballots = replicate 34 small_ballot };
 }
 
--- the node over the store at the next boot, as it is opened
+-- the node over the store at the next boot, after its opening
 abbrev pub opened_at_1 : Hosted SmallStore
 opened_at_1 = record (node_over (store_at 1) []) { voter = record lone_voter { boot = 1 } }
 
--- ---- Events and what is answered
+-- ---- Events and results
 
--- a datagram outside the format, which makes nothing of a node
+-- a datagram outside the format, which has no effect on a node
 abbrev pub noise : NodeEvent
 noise = Peer 2 None
 
--- what a call answers that sends and replies nothing
+-- the result of a call without messages and replies
 abbrev pub quiet : Result OutputsRecord NodeFault
 quiet = Ok no_outputs
 
--- a commit or a restart that went well
+-- a commit or a restart that succeeded
 abbrev pub done : Result ℕ NodeFault
 done = Ok 0
 
--- one that met a failure of the disk
+-- a commit or a restart that met a disk failure
 abbrev pub failed : Result ℕ NodeFault
 failed = Err (Store Disk)
 
--- one of a node that had been stopped before
+-- a commit or a restart of a stopped node
 abbrev pub was_stopped : Result ℕ NodeFault
 was_stopped = Err Stopped
 
--- one that found no number for a proposal
+-- a call that found no number for a proposal
 abbrev pub number_spent : Result ℕ NodeFault
 number_spent = Err Spent
 
--- what a tick sends and replies, whatever there is
+-- all messages and replies of a tick
 abbrev pub all_of_a_tick : Hosted SmallStore → Result OutputsRecord NodeFault
 all_of_a_tick node = Ok (outputs_of node.key node.voter.place (made_of small_held node Tick))
 
--- the owner of the proposal with this number
+-- the owner of the proposal `seq`
 abbrev pub owner_of : ℕ → Owner
 owner_of seq = record { seq = seq; client = 7; line = codes "a"; nonce = codes "b" }
 
--- the machine of the small node with these owners, and this next number
+-- the machine of the small node with the owners, and the number of its next proposal
 abbrev pub owning : List Owner → ℕ → NodeState
 owning owners seq = record (state_of small_held small_node) {
   voter = record { pending = []; seq = seq; turn = 0 };
   owners = owners;
 }
 
--- the machine of the small node with these owners, and this next number, where proposal 0 waits
+-- the machine of the small node with the owners and the next number, in which proposal 0 is pending
 abbrev pub waiting : List Owner → ℕ → NodeState
 waiting owners seq = record (owning owners seq) {
   voter = record { pending = ballot_of small_ballot ∷ []; seq = seq; turn = 0 };
@@ -129,11 +129,11 @@ waiting owners seq = record (owning owners seq) {
 
 -- ---- A node in memory
 
--- the machine of a node in memory with one token, whose first free factor is 5
+-- the machine of a node in memory with one token, whose floor (first free factor) is 5
 abbrev pub first_state : NodeState
 first_state = opened_node (opening_content (5 ∷ []))
 
--- such a node, without a book
+-- the node, without a book
 abbrev pub serving_node : Serving
 serving_node = record {
   store = first_state.content;
@@ -148,7 +148,7 @@ serving_node = record {
 
 -- ---- A line whose factors are proposed
 
--- the line is one of these, for one of three tokens under the narrow settings
+-- the conditions on a proposed line, for one of three tokens under the narrow settings
 abbrev pub IsProposed : Standing → ℕ → List ℕ → List ℕ → ℕ → ℕ → ℕ → ℤ → Type 0
 IsProposed = IsFitting three_tokens narrow_limits
 
@@ -156,6 +156,6 @@ IsProposed = IsFitting three_tokens narrow_limits
 abbrev pub all_free : Standing
 all_free = record (standing_with 0 0) { next = λ token. 0 }
 
--- a line that is none
+-- a text that is not a line
 abbrev pub no_line : Line
 no_line = record { client = 7; moment = 0; text = codes "CHECK" }

@@ -1,5 +1,5 @@
--- Worked steps of a node: what is seen of them, and the nodes that they start from. The codes are those of RFC 4226,
--- Appendix D.
+-- Worked steps of a node: their views, and the nodes that they start from. The codes are from RFC 4226, Appendix D.
+-- Floor: the first free factor of a token.
 use Rattle.std.specs.Prelude.{ℕ, ℤ, pos, Bool, true, List, [], ◌∷◌, map, replicate, Option, Some, None, codes}
 use Rattle.floor_store.specs.Content.{Content}
 use Rattle.floor_store.specs.Records.{PassRecord, RowRecord, span_of}
@@ -9,9 +9,9 @@ use Rattle.vote_core.specs.declared.message.Message.TheVariants.{Deny, Grant}
 use Rattle.oath_node.specs.Examples.{drifting, narrow_limits, one_clock, three_tokens}
 use Rattle.oath_node.specs.Machine.{Beginning, Config, Made, NodeEvent, NodeState, Client, Peer, made_by_event}
 
--- What is seen of a step: the replies by client, the messages by receiver, and of the state that is left the first free
--- factor, the failures and the drift of each token, the numbers of the proposals that wait and whose owners wait, the
--- kept texts and whether the node runs.
+-- The view of a step: the replies by client, the messages by receiver, and parts of the next state. For each token
+-- these are the floor, the failures and the drift. The other parts are the numbers of pending proposals and of waiting
+-- owners, the kept texts, and whether the node runs.
 pub record StepView : Type 0 where
   pub replies : List (ℕ × List ℕ)
   pub sends : List (ℕ × Message)
@@ -23,7 +23,7 @@ pub record StepView : Type 0 where
   pub kept : List (List ℕ)
   pub running : Bool
 
--- what is seen of this step
+-- the view of a step
 abbrev pub step_view : Made → StepView
 step_view made = record {
   replies = map (λ reply. (reply.client, reply.bytes)) made.replies;
@@ -45,11 +45,11 @@ config = record { book = three_tokens; limits = narrow_limits }
 abbrev pub rows_at_start : List RowRecord
 rows_at_start = free_row 0 ∷ free_row 3 ∷ free_row 4611686018427387904 ∷ []
 
--- these rows at boot 1
+-- the rows at boot 1
 abbrev pub content_with : List RowRecord → Content
 content_with rows = record { rows = rows; boot = 1; last = None }
 
--- a node at the start, with the next number
+-- a node at the start, with the number of its next proposal
 abbrev pub idle_node : ℕ → NodeState
 idle_node seq = record {
   content = content_with rows_at_start;
@@ -63,16 +63,16 @@ idle_node seq = record {
 abbrev pub first_line : List ℕ
 first_line = codes "CHECK a silver 755224 -"
 
--- a node that has this answer to that line of client 7 kept
+-- a node that has kept the answer to the line of client 7
 abbrev pub node_with_kept : List ℕ → NodeState
 node_with_kept text =
     record (idle_node 0) { answers = record { client = 7; line = first_line; text = text } ∷ [] }
 
--- the ballot of proposal 0 of node 1 for silver's factor 0, after so many ticks, with these nodes that denied it
+-- the ballot of proposal 0 of node 1 for silver's factor 0, at the given age, with the nodes that denied it
 abbrev pub first_ballot : ℕ → List ℕ → BallotView
 first_ballot age denying = ballot 0 0 0 0 age (1 ∷ []) denying
 
--- node 1 of three after that line of client 7, with that ballot
+-- node 1 of three after the line of client 7, with the ballot
 abbrev pub asking_node : ℕ → List ℕ → NodeState
 asking_node age denying = record {
   content = content_with (open_row 1 (proposal 1 1 0) 0 0 ∷ free_row 3 ∷ free_row 4611686018427387904 ∷ []);
@@ -82,15 +82,15 @@ asking_node age denying = record {
   running = true;
 }
 
--- a node where 32 lines wait
+-- a node with 32 waiting lines
 abbrev pub full_node : NodeState
 full_node = record (idle_node 32) { voter = voter_seen (voter (replicate 32 (first_ballot 0 [])) 32 0) }
 
--- what is seen of a step of node 1 of three
+-- the view of a step of node 1 of three
 abbrev pub step_among : NodeEvent → NodeState → StepView
 step_among event node = step_view (made_by_event config (place 1 3) event node)
 
--- what is seen of a step of a node alone
+-- the view of a step of a node alone
 abbrev pub step_alone : NodeEvent → NodeState → StepView
 step_alone event node = step_view (made_by_event config (place 1 1) event node)
 
@@ -98,20 +98,20 @@ step_alone event node = step_view (made_by_event config (place 1 1) event node)
 abbrev pub line : List ℕ → NodeEvent
 line text = Client 7 100 text
 
--- a datagram from that member's address that says this
+-- a datagram of the message from the member's address
 abbrev pub datagram : ℕ → ℕ → ℕ → Message → NodeEvent
 datagram from sender receiver message =
     Peer from (Some (record { sender = sender; receiver = receiver; message = message }))
 
--- the grant of node 1's first proposal
+-- a Grant of node 1's first proposal
 abbrev pub grant : Message
 grant = Grant (proposal 1 1 0) 0 (span_of 0 0)
 
--- the denial of it, with silver's first free factor
+-- a Deny of the proposal, with silver's floor
 abbrev pub denial : ℕ → Message
 denial next = Deny (proposal 1 1 0) 0 next
 
--- nothing is sent or replied by a node at the start, and nothing changes
+-- the view of a step of a node at the start that sends, replies and changes nothing
 abbrev pub nothing_at_start : StepView
 nothing_at_start = record {
   replies = [];
@@ -125,7 +125,7 @@ nothing_at_start = record {
   running = true;
 }
 
--- the same of a node that asks
+-- the view of such a step of a node that asks
 abbrev pub nothing_of_asking : StepView
 nothing_of_asking = record nothing_at_start {
   floors = 1 ∷ 3 ∷ 4611686018427387904 ∷ [];
@@ -133,11 +133,11 @@ nothing_of_asking = record nothing_at_start {
   owners = 0 ∷ [];
 }
 
--- a node at the start tells client 7 this text alone, and keeps it
+-- a node at the start replies the text to client 7, and keeps it
 abbrev pub told_at_start : List ℕ → StepView
 told_at_start text = record nothing_at_start { replies = (7, text) ∷ []; kept = text ∷ [] }
 
--- a node that asked tells client 7 this text alone, keeps it, and waits for nothing
+-- a node that asked replies the text to client 7, keeps it, and no longer waits
 abbrev pub told_of_asking : List ℕ → StepView
 told_of_asking text = record nothing_of_asking {
   replies = (7, text) ∷ [];
@@ -146,18 +146,18 @@ told_of_asking text = record nothing_of_asking {
   kept = text ∷ [];
 }
 
--- what else is told of a step: the proposal that was begun, the pass, and the failure
+-- the other parts of a step: the proposal that was begun, the pass, and the failure
 abbrev pub facts_of : Made → Option Beginning × Option PassRecord × Option (ℕ × ℕ)
 facts_of made = (made.began, made.pass, made.failed)
 
 -- ---- drifts
 
--- a node with a token of 30 seconds, whose first free factor is 4, with this drift
+-- a node with a token of 30 seconds, with the floor 4 and the given drift
 abbrev pub clock_node : ℤ → NodeState
 clock_node drift = record (idle_node 0) { content = content_with (record (free_row 4) { drift = drift } ∷ []) }
 
--- The line with the code of step 4 in step 6: the drifts of the rows that it leaves at node 1 of so many, and those for
--- which proposals wait.
+-- The drifts that the line with the code of step 4 leaves in step 6 at node 1 of `n`: in the rows, and in the pending
+-- proposals.
 abbrev pub drifts_left : ℕ → ℤ → List ℤ × List ℤ
 drifts_left n drift =
     let clock : Config = record { book = one_clock; limits = drifting 10 } in

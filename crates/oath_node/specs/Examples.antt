@@ -1,5 +1,5 @@
--- Worked cases: what the rules make of lines, and what one server answers. The codes are those of RFC 4226,
--- Appendix D.
+-- Worked cases of the rules, and of the answers of one server. The codes are from RFC 4226, Appendix D. Floor: the
+-- first free factor of a token.
 use Rattle.std.specs.Prelude.{ℕ, zero, suc, ℤ, pos, negsuc, ◌==◌, if◌then◌else◌, false, List, [], ◌∷◌, ◌++◌, map, None, codes}
 use Rattle.admit_core.specs.Throttle.{Result}
 use Rattle.hmac_core.specs.declared.hash.Hash.TheVariants.{Sha1}
@@ -37,14 +37,14 @@ three_tokens =
 abbrev pub narrow_limits : Limits
 narrow_limits = record { look_ahead = 5; skew = 1; range = 9; drift = 0 }
 
--- what stands for the first token, the second or the third
+-- the number for the first, the second or the third token
 abbrev pub by_token : ℕ → ℕ → ℕ → ℕ → ℕ
 by_token silver gold iron zero = silver
 by_token silver gold iron (suc zero) = gold
 by_token silver gold iron (suc (suc token)) = iron
 
--- Silver has this first free factor and this wait, gold has the first free factor 3 and no wait, and iron has no factor
--- left. No answer is kept, and no line waits.
+-- Silver has the given floor and wait, gold has the floor 3 and no wait, and iron has no factor left. No answer is
+-- kept, and no line waits.
 abbrev pub standing_with : ℕ → ℕ → Standing
 standing_with next wait = record {
   kept = None;
@@ -55,7 +55,7 @@ standing_with next wait = record {
   wait = by_token wait 0 0;
 }
 
--- what the rules make of a line for the first free factor and the wait of silver, and a moment
+-- the ruling on a line at a moment, by the floor and the wait of silver
 abbrev pub ruling_on : ℕ → ℕ → ℕ → List ℕ → Ruling
 ruling_on next wait moment text = ruling three_tokens narrow_limits (standing_with next wait) moment text
 
@@ -65,8 +65,8 @@ ruling_on next wait moment text = ruling three_tokens narrow_limits (standing_wi
 abbrev pub line_at : ℕ → List ℕ → Line
 line_at moment text = record { client = 7; moment = moment; text = text }
 
--- Silver is wrong, too early, right and then replayed; gold is given two codes in a row; a line is none, a user is
--- unknown, and a password is missing.
+-- Silver is wrong, too early, right and then replayed. Gold gets two consecutive codes. One text is not a line, one
+-- user is unknown, and one password is missing.
 abbrev pub lines_of_a_run : List Line
 lines_of_a_run =
     line_at 100 (codes "CHECK a silver 000000 -") ∷ line_at 104 (codes "CHECK b silver 755224 -")
@@ -74,8 +74,8 @@ lines_of_a_run =
     ∷ line_at 107 (codes "RESYNC e gold 287082 359152 pw") ∷ line_at 108 (codes "CHECK")
     ∷ line_at 109 (codes "CHECK f lead 755224 -") ∷ line_at 110 (codes "CHECK g gold 254676 -") ∷ []
 
--- Silver is right. The same line comes again, outside the range of moments and with an LF; then from another client;
--- then with two other nonces, of which the first comes too early, twice; and a line that is none.
+-- Silver is right. The same line arrives again, outside the range of moments and with an LF, and from another client.
+-- Lines with two other nonces follow, the first of them twice and too early. The last text is not a line.
 abbrev pub lines_given_again : List Line
 lines_given_again =
     line_at 100 (codes "CHECK 1 silver 755224 -")
@@ -88,15 +88,15 @@ lines_given_again =
 abbrev pub narrowest_limits : Limits
 narrowest_limits = record { look_ahead = 1; skew = 0; range = 2; drift = 0 }
 
--- What a run comes to: each answer with the number of its line and the client, what was accepted, and the first free
--- factors and the results that the server is left with.
+-- The outcome of a run: each answer with its line's number and client, the acceptances, and the floors and results of
+-- the server after it.
 pub record Outcome : Type 0 where
   pub answers : List (ℕ × ℕ × List ℕ)
   pub passes : List LinePass
   pub floors : List ℕ
   pub results : List (List Result)
 
--- the server after these lines, from factor 0 on
+-- the server after the lines, from factor 0 on
 abbrev pub server_of : List Line → Server
 server_of lines = server_after three_tokens narrowest_limits (server_at (0 ∷ 0 ∷ 0 ∷ [])) lines
 
@@ -104,7 +104,7 @@ server_of lines = server_after three_tokens narrowest_limits (server_at (0 ∷ 0
 abbrev pub kept_in : Server → List (ℕ × List ℕ)
 kept_in server = map (λ answer. (answer.client, answer.text)) server.front.answers
 
--- what these lines come to, from factor 0 on
+-- the outcome of the lines, from factor 0 on
 abbrev pub outcome_of : List Line → Outcome
 outcome_of lines =
     let report = report_of three_tokens narrowest_limits (0 ∷ 0 ∷ 0 ∷ []) lines in
@@ -116,14 +116,14 @@ outcome_of lines =
       results = server.front.results;
     }
 
--- the first free factor and the results of silver before the line of a number of that run
+-- the floor and the results of silver in the run, before the line of the given number
 abbrev pub silver_before : ℕ → ℕ × List Result
 silver_before number = (
   floor_before three_tokens narrowest_limits (0 ∷ 0 ∷ 0 ∷ []) lines_of_a_run 0 number,
   results_before three_tokens narrowest_limits (0 ∷ 0 ∷ 0 ∷ []) lines_of_a_run 0 number,
 )
 
--- whether a pass of that run is justified
+-- whether a pass is justified in the run
 abbrev pub IsJustifiedInRun : LinePass → Type 0
 IsJustifiedInRun pass = IsJustified three_tokens narrowest_limits (0 ∷ 0 ∷ 0 ∷ []) lines_of_a_run pass
 
@@ -133,7 +133,7 @@ IsJustifiedInRun pass = IsJustified three_tokens narrowest_limits (0 ∷ 0 ∷ 0
 abbrev pub one_clock : List Credential
 one_clock = record (token_of (codes "silver") NoneAllowed) { kind = Time30 } ∷ []
 
--- a skew of 1, and this drift
+-- a skew of 1, and the given drift
 abbrev pub drifting : ℕ → Limits
 drifting steps = record { look_ahead = 1; skew = 1; range = 2; drift = steps }
 
@@ -143,15 +143,14 @@ lines_of_a_clock =
     line_at 120 (codes "CHECK 1 silver 969429 -") ∷ line_at 180 (codes "CHECK 2 silver 338314 -")
     ∷ line_at 240 (codes "CHECK 3 silver 254676 -") ∷ line_at 270 (codes "CHECK 4 silver 520489 -") ∷ []
 
--- what these lines are answered where so many steps may be drifted, and the drift that the server is left with
+-- the answers to the lines under settings that allow a drift of `steps`, and the server's drift after them
 abbrev pub outcome_of_clock : ℕ → List (List ℕ) × List ℤ
 outcome_of_clock steps = (
   map (λ answer. answer.bytes) (report_of one_clock (drifting steps) (2 ∷ []) lines_of_a_clock).answers,
   (server_after one_clock (drifting steps) (server_at (2 ∷ [])) lines_of_a_clock).front.drifts,
 )
 
--- What the rules make of a line in step 3, where nothing is used up: silver's clock is right, and gold's two steps
--- behind.
+-- The ruling on a line in step 3, with all factors free. Silver's clock is right, and gold's is two steps late.
 abbrev pub ruling_by_clock : List ℕ → Ruling
 ruling_by_clock text =
     let gold = record (token_of (codes "gold") NoneAllowed) { kind = Time30 } in
@@ -163,11 +162,11 @@ ruling_by_clock text =
 abbrev pub pass_with : ℕ → ℕ → ℕ → LinePass
 pass_with began token factor = record { began = began; token = token; lo = factor; hi = factor }
 
--- the drift of a token, which was 7, after these passes with those lines; the book is that token and the three of above
+-- the drift of a token after the passes of the lines, from 7 on; the book is one_clock's token and the three tokens
 abbrev pub drift_of_passes : ℕ → List LinePass → ℤ
 drift_of_passes token passes =
     drift_after (one_clock ++ three_tokens) (drifting 3) lines_of_a_clock token (pos 7) passes
 
--- whether a pass of that run is justified where up to ten steps may be drifted
+-- whether a pass is justified in the run under a drift of up to ten steps
 abbrev pub IsJustifiedByClock : LinePass → Type 0
 IsJustifiedByClock pass = IsJustified one_clock (drifting 10) (2 ∷ []) lines_of_a_clock pass

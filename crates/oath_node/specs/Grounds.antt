@@ -1,4 +1,4 @@
--- On what grounds the rules decide: what a line meets whose factors are proposed, and what one that fails.
+-- The grounds of rulings: the conditions on a line whose factors are proposed, and on one that fails.
 use Rattle.std.specs.Prelude.{◌≡◌, ℕ, ℤ, ◌<◌, ◌≤◌, true, false, List, length, Some, slice_get}
 use Rattle.otp_core.specs.Limits.{Limits}
 use Rattle.otp_core.specs.Range.{IsMoment}
@@ -12,9 +12,9 @@ use Rattle.oath_node.specs.Rules.{Standing}
 use Rattle.oath_node.specs.declared.ruling.Ruling.{Ruling}
 use Rattle.oath_node.specs.declared.ruling.Ruling.TheVariants.{Outside, Again, Waiting, Denied, Wrong, Fitting}
 
--- A line whose factors lo to hi are proposed, with its nonce: there is room for it; it is in the line grammar, at a
--- moment in range, for the user of a token that is open, with a password as its column says; and the factors are the
--- least in the window that fit, and the drift is what they keep by that moment.
+-- A line whose factors `lo` to `hi` are proposed, with its nonce. There is room for it, and it is in the line grammar,
+-- at a moment in range. It is for the user of an open token, with a password that fits the token's column. The factors
+-- are the least ones in the window that fit, and the drift is theirs by that moment.
 pub record IsFitting (book : List Credential) (limits : Limits) (standing : Standing) (moment : ℕ)
     (line nonce : List ℕ) (token lo hi : ℕ) (drift : ℤ) : Type 0 where
   pub room : standing.is_full ≡ false
@@ -33,7 +33,7 @@ pub record IsFitting (book : List Credential) (limits : Limits) (standing : Stan
   pub free : standing.next token ≤ lo
   pub span : IsSpan lo hi
 
--- a failure of a token that is open, at a moment in range
+-- a failure of an open token, at a moment in range
 pub record IsWrong (book : List Credential) (standing : Standing) (moment token : ℕ) : Type 0 where
   pub within : token < length book
   pub in_range : IsMoment moment
@@ -49,7 +49,7 @@ HasGrounds book limits standing moment line (Wrong nonce reason token) = IsWrong
 HasGrounds book limits standing moment line (Fitting nonce token span drift) =
     IsFitting book limits standing moment line nonce token span.lo span.hi drift
 
--- two standings that tell the rules the same of the tokens of a book
+-- two standings that are equal for the tokens of a book
 pub record IsSameStanding (tokens : ℕ) (one other : Standing) : Type 0 where
   pub kept : one.kept ≡ other.kept
   pub waiting : one.is_waiting ≡ other.is_waiting

@@ -1,4 +1,4 @@
--- What contracts see of a node over a store, and the machine that it is.
+-- The view of a node over a store in contracts, and its machine.
 use Rattle.std.specs.Prelude.{◌≡◌, ◌≢◌, ℕ, ◌<◌, Bool, true, List, [], ◌∷◌, length, Option, None}
 use Rattle.std.specs.Option.{option_map}
 use Rattle.otp_core.specs.Limits.{Limits}
@@ -15,7 +15,7 @@ use Rattle.oath_node.specs.Machine.{Config, Made, NodeEvent, NodeState, Owner, C
 use Rattle.oath_node.specs.declared.event.Event.{Event}
 use Rattle.oath_node.specs.declared.event.Event.TheVariants.{Client as ClientEvent, Peer as PeerEvent, Tick as TickEvent}
 
--- a node: the store itself, beside the rest as plain data
+-- a node: the store itself, beside the other parts as plain data
 pub record Hosted (S : Type 0) : Type 0 where
   pub store : S
   pub book : List Credential
@@ -23,19 +23,19 @@ pub record Hosted (S : Type 0) : Type 0 where
   -- the key of the cluster
   pub key : List ℕ
   pub voter : VoterRecord
-  -- of the pending proposals
+  -- the owners of the pending proposals
   pub owners : List Owner
   pub answers : List KeptAnswer
   pub running : Bool
 
--- ---- The machine that it is
+-- ---- The machine
 
--- the machine over this content, while it runs
+-- the machine over the content, running
 abbrev pub running_state : Content → VoterRecord → List Owner → List KeptAnswer → NodeState
 running_state content voter owners answers =
     record { content = content; voter = voter_of voter; owners = owners; answers = answers; running = true }
 
--- the machine that the node is, by what its store holds
+-- the machine of the node, with its store's content
 abbrev pub state_of : {S : Type 0} → (S → Held) → Hosted S → NodeState
 state_of held node = record {
   content = (held node.store).content;
@@ -49,7 +49,7 @@ state_of held node = record {
 abbrev pub config_of : {S : Type 0} → Hosted S → Config
 config_of node = record { book = node.book; limits = node.limits }
 
--- the envelope that the bytes of a datagram say under the key
+-- the envelope of a datagram's bytes under the key
 abbrev pub envelope_at : List ℕ → List ℕ → Option Envelope
 envelope_at key bytes =
     option_map (λ read. record { sender = read.0; receiver = read.1; message = read.2 }) (datagram_at key bytes)
@@ -60,33 +60,33 @@ event_of key (ClientEvent client moment line) = Client client moment line.now
 event_of key (PeerEvent from bytes) = Peer from (envelope_at key bytes.now)
 event_of key TickEvent = Tick
 
--- what the event makes of the node
+-- the result of the event at the node
 abbrev pub made_of : {S : Type 0} → (S → Held) → Hosted S → NodeEvent → Made
 made_of held node event = made_by_event (config_of node) node.voter.place event (state_of held node)
 
--- ---- What holds of a node
+-- ---- The invariant of a node
 
--- none of the owners has this number
+-- none of the owners has the number `seq`
 abbrev pub NotAmong : ℕ → List Owner → Type 0
 NotAmong seq [] = Unit {0}
 NotAmong seq (owner ∷ owners) = (owner.seq ≢ seq) × NotAmong seq owners
 
--- their numbers differ, and are below one
+-- the owners have different numbers below `end`
 abbrev pub AreApart : ℕ → List Owner → Type 0
 AreApart end [] = Unit {0}
 AreApart end (owner ∷ owners) = (owner.seq < end) × NotAmong owner.seq owners × AreApart end owners
 
--- their proposals wait
+-- the owners' proposals are pending
 abbrev pub ArePending : List Ballot → List Owner → Type 0
 ArePending ballots [] = Unit {0}
 ArePending ballots (owner ∷ owners) = (is_pending ballots owner.seq ≡ true) × ArePending ballots owners
 
--- each line that waits has a proposal of its own
+-- each waiting line has a proposal of its own
 pub record IsOwned (node : NodeState) : Type 0 where
   pub apart : AreApart node.voter.seq node.owners
   pub pending : ArePending node.voter.pending node.owners
 
--- What holds of every node. Of one that is stopped this is only that its store has a row for each token.
+-- The invariant of every node. A stopped node only has a store with a row for each token.
 pub record IsNode {S : Type 0} (held : S → Held) (node : Hosted S) : Type 0 where
   pub tokens : length (held node.store).content.rows ≡ length node.book
   -- the store is not broken, and the voter was opened on it
@@ -94,7 +94,7 @@ pub record IsNode {S : Type 0} (held : S → Held) (node : Hosted S) : Type 0 wh
   pub store : node.running ≡ true → IsStoreOf node.voter (held node.store)
   pub owned : node.running ≡ true → (held node.store).is_clean → IsOwned (state_of held node)
 
--- what no call of a node changes
+-- the parts of a node that no call changes
 pub record IsSameNode {S : Type 0} (old new : Hosted S) : Type 0 where
   pub book : new.book ≡ old.book
   pub limits : new.limits ≡ old.limits

@@ -1,4 +1,4 @@
--- What a call of a node sends and replies, as bytes.
+-- The datagrams and replies of a node's call, as bytes.
 use Rattle.std.specs.Prelude.{ℕ, List, [], ◌∷◌, ◌++◌, map, Option, None}
 use Rattle.std.specs.Option.{option_map}
 use Rattle.floor_store.specs.Records.{ProposalRecord, PassRecord}
@@ -9,13 +9,13 @@ use Rattle.oath_node.specs.Machine.{Made, Reply as ReplyRecord}
 use Rattle.oath_node.specs.declared.item.Item.{Item}
 use Rattle.oath_node.specs.declared.item.Item.TheVariants.{Datagram, Reply}
 
--- what contracts see of the outputs of a call
+-- the view of a call's outputs
 pub record OutputsRecord : Type 0 where
   pub items : List Item
   pub begun : Option ProposalRecord
   pub pass : Option PassRecord
 
--- the datagram that tells a member a message, under the key
+-- the datagram of a message to a member, under the key
 abbrev pub datagram_item : List ℕ → ℕ → ℕ × Message → Item
 datagram_item key me send = Datagram send.0 (record { items = datagram_bytes key me send.0 send.1 })
 
@@ -27,7 +27,7 @@ reply_item reply = Reply reply.client (record { items = reply.bytes })
 abbrev pub items_of : List ℕ → ℕ → List (ℕ × Message) → List ReplyRecord → List Item
 items_of key me sends replies = map (datagram_item key me) sends ++ map reply_item replies
 
--- what an event made, encoded under the key
+-- the outputs of a result, encoded under the key
 abbrev pub outputs_of : List ℕ → PlaceRecord → Made → OutputsRecord
 outputs_of key place made = record {
   items = items_of key place.me made.sends made.replies;
@@ -39,7 +39,7 @@ outputs_of key place made = record {
 abbrev pub no_outputs : OutputsRecord
 no_outputs = record { items = []; begun = None; pass = None }
 
--- one reply alone
+-- one reply and nothing else
 abbrev pub reply_outputs : ℕ → List ℕ → OutputsRecord
 reply_outputs client bytes =
     record { items = Reply client (record { items = bytes }) ∷ []; begun = None; pass = None }

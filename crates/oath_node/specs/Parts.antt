@@ -1,5 +1,5 @@
--- What the parts of a running node are as a machine, and what a call does to them. Private contracts alone cite it: no
--- public one rests on it.
+-- The machine of a running node's parts, and the effects of calls on the parts. Only private contracts cite it: no
+-- public contract depends on it.
 use Rattle.std.specs.Prelude.{◌≡◌, ℕ, ◌^◌, false, List, map, Result, IfOk, IfErr}
 use Rattle.floor_store.specs.Held.{Held, Breaks, MayPut}
 use Rattle.vote_core.specs.State.{IsSameVoter, VoterRecord, sent_by, voter_of}
@@ -14,24 +14,24 @@ use Rattle.oath_node.specs.declared.fault.NodeFault.{NodeFault}
 use Rattle.oath_node.specs.declared.fault.NodeFault.TheVariants.{Store, Stopped, Spent}
 use Rattle.oath_node.specs.declared.parts.Parts.{Parts}
 
--- the machine that the parts are
+-- the machine of the parts
 abbrev pub state_in : {S : Type 0} → (S → Held) → Parts S → NodeState
 state_in held parts =
     running_state (held parts.store).content parts.voter parts.owners.items parts.answers
 
--- The step stops the machine, no number is left for a proposal, and nothing changes.
+-- The step stops the machine, because no number is left for a proposal. Nothing changes.
 pub record StopsParts {S : Type 0} (held : S → Held) (old new : Parts S) (made : Made) : Type 0 where
   pub halts : (held old.store).is_clean → made.state.running ≡ false
   pub none_left : old.voter.seq ≡ 2 ^ 62
   pub unchanged : new ≡ old
 
--- why a call fails
+-- the reason of a call's fault
 abbrev pub FailsParts : {S : Type 0} → (S → Held) → Parts S → Parts S → Made → NodeFault → Type 0
 FailsParts held old new made (Store fault) = Breaks held old.store new.store fault
 FailsParts held old new made Stopped = ⊥
 FailsParts held old new made Spent = StopsParts held old new made
 
--- A call that takes the parts through this step of their machine.
+-- A call that takes the parts through the step of their machine.
 pub record Steps {S : Type 0} (held : S → Held) (key : List ℕ) (old new : Parts S) (step : NodeState → Made)
     (result : Result OutputsRecord NodeFault) : Type 0 where
   pub made : IfOk result (λ outputs. (held new.store).is_clean
@@ -41,11 +41,11 @@ pub record Steps {S : Type 0} (held : S → Held) (key : List ℕ) (old new : Pa
   pub boot : (held new.store).is_clean → (held new.store).content.boot ≡ (held old.store).content.boot
   pub same : IsSameVoter old.voter new.voter
 
--- What a step of the voter leads to: these owners still wait, and these answers are kept.
+-- The effects of a step of the voter: the owners that still wait, and the answers that are kept.
 pub record Finishes {messages decisions : ℕ} (key : List ℕ) (voter : VoterRecord) (old : List Owner)
     (before : List KeptAnswer) (step : Step messages decisions) (waiting : List Owner) (kept : List KeptAnswer)
     (told : OutputsRecord) : Type 0 where
-  -- the messages of the step, and the replies to what it decided
+  -- the messages of the step, and the replies to its decisions
   pub outputs : told ≡ record {
     items = items_of key voter.place.me (sent_by step.sends.items)
         (map reply_with (answers_to_decisions old step.decisions.items));

@@ -1,4 +1,4 @@
--- When a ruling can be carried out. Private contracts alone cite it: no public one rests on it.
+-- The conditions for carrying out a ruling. Only private contracts cite it: no public contract depends on it.
 use Rattle.std.specs.Prelude.{ℕ, ◌-◌, ◌<◌, Bool, false, None}
 use Rattle.floor_store.specs.Content.{Content}
 use Rattle.floor_store.specs.Records.{SpanRecord}
@@ -8,7 +8,7 @@ use Rattle.oath_node.specs.Rules.{Standing}
 use Rattle.oath_node.specs.declared.ruling.Ruling.{Ruling}
 use Rattle.oath_node.specs.declared.ruling.Ruling.TheVariants.{Outside, Again, Waiting, Denied, Wrong, Fitting}
 
--- a token that a ruling names is one of so many, and what fails does so at a moment in range
+-- the ruling names one of `tokens` tokens, and a failure is at a moment in range
 abbrev pub IsRecordable : ℕ → ℕ → Ruling → Type 0
 IsRecordable tokens moment Outside = Unit {0}
 IsRecordable tokens moment (Again text) = Unit {0}
@@ -17,7 +17,7 @@ IsRecordable tokens moment (Denied nonce reason) = Unit {0}
 IsRecordable tokens moment (Wrong nonce reason token) = (token < tokens) × IsMoment moment
 IsRecordable tokens moment (Fitting nonce token span drift) = token < tokens
 
--- what holds of the token and the factors that a ruling proposes
+-- `holds`, of the token and the factors that the ruling proposes
 abbrev pub IfProposes : Ruling → (ℕ → SpanRecord → Type 0) → Type 0
 IfProposes Outside holds = Unit {0}
 IfProposes (Again text) holds = Unit {0}
@@ -26,7 +26,7 @@ IfProposes (Denied nonce reason) holds = Unit {0}
 IfProposes (Wrong nonce reason token) holds = Unit {0}
 IfProposes (Fitting nonce token span drift) holds = holds token span
 
--- what holds of a line, if its answer is one to be kept
+-- `holds`, if the answer to the line is kept
 abbrev pub IfKept : Ruling → Type 0 → Type 0
 IfKept Outside holds = Unit {0}
 IfKept (Again text) holds = Unit {0}
@@ -35,7 +35,7 @@ IfKept (Denied nonce reason) holds = holds
 IfKept (Wrong nonce reason token) holds = holds
 IfKept (Fitting nonce token span drift) holds = holds
 
--- the standing of a line that no answer is kept for and that does not wait, by the rows of a store
+-- the standing of a line that has no kept answer and doesn't wait, by the rows of a store
 abbrev pub standing_in : Content → Bool → ℕ → Standing
 standing_in content is_full moment = record {
   kept = None;

@@ -1,11 +1,11 @@
--- What a line that is refused leaves.
+-- The effects of a refused line.
 use Rattle.std.specs.Prelude.{◌≡◌, ◌≢◌, ℕ, length}
 use Rattle.floor_store.specs.Content.{Content}
 use Rattle.vote_core.specs.Rows.{row}
 use Rattle.oath_node.specs.declared.ruling.Ruling.{Ruling}
 use Rattle.oath_node.specs.declared.ruling.Ruling.TheVariants.{Outside, Again, Waiting, Denied, Wrong, Fitting}
 
--- each first free factor, each grant and each drift, the boot and the last pass are as they were
+-- the floors (first free factors), grants, drifts, boot and last pass stay unchanged
 pub record KeepsFloors (old new : Content) : Type 0 where
   pub tokens : length new.rows ≡ length old.rows
   pub next : (token : ℕ) → (row new token).next ≡ (row old token).next
@@ -14,7 +14,7 @@ pub record KeepsFloors (old new : Content) : Type 0 where
   pub boot : new.boot ≡ old.boot
   pub last : new.last ≡ old.last
 
--- no factors are proposed
+-- the ruling proposes no factors
 abbrev pub IsRefusal : Ruling → Type 0
 IsRefusal Outside = Unit {0}
 IsRefusal (Again text) = Unit {0}

@@ -1,5 +1,5 @@
--- The rules by which a line is answered. The first that applies decides: read upwards from `ruling`. What may become of
--- a line is the enum `Ruling` of src/ruling.rt.
+-- The rules for answering a line. The first rule that applies decides: read upwards from `ruling`. The enum `Ruling` of
+-- src/ruling.rt has the possible rulings.
 use Rattle.std.specs.Prelude.{ℕ, ℤ, ◌^◌, ◌==◌, nat_lt, Bool, List, Option, Some, None, if◌then◌else◌, option_map, slice_get}
 use Rattle.otp_core.specs.Limits.{Limits}
 use Rattle.token_file.specs.Credential.{Credential, place_of}
@@ -14,19 +14,19 @@ use Rattle.client_lines.specs.declared.answer.Reason.TheVariants.{Unknown, Passw
 use Rattle.oath_node.specs.declared.ruling.Ruling.{Ruling}
 use Rattle.oath_node.specs.declared.ruling.Ruling.TheVariants.{Outside, Again, Waiting, Denied, Wrong, Fitting}
 
--- what the rules ask of whoever answers
+-- the standing of an answering server that the rules ask about
 pub record Standing : Type 0 where
-  -- the answer that is kept for this client and line
+  -- the answer that is kept for the client and line
   pub kept : Option (List ℕ)
-  -- whether this line of this client waits for votes
+  -- whether the line of the client waits for votes
   pub is_waiting : Bool
-  -- whether as many lines wait as there is room for
+  -- whether there is no room for another waiting line
   pub is_full : Bool
-  -- the first free factor of a token
+  -- the floor of a token: its first free factor
   pub next : ℕ → ℕ
-  -- by how many time steps a token's clock was ahead at its last acceptance
+  -- the number of time steps by which a token's clock was ahead at its last acceptance
   pub drift : ℕ → ℤ
-  -- how many seconds are left until a token is open
+  -- the number of seconds until a token is open
   pub wait : ℕ → ℕ
 
 -- the span of the least fit in the window
@@ -34,7 +34,7 @@ abbrev pub fitting_span : Credential → Limits → ℕ → ℤ → ℕ → Subm
 fitting_span credential limits next drift moment submission =
     option_map (λ fit. span_of fit.0 fit.1) (least_fit credential limits next drift moment submission)
 
--- no fit in the window: INVALID, a failure; otherwise the least one is proposed, for the drift by the line's moment
+-- no fit in the window: INVALID, a failure; otherwise the least fit is proposed, with the drift by the line's moment
 abbrev pub fit_ruling : Kind → Limits → ℕ → Request → ℕ → Option SpanRecord → Ruling
 fit_ruling kind limits moment request token None = Wrong request.nonce Invalid token
 fit_ruling kind limits moment request token (Some span) =
@@ -48,34 +48,34 @@ remaining_ruling limits next drift moment request token credential =
     then Denied request.nonce Exhausted
     else fit_ruling credential.kind limits moment request token fit
 
--- a password that isn't as the token's column says: PASSWORD, a failure
+-- a password that doesn't fit the token's column: PASSWORD, a failure
 abbrev pub open_ruling : Limits → ℕ → ℤ → ℕ → Request → ℕ → Credential → Ruling
 open_ruling limits next drift moment request token credential =
     if column_fits credential.password request.password
     then remaining_ruling limits next drift moment request token credential
     else Wrong request.nonce Password token
 
--- the token is closed for some seconds: THROTTLED, with these seconds
+-- a closed token: THROTTLED, with the seconds until it is open
 abbrev pub token_ruling : Limits → ℕ → ℤ → ℕ → ℕ → Request → ℕ → Credential → Ruling
 token_ruling limits next drift wait moment request token credential =
     if nat_lt 0 wait
     then Denied request.nonce (Throttled wait)
     else open_ruling limits next drift moment request token credential
 
--- the credential at the user's place; there is one, so UNKNOWN never comes from here
+-- the credential at the user's place; there always is one, so UNKNOWN never comes from here
 abbrev pub place_ruling : Limits → Standing → ℕ → Request → ℕ → Option Credential → Ruling
 place_ruling limits standing moment request token None = Denied request.nonce Unknown
 place_ruling limits standing moment request token (Some credential) =
     token_ruling limits (standing.next token) (standing.drift token) (standing.wait token) moment request token
     credential
 
--- no such user: UNKNOWN
+-- an unknown user: UNKNOWN
 abbrev pub user_ruling : List Credential → Limits → Standing → ℕ → Request → Option ℕ → Ruling
 user_ruling book limits standing moment request None = Denied request.nonce Unknown
 user_ruling book limits standing moment request (Some token) =
     place_ruling limits standing moment request token (slice_get book token)
 
--- as many lines wait as there is room for: BUSY
+-- no room for another waiting line: BUSY
 abbrev pub room_ruling : List Credential → Limits → Standing → ℕ → Request → Ruling
 room_ruling book limits standing moment request =
     if standing.is_full
@@ -89,7 +89,7 @@ request_ruling book limits standing moment request =
     then room_ruling book limits standing moment request
     else Denied request.nonce Clock
 
--- an answer is kept: it once more; the line waits: no answer yet
+-- a kept answer: given again; a waiting line: no answer yet
 abbrev pub ruling_unless_known : Option (List ℕ) → Bool → Ruling → Ruling
 ruling_unless_known (Some text) is_waiting other = Again text
 ruling_unless_known None is_waiting other = if is_waiting then Waiting else other
@@ -100,6 +100,6 @@ ruling_of book limits standing moment None = Outside
 ruling_of book limits standing moment (Some request) =
     ruling_unless_known standing.kept standing.is_waiting (request_ruling book limits standing moment request)
 
--- what becomes of a line that comes at a moment
+-- the ruling on a line at a moment
 abbrev pub ruling : List Credential → Limits → Standing → ℕ → List ℕ → Ruling
 ruling book limits standing moment line = ruling_of book limits standing moment (request_at line)

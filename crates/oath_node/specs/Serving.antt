@@ -1,4 +1,4 @@
--- Nodes over stores in memory, and a server that is asked line by line, beside the reference server.
+-- Nodes over stores in memory, and a server that answers line by line, beside the reference server.
 use Rattle.std.specs.Prelude.{◌≡◌, ℕ, ◌+◌, ◌^◌, ◌≤◌, List, Result, IfErr, IfOk, OnOk}
 use Rattle.otp_core.specs.Limits.{Limits}
 use Rattle.token_file.specs.Credential.{Credential}
@@ -11,11 +11,11 @@ use Rattle.oath_node.specs.Machine.{NodeState, opened_node}
 use Rattle.oath_node.specs.ReferenceServer.{Line, Server, service_of}
 use Rattle.oath_node.specs.declared.fault.NodeFault.{NodeFault}
 
--- a node over a store in memory, which is what a server is
+-- a node over a store in memory, as a server has it
 abbrev pub Serving : Type 0
 Serving = Hosted Content
 
--- the machine of such a node
+-- the machine of the node
 abbrev pub state_in_memory : Serving → NodeState
 state_in_memory node = record {
   content = node.store;
@@ -25,7 +25,8 @@ state_in_memory node = record {
   running = node.running;
 }
 
--- a node of that place, open on a store in memory that was made at this boot with these first free factors
+-- a node of the place, open on a store in memory that was created at the boot with the given floors (first free
+-- factors)
 pub record IsInMemoryAt (boot : ℕ) (book : List Credential) (limits : Limits) (place : PlaceRecord)
     (key floors : List ℕ) (node : Serving) : Type 0 where
   pub state : state_in_memory node ≡ opened_node (opening_content_at boot floors)
@@ -34,11 +35,11 @@ pub record IsInMemoryAt (boot : ℕ) (book : List Credential) (limits : Limits) 
   pub key_is : node.key ≡ key
   pub place_is : node.voter.place ≡ place
 
--- a node of that place over a fresh store in memory with these first free factors
+-- a node of the place over a fresh store in memory with the given floors
 abbrev pub IsInMemory : List Credential → Limits → PlaceRecord → List ℕ → List ℕ → Serving → Type 0
 IsInMemory = IsInMemoryAt 0
 
--- the node, which is alone, is this state of the reference server over a book, after so many lines
+-- the node is alone and in the state of the reference server over a book, after `count` lines
 pub record IsServing (node : Serving) (book : List Credential) (limits : Limits) (count : ℕ)
     (server : Server) : Type 0 where
   pub book_is : node.book ≡ book
@@ -46,15 +47,15 @@ pub record IsServing (node : Serving) (book : List Credential) (limits : Limits)
   pub place_is : node.voter.place ≡ alone_place
   pub alone : IsAlone count (state_in_memory node) server
 
--- the node is a state of the reference server over some book, after so many lines
+-- the node is in a state of the reference server over some book, after `count` lines
 pub record IsServerAfter (node : Serving) (count : ℕ) : Type 0 where
   pub book : List Credential
   pub limits : Limits
   pub server : Server
   pub serving : IsServing node book limits count server
 
--- An answer has these bytes, as the reference server answers the line, and the node is its next state. The first 2^62
--- lines are answered.
+-- An answer with the bytes of the reference server's answer to the line. The node is then in the server's next state.
+-- The first 2^62 lines are answered.
 pub record IsAnswered {A : Type 0} (node : Serving) (book : List Credential) (limits : Limits) (count : ℕ)
     (server : Server) (line : Line) (bytes_in : A → List ℕ) (result : Result A NodeFault) : Type 0 where
   pub answer : IfOk result (λ value. bytes_in value ≡ (service_of book limits server line).told.bytes)

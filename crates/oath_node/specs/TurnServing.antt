@@ -1,4 +1,4 @@
--- What a run of turns does to a node, its port and its clock.
+-- The effects of a run of turns on a node, its port and its clock.
 use Rattle.std.specs.Prelude.{◌≡◌, ⊤, ℕ, ◌<◌, ◌≤◌, List, [], ◌∷◌, ◌++◌, length, map, take, Option, Some, None, Result, Ok, Err, OnOk}
 use Rattle.std.specs.Option.{option_map}
 use Rattle.floor_store.specs.Content.{Content}
@@ -14,23 +14,23 @@ use Rattle.oath_node.specs.declared.serve_fault.ServeFault.TheVariants.{Node, Po
 use Rattle.oath_node.specs.declared.turns.Served.{Served}
 use Rattle.oath_node.specs.declared.turns.Tally.{Tally}
 
--- what a run served
+-- the counts that a run returns
 abbrev pub served_in : Tally → Served
 served_in tally = record { received = tally.received; replied = tally.replied }
 
--- The node is that of a run, and its port's record has the run's entries more than at first.
+-- The node is the run's, and its port's record has grown by the run's entries.
 pub record Stands {S : Type 0} (held : S → Held) (first : Option (List PortEvent)) (now : Hosted S)
     (kept : Option (List PortEvent)) (run : Run) : Type 0 where
   pub state : state_of held now ≡ run.node
   pub entries : Grows first kept run.entries
 
--- a node is handed these events of a batch, and answers a fault to the first, or to the commit where there is none
+-- a node takes the events of a batch and fails at the first one, or at the commit if there is none
 abbrev pub FailsNext : {S : Type 0} → (S → Held) → Hosted S → Hosted S → List NodeEvent → NodeFault → Type 0
 FailsNext held before new [] fault = CommitsNode {A = Unit {0}} held before new (Err fault)
 FailsNext held before new (event ∷ later) fault = Takes held before new event (Err fault)
 
--- A run has received a batch with these events. Its node takes the first of them, and answers a fault to the next one
--- or to the commit. Nothing is offered of the batch.
+-- A run has received a batch with the events. Its node takes the first of them, and fails at the next one or at the
+-- commit. The port gets no output of the batch.
 pub record FailsAmong {S : Type 0} (held : S → Held) (first : Option (List PortEvent)) (member : Member) (run : Run)
     (events : List NodeEvent) (new : Hosted S) (entries : Option (List PortEvent)) (fault : NodeFault) : Type 0 where
   pub done : List NodeEvent
@@ -42,21 +42,21 @@ pub record FailsAmong {S : Type 0} (held : S → Held) (first : Option (List Por
   pub fails : FailsNext held before new later fault
   pub kept : Grows first entries run.entries
 
--- a content is what the machine of a run holds after the first so many of these events
+-- the content is the machine's after some prefix of the events
 pub record IsAmong (member : Member) (run : Run) (events : List NodeEvent) (content : Content) : Type 0 where
   pub count : ℕ
   pub within : count ≤ length events
   pub is : content ≡ (run_with_events member (take count events) run).node.content
 
--- a stop leaves what the machine of a run holds after some of these events, from the first on, and nothing else
+-- a stop leaves only contents of the run's machine after some prefix of the events
 abbrev pub LeavesAmong : Held → Member → Run → List NodeEvent → Type 0
 LeavesAmong store member run events = (content : Content) → store.leaves content → IsAmong member run events content
 
--- the run of a node over these batches, from its start
+-- the run of a node over the batches, from its start
 abbrev pub run_over : {S : Type 0} → (S → Held) → Hosted S → List (List Receipt) → Run
 run_over held old batches = run_with_batches (member_of old) batches (run_at (state_of held old))
 
--- A node answers a fault in the last of these batches, and the batches before are served.
+-- A node fails in the last of the batches, and the batches before it are served.
 pub record FailsAfter {S : Type 0} (held : S → Held) (old new : Hosted S) (first entries : Option (List PortEvent))
     (batches : List (List Receipt)) (fault : NodeFault) : Type 0 where
   pub before : List (List Receipt)
@@ -67,12 +67,12 @@ pub record FailsAfter {S : Type 0} (held : S → Held) (old new : Hosted S) (fir
       let run = run_with_receipts last (run_over held old before) in
       let events = events_of_turns old.key (run_over held old before).tally.received last in
       FailsAmong held first (member_of old) run events new entries fault
-  -- what a stop leaves then, where at first it left what the store held
+  -- the contents that a stop leaves, if before the run a stop left only the store's content
   pub left : IsSettled (held old.store)
       → let events = events_of_turns old.key (run_over held old before).tally.received last in
       LeavesAmong (held new.store) (member_of old) (run_over held old before) events
 
--- A run ends so: it went on to the end and served so much, or it ended with a fault.
+-- The end of a run: it continued to its end and returned its counts, or it ended with a fault.
 abbrev pub EndsSo : {S : Type 0} → (S → Held) → Hosted S → Hosted S → Option (List PortEvent)
     → Option (List PortEvent) → List (List Receipt) → Result Served ServeFault → Type 0
 EndsSo held old new first entries batches (Ok served) =
@@ -86,34 +86,34 @@ EndsSo held old new first entries batches (Err Clock) =
     let run = run_over held old batches in
     Stands held first new entries run × (run.end ≡ Some Clock)
 
--- a stop leaves what the store holds and nothing else, but after a fault of the node
+-- a stop leaves only the store's content, except after a fault of the node
 abbrev pub EndsSettled : {A : Type 0} → Held → Result A ServeFault → Type 0
 EndsSettled store (Ok done) = IsSettled store
 EndsSettled store (Err (Node fault)) = ⊤
 EndsSettled store (Err Port) = IsSettled store
 EndsSettled store (Err Clock) = IsSettled store
 
--- A call that serves a node for so many turns: from `old` to `new`, with the port's records and the clock's before and
--- after.
+-- A call that serves a node for `turns` turns, from `old` to `new`. The records of the port are `first` before it and
+-- `entries` after it, and the clock's are `asked` and `told`.
 pub record Serves {S : Type 0} (held : S → Held) (old new : Hosted S) (first entries : Option (List PortEvent))
     (asked told : Option (List (Option ℕ))) (turns : ℕ) (result : Result Served ServeFault) : Type 0 where
-  -- What its turns were handed, batch by batch. The clock was asked for exactly these.
+  -- The receipts of its turns, batch by batch. The clock was asked for exactly these.
   pub batches : List (List Receipt)
   pub formed : AreBatches 0 batches
   pub moments : Grows asked told (moments_in (receipts_in batches))
-  -- There were these receives and no other: on Ok one for each turn.
+  -- The receives are exactly these: on Ok one for each turn.
   pub receives : Grows (option_map receives_in first) (option_map receives_in entries)
       (map entry_of (receipts_in batches))
   pub most : length (receipts_in batches) ≤ turns
   pub all : OnOk result (length (receipts_in batches) ≡ turns)
-  -- Where the store is clean, the node, what was offered and the end are exactly the run's.
+  -- If the store is clean, the node, the offers and the end are exactly the run's.
   pub exact : (held new.store).is_clean → EndsSo held old new first entries batches result
-  -- Where a stop left what the store held, it does so at the end, but after a fault of the node.
+  -- If a stop left only the store's content before, it does so at the end, except after a fault of the node.
   pub settled : (held new.store).is_clean → IsSettled (held old.store) → EndsSettled (held new.store) result
   pub same : IsSameNode old new
 
--- A call is ended by the clock: so many turns were served before, fewer than were asked for, and the node is the one
--- that these left. The port's record may have more receives before the last offers.
+-- The clock ends a call. It served some turns before, fewer than `turns`, and the node is the one after these. The
+-- port's record may have more receives before the last offers.
 pub record EndsByClock {S : Type 0} (held : S → Held) (old new : Hosted S) (first : Option (List PortEvent))
     (asked : Option (List (Option ℕ))) (turns : ℕ) : Type 0 where
   pub count : ℕ

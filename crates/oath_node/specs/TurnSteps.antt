@@ -1,4 +1,4 @@
--- What the steps of a batch do. Private contracts alone cite it: no public one rests on it.
+-- The steps of a batch. Only private contracts cite it: no public contract depends on it.
 use Rattle.std.specs.Prelude.{◌≡◌, ◌⊎◌, ⊤, ℕ, ◌+◌, ◌*◌, ◌%◌, ◌^◌, ◌<◌, ◌≤◌, nat_eq, Bool, true, false, if◌then◌else◌, List, [], ◌∷◌, ◌++◌, length, map, Option, Some, None, Result, Ok, Err, IfOk, OnOk}
 use Rattle.std.specs.Option.{option_map}
 use Rattle.floor_store.specs.Content.{Content}
@@ -21,13 +21,13 @@ use Rattle.oath_node.specs.declared.turns.BatchEnd.TheVariants as ends
 use Rattle.oath_node.specs.declared.turns.Gathered.{Gathered}
 use Rattle.oath_node.specs.declared.turns.Tally.{Tally}
 
--- how many of these are replies
+-- the number of replies among the items
 abbrev pub reply_count : List Item → ℕ
 reply_count [] = 0
 reply_count (Datagram to bytes ∷ items) = reply_count items
 reply_count (Reply client bytes ∷ items) = reply_count items + 1
 
--- what waits in these, in order
+-- the items of the waiting outputs, in order
 abbrev pub items_in : List (Option OutputsRecord) → List Item
 items_in [] = []
 items_in (None ∷ waiting) = items_in waiting
@@ -39,7 +39,7 @@ pub record Scene (S : Type 0) : Type 0 where
   pub entries : Option (List PortEvent)
   pub tally : Tally
 
--- of these
+-- the scene of a node, a port and a tally
 abbrev pub scene : {S P : Type 0} → (P → Option (List PortEvent)) → Hosted S → P → Tally → Scene S
 scene events node port tally = record { node = node; entries = events port; tally = tally }
 
@@ -47,7 +47,7 @@ scene events node port tally = record { node = node; entries = events port; tall
 abbrev pub IsClean : {S : Type 0} → (S → Held) → Scene S → Type 0
 IsClean held now = (held now.node.store).is_clean
 
--- a scene is that of a run, the tally too
+-- the scene is the run's, including the tally
 pub record IsOf {S : Type 0} (held : S → Held) (first : Option (List PortEvent)) (now : Scene S)
     (run : Run) : Type 0 where
   pub stands : Stands held first now.node now.entries run
@@ -55,14 +55,15 @@ pub record IsOf {S : Type 0} (held : S → Held) (first : Option (List PortEvent
 
 -- ---- Events
 
--- the machine of a run made these items of its events, and came to this node
+-- the machine of a run made the items of its events, and its node is `new`
 pub record HasMade {S : Type 0} (held : S → Held) (member : Member) (run : Run) (events : List NodeEvent)
     (items : List Item) (new : Hosted S) : Type 0 where
   pub state : state_of held new ≡ (run_with_events member events run).node
   pub entries : (run_with_events member events run).entries ≡ run.entries ++ map offer_of items
   pub tally : (run_with_events member events run).tally ≡ with_replies (reply_count items) run.tally
 
--- A node takes events, one after the other, and leaves the commit to its caller. What they send and reply is this.
+-- A node takes the events one after another, and leaves the commit to its caller. `items` are its datagrams and
+-- replies.
 pub record TakesAll {S : Type 0} (held : S → Held) (old new : Hosted S) (events : List NodeEvent)
     (items : List Item) : Type 0 where
   pub same : IsSameNode old new
@@ -70,14 +71,14 @@ pub record TakesAll {S : Type 0} (held : S → Held) (old new : Hosted S) (event
   pub few : (held new.store).is_clean → length items ≤ 264 * length events
   pub made : (held new.store).is_clean → (run : Run) → state_of held old ≡ run.node
       → HasMade held (member_of old) run events items new
-  -- a stop leaves what it could before, or what the machine holds after some of the events
+  -- a stop leaves a content that it could leave before, or the machine's content after some of the events
   pub left : (held new.store).is_clean → (run : Run) → state_of held old ≡ run.node → (content : Content)
       → (held new.store).leaves content
       → (held old.store).leaves content ⊎ IsAmong (member_of old) run events content
 
 -- ---- A receive
 
--- the events of a receipt but for a tick, under a key
+-- the events of a receipt without its tick, under a key
 abbrev pub datagram_events : List ℕ → Receipt → List NodeEvent
 datagram_events key (FromPeer from bytes) = Peer from (envelope_at key bytes) ∷ []
 datagram_events key (FromClient client bytes (Some moment)) = Client client moment bytes ∷ []
@@ -85,11 +86,11 @@ datagram_events key (FromClient client bytes None) = []
 datagram_events key Nothing = []
 datagram_events key Failure = []
 
--- what follows a datagram in its batch, which is the one with so many
+-- the step that follows datagram number `received` in its batch
 abbrev pub end_after : ℕ → BatchEnd
 end_after received = if nat_eq (received % 64) 0 then ends.Tick else ends.More
 
--- what follows a receipt in its batch, where the tally has it
+-- the step that follows a receipt in its batch; the tally includes the receipt
 abbrev pub end_of : Receipt → Tally → BatchEnd
 end_of (FromPeer from bytes) tally = end_after tally.received
 end_of (FromClient client bytes (Some moment)) tally = end_after tally.received
@@ -97,7 +98,7 @@ end_of (FromClient client bytes None) tally = ends.Clock
 end_of Nothing tally = ends.Tick
 end_of Failure tally = if nat_eq tally.faults 16 then ends.Port else ends.Commit
 
--- the tick that is due at the end of a batch, if one is
+-- the tick that is due at the end of a batch, if any
 abbrev pub ticks_of : BatchEnd → List NodeEvent
 ticks_of ends.More = []
 ticks_of ends.Commit = []
@@ -105,16 +106,16 @@ ticks_of ends.Tick = Tick ∷ []
 ticks_of ends.Port = []
 ticks_of ends.Clock = []
 
--- the tally of a datagram more
+-- the tally with another datagram
 abbrev pub tally_with_datagram : Tally → Tally
 tally_with_datagram tally = record tally { received = tally.received + 1; faults = 0 }
 
--- A receipt is a datagram's, and what follows it is what follows any, or the end by the clock.
+-- The receipt is a datagram. The step after it is any datagram's, or the end by the clock.
 pub record IsDatagram (receipt : Receipt) (is_timed : Bool) : Type 0 where
   pub tally : (tally : Tally) → tally_with receipt tally ≡ tally_with_datagram tally
   pub end : (tally : Tally) → end_of receipt tally ≡ (if is_timed then end_after tally.received else ends.Clock)
 
--- what becomes of a datagram that a node is handed
+-- the outcome of a datagram that a node takes
 abbrev pub DatagramEnds : {S : Type 0} → (S → Held) → Hosted S → Hosted S → Receipt
     → Result (Option OutputsRecord) NodeFault → Type 0
 DatagramEnds held old new receipt (Ok (Some outputs)) =
@@ -125,7 +126,7 @@ DatagramEnds held old new receipt (Err fault) =
     IsDatagram receipt true
     × ((event : NodeEvent) × (datagram_events old.key receipt ≡ event ∷ []) × Takes held old new event (Err fault))
 
--- A node takes a datagram of this sender.
+-- A node takes a datagram of the sender.
 pub record TakesDatagram {S : Type 0} (held : S → Held) (old new : Hosted S) (sender : Sender) (bytes : List ℕ)
     (asked told : Option (List (Option ℕ))) (result : Result (Option OutputsRecord) NodeFault) : Type 0 where
   pub receipt : Receipt
@@ -133,14 +134,14 @@ pub record TakesDatagram {S : Type 0} (held : S → Held) (old new : Hosted S) (
   pub moments : Grows asked told (moments_for receipt)
   pub ends : DatagramEnds held old new receipt result
 
--- events of one datagram at most are taken, or answered by a fault
+-- the events of at most one datagram are taken, or end in a fault
 abbrev pub TakesOrFails : {A S : Type 0} → (S → Held) → Hosted S → Hosted S → List NodeEvent → List Item
     → Result A NodeFault → Type 0
 TakesOrFails held old new events items (Ok done) = TakesAll held old new events items
 TakesOrFails held old new events items (Err fault) =
     (event : NodeEvent) × (events ≡ event ∷ []) × Takes held old new event (Err fault)
 
--- A node takes what a receipt hands in.
+-- A node takes a receipt.
 pub record TakesReceipt {S : Type 0} (held : S → Held) (old new : Hosted S) (receipt : Receipt)
     (asked told : Option (List (Option ℕ))) (before after : Tally) (items : List Item)
     (result : Result BatchEnd NodeFault) : Type 0 where
@@ -149,7 +150,7 @@ pub record TakesReceipt {S : Type 0} (held : S → Held) (old new : Hosted S) (r
   pub takes : TakesOrFails held old new (datagram_events old.key receipt) items result
   pub end : IfOk result (λ end. end ≡ end_of receipt after)
 
--- A node takes what a receive with this entry handed in, and what it made of it waits.
+-- A node takes the receipt of a receive with the entry, and its outputs wait.
 pub record TakesReceived {S : Type 0} (held : S → Held) (old new : Hosted S) (entry : PortEvent)
     (asked told : Option (List (Option ℕ))) (before after : Tally) (waited waits : List (Option OutputsRecord))
     (result : Result BatchEnd NodeFault) : Type 0 where
@@ -159,14 +160,14 @@ pub record TakesReceived {S : Type 0} (held : S → Held) (old new : Hosted S) (
   pub takes : TakesReceipt held old new receipt asked told before after items result
   pub waits_for : OnOk result (items_in waits ≡ items_in waited ++ items)
 
--- ---- Receives one after the other
+-- ---- Consecutive receives
 
--- the tally with these receives
+-- the tally with the receives
 abbrev pub tally_after : List Receipt → Tally → Tally
 tally_after [] tally = tally
 tally_after (receipt ∷ receipts) tally = tally_after receipts (tally_with receipt tally)
 
--- Receives behind which no batch ends, from a scene to another: their events are taken, and what they made waits.
+-- Receives that don't end a batch, from one scene to another: the node takes their events, and its outputs wait.
 pub record Gathers {S : Type 0} (held : S → Held) (old new : Scene S) (receipts : List Receipt)
     (asked told : Option (List (Option ℕ))) (items : List Item) : Type 0 where
   pub moments : Grows asked told (moments_in receipts)
@@ -175,12 +176,12 @@ pub record Gathers {S : Type 0} (held : S → Held) (old new : Scene S) (receipt
   pub goes_on : GoesOn old.tally.received receipts
   pub takes : TakesAll held old.node new.node (events_of_turns old.node.key old.tally.received receipts) items
 
--- what a gathering answers but for its count
+-- the result of a gathering without its count
 abbrev pub end_in : Result Gathered NodeFault → Result BatchEnd NodeFault
 end_in (Ok gathered) = Ok gathered.end
 end_in (Err fault) = Err fault
 
--- The receives of a batch, but for a tick that is due: all but the last, and the last.
+-- The receives of a batch, without a tick that is due: all except the last, and the last.
 pub record GathersBatch {S : Type 0} (held : S → Held) (old new : Scene S) (asked told : Option (List (Option ℕ)))
     (waits : List Item) (turns : ℕ) (result : Result Gathered NodeFault) : Type 0 where
   pub before : List Receipt
@@ -199,14 +200,14 @@ pub record GathersBatch {S : Type 0} (held : S → Held) (old new : Scene S) (as
 
 -- ---- The commit
 
--- A node takes the tick that is due, if one is.
+-- A node takes the tick that is due, if any.
 abbrev pub TakesTick : {S : Type 0} → (S → Held) → Hosted S → Hosted S → List NodeEvent
     → Result (Option OutputsRecord) NodeFault → Type 0
 TakesTick held old new ticks (Ok last) = TakesAll held old new ticks (items_in (last ∷ []))
 TakesTick held old new ticks (Err fault) =
     (event : NodeEvent) × (ticks ≡ event ∷ []) × Takes held old new event (Err fault)
 
--- A node that took the first of these events answers a fault to the next one, or to the commit.
+-- A node that took the first of the events fails at the next one, or at the commit.
 pub record FailsIn {S : Type 0} (held : S → Held) (old new : Hosted S) (events : List NodeEvent)
     (fault : NodeFault) : Type 0 where
   pub done : List NodeEvent
@@ -217,7 +218,8 @@ pub record FailsIn {S : Type 0} (held : S → Held) (old new : Hosted S) (events
   pub takes : TakesAll held old before done items
   pub fails : FailsNext held before new later fault
 
--- A batch is committed behind these events, and then what waited and what they made is offered.
+-- A node takes the events and commits the batch. The port gets the waiting outputs and the outputs of the events as
+-- offers.
 pub record Commits {S : Type 0} (held : S → Held) (old new : Scene S) (events : List NodeEvent)
     (waited : List Item) : Type 0 where
   pub between : Hosted S
@@ -229,7 +231,7 @@ pub record Commits {S : Type 0} (held : S → Held) (old new : Scene S) (events 
   pub replies : old.tally.replied + reply_count (waited ++ items) < 2 ^ 64
       → new.tally.replied ≡ old.tally.replied + reply_count (waited ++ items)
 
--- what becomes of a batch behind whose receives these events are due
+-- the outcome of a batch after whose receives the events are due
 abbrev pub SettlesSo : {S : Type 0} → (S → Held) → Scene S → Scene S → List NodeEvent → List Item
     → Result Unit NodeFault → Type 0
 SettlesSo held old new events waited (Ok done) = Commits held old new events waited
@@ -245,7 +247,7 @@ pub record SettlesBatch {S : Type 0} (held : S → Held) (old new : Scene S) (ev
 
 -- ---- A batch
 
--- what becomes of a run with a batch, of a node with this store before
+-- the outcome of a run with another batch, of a node with the given store before it
 abbrev pub BatchEnds : {A S : Type 0} → (S → Held) → Option (List PortEvent) → Held → Member → Run → List Receipt
     → Scene S → Result A ServeFault → Type 0
 BatchEnds held first store member run batch new (Ok done) =
@@ -261,7 +263,7 @@ BatchEnds held first store member run batch new (Err Clock) =
     Stands held first new.node new.entries (run_with_batch member batch run)
     × ((run_with_batch member batch run).end ≡ Some Clock)
 
--- A step that takes these receives, if any, commits them and offers what they made.
+-- A step that takes the receives, if any, commits them and offers their outputs.
 pub record StepsBatch {A S : Type 0} (held : S → Held) (old new : Scene S) (batch : List Receipt)
     (asked told : Option (List (Option ℕ))) (result : Result A ServeFault) : Type 0 where
   pub same : IsSameNode old.node new.node
@@ -276,7 +278,7 @@ pub record StepsBatch {A S : Type 0} (held : S → Held) (old new : Scene S) (ba
       → (first : Option (List PortEvent)) (run : Run) → IsOf held first old run → run.end ≡ None
       → BatchEnds held first (held old.node.store) (member_of old.node) run batch new result
 
--- A batch is ended by the clock: but for the last receive, the node comes from what was received before it.
+-- The clock ends a batch. The node has taken all receives before the last one.
 pub record EndsAtClock {S : Type 0} (held : S → Held) (old : Scene S) (new : Hosted S)
     (asked : Option (List (Option ℕ))) (batch : List Receipt) : Type 0 where
   pub before : List Receipt
@@ -289,7 +291,7 @@ pub record EndsAtClock {S : Type 0} (held : S → Held) (old : Scene S) (new : H
   pub steps : StepsBatch {A = Unit {0}} held old (record { node = new; entries = kept; tally = tally }) before asked
       said (Ok tt)
 
--- so it is where the clock ended it
+-- the condition on a batch that the clock ended
 abbrev pub ByClock : {A S : Type 0} → (S → Held) → Scene S → Hosted S → Option (List (Option ℕ)) → List Receipt
     → Result A ServeFault → Type 0
 ByClock held old new asked batch (Ok done) = ⊤
@@ -297,7 +299,7 @@ ByClock held old new asked batch (Err (Node fault)) = ⊤
 ByClock held old new asked batch (Err Port) = ⊤
 ByClock held old new asked batch (Err Clock) = EndsAtClock held old new asked batch
 
--- A step that takes a batch of at most so many turns.
+-- A step that takes a batch of at most `turns` turns.
 pub record TakesBatch {S : Type 0} (held : S → Held) (old new : Scene S) (asked told : Option (List (Option ℕ)))
     (turns : ℕ) (result : Result ℕ ServeFault) : Type 0 where
   pub batch : List Receipt

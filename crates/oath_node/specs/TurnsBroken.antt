@@ -19,45 +19,45 @@ use Rattle.oath_node.specs.declared.turns.Served.{Served}
 
 -- ---- Entries
 
--- the entries of a run of node 1 of three from the start, where these are handed in
+-- the entries of a run of node 1 of three from the start, with the receipts
 abbrev pub entries_of : List Receipt → List PortEvent
 entries_of receipts = (run_with_turns first_of_three receipts (run_at (idle_node 0))).entries
 
--- its entries with these batches
+-- the entries of the run with the batches
 abbrev pub entries_of_batches : List (List Receipt) → List PortEvent
 entries_of_batches batches = (run_with_batches first_of_three batches (run_at (idle_node 0))).entries
 
--- the receive of a client's datagram that is no line
+-- the receive of a client's datagram that is not a line
 abbrev pub no_line_came : PortEvent
 no_line_came = Received (Client 7) (codes "CHECK")
 
--- its reply
+-- the reply to the datagram
 abbrev pub bad_line_replied : PortEvent
 bad_line_replied = Offered (Client 7) (codes "NO - BADLINE")
 
--- so many such receives, each with its reply behind it
+-- `count` of these receives, each followed by its reply
 abbrev pub lines_replied : ℕ → List PortEvent
 lines_replied count = flat_map (λ event. event ∷ bad_line_replied ∷ []) (replicate count no_line_came)
 
--- the datagram that tells a member the first free factor of a token
+-- the datagram that tells a member the floor (first free factor) of a token
 abbrev pub floor_told : ℕ → ℕ → ℕ → PortEvent
 floor_told to token next = Offered (Peer to) (datagram_bytes (replicate 32 0) 1 to (Floor token next))
 
 -- ---- Nodes
 
--- the run of a node over a small store, with nothing handed in
+-- the run of a node over a small store, without receipts
 abbrev pub run_from : Hosted SmallStore → Run
 run_from node = run_at (state_of small_held node)
 
--- so much was served
+-- the counts of a run
 abbrev pub served : ℕ → ℕ → Result Served ServeFault
 served received replied = Ok (record { received = received; replied = replied })
 
--- a run ended by this fault
+-- the end of a run by the fault
 abbrev pub ended_by : ServeFault → Result Served ServeFault
 ended_by fault = Err fault
 
--- the node's store failed
+-- a failure of the node's store
 abbrev pub store_failed : NodeFault
 store_failed = StoreFailed Disk
 

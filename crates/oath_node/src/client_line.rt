@@ -1,8 +1,8 @@
 use std::fmt;
 use std::marker::Model;
 
-/// A client's line: the client's number, the moment at which it came, in seconds since 1970-01-01
-/// 00:00:00 UTC, and its bytes.
+/// A client's line: the client's number, the time of its arrival in seconds since 1970-01-01 00:00:00 UTC, and its
+/// bytes.
 #[derive(Drop)]
 pub struct ClientLine<'a> {
     pub client: u64,
@@ -18,7 +18,7 @@ impl<'a> Model for ClientLine<'a> {
     ghost view = { λ line. record { client = line.client; moment = line.moment; text = line.line.now } };
 }
 
-/// It shows no byte of the line, which may have codes and a password.
+/// Shows no byte of the line, because it may have codes and a password.
 impl<'a> fmt::Debug for ClientLine<'a> {
     fn fmt<W: fmt::Write>(&self, f: &mut fmt::Formatter<W>) -> fmt::Result {
         f.debug_struct("ClientLine")

@@ -1,9 +1,9 @@
 use std::fmt;
 
-/// What happens at a node.
+/// An event at a node.
 #[derive(Clone, Copy)]
 pub enum Event<'a> {
-    /// A client's datagram, and the moment at which it came, in seconds since 1970-01-01 00:00:00 UTC.
+    /// A client's datagram, and the time of its arrival, in seconds since 1970-01-01 00:00:00 UTC.
     Client {
         client: u64,
         moment: u64,
@@ -14,11 +14,11 @@ pub enum Event<'a> {
         from: u8,
         bytes: &'a [u8],
     },
-    /// Some time has passed.
+    /// The passage of some time.
     Tick,
 }
 
-/// It shows no byte of a client's line, which may have codes and a password.
+/// Shows no byte of a client's line, because it may have codes and a password.
 impl<'a> fmt::Debug for Event<'a> {
     fn fmt<W: fmt::Write>(&self, f: &mut fmt::Formatter<W>) -> fmt::Result {
         match self {

@@ -5,13 +5,13 @@ use floor_store::StoreFault;
 use std::alloc::{AllocError, AllocFailed};
 use thiserror::Error;
 
-/// Why a node is not opened, or a run of lines not answered.
+/// The reason why a node is not opened, or a run of lines is not answered.
 #[derive(Clone, Copy, Debug, PartialEq, Eq, Error)]
 pub enum OpenFault {
-    /// An allocation was refused.
+    /// The allocator refused the memory.
     #[error("Memory")]
     Memory,
-    /// The store refused.
+    /// The store failed.
     #[error("{0}")]
     Store(StoreFault),
 }
@@ -32,16 +32,16 @@ impl<T: Drop> From<AllocFailed<T>> for OpenFault {
     }
 }
 
-/// Why a node answers nothing to an event, or is not restarted.
+/// The reason why a node gives no outputs for an event, or doesn't restart.
 #[derive(Clone, Copy, Debug, PartialEq, Eq, Error)]
 pub enum NodeFault {
-    /// The store refused. The node is stopped.
+    /// The store failed. The node is stopped.
     #[error("{0}")]
     Store(StoreFault),
     /// The node was stopped before.
     #[error("Stopped")]
     Stopped,
-    /// All numbers of proposals of this boot are used. The node is stopped.
+    /// No proposal number of this boot is left. The node is stopped.
     #[error("Spent")]
     Spent,
 }

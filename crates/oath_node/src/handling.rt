@@ -1,4 +1,4 @@
-//! What each event makes of a running node.
+//! The effects of each event on a running node.
 
 ghost use Rattle.std.specs.Prelude.{◌≡◌, ◌<◌, ◌≤◌, ◌↔◌, IfErr, IsTrue, None, false, length, nat_le};
 ghost use Rattle.floor_store.specs.Held.{Breaks, MayPut};
@@ -30,15 +30,16 @@ use token_file::Book;
 use vote_core::{Message, VoteFault, Voter};
 use vote_wire::{ClusterKey, MAX_SENT_LEN, read_message};
 
-/// Whether a message is heard: it comes from the member that it says, is for this node, and may be handed to
-/// its voter.
+/// Returns whether the node hears a message.
+///
+/// The message names the member that sent it, is for this node, and fits its voter.
 fn is_heard(voter: &Voter, from: u8, sender: u8, to: u8, message: &Message) -> bool
     ensures { IsTrue result ↔ IsHeardAs voter.now.place voter.now.tokens from sender to message.now }
 {
     sender == from && to == voter.place().me() && voter.fits(from, message)
 }
 
-/// Puts a failure of a token at a moment: its gate is closed for a while.
+/// Puts a failure of a token at `moment`: closes its gate for a while.
 fn fail<S: FloorStore>(store: &mut S, token: u32, moment: u64) -> Result<(), StoreFault>
     requires token { token < length (S.held store.old).content.rows }
     requires moment { IsMoment moment }
@@ -53,7 +54,7 @@ fn fail<S: FloorStore>(store: &mut S, token: u32, moment: u64) -> Result<(), Sto
     store.put(token, row.with_gate(gate), None)
 }
 
-/// Gives a reply, and keeps it.
+/// Replies `bytes` to a client, and keeps the reply in `answers`.
 fn remember<'k>(
     key: &'k ClusterKey,
     answers: &mut Answers,
@@ -71,7 +72,7 @@ fn remember<'k>(
 }
 
 impl<S: FloorStore> Parts<S> {
-    /// A tick.
+    /// Takes a tick.
     pub(crate) fn on_tick<'k>(
         &mut self,
         key: &'k ClusterKey,
@@ -93,7 +94,7 @@ impl<S: FloorStore> Parts<S> {
         }
     }
 
-    /// A message of another member.
+    /// Takes a message of another member.
     fn on_message<'k>(
         &mut self,
         key: &'k ClusterKey,
@@ -118,8 +119,10 @@ impl<S: FloorStore> Parts<S> {
         }
     }
 
-    /// A datagram from the address of a member. It is dropped where it is outside the peer format, comes from
-    /// another than it says, goes to another, or is of no member or token that there is.
+    /// Takes a datagram from the address of a member.
+    ///
+    /// Drops a datagram that is outside the peer format, names another sender or another receiver, or names an unknown
+    /// member or token.
     pub(crate) fn on_datagram<'k>(
         &mut self,
         book: &Book,
@@ -143,7 +146,7 @@ impl<S: FloorStore> Parts<S> {
         self.on_message(key, from, message)
     }
 
-    /// Begins a proposal for the line of a client.
+    /// Begins a proposal for a client's line.
     fn propose<'k>(
         &mut self,
         key: &'k ClusterKey,
@@ -179,7 +182,7 @@ impl<S: FloorStore> Parts<S> {
         }
     }
 
-    /// What becomes of the line of a client is done.
+    /// Carries out a ruling on a client's line.
     #[tactic(auto, unfolding(crate::specs::Machine::made_by_ruling))]
     fn on_ruling<'k>(
         &mut self,
@@ -228,7 +231,7 @@ impl<S: FloorStore> Parts<S> {
         }
     }
 
-    /// Whether as many lines wait as there is room for.
+    /// Returns whether there is no room for another waiting line.
     fn is_full(&self) -> bool
         ensures room { result ≡ false
             → (length self.now.voter.ballots < 32) × (length self.now.owners.items < 32) }
@@ -241,7 +244,7 @@ impl<S: FloorStore> Parts<S> {
         self.owners.is_full()
     }
 
-    /// What becomes of the line of a client, as it came.
+    /// Rules on a client's line.
     fn rule(
         &self,
         book: &Book,
@@ -276,7 +279,7 @@ impl<S: FloorStore> Parts<S> {
         examine(book, settings, &self.store, self.is_full(), moment, request)
     }
 
-    /// The line of a client, as it came.
+    /// Takes a client's line.
     pub(crate) fn on_line<'k>(
         &mut self,
         book: &Book,

@@ -1,4 +1,4 @@
-//! What a call of a node sends and replies, taken out one by one.
+//! The iterator over the datagrams and replies of a node's call.
 
 ghost use Rattle.std.specs.Iterator.{at_most};
 ghost use Rattle.std.specs.Map.Iter.{TakesFirst};
@@ -14,7 +14,7 @@ use std::marker::Model;
 use vote_core::{Message, Sending};
 use vote_wire::{ClusterKey, write_message};
 
-/// The items of a call, the datagrams first. Each is written when it is taken.
+/// An iterator over the items of a call, the datagrams first. It encodes each item when it reaches it.
 #[derive(Drop)]
 pub struct Items<'a> {
     key: &'a ClusterKey,
@@ -38,7 +38,7 @@ impl<'a> Model for Items<'a> {
         (to_each items.message items.to.now ++ sent_by items.sends.now) items.replies.now };
 }
 
-/// The first of these that goes to anybody, and those after it.
+/// Returns the receivers and the message of the first of `sends` with a receiver, and the sendings after it.
 fn next_sending(sends: &[Sending]) -> (&[u8], Message, &[Sending])
     ensures same { to_each result.1 result.0.now ++ sent_by result.2.now ≡ sent_by sends.now }
     ensures none { length result.0.now ≡ 0 → sent_by sends.now ≡ [] }
@@ -54,7 +54,7 @@ fn next_sending(sends: &[Sending]) -> (&[u8], Message, &[Sending])
 }
 
 impl<'a> Items<'a> {
-    /// The items of these messages and replies.
+    /// Creates an iterator over `sends` and `replies`.
     pub(crate) fn new(
         key: &'a ClusterKey,
         me: u8,

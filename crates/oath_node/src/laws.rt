@@ -37,7 +37,7 @@ ghost use Rattle.oath_node.specs.declared.fault.OpenFault.TheVariants.{Memory, S
 
 use admit_core::{failures_are_spaced, gate_keeps_throttle, least_fit_is_least};
 
-/// What the rules make of some lines: the first rule that applies decides.
+/// Worked cases.
 pub fn rules_are_worked()
     ensures bad_line { ruling_on 0 1 1099511627776 (codes "CHECK 1 lead 755224") ≡ Outside }
     ensures clock { ruling_on 0 1 1099511627776 (codes "CHECK 1 lead 755224 -") ≡ Denied (codes "1") Clock }
@@ -55,7 +55,7 @@ pub fn rules_are_worked()
         ≡ Wrong (codes "1") Invalid 0 }
     ensures not_checked { ruling_on 0 0 100 (codes "CHECK 1 iron 755224 -") ≡ Denied (codes "1") Exhausted }
 
-    // each token by its own first free factor, up to the look-ahead or the range
+    // each token with its own floor (first free factor), up to the look-ahead or the range
     ensures first { ruling_on 0 0 100 (codes "CHECK 1 silver 755224 -") ≡ Fitting (codes "1") 0 (span_of 0 0) (pos 0) }
     ensures furthest { ruling_on 0 0 100 (codes "CHECK 1 silver 254676 -")
         ≡ Fitting (codes "1") 0 (span_of 5 5) (pos 0) }
@@ -68,7 +68,7 @@ pub fn rules_are_worked()
         ≡ Wrong (codes "1") Invalid 0 }
 {}
 
-/// Each password column, beside what a line gives.
+/// Worked cases.
 pub fn columns_are_worked()
     ensures none { column_fits NoneAllowed None ≡ true }
     ensures none_allowed { column_fits NoneAllowed (Some (codes "pw")) ≡ false }
@@ -79,8 +79,7 @@ pub fn columns_are_worked()
     ensures longer { column_fits (Equal (record { items = codes "pw" })) (Some (codes "pwd")) ≡ false }
 {}
 
-/// A run of eight lines: its answers, what it accepts, and the server that it leaves. A failure and an
-/// acceptance of a token are its results, the newest first, and nothing else is.
+/// Worked cases.
 pub fn runs_are_worked()
     ensures outcome { outcome_of lines_of_a_run ≡ record {
       answers = (0, 7, codes "NO a INVALID") ∷ (1, 7, codes "NO b THROTTLED 1") ∷ (2, 7, codes "OK c 1")
@@ -96,8 +95,7 @@ pub fn runs_are_worked()
     ensures after_accepted { silver_before 3 ≡ (2, Passed ∷ Failed 100 ∷ []) }
 {}
 
-/// An answer is given again to the same client and line, at any moment, and changes nothing; all answers but that
-/// to a bad line are kept, until the front end is restarted.
+/// Worked cases.
 pub fn answers_are_given_again()
     ensures outcome { outcome_of lines_given_again ≡ record {
       answers = (0, 7, codes "OK 1 0") ∷ (1, 7, codes "OK 1 0") ∷ (2, 8, codes "NO 1 INVALID")
@@ -119,8 +117,7 @@ pub fn answers_are_given_again()
     } }
 {}
 
-/// A clock that falls behind, under settings that allow a drift of ten steps, of one and of none: what each line is
-/// answered, and the drift that is left. A restart keeps it, and it is what the last pass of the token keeps.
+/// Worked cases.
 pub fn drifts_are_worked()
     ensures ten { outcome_of_clock 10
         ≡ (codes "OK 1 3" ∷ codes "OK 2 4" ∷ codes "OK 3 5" ∷ codes "NO 4 INVALID" ∷ [], negsuc 2 ∷ []) }
@@ -146,9 +143,11 @@ pub fn drifts_are_worked()
     ensures no_token { drift_of_passes 9 (pass_with 0 9 3 ∷ []) ≡ pos 0 }
 {}
 
-/// Whatever lines the reference server answers, from these first free factors on, of which there is one for each
-/// token: it accepts no factor of a token twice, and none at or below an earlier one; each acceptance is entitled to
-/// be one; and the failures of each token are far apart.
+/// Safety of the reference server: in every run, acceptances have single use and are justified, and failures are far
+/// apart.
+///
+/// A run starts from one floor (first free factor) for each token. It accepts no factor of a token twice, and none at
+/// or below an earlier one.
 pub fn reference_server_is_safe()
     ensures single_use { (book : List Credential) (limits : Limits) (floors : List ℕ) (lines : List Line)
         → length floors ≡ length book → HaveSingleUse (acceptances_of (report_of book limits floors lines).passes) }
@@ -164,9 +163,7 @@ pub fn reference_server_is_safe()
     least_fit_is_least();
 }
 
-/// What is said of an acceptance of that run can be broken: by another token, another factor, a line that is none or
-/// isn't there, one that came while the token was closed, and one with a factor that is used up; and of a time token by
-/// a factor that its drift puts outside the window.
+/// Counterexamples: each condition on an acceptance of the worked run fails for a minimal one.
 pub fn promises_can_be_broken()
     ensures token { IsJustifiedInRun (record { began = 2; token = 1; lo = 1; hi = 1 }) → ⊥ }
     ensures factor { IsJustifiedInRun (record { began = 2; token = 0; lo = 0; hi = 0 }) → ⊥ }
@@ -177,7 +174,7 @@ pub fn promises_can_be_broken()
     ensures drifted { IsJustifiedByClock (pass_with 3 0 9) → ⊥ }
 {}
 
-/// What becomes of a line has its grounds, whoever answers it, and rests on the standing alone.
+/// Grounds: every ruling has its grounds, at any server, and depends only on the standing.
 pub fn rulings_have_grounds()
     ensures grounds { (book : List Credential) (limits : Limits) (standing : Standing) (moment : ℕ) (line : List ℕ)
         → HasGrounds book limits standing moment line (ruling book limits standing moment line) }
@@ -188,8 +185,9 @@ pub fn rulings_have_grounds()
     least_fit_is_least();
 }
 
-/// A line that is refused leaves each first free factor, each grant, each drift, the boot and the last pass as they
-/// were, and each gate but that of a token that fails.
+/// Refusals: a refused line changes gates only, and only the gate of a token that fails.
+///
+/// Every floor, grant and drift, the boot and the last pass stay unchanged.
 pub fn refused_lines_change_gates_alone()
     ensures floors { (config : Config) (place : PlaceRecord) (node : NodeState) (client moment : ℕ) (line : List ℕ)
         → IsRefusal (ruling_at config node client moment line)
@@ -202,14 +200,14 @@ pub fn refused_lines_change_gates_alone()
         ≡ (row node.content token).gate }
 {}
 
-/// One event makes at most 264 datagrams and replies.
+/// Bounded outputs: an event makes at most 264 datagrams and replies.
 pub fn outputs_are_few()
     ensures { (key : List ℕ) (config : Config) (place : PlaceRecord) (node : NodeState) (event : NodeEvent)
         → IsPlace place → length node.voter.pending ≤ 32
         → length (outputs_of key place (made_by_event config place event node)).items ≤ 264 }
 {}
 
-/// What a node makes of some lines, messages and ticks, and how it is opened again.
+/// Worked cases.
 pub fn events_are_worked()
     // Client lines: each kind of ruling.
     ensures bad_line { step_alone (line (codes "CHECK")) (idle_node 0)
@@ -245,7 +243,7 @@ pub fn events_are_worked()
     ensures begun { facts_of (made_by_event config (place 1 1) (line first_line) (idle_node 0))
         ≡ (Some (record { proposal = proposal 1 1 0; token = 0; lo = 0; hi = 0 }), Some (pass 0 0 0 1 0), None) }
 
-    // Datagrams: what is heard, and what isn't.
+    // Datagrams: messages that the node hears, and messages that it drops.
     ensures granted { step_among (datagram 2 2 1 grant) (asking_node 0 [])
         ≡ record (told_of_asking (codes "OK a 0")) { drifts = pos 3 ∷ pos 0 ∷ pos 0 ∷ [] } }
     ensures accepted { facts_of (made_by_event config (place 1 3) (datagram 2 2 1 grant) (asking_node 0 []))
@@ -267,7 +265,8 @@ pub fn events_are_worked()
     ensures no_node { step_among (datagram 0 0 1 grant) (asking_node 0 []) ≡ nothing_of_asking }
     ensures no_token { step_among (datagram 2 2 1 (Floor 3 9)) (asking_node 0 []) ≡ nothing_of_asking }
 
-    // Drifts: the stored one moves the window, and that of the line is kept alone, or waits with the proposal.
+    // Drifts: the stored drift moves the window. A node alone stores the line's drift at once, and among others it
+    // waits with the proposal.
     ensures drifted_alone { drifts_left 1 (negsuc 0) ≡ (negsuc 1 ∷ [], []) }
     ensures drifted_among { drifts_left 3 (negsuc 0) ≡ (negsuc 0 ∷ [], negsuc 1 ∷ []) }
     ensures not_drifted { drifts_left 3 (pos 0) ≡ (pos 0 ∷ [], []) }
@@ -297,8 +296,9 @@ pub fn events_are_worked()
         } }
 {}
 
-/// A node that is alone goes on running for the first 2^62 lines. While it does it answers each line as the reference
-/// server does: it sends nothing, gives the server's one reply, and is left in the server's next state.
+/// Equivalence: a node that is alone runs for the first 2^62 lines and answers each line as the reference server does.
+///
+/// It sends nothing, gives the server's one reply, and its next state is the server's next state.
 pub fn one_node_answers_as_the_server()
     ensures runs { (config : Config) (count : ℕ) (node : NodeState) (server : Server) (line : Line)
         → IsAlone count node server → count < 2 ^ 62
@@ -314,8 +314,7 @@ pub fn one_node_answers_as_the_server()
     least_fit_is_least();
 }
 
-/// What is promised of a call of a node holds of the least that keeps it, and each field is broken by the least that
-/// keeps all others.
+/// Counterexamples: each promise of a call of a node fails for a minimal one, which keeps all other promises.
 pub fn calls_can_be_broken()
     ensures made_told { IsMade [] (place 1 1) (quiet_made first_state) (reply_outputs 7 []) first_state → ⊥ }
     ensures made_left { IsMade [] (place 1 1) (quiet_made first_state) no_outputs (stopped_node first_state) → ⊥ }
@@ -370,7 +369,7 @@ pub fn calls_can_be_broken()
         (node_of_three 4611686018427387904) (line first_line) (Err Spent) → ⊥ }
 {}
 
-/// What a call does to a node is the step of its machine, and sends no more than there is room for, under any key.
+/// Steps: the effect of a call on a node is the step of its machine, with bounded outputs, under any key.
 pub fn calls_make_steps()
     ensures takes_made { (key : List ℕ) → Takes small_held (under key small_node) (under key (answering small_node))
         noise quiet → ⊥ }
@@ -380,7 +379,7 @@ pub fn calls_make_steps()
         noise quiet → ⊥ }
 {}
 
-/// Which rulings propose factors and which refuse a line, which tokens they spare, and which events propose.
+/// Worked cases.
 pub fn rulings_are_told_apart()
     ensures proposes { IsProposal (Fitting [] 0 (span_of 0 0) (pos 0)) }
     ensures bad_line { IsProposal Outside → ⊥ }
@@ -399,8 +398,7 @@ pub fn rulings_are_told_apart()
     ensures spares_not { SparesToken 0 (Wrong [] Invalid 0) → ⊥ }
 {}
 
-/// What is promised of the opening of a node, of its restart and of what it always is holds of the least that keeps it,
-/// and each field is broken by the least that keeps all others.
+/// Counterexamples: each promise of the opening, the restart and the invariant of a node fails for a minimal one.
 pub fn openings_can_be_broken()
     ensures opened { IsOpened small_held (store_at 0) opened_at_1 }
     ensures opened_state { IsOpened small_held (store_at 0) (answering opened_at_1) → ⊥ }
@@ -441,8 +439,7 @@ pub fn openings_can_be_broken()
     ensures in_memory_place { IsInMemory [] default_limits (place 1 3) [] (5 ∷ []) serving_node → ⊥ }
 {}
 
-/// What is said of a node that is alone, beside the reference server, holds of the least that keeps it, and each field
-/// is broken by the least that keeps all others.
+/// Counterexamples: each promise of a node that is alone, beside the reference server, fails for a minimal one.
 pub fn service_can_be_broken()
     ensures alone { IsAlone 0 first_state (server_at (5 ∷ [])) }
     ensures alone_running { IsAlone 0 (stopped_node first_state) (server_at (5 ∷ [])) → ⊥ }
@@ -495,8 +492,7 @@ pub fn service_can_be_broken()
         no_line (λ (bytes : List ℕ). bytes) (Err Spent) }
 {}
 
-/// What is said of what a refusal keeps, of a failure's grounds and of what the rules see: each field is broken by the
-/// least that keeps all others.
+/// Counterexamples: each promise of refusals, of a failure's grounds and of standings fails for a minimal one.
 pub fn refusals_can_be_broken()
     ensures kept { KeepsFloors (two_rows granted_row later_row None) (two_rows granted_row later_row None) }
     ensures kept_gates { KeepsFloors (content_at 0 (free_row 5 ∷ []))
@@ -524,16 +520,17 @@ pub fn refusals_can_be_broken()
     ensures same_wait { IsSameStanding 1 (standing_with 0 0) (standing_with 0 1) → ⊥ }
 {}
 
-/// What is said of a line whose factors are proposed holds of the first line of the worked steps, and each field is
-/// broken by the least that keeps all others. The other fields follow from these: that the token is in the book, that
-/// its factors are free, and that they are one or two.
+/// Counterexamples: each independent condition on a line whose factors are proposed fails for a minimal one.
+///
+/// The first line of the worked steps keeps all of them. The remaining conditions follow from these: the token is in
+/// the book, its factors are free, and they are one or two.
 pub fn fittings_can_be_broken()
     ensures fitting { IsProposed (standing_with 0 0) 100 first_line (codes "a") 0 0 0 (pos 0) }
     ensures fitting_room { IsProposed (record (standing_with 0 0) { is_full = true }) 100 first_line (codes "a") 0 0 0
         (pos 0) → ⊥ }
     ensures fitting_grammar { IsProposed (standing_with 0 0) 100 (codes "CHECK") (codes "a") 0 0 0 (pos 0) → ⊥ }
     ensures fitting_nonce { IsProposed (standing_with 0 0) 100 first_line (codes "b") 0 0 0 (pos 0) → ⊥ }
-    // silver's line, and the place of iron, which has the same secret
+    // silver's line with the place of iron, which has the same secret
     ensures fitting_token { IsProposed all_free 100 first_line (codes "a") 2 0 0 (pos 0) → ⊥ }
     ensures fitting_in_range { IsProposed (standing_with 0 0) 1099511627776 first_line (codes "a") 0 0 0 (pos 0) → ⊥ }
     ensures fitting_is_open { IsProposed (standing_with 0 1) 100 first_line (codes "a") 0 0 0 (pos 0) → ⊥ }

@@ -1,28 +1,27 @@
-//! A node of the validation server: it answers the lines of login services by the codes of its tokens, and
-//! accepts no code twice.
+//! A node of the validation server, which answers the lines of login services and accepts no code twice.
 //!
-//! A [`Node`] goes from bytes to bytes, over a store of its own. It sends nothing itself: each call of
-//! [`Node::handle`] takes one event and answers [`Outputs`], which say what is to be sent. The lists of a tick
-//! are long: they stand in a [`Scratch`], which a caller keeps and lends to each call. A caller that has several
-//! events at once may take each alone ([`Node::take`], [`Node::take_line`], [`Node::take_datagram`]), and then
-//! have all that they put kept by one [`Node::commit`]. What a caller owes, in this order:
+//! A [`Node`] turns bytes into bytes, over a store of its own. It sends nothing itself: each call of [`Node::handle`]
+//! takes one event and returns [`Outputs`] with the datagrams and replies to send. A caller keeps a [`Scratch`], the
+//! room for the long lists of a tick, and lends it to each call. A caller with several events may take each alone
+//! ([`Node::take`], [`Node::take_line`], [`Node::take_datagram`]), and then commit all of them by one [`Node::commit`].
+//! A caller has these duties:
 //!
-//! 1. Open each node on a store with a row for each token of the book ([`Node::open`]). All members of a
-//!    cluster have the same book, the same settings and the same key, each a place and a store of its own.
-//! 2. Hand in a datagram from the address of a member as [`Event::Peer`], any other as [`Event::Client`] with a
-//!    number for the client, by which its answers are told from those of others.
-//! 3. Send the outputs of `handle` only after it answered `Ok`, and those of events that were taken only after the
-//!    commit behind them did: what the events put is kept by then.
-//! 4. Hand in an [`Event::Tick`] at regular times, so that lost messages are sent again, and a line that finds
-//!    no majority is answered at last.
-//! 5. After a fault the node is stopped. Restart it ([`Node::restart`]), or close it and mend its store.
+//! 1. Open each node on a store with a row for each token of the book ([`Node::open`]). All members of a cluster have
+//!    the same book, the same settings and the same key. Each has a place and a store of its own.
+//! 2. Pass a datagram from the address of a member as [`Event::Peer`]. Pass any other datagram as [`Event::Client`]
+//!    with a number for the client, which its answers carry too.
+//! 3. Send the outputs of `handle` only after it returned `Ok`. Send the outputs of taken events only after their
+//!    commit returned `Ok`: that commit keeps what the events put.
+//! 4. Pass an [`Event::Tick`] at regular times. Ticks send lost messages again, and end the wait of a line that finds
+//!    no majority.
+//! 5. After a fault the node is stopped. Restart it ([`Node::restart`]), or close it and repair its store.
 //!
-//! What comes from elsewhere may be lost, repeated, reordered or forged. A datagram without the tag of the
-//! cluster's key is dropped, and so is one that isn't for this node, or is from another member than it says.
+//! Datagrams may be lost, repeated, reordered or forged. The node drops a datagram without the tag of the cluster's
+//! key. It also drops one for another node, or from another member than the datagram names.
 //!
 //! [`Node::in_memory`] opens a node over a fresh store in memory.
 //!
-//! A node that is alone needs no votes. [`LineServer`] is one that answers each line when it is asked:
+//! A node that is alone needs no votes. [`LineServer`] is such a node, and answers each line at once:
 //!
 //! ```rust
 //! use oath_node::{ClientLine, LineServer};

@@ -13,8 +13,9 @@ use vote_core::Place;
 use vote_wire::ClusterKey;
 
 impl<'b> Node<'b, MemStore> {
-    /// Opens a node over a fresh store in memory, with these first free factors, of which there is one for each
-    /// token of the book. The one refusal is that memory ran out.
+    /// Opens a node over a fresh store in memory, with one floor for each token of the book.
+    ///
+    /// A floor is the first free factor of a token. Fails only if the allocator refuses the memory.
     pub fn in_memory(
         alloc: Global,
         book: &'b Book,
@@ -29,8 +30,10 @@ impl<'b> Node<'b, MemStore> {
         Node::in_memory_at(alloc, book, settings, place, key, 0, floors)
     }
 
-    /// The same over a store of another boot, which is not the last: so a node opens that takes the place of one whose
-    /// store was lost. The one refusal is that memory ran out.
+    /// Opens a node over a store in memory with another `boot`, which is not the last. Such a node replaces one that
+    /// lost its store.
+    ///
+    /// Fails only if the allocator refuses the memory.
     pub fn in_memory_at(
         alloc: Global,
         book: &'b Book,
@@ -44,7 +47,7 @@ impl<'b> Node<'b, MemStore> {
         requires tokens { length floors.now ≡ length book.now }
         ensures { IfOk result (IsInMemoryAt boot book.now settings place key.now floors.now) }
     {
-        // At most 10,000, as a store has rows.
+        // A book has at most 10,000 tokens, and a store at most 10,000 rows.
         let _tokens = book.len();
         let Ok(store) = MemStore::new_at(alloc, boot, floors) else {
             return Err(AllocError);
@@ -52,7 +55,7 @@ impl<'b> Node<'b, MemStore> {
         match Node::open(alloc, book, settings, place, key, store) {
             Ok(node) => Ok(node),
             Err((_, OpenFault::Memory)) => Err(AllocError),
-            // Such a store in memory can raise its boot.
+            // A store in memory whose boot is not the last can raise it.
             Err((_, OpenFault::Store(_))) => unreachable!(),
         }
     }

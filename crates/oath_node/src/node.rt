@@ -1,4 +1,4 @@
-//! A node: it answers the lines of clients and the datagrams of the other members, over a store.
+//! A node, which answers the lines of clients and the datagrams of the other members, over a store.
 
 ghost use Rattle.std.specs.Prelude.{◌≡◌, ◌⊎◌, ◌≤◌, ◌↔◌, Err, IfErr, IfOk, OnOk, true, false, length};
 ghost use Rattle.oath_node.specs.Calls.{CommitsNode, Handles, IsOpened, IsRefused, Restarts, Takes};
@@ -60,12 +60,13 @@ impl<'b, S: FloorStore> Model for Node<'b, S> {
 }
 
 impl<'b, S: FloorStore> Node<'b, S> {
-    /// Opens a node over a store, in a new boot: nothing waits, and no answer is kept. All memory that it
-    /// ever takes is taken before the boot is raised. Where it is refused the store is handed back.
+    /// Opens a node over `store` and begins a new boot. Nothing waits and no answer is kept.
+    ///
+    /// Allocates all the memory that the node ever uses before it raises the boot. Returns the store beside an error.
     ///
     /// # Errors
-    /// `Memory` where there is none; the store is as it was. `Store` where the store refuses to raise the
-    /// boot.
+    /// - Returns `Memory` if the allocator refuses the memory. The store is unchanged.
+    /// - Returns `Store` if the store fails to raise the boot.
     pub fn open(
         alloc: Global,
         book: &'b Book,
@@ -103,10 +104,10 @@ impl<'b, S: FloorStore> Node<'b, S> {
         }
     }
 
-    /// Opens it again on its store, in a new boot: nothing waits, and no answer is kept. It takes no memory.
+    /// Restarts the node on its store in a new boot. Nothing waits and no answer is kept. Does not allocate.
     ///
     /// # Errors
-    /// `Store` where the store refuses to raise the boot. The node is stopped.
+    /// Returns `Store` if the store fails to raise the boot. The node is stopped.
     pub fn restart(&mut self) -> Result<(), NodeFault>
         ensures { Restarts S.held self.old self.new result }
     {
@@ -127,7 +128,7 @@ impl<'b, S: FloorStore> Node<'b, S> {
         }
     }
 
-    /// Refuses a node that is stopped.
+    /// Returns `Stopped` if the node is stopped.
     fn check_running(&self) -> Result<(), NodeFault>
         ensures runs { OnOk result (self.now.running ≡ true) }
         ensures stopped { IfErr result (λ fault. (fault ≡ NodeFault.Stopped) × (self.now.running ≡ false)) }
@@ -146,15 +147,17 @@ impl<'b, S: FloorStore> Node<'b, S> {
         }
     }
 
-    /// Takes the line of a client, as it came: one step of the node's machine, with at most one put to its store,
-    /// and no commit. Nothing of the outputs may be sent before [`Node::commit`] answered Ok: until then a stop may
-    /// leave the store without what was put. They borrow the key alone, so they can wait while further events are
-    /// taken. It takes no memory.
+    /// Takes a client's line: one step of the node's machine. Puts at most one change to the store.
+    ///
+    /// Does not commit. Send nothing of the outputs before [`Node::commit`] returns Ok: until then a stop may undo the
+    /// change. The outputs borrow only the key, so they can wait while the node takes further events. Does not
+    /// allocate.
     ///
     /// # Errors
-    /// `Stopped` where the node was stopped before, and nothing changes. `Store` where the store met a failure,
-    /// and `Spent` where the line is right but no number of this boot is left for a proposal: then there are no
-    /// outputs, and the node is stopped until it is restarted.
+    /// - Returns `Stopped` if the node was stopped before. Nothing changes.
+    /// - Returns `Store` if the store fails. The node is stopped until it is restarted.
+    /// - Returns `Spent` if the line is right but no proposal number of this boot is left. The node is stopped until it
+    ///   is restarted.
     pub fn take_line(
         &mut self,
         client: u64,
@@ -171,10 +174,11 @@ impl<'b, S: FloorStore> Node<'b, S> {
         taken
     }
 
-    /// Takes a datagram from the address of a member, as [`Node::take_line`] takes a line.
+    /// Takes a datagram from the address of a member, in the way in which [`Node::take_line`] takes a line.
     ///
     /// # Errors
-    /// `Stopped` and `Store`, as for a line.
+    /// - Returns `Stopped` if the node was stopped before. Nothing changes.
+    /// - Returns `Store` if the store fails. The node is stopped until it is restarted.
     pub fn take_datagram(&mut self, from: u8, bytes: &[u8]) -> Result<Outputs<'b>, NodeFault>
         ensures { Takes S.held self.old self.new (Peer from (envelope_at self.old.key bytes.now)) result }
     {
@@ -186,7 +190,7 @@ impl<'b, S: FloorStore> Node<'b, S> {
         taken
     }
 
-    /// Takes a tick. The lists of the outputs stand in the scratch.
+    /// Takes a tick. The outputs borrow their lists from `scratch`.
     fn take_tick<'k>(&mut self, scratch: &'k mut Scratch) -> Result<Outputs<'k>, NodeFault>
     where
         'b: 'k,
@@ -198,10 +202,11 @@ impl<'b, S: FloorStore> Node<'b, S> {
         taken
     }
 
-    /// Takes an event, as [`Node::take_line`] takes a line. The outputs of a tick stand in the scratch.
+    /// Takes an event, in the way in which [`Node::take_line`] takes a line. The outputs of a tick borrow their lists
+    /// from `scratch`.
     ///
     /// # Errors
-    /// Those of [`Node::take_line`].
+    /// Returns the errors of [`Node::take_line`].
     pub fn take<'k>(
         &mut self,
         event: Event<'_>,
@@ -222,11 +227,12 @@ impl<'b, S: FloorStore> Node<'b, S> {
         }
     }
 
-    /// Keeps for good what the events that were taken put to the store. It takes no memory.
+    /// Makes every put of the taken events durable. Does not allocate.
     ///
     /// # Errors
-    /// `Stopped` where the node was stopped before, and nothing changes. `Store` where the store met a failure: the
-    /// node is stopped until it is restarted, and nothing of the outputs since the last commit may be sent.
+    /// - Returns `Stopped` if the node was stopped before. Nothing changes.
+    /// - Returns `Store` if the store fails. The node is stopped until it is restarted. Send nothing of the outputs
+    ///   since the last commit.
     pub fn commit(&mut self) -> Result<(), NodeFault>
         ensures { CommitsNode S.held self.old self.new result }
     {
@@ -240,11 +246,13 @@ impl<'b, S: FloorStore> Node<'b, S> {
         }
     }
 
-    /// Takes an event and commits it: one step of the node's machine. The outputs are there once what it put to the
-    /// store is kept. Those of a tick stand in the scratch. It takes no memory.
+    /// Takes an event and commits it: one step of the node's machine. Does not allocate.
+    ///
+    /// The outputs may be sent, because the store has committed the event's change. The outputs of a tick borrow their
+    /// lists from `scratch`.
     ///
     /// # Errors
-    /// Those of [`Node::take`] and of [`Node::commit`]: then there are no outputs, and the node is stopped.
+    /// Returns the errors of [`Node::take`] and of [`Node::commit`]. There are no outputs, and the node is stopped.
     pub fn handle<'k>(
         &mut self,
         event: Event<'_>,
@@ -255,7 +263,7 @@ impl<'b, S: FloorStore> Node<'b, S> {
         ensures handles { Handles S.held self.old self.new (event_of self.old.key event.entry) result }
         ensures few { IfOk result (λ outputs. (S.held self.new.store).is_clean → length outputs.items ≤ 264) }
         ensures stopped { result ≡ Err NodeFault.Stopped ↔ (self.old.running ≡ false) }
-        // Over a store that met no failure in the call only these two are answered.
+        // Over a store without a failure in the call, only these two are possible.
         ensures without_failure { (S.held self.new.store).failures ≡ (S.held self.old.store).failures
             → IfErr result (λ fault. (fault ≡ NodeFault.Stopped) ⊎ (fault ≡ NodeFault.Spent)) }
     {
@@ -264,7 +272,7 @@ impl<'b, S: FloorStore> Node<'b, S> {
         Ok(outputs)
     }
 
-    /// The store as it stands.
+    /// Closes the node and returns its store.
     pub fn close(self) -> S
         ensures { result ≡ self.entry.store }
     {
@@ -272,7 +280,7 @@ impl<'b, S: FloorStore> Node<'b, S> {
         parts.store
     }
 
-    /// The store, to look at. It has a row for each token of the book.
+    /// Returns the store for reading. It has a row for each token of the book.
     pub fn store(&self) -> &S
         ensures store { result.now ≡ self.now.store }
         ensures tokens { length (S.held self.now.store).content.rows ≡ length self.now.book }
@@ -280,7 +288,7 @@ impl<'b, S: FloorStore> Node<'b, S> {
         &self.parts.store
     }
 
-    /// Whether it runs: no fault has stopped it since it was opened or restarted.
+    /// Returns whether the node runs: no fault has stopped it since it was opened or restarted.
     pub fn is_running(&self) -> bool
         ensures { result ≡ self.now.running }
     {

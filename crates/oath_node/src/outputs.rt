@@ -1,4 +1,4 @@
-//! What a call of a node sends and replies.
+//! The datagrams and replies of a node's call.
 
 ghost use Rattle.std.specs.Prelude.{◌≡◌, []};
 ghost use Rattle.oath_node.specs.Outputs.{items_of, no_outputs, reply_outputs};
@@ -13,7 +13,7 @@ use std::marker::Model;
 use vote_core::{MAX_MESSAGES, MAX_PENDING, Sending, TickStep, VoteStep};
 use vote_wire::{ClusterKey, MAX_SENT_LEN};
 
-/// What a client is told.
+/// A reply to a client.
 #[derive(Debug, Default, Drop)]
 pub(crate) struct Reply {
     pub(crate) client: u64,
@@ -28,7 +28,7 @@ impl Model for Reply {
     ghost view = { λ reply. record { client = reply.client; bytes = reply.bytes.items } };
 }
 
-/// Room for the lists of a tick, which are long. A caller keeps one, and lends it to each call.
+/// The room for the long lists of a tick. A caller keeps one and lends it to each call.
 #[derive(Debug, Drop)]
 pub struct Scratch {
     sends: ArrayVec<Sending, MAX_MESSAGES>,
@@ -36,7 +36,7 @@ pub struct Scratch {
 }
 
 impl Scratch {
-    /// Empty lists, with their room.
+    /// Creates the room, with empty lists.
     pub fn new() -> Self
         ensures sends { result.sends.items ≡ [] }
         ensures replies { result.replies.items ≡ [] }
@@ -54,14 +54,14 @@ impl Default for Scratch {
     }
 }
 
-/// The lists of a call: those of a line or of a datagram, which are short, or those of a tick.
+/// The lists of a call: short ones of a line or a datagram, or long ones of a tick.
 #[derive(Debug, Drop)]
 pub(crate) enum Parcel<'k> {
     Held(ArrayVec<Sending, 1>, ArrayVec<Reply, 1>),
     Lent(&'k [Sending], &'k [Reply]),
 }
 
-/// The items of these lists.
+/// Returns the items of the lists of `parcel`.
 fn items_in<'a>(key: &'a ClusterKey, me: u8, parcel: &'a Parcel<'a>) -> Items<'a>
     ensures { result ≡ items_of key.now me (sends_in parcel.now) (replies_in parcel.now) }
 {
@@ -73,8 +73,9 @@ fn items_in<'a>(key: &'a ClusterKey, me: u8, parcel: &'a Parcel<'a>) -> Items<'a
     }
 }
 
-/// What a call of a node sends and replies: at most 264 items, the datagrams first. A message that goes to
-/// several members is kept once, and written when it is taken out.
+/// The outputs of a node's call: at most 264 items, the datagrams first.
+///
+/// A message to several members is stored once, and encoded when an iterator reaches it.
 #[derive(Debug, Drop)]
 pub struct Outputs<'k> {
     key: &'k ClusterKey,
@@ -99,7 +100,7 @@ impl<'k> Model for Outputs<'k> {
 }
 
 impl<'k> Outputs<'k> {
-    /// Nothing.
+    /// Returns no outputs.
     pub(crate) fn nothing(key: &'k ClusterKey) -> Self
         ensures { result ≡ no_outputs }
     {
@@ -112,7 +113,7 @@ impl<'k> Outputs<'k> {
         }
     }
 
-    /// One reply.
+    /// Returns one reply.
     pub(crate) fn reply(key: &'k ClusterKey, client: u64, bytes: ArrayVec<u8, MAX_SENT_LEN>) -> Self
         ensures { result ≡ reply_outputs client bytes.items }
     {
@@ -127,7 +128,7 @@ impl<'k> Outputs<'k> {
         }
     }
 
-    /// What a voter makes of a proposal or of a message, with the reply to it.
+    /// Returns the outputs of the voter's step on a proposal or a message, with `replies`.
     pub(crate) fn of_vote(
         key: &'k ClusterKey,
         me: u8,
@@ -155,7 +156,7 @@ impl<'k> Outputs<'k> {
         }
     }
 
-    /// What a voter makes of a tick, with these replies.
+    /// Returns the outputs of the voter's step on a tick, with `replies`.
     pub(crate) fn of_tick(
         key: &'k ClusterKey,
         me: u8,
@@ -187,21 +188,21 @@ impl<'k> Outputs<'k> {
         }
     }
 
-    /// The items, the datagrams first.
+    /// Returns an iterator over the items, the datagrams first.
     pub fn items(&self) -> Items<'_>
         ensures { result ≡ self.now.items }
     {
         items_in(self.key, self.me, &self.parcel)
     }
 
-    /// The proposal that the call began.
+    /// Returns the proposal that the call began, or None.
     pub fn begun(&self) -> Option<Proposal>
         ensures { result ≡ self.now.begun }
     {
         self.begun
     }
 
-    /// The accepted submission.
+    /// Returns the pass of the accepted submission, or None.
     pub fn pass(&self) -> Option<Pass>
         ensures { result ≡ self.now.pass }
     {

@@ -1,4 +1,4 @@
-//! Whose lines wait for votes.
+//! The owners of pending proposals: the lines that wait for votes.
 
 ghost use Rattle.std.specs.Option.{option_copied};
 ghost use Rattle.std.specs.Prelude.{◌≡◌};
@@ -9,7 +9,7 @@ use arrayvec::ArrayVec;
 use client_lines::Nonce;
 use std::marker::Model;
 
-/// Whose line a pending proposal is for. The line stands without an LF at its end.
+/// The client and the line that a pending proposal is for. The line has no LF at its end.
 #[derive(Default, Drop)]
 pub(crate) struct Owner {
     pub(crate) seq: u64,
@@ -31,7 +31,7 @@ impl Model for Owner {
     } };
 }
 
-/// Whether this line of this client waits.
+/// Returns whether `line` of `client` waits.
 pub(crate) fn is_waiting(owners: &[Owner], client: u64, line: &[u8]) -> bool
     ensures { result ≡ is_owned owners.now client line.now }
 {
@@ -43,7 +43,7 @@ pub(crate) fn is_waiting(owners: &[Owner], client: u64, line: &[u8]) -> bool
     false
 }
 
-/// The owner of the proposal of a number.
+/// Returns the owner of the proposal with the number `seq`, or None.
 pub(crate) fn owner_with(owners: &[Owner], seq: u64) -> Option<&Owner>
     ensures { option_copied result ≡ spec_owner_with seq owners.now }
 {

@@ -3,8 +3,8 @@ use answer_ring::Answers;
 use arrayvec::ArrayVec;
 use vote_core::{MAX_PENDING, Voter};
 
-/// What an event at a running node changes: its store, its voter, the owners of the pending proposals, and
-/// the answers that it keeps.
+/// The parts of a running node that events change: its store, its voter, the owners of the pending proposals, and the
+/// kept answers.
 #[derive(Drop)]
 pub(crate) struct Parts<S> {
     pub(crate) store: S,

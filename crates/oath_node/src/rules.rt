@@ -15,7 +15,7 @@ use floor_store::{FloorStore, Row, Span, StoreFault};
 use otp_core::{Drift, FACTORS_END, MOMENTS_END, Next, Settings};
 use token_file::{Book, Token, TokenId};
 
-/// The password, the factors that are left, and the window, at a token that is open.
+/// Rules on a line for an open token: its password, its remaining factors and its window.
 fn open_ruling(
     token: &Token,
     id: TokenId,
@@ -39,7 +39,7 @@ fn open_ruling(
     fit_ruling(token, id, fit, settings, moment, request)
 }
 
-/// The span that fits is proposed, for the drift by the moment of the line.
+/// Proposes the span in `fit`, with the drift by `moment`. Rules a failure if there is none.
 fn fit_ruling(
     token: &Token,
     id: TokenId,
@@ -63,7 +63,7 @@ fn fit_ruling(
     }
 }
 
-/// The span of the least factors in the window that the codes fit.
+/// Returns the span of the smallest factors in the window that fit `codes`, or None.
 fn find_fit(
     token: &Token,
     next: Next,
@@ -90,7 +90,7 @@ fn find_fit(
     }
 }
 
-/// The row of a token.
+/// Returns the row of `token`.
 pub(crate) fn row_of<S: FloorStore>(store: &S, token: u32) -> Result<Row, StoreFault>
     requires { token < length (S.held store.now).content.rows }
     ensures { Reads (S.held store.now) (λ content row. row ≡ row_in content token) result }
@@ -98,7 +98,7 @@ pub(crate) fn row_of<S: FloorStore>(store: &S, token: u32) -> Result<Row, StoreF
     store.row(token)
 }
 
-/// Whether a token is open, by its row, and what follows.
+/// Refuses the line if the gate in `row` is closed. Otherwise rules on it for an open token.
 fn token_ruling(
     token: &Token,
     id: TokenId,
@@ -129,8 +129,8 @@ fn token_ruling(
     )
 }
 
-/// What the rules make of a request that no answer is kept for and that doesn't wait, by the rows of a store:
-/// the moment, whether there is room, the user, and the row of the token.
+/// Rules on a request that has no kept answer and doesn't wait. Examines, in this order, the moment, the room, the
+/// user, and the row of the token in `store`.
 pub(crate) fn examine<S: FloorStore>(
     book: &Book,
     settings: Settings,

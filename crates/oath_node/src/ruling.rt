@@ -9,7 +9,7 @@ use std::marker::Model;
 use token_file::TokenId;
 use vote_wire::MAX_SENT_LEN;
 
-/// An answer that is kept.
+/// A kept answer.
 #[derive(Debug, Drop)]
 pub struct KeptText {
     bytes: ArrayVec<u8, MAX_SENT_LEN>,
@@ -24,7 +24,7 @@ impl Model for KeptText {
 }
 
 impl KeptText {
-    /// The answer of these bytes.
+    /// Creates an answer of `bytes`.
     pub(crate) fn new(bytes: &[u8]) -> Self
         requires { length bytes.now ≤ 64 }
         ensures { result ≡ bytes.now }
@@ -34,7 +34,7 @@ impl KeptText {
         }
     }
 
-    /// Its bytes.
+    /// Returns the bytes of the answer.
     pub(crate) fn into_bytes(self) -> ArrayVec<u8, MAX_SENT_LEN>
         ensures { result.items ≡ self }
     {
@@ -42,20 +42,20 @@ impl KeptText {
     }
 }
 
-/// What becomes of a line: the word of the rules (`specs/Rules.antt`).
+/// A ruling of the rules on a line (`specs/Rules.antt`).
 #[derive(Debug, Drop)]
 pub enum Ruling {
-    /// It is outside the line grammar, which is answered and not kept.
+    /// The line is outside the grammar. The answer is not kept.
     Outside,
-    /// The kept answer is given once more.
+    /// The kept answer is given again.
     Again(KeptText),
-    /// It waits for votes: there is no answer yet.
+    /// The line waits for votes and has no answer yet.
     Waiting,
-    /// It is refused, and nothing changes.
+    /// The line is refused, and nothing changes.
     Denied(Nonce, Reason),
-    /// It is refused, and a failure of the token.
+    /// The line is refused, and the token has a failure.
     Wrong(Nonce, Reason, TokenId),
-    /// The span of the token is proposed, whose acceptance keeps the drift.
+    /// The span of the token is proposed. Its acceptance keeps the drift.
     Fitting {
         nonce: Nonce,
         token: TokenId,

@@ -4,16 +4,16 @@ ghost use Rattle.oath_node.specs.declared.serve_fault.ServeFault.TheVariants.{No
 use crate::fault::NodeFault;
 use thiserror::Error;
 
-/// Why a run of turns ends before its last turn.
+/// The reason why a run of turns ends before its last turn.
 #[derive(Clone, Copy, Debug, PartialEq, Eq, Error)]
 pub enum ServeFault {
-    /// The node answered a fault.
+    /// The node returned a fault.
     #[error("{0}")]
     Node(NodeFault),
-    /// The port failed at 16 receives in a row.
+    /// The port failed at 16 consecutive receives.
     #[error("Port")]
     Port,
-    /// The clock told no moment for a client's datagram.
+    /// The clock told no time for a client's datagram.
     #[error("Clock")]
     Clock,
 }

@@ -21,8 +21,8 @@ use token_file::Book;
 use vote_core::Place;
 use vote_wire::{ClusterKey, MAX_SENT_LEN};
 
-/// A server over the tokens of a book, which answers each line when it is asked: a node that is alone, over a store
-/// in memory.
+/// A server over the tokens of a book, which answers each line at once. It is a node that is alone, over a store in
+/// memory.
 #[derive(Drop)]
 pub struct LineServer<'b> {
     node: Node<'b, MemStore>,
@@ -38,9 +38,10 @@ impl<'b> Model for LineServer<'b> {
 }
 
 impl<'b> LineServer<'b> {
-    /// A server with these first free factors, of which there is one for each token of the book, with no
-    /// failures before, and no answer kept. It has no members to hear under the key. The one refusal is that
-    /// memory ran out.
+    /// Creates a server with one floor for each token of the book. A floor is the first free factor of a token.
+    ///
+    /// No token has failures, and no answer is kept. No other member uses the key. Fails only if the allocator refuses
+    /// the memory.
     pub fn new(
         alloc: Global,
         book: &'b Book,
@@ -62,12 +63,15 @@ impl<'b> LineServer<'b> {
         }
     }
 
-    /// The answer to a line, in 1 to 64 bytes without a line end: one that was kept for this client and line, or
-    /// what the rules say. It takes no memory.
+    /// Answers a line in 1 to 64 bytes without a line end. Does not allocate.
+    ///
+    /// The answer is the one kept for this client and line, if any. Otherwise the rules decide.
     ///
     /// # Errors
-    /// `Spent` where a line is right but 2^62 were accepted before, and then `Stopped`. The first 2^62 lines are
-    /// answered.
+    /// - Returns `Spent` if the line is right but 2^62 lines were accepted before.
+    /// - Returns `Stopped` after that.
+    ///
+    /// The first 2^62 lines are answered.
     pub fn answer(&mut self, line: &ClientLine<'_>) -> Result<ArrayVec<u8, MAX_SENT_LEN>, NodeFault>
         ensures { (book : List Credential) (limits : Limits) (count : ℕ) (server : Server)
             → IsServing self.old book limits count server
@@ -82,7 +86,7 @@ impl<'b> LineServer<'b> {
         let outputs = self.node.handle(event, &mut self.scratch)?;
         match outputs.items().next() {
             Some(Item::Reply { bytes, .. }) => Ok(bytes),
-            // A node that is alone gives one reply.
+            // A node that is alone gives exactly one reply.
             Some(Item::Datagram { .. }) => Err(NodeFault::Stopped),
             None => Err(NodeFault::Stopped),
         }

@@ -1,4 +1,4 @@
-//! What a voter's step leads to: replies to those whose proposals are decided, and answers to be kept.
+//! The effects of a voter's step: replies to the owners of decided proposals, and answers to keep.
 
 ghost use Rattle.std.specs.Prelude.{◌≡◌, ◌≤◌, length, map};
 ghost use Rattle.oath_node.specs.Machine.{answers_to_decisions, kept_with_all, outcome_of as spec_outcome_of, owners_of_pending, reply_with};
@@ -13,7 +13,7 @@ use client_lines::{Outcome, Reason, write_reply};
 use vote_core::{Decision, MAX_PENDING, TickStep, VoteStep, Voter};
 use vote_wire::{ClusterKey, MAX_SENT_LEN};
 
-/// A line that waits.
+/// Copies a line that waits.
 pub(crate) fn line_of(bytes: &[u8]) -> ArrayVec<u8, MAX_LINE_LEN>
     requires { length bytes.now ≤ 256 }
     ensures { result.items ≡ bytes.now }
@@ -23,7 +23,7 @@ pub(crate) fn line_of(bytes: &[u8]) -> ArrayVec<u8, MAX_LINE_LEN>
     line
 }
 
-/// The bytes of an answer.
+/// Copies the bytes of an answer.
 pub(crate) fn text_of(bytes: &[u8]) -> ArrayVec<u8, MAX_SENT_LEN>
     requires { length bytes.now ≤ 64 }
     ensures { result.items ≡ bytes.now }
@@ -33,7 +33,7 @@ pub(crate) fn text_of(bytes: &[u8]) -> ArrayVec<u8, MAX_SENT_LEN>
     text
 }
 
-/// What the owner of a decided proposal is told.
+/// Returns the outcome that the owner of a decided proposal gets.
 fn outcome_of(decision: Decision) -> Outcome
     ensures { result ≡ spec_outcome_of decision }
 {
@@ -44,7 +44,7 @@ fn outcome_of(decision: Decision) -> Outcome
     }
 }
 
-/// The replies to what was decided, in order. They are kept.
+/// Returns the replies to `decisions`, in order, and keeps them in `answers`.
 fn settle<const ROOM: usize>(
     owners: &[Owner],
     decisions: &[(u64, Decision)],
@@ -75,14 +75,14 @@ fn settle<const ROOM: usize>(
     replies
 }
 
-/// Keeps those whose proposals still wait.
+/// Drops the owners whose proposals are decided.
 fn keep_pending(owners: &mut ArrayVec<Owner, MAX_PENDING>, voter: &Voter)
     ensures { owners.new.items ≡ owners_of_pending (voter_of voter.now).pending owners.old.items }
 {
     owners.retain(|owner| voter.is_pending(owner.seq))
 }
 
-/// Takes what a voter makes of a proposal or of a message into the owners and the answers.
+/// Updates the owners and the answers after the voter's step on a proposal or a message. Returns the outputs.
 pub(crate) fn finish_vote<'k>(
     key: &'k ClusterKey,
     voter: &Voter,
@@ -97,7 +97,7 @@ pub(crate) fn finish_vote<'k>(
     Outputs::of_vote(key, voter.place().me(), step, replies)
 }
 
-/// Takes what a voter makes of a tick into the owners and the answers.
+/// Updates the owners and the answers after the voter's step on a tick. Returns the outputs.
 pub(crate) fn finish_tick<'k>(
     key: &'k ClusterKey,
     voter: &Voter,

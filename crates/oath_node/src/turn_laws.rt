@@ -11,7 +11,7 @@ ghost use Rattle.oath_node.specs.Turns.{AreBatches, ComesToTheSame, DoesTheSame,
 ghost use Rattle.oath_node.specs.declared.serve_fault.ServeFault.TheVariants.{Clock, Node, Port};
 ghost use Rattle.datagram_port.specs.declared.port.Sender.TheVariants.{Client, Peer};
 
-/// What some turns of a member of three come to.
+/// Worked cases.
 pub fn turns_are_worked()
     ensures quiet { run_of (replicate 10 Nothing) ≡ going_with 0 0 10 }
     ensures lines { run_of (replicate 64 no_line) ≡ going_with 64 64 1 }
@@ -26,21 +26,23 @@ pub fn turns_are_worked()
         ≡ going_with 1 1 0 }
     ensures clock { run_of (line_without_moment ∷ Nothing ∷ [])
         ≡ record (going_with 1 0 0) { end = Some Clock } }
-    // the clock is asked for a client's datagram alone
+    // the clock is asked only for a client's datagram
     ensures asked { moments_in (noise ∷ Nothing ∷ no_line ∷ Failure ∷ line_without_moment ∷ [])
         ≡ Some 100 ∷ None ∷ [] }
 {}
 
-/// Receives that fail change nothing of a run that goes on: the node, the offers and the counts are those of a run that
-/// is handed the rest alone. What becomes of an offer is nowhere asked, so that it is the same list where each fails.
+/// Failed receives: a run with them has the node, the offers and the counts of the run without them.
+///
+/// A node never asks whether an offer succeeded. So the offers are the same list if each of them fails.
 pub fn faults_change_no_offer()
     ensures { (member : Member) (receipts : List Receipt) (start : Run) → start.end ≡ None
         → (run_with_turns member receipts start).end ≡ None
         → DoesTheSame (run_with_turns member receipts start) (run_with_turns member (without_failures receipts) start) }
 {}
 
-/// Batches come to what their turns come to one by one: the same node, the same offers in the same order, the same
-/// receives and the same end. In a batch the receives come first, and then the offers.
+/// Batches: a run in batches and a run in single turns have the same node, offers, receives, counts and end.
+///
+/// The offers are in the same order. In a batch all receives come before the offers.
 pub fn batches_are_turns()
     ensures order { (member : Member) (batches : List (List Receipt)) (start : Run)
         → AreBatches start.tally.received batches
@@ -50,7 +52,7 @@ pub fn batches_are_turns()
         → run_with_batch member (receipt ∷ []) start ≡ run_with_turn member receipt start }
     // A batch has at most 64 receives.
     ensures few { (received : ℕ) (batch : List Receipt) → IsBatch received batch → length batch ≤ 64 }
-    // So faults of the port change nothing of batches either.
+    // faults of the port change nothing of batches either
     ensures failures { (member : Member) (batches : List (List Receipt)) (start : Run)
         → AreBatches start.tally.received batches → start.end ≡ None
         → (run_with_batches member batches start).end ≡ None
@@ -58,16 +60,16 @@ pub fn batches_are_turns()
         (run_with_turns member (without_failures (receipts_in batches)) start) }
 {}
 
-/// What some batches of a member of three come to: what is seen of them, and how receives and offers follow.
+/// Worked cases.
 pub fn batches_are_worked()
     ensures lines { order_of ((no_line ∷ no_line ∷ no_line ∷ []) ∷ [])
         ≡ true ∷ true ∷ true ∷ false ∷ false ∷ false ∷ [] }
     ensures one_by_one { order_of ((no_line ∷ []) ∷ (no_line ∷ []) ∷ []) ≡ true ∷ false ∷ true ∷ false ∷ [] }
-    // the tick comes behind the 64th datagram, and before the offers
+    // the tick after the 64th datagram, before the offers
     ensures tick { order_of (replicate 63 no_line ∷ (no_line ∷ []) ∷ [])
         ≡ replicate 63 true ++ replicate 63 false ++ true ∷ replicate 3 false }
     ensures lines_and_tick { batches_of (replicate 64 no_line ∷ []) ≡ going_with 64 64 1 }
-    // what was received before the port or the clock failed is served
+    // the datagrams received before the port or the clock failed are served
     ensures fault { batches_of ((no_line ∷ Failure ∷ []) ∷ []) ≡ going_with 1 1 0 }
     ensures last_fault { batches_of (replicate 15 (Failure ∷ []) ++ (no_line ∷ Failure ∷ []) ∷ [])
         ≡ going_with 1 1 0 }
@@ -75,7 +77,7 @@ pub fn batches_are_worked()
         ≡ record (going_with 0 0 0) { end = Some Port } }
     ensures clock { batches_of ((no_line ∷ line_without_moment ∷ []) ∷ (Nothing ∷ []) ∷ [])
         ≡ record (going_with 2 1 0) { end = Some Clock } }
-    // what ends a batch
+    // the ends of batches
     ensures whole { AreBatches 62 ((no_line ∷ no_line ∷ []) ∷ (no_line ∷ Failure ∷ []) ∷ (Nothing ∷ []) ∷ []) }
     ensures behind_the_64th { GoesOn 62 (no_line ∷ no_line ∷ []) → ⊥ }
     ensures behind_a_quiet_one { GoesOn 0 (Nothing ∷ []) → ⊥ }
@@ -84,7 +86,7 @@ pub fn batches_are_worked()
     ensures none { IsBatch 0 [] → ⊥ }
 {}
 
-/// Which receives failed, which entries are offers, and how two runs can differ, worked.
+/// Worked cases.
 pub fn differences_are_seen()
     ensures failures { without_failures (Failure ∷ noise ∷ Nothing ∷ Failure ∷ no_line ∷ [])
         ≡ noise ∷ Nothing ∷ no_line ∷ [] }
@@ -113,12 +115,12 @@ pub fn differences_are_seen()
         (record run { end = Some Clock }) → ⊥ }
 {}
 
-/// The entries of some runs, to whom each offer goes and in which order.
+/// Worked cases.
 pub fn entries_are_worked()
     ensures quiet { entries_of (Nothing ∷ Nothing ∷ [])
         ≡ Quiet ∷ floor_told 2 0 0 ∷ floor_told 3 0 0 ∷ Quiet ∷ floor_told 2 1 3 ∷ floor_told 3 1 3 ∷ [] }
     ensures fault { entries_of (Failure ∷ no_line ∷ []) ≡ Faulted ∷ lines_replied 1 }
-    // the tick stands behind the reply to the 64th datagram, and before the 65th
+    // the tick after the reply to the 64th datagram, before the 65th
     ensures tick_64th { entries_of (replicate 65 no_line)
         ≡ lines_replied 64 ++ floor_told 2 0 0 ∷ floor_told 3 0 0 ∷ lines_replied 1 }
     ensures tick_of_a_batch { entries_of_batches (replicate 64 no_line ∷ (no_line ∷ []) ∷ [])
@@ -126,8 +128,7 @@ pub fn entries_are_worked()
         ++ floor_told 2 0 0 ∷ floor_told 3 0 0 ∷ lines_replied 1 }
 {}
 
-/// What is promised of a run of turns holds of the least that keeps it, and each field is broken by the least that
-/// keeps all others.
+/// Counterexamples: each promise of a run of turns fails for a minimal one, which keeps all other promises.
 pub fn turns_can_be_broken()
     // a run of no turns
     ensures serves { Serves small_held (node_over (store_at 0) []) (node_over (store_at 0) [])
@@ -165,7 +166,7 @@ pub fn turns_can_be_broken()
     ensures stands_entries { Stands small_held nothing_yet (node_over (store_at 0) []) (Some (Quiet ∷ []))
         (run_from (node_over (store_at 0) [])) → ⊥ }
 
-    // the clock ends a run
+    // a run that the clock ends
     ensures ends_by_clock { EndsByClock small_held (node_over (store_at 0) []) (node_over (store_at 0) [])
         nothing_yet nothing_yet 1 }
     ensures ends_by_clock_within { EndsByClock small_held (node_over (store_at 0) []) (node_over (store_at 0) [])
@@ -173,7 +174,7 @@ pub fn turns_can_be_broken()
     ensures ends_by_clock_before { EndsByClock small_held (node_over (store_at 0) []) (node_over (store_at 1) [])
         nothing_yet nothing_yet 1 → ⊥ }
 
-    // what a stop leaves at the end, and in the midst of a batch without events
+    // the state that a stop leaves, at the end of a run and inside a batch without events
     ensures ends_settled { EndsSettled (small_held (unsettled_at 0 1)) (ended_by (Node store_failed)) }
     ensures ok_is_settled { EndsSettled (small_held (unsettled_at 0 1)) (served 0 0) → ⊥ }
     ensures port_is_settled { EndsSettled (small_held (unsettled_at 0 1)) (ended_by Port) → ⊥ }
@@ -203,10 +204,9 @@ pub fn turns_can_be_broken()
         store_failed → ⊥ }
 {}
 
-/// What is said of a record that grows, of how a run ends and of which call of its node fails holds of the least that
-/// keeps it, and each field is broken by the least that keeps all others.
+/// Counterexamples: each promise of a growing record, of a run's end and of a failing call fails for a minimal one.
 pub fn ends_can_be_broken()
-    // a run that went on to the end, and one that the port or the clock ended
+    // a run that continued to its end, and runs that the port or the clock ended
     ensures ends { EndsSo small_held (node_over (store_at 0) []) (node_over (store_at 0) []) nothing_yet nothing_yet []
         (served 0 0) }
     ensures ends_state { EndsSo small_held (node_over (store_at 0) []) (node_over (store_at 1) []) nothing_yet
@@ -228,7 +228,7 @@ pub fn ends_can_be_broken()
     ensures ends_by_no_clock { EndsSo small_held (node_over (store_at 0) []) (node_over (store_at 0) []) nothing_yet
         nothing_yet [] (ended_by Clock) → ⊥ }
 
-    // an event that a node answers by a fault, and a commit
+    // an event and a commit that fail
     ensures next_event { FailsNext small_held small_node failed_node (peer_noise ∷ []) store_failed }
     ensures next_event_runs_on { FailsNext small_held small_node (node_over (broken_at 0) []) (peer_noise ∷ [])
         store_failed → ⊥ }
@@ -250,7 +250,7 @@ pub fn ends_can_be_broken()
     ensures after_leaves { (key : List ℕ) → FailsAfter small_held (node_over (store_at 0) key)
         (stopped (node_over (record (broken_at 0) { other = booted 1 }) key)) nothing_yet (Some (Faulted ∷ []))
         ((Failure ∷ []) ∷ []) store_failed → ⊥ }
-    // receipts of which the first ends its batch, and the run
+    // receipts of which the first ends its batch, and a run of them
     ensures serves_formed { (key : List ℕ) → Serves small_held (node_over (store_at 0) key) (node_over (store_at 0) key)
         nothing_yet (Some (no_line_came ∷ Faulted ∷ [])) nothing_yet (Some (None ∷ [])) 2 (served 1 0) → ⊥ }
     ensures fails_of_no_event { (member : Member) → FailsAmong small_held nothing_yet member

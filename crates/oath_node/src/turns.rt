@@ -1,4 +1,4 @@
-//! The turns of a node.
+//! The turns of a node over a port and a clock.
 
 ghost use Rattle.std.specs.Prelude.{◌≡◌, ◌↔◌, ◌<◌, ◌≤◌, ◌+◌, ◌^◌, [], Err, map, true};
 ghost use Rattle.arrayvec.specs.ArrayVec.{array_vec_len};
@@ -18,24 +18,23 @@ use arrayvec::ArrayVec;
 use datagram_port::{Clock, MAX_DATAGRAM_LEN, Port, Received, Sender};
 use floor_store::FloorStore;
 
-/// A run has fewer turns than this: 500 years of them at a million datagrams a second.
+/// The number of turns that a run stays below: 500 years at a million datagrams a second.
 pub const TURNS_END: u64 = 1 << 54;
 
-/// So many faults of a port in a row end a run.
+/// The number of consecutive port faults that ends a run.
 const MAX_FAULTS: u8 = 16;
 
-/// After each so many datagrams some time has passed.
+/// The number of datagrams after which a tick follows.
 const DATAGRAMS_OF_A_TICK: u64 = 64;
 
-/// What a run of turns came to: the datagrams that were handed in, and the replies that were offered.
+/// The counts of a run of turns: the datagrams that the node took, and the replies offered to the port.
 #[derive(Clone, Copy, Debug, Default, PartialEq, Eq)]
 pub struct Served {
     pub received: u64,
     pub replied: u64,
 }
 
-/// What a run has counted so far: the datagrams that were handed in, the replies that were offered, and the faults of
-/// the port in a row.
+/// The counts of a run so far: the datagrams received, the replies offered, and the consecutive port faults.
 #[derive(Clone, Copy, Default)]
 struct Tally {
     received: u64,
@@ -43,7 +42,7 @@ struct Tally {
     faults: u8,
 }
 
-/// Offers what a call of a node sends and replies, in order. How many of these are replies.
+/// Offers `outputs` to the port, in order. Returns the number of replies among them.
 pub fn offer<P: Port>(port: &mut P, outputs: &Outputs<'_>) -> u64
     ensures offers { Grows (P.events port.old) (P.events port.new) (map offer_of outputs.now.items) }
     ensures replies { reply_count outputs.now.items < 2 ^ 64 → result ≡ reply_count outputs.now.items }
@@ -64,23 +63,23 @@ pub fn offer<P: Port>(port: &mut P, outputs: &Outputs<'_>) -> u64
     replies
 }
 
-/// What follows a receive in its batch.
+/// The step that follows a receive in its batch.
 #[derive(Clone, Copy)]
 enum BatchEnd {
-    /// What is there already.
+    /// Another receive, of a datagram that is already queued.
     More,
     /// The commit.
     Commit,
-    /// A tick, and then the commit.
+    /// A tick, followed by the commit.
     Tick,
-    /// The commit, and then the end of the run: the port has failed.
+    /// The commit, followed by the end of the run: the port has failed.
     Port,
-    /// The commit, and then the end of the run: the clock has failed.
+    /// The commit, followed by the end of the run: the clock has failed.
     Clock,
 }
 
 impl BatchEnd {
-    /// Whether the batch goes on.
+    /// Returns whether the batch continues.
     fn is_more(self) -> bool
         ensures { (result ≡ true) ↔ (self ≡ BatchEnd.More) }
     {
@@ -91,7 +90,7 @@ impl BatchEnd {
     }
 }
 
-/// How many receives a batch had, and what follows the last one.
+/// The number of receives of a batch, and the step that follows the last one.
 #[derive(Clone, Copy)]
 struct Gathered {
     turns: u64,
@@ -101,8 +100,7 @@ struct Gathered {
 /// The outputs of a batch, which wait for its commit.
 type Outbox<'b> = ArrayVec<Option<Outputs<'b>>, 64>;
 
-/// Hands a datagram to a node, a client's at the moment that the clock tells now. What the node sends and replies, or
-/// None where the clock tells none.
+/// Passes a datagram to the node, a client's with the clock's current time. Returns None if the clock tells no time.
 fn hand_in<'b, S: FloorStore, C: Clock>(
     node: &mut Node<'b, S>,
     clock: &mut C,
@@ -121,7 +119,7 @@ fn hand_in<'b, S: FloorStore, C: Clock>(
     }
 }
 
-/// Hands what was received to a node. What it sends and replies then waits for the commit.
+/// Passes a receive to the node. The outputs wait in `outbox` for the commit.
 fn take_received<'b, S: FloorStore, C: Clock>(
     node: &mut Node<'b, S>,
     clock: &mut C,
@@ -163,7 +161,7 @@ fn take_received<'b, S: FloorStore, C: Clock>(
     }
 }
 
-/// Hands a node what comes next, and all that is there already behind it, for at most so many turns.
+/// Passes the next receive and the datagrams that are already queued to the node, in at most `turns` turns.
 fn gather<'b, S: FloorStore, P: Port, C: Clock>(
     node: &mut Node<'b, S>,
     port: &mut P,
@@ -193,7 +191,7 @@ fn gather<'b, S: FloorStore, P: Port, C: Clock>(
     Ok(Gathered { turns: taken, end })
 }
 
-/// Hands a node the tick that is due, if one is.
+/// Passes a tick to the node if `end` asks for one.
 fn take_tick<'k, 'b: 'k, S: FloorStore>(
     node: &mut Node<'b, S>,
     scratch: &'k mut Scratch,
@@ -207,7 +205,8 @@ fn take_tick<'k, 'b: 'k, S: FloorStore>(
     }
 }
 
-/// Offers what waited for the commit of a node, in order. How many of these are replies.
+/// Offers the outputs that waited for the node's commit to the port, in order. Returns the number of replies among
+/// them.
 fn offer_waiting<S: FloorStore, P: Port>(
     node: &Node<'_, S>,
     port: &mut P,
@@ -227,7 +226,7 @@ fn offer_waiting<S: FloorStore, P: Port>(
     replies
 }
 
-/// Ends a batch: the tick that is due, the commit, and then all that waits for it.
+/// Ends a batch: takes the tick that is due, commits, and offers all outputs that waited.
 fn settle<'b, S: FloorStore, P: Port>(
     node: &mut Node<'b, S>,
     port: &mut P,
@@ -248,8 +247,10 @@ fn settle<'b, S: FloorStore, P: Port>(
     Ok(())
 }
 
-/// A batch of turns: what comes next and all that is there already behind it is handed to the node, which commits it
-/// at once; and then what it sends and replies is offered. How many turns it had, at most so many.
+/// Runs a batch of at most `turns` turns, and returns the number of turns that it had.
+///
+/// The node takes the next receive and the datagrams that are already queued. It commits them at once. Only then are
+/// the outputs offered to the port.
 fn take_batch<'b, S: FloorStore, P: Port, C: Clock>(
     node: &mut Node<'b, S>,
     port: &mut P,
@@ -274,18 +275,18 @@ fn take_batch<'b, S: FloorStore, P: Port, C: Clock>(
     }
 }
 
-/// Serves a node over a port for so many turns, fewer than [`TURNS_END`]. Each turn is a receive, or a poll that finds
+/// Serves a node over a port for `turns` turns, fewer than [`TURNS_END`]. A turn is a receive, or a poll that finds
 /// something.
 ///
-/// A datagram is handed to the node, a client's at the moment that the clock tells then. After a quiet turn, and
-/// after each 64th datagram, some time has passed for the node. What is there already behind a datagram is handed in
-/// with it, and the node commits all of that at once: nothing that it sends or replies is offered to the port before,
-/// and then all of it is, in order. What the port doesn't take is lost. It takes no memory.
+/// The node takes each datagram, a client's with the clock's current time. A tick follows a quiet turn and each 64th
+/// datagram. Datagrams that are already queued join the batch. The node commits the batch once. Only then are its
+/// outputs offered to the port, in order. An output that the port refuses is lost. Does not allocate.
 ///
 /// # Errors
-/// `Node` where the node answers a fault: nothing of that batch is offered. `Port` at the 16th fault of the port in a
-/// row, and `Clock` where the clock tells no moment: the datagram is then not handed to the node, and what was there
-/// before it is served.
+/// - Returns `Node` if the node returns a fault. The port gets no output of that batch.
+/// - Returns `Port` at the 16th consecutive fault of the port.
+/// - Returns `Clock` if the clock tells no time. The node doesn't take that datagram, but serves those received before
+///   it.
 pub fn run_turns<'b, S: FloorStore, P: Port, C: Clock>(
     node: &mut Node<'b, S>,
     port: &mut P,
@@ -295,7 +296,7 @@ pub fn run_turns<'b, S: FloorStore, P: Port, C: Clock>(
     requires few { turns < 2 ^ 54 }
     ensures serves { Serves S.held node.old node.new (P.events port.old) (P.events port.new)
         (C.moments clock.old) (C.moments clock.new) turns result }
-    // a clock that fails changes nothing of the node, whatever the store is
+    // a failure of the clock leaves the node unchanged, over any store
     ensures clock { result ≡ Err ServeFault.Clock
         → EndsByClock S.held node.old node.new (P.events port.old) (C.moments clock.old) turns }
 {

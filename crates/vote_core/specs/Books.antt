@@ -1,5 +1,5 @@
--- Members with books of their own: each store has rows for some tokens and numbers them as it likes. What members send,
--- and what is on record, is under the tokens' canonical names.
+-- Members with books of their own: each store has rows for some tokens and numbers them in its own order. Messages and
+-- records are under the tokens' canonical names. Floor: the first free factor of a token at a node.
 use Rattle.std.specs.Prelude.{◌≡◌, ℕ, ℤ, zero, suc, ◌<◌, ◌≤◌, ◌^◌, ◌==◌, nat_le, nat_lt, Bool, true, false, not, ◌&&◌, if◌then◌else◌, List, [], ◌∷◌, length, map, take, Option, Some, None, slice_get}
 use Rattle.std.specs.List.{filter}
 use Rattle.otp_core.specs.Acceptance.{Acceptance, majority_of, size}
@@ -14,25 +14,25 @@ use Rattle.vote_core.specs.Voting.{Voted, quiet_step, propose, on_message, tick,
 use Rattle.vote_core.specs.declared.message.Message.{Message}
 use Rattle.vote_core.specs.declared.message.Message.TheVariants.{Ask, Grant, Deny, Floor}
 
--- How many names there are; by the node the name of each of its rows; and the members, whose contents and voters have
--- the numbers of their own. All else in the cluster is under names.
+-- The number of names, the name of each row of each node, and the members. The contents and voters of members have
+-- their own numbers. Everything else in the cluster is under names.
 pub record Books : Type 0 where
   pub tokens : ℕ
   pub name : ℕ → ℕ → ℕ
   pub own : Cluster
 
--- What a member does. Adds: its store gets a row more, at the end, for the token of that name.
+-- An action of a member. Adds: its store gets a row for the token `token`, at the end.
 pub data Doing : Type 0 where
   Begins : (node number lo hi : ℕ) (drift : ℤ) → Doing
   Gets : (message : ℕ) → Doing
   Turns : (node : ℕ) → Doing
-  -- it tells the others the floors of its rows of these numbers
+  -- tells the others the floors of the member's rows `numbers`
   Speaks : (node : ℕ) (numbers : List ℕ) → Doing
   Shuts : (node number : ℕ) (gate : GateRecord) → Doing
   Adds : (node token floor : ℕ) → Doing
   Waits : (node : ℕ) → Doing
 
--- Remade: a store is made for a lost node with so many rows, of tokens with these names, and floors by the name.
+-- Remade: a replacement store of a lost node, with `count` rows of tokens with the names `name`, and floors by name.
 pub data Course : Type 0 where
   Runs : (doing : Doing) → Course
   Breaks : (kept : Bool) (doing : Doing) → Course
@@ -40,7 +40,7 @@ pub data Course : Type 0 where
   Gone : (node : ℕ) → Course
   Remade : (node boot count : ℕ) (name floor : ℕ → ℕ) → Course
 
--- the number of the row that has the name, among so many
+-- the number of the row with the name `token`, among the given number of rows
 abbrev pub number_of : ℕ → (ℕ → ℕ) → ℕ → Option ℕ
 number_of zero name token = None
 number_of (suc number) name token = if name number == token then Some number else number_of number name token
@@ -49,32 +49,32 @@ abbrev pub is_number : Option ℕ → Bool
 is_number None = false
 is_number (Some number) = true
 
--- the names of so many rows are of so many names
+-- each of the given number of rows has one of the `tokens` names
 abbrev pub are_names : ℕ → ℕ → (ℕ → ℕ) → Bool
 are_names tokens zero name = true
 are_names tokens (suc number) name = nat_lt (name number) tokens && are_names tokens number name
 
--- no two of so many rows have one name
+-- no two of the given number of rows share a name
 abbrev pub are_apart : ℕ → (ℕ → ℕ) → Bool
 are_apart zero name = true
 are_apart (suc number) name = not (is_number (number_of number name (name number))) && are_apart number name
 
--- how many rows the node's store has
+-- the number of rows in the node's store
 abbrev pub rows_of : Books → ℕ → ℕ
 rows_of books node = length (books.own.nodes node).content.rows
 
--- the number that the node gives to the token of that name
+-- the number that the node gives to the token `token`
 abbrev pub number_at : Books → ℕ → ℕ → Option ℕ
 number_at books node token = number_of (rows_of books node) (books.name node) token
 
--- a message with the receiver's number of its token
+-- the message with the receiver's number of its token
 abbrev pub numbered_message : ℕ → Message → Message
 numbered_message number (Ask proposal token span) = Ask proposal number span
 numbered_message number (Grant proposal token span) = Grant proposal number span
 numbered_message number (Deny proposal token next) = Deny proposal number next
 numbered_message number (Floor token next) = Floor number next
 
--- a step, with what it sends and decides under names
+-- the step with its messages and decisions under names
 abbrev pub named_step : (ℕ → ℕ) → Voted → Voted
 named_step name step =
     record step { sends = map (named_send name) step.sends; decisions = map (named_made name) step.decisions }
@@ -104,16 +104,16 @@ after_beginning event node number lo hi drift books =
     (with_proposal_begun event node (books.name node number) lo hi books.own)
     else with_member node (stopped_member member) books.own
 
--- the store of the node may get a row for the token of that name
+-- the node's store may get a row for the token `token`
 abbrev pub may_add : Books → ℕ → ℕ → Bool
 may_add books node token =
     has_store books.own node && (nat_lt token books.tokens && not (is_number (number_at books node token)))
 
--- those of these numbers of which the node has a row
+-- the numbers for which the node has a row
 abbrev pub known_numbers : Books → ℕ → List ℕ → List ℕ
 known_numbers books node numbers = filter (λ number. nat_lt number (rows_of books node)) numbers
 
--- the members after what one does in this event
+-- the members after an action in the event
 abbrev pub own_after : ℕ → Doing → Books → Cluster
 own_after event (Begins node number lo hi drift) books =
     if may_begin books.own node number lo hi then after_beginning event node number lo hi drift books else books.own
@@ -143,11 +143,11 @@ own_after event (Adds node token floor) books =
     else books.own
 own_after event (Waits node) books = books.own
 
--- the names, with this one for the row of that number
+-- the names, with the name `token` for the row `number`
 abbrev pub with_name : ℕ → ℕ → (ℕ → ℕ) → ℕ → ℕ
 with_name number token name other = if other == number then token else name other
 
--- the names by the node, with these at this one
+-- the names by node, with other names at the node `changed`
 abbrev pub with_names : ℕ → (ℕ → ℕ) → (ℕ → ℕ → ℕ) → ℕ → ℕ → ℕ
 with_names changed names name node = if node == changed then names else name node
 
@@ -163,7 +163,7 @@ names_after (Adds node token floor) books =
     else books.name
 names_after (Waits node) books = books.name
 
--- the node that does it
+-- the node that acts
 abbrev pub doer_of : Doing → Books → Option ℕ
 doer_of (Begins node number lo hi drift) books = Some node
 doer_of (Gets message) books = receiver_of (slice_get books.own.sent message)
@@ -173,7 +173,7 @@ doer_of (Shuts node number gate) books = Some node
 doer_of (Adds node token floor) books = Some node
 doer_of (Waits node) books = Some node
 
--- the first free factor that the node has of the token of that name; 0 where it has no row for it
+-- the floor that the node has of the token with the number; 0 if it has no row for it
 abbrev pub free_at : Books → ℕ → Option ℕ → ℕ
 free_at books node None = 0
 free_at books node (Some number) = (row (books.own.nodes node).content number).next
@@ -181,7 +181,7 @@ free_at books node (Some number) = (row (books.own.nodes node).content number).n
 abbrev pub free_of : Books → ℕ → ℕ → ℕ
 free_of books node token = free_at books node (number_at books node token)
 
--- the members after this one's store is gone
+-- the members after the node lost its store
 abbrev pub own_lost : ℕ → Books → Cluster
 own_lost node books =
     if has_store books.own node
@@ -193,12 +193,12 @@ own_lost node books =
     }
     else books.own
 
--- the first free factor that a store with these rows has of the token of that name; 0 where it has no row for it
+-- the floor of the token `token` in a store with the given rows; 0 if it has no row for the token
 abbrev pub made_floor : ℕ → (ℕ → ℕ) → (ℕ → ℕ) → ℕ → ℕ
 made_floor count name floor token = if is_number (number_of count name token) then floor token else 0
 
--- A store may be made so: the rule of the schedule, over names. What another had of a token when last a node was lost
--- the new store has too, or more.
+-- The conditions for a replacement store, as in the schedule, but over names. The store's floors are at least those
+-- that the remaining nodes had at the latest loss.
 abbrev pub may_remake : Books → ℕ → ℕ → ℕ → (ℕ → ℕ) → (ℕ → ℕ) → Bool
 may_remake books node boot count name floor =
     (are_names books.tokens count name && are_apart count name)
@@ -217,7 +217,7 @@ own_remade node boot count name floor books =
     }
     else books.own
 
--- the books after what happens in this event
+-- the books after the event
 unfoldable pub after_course : ℕ → Course → Books → Books
 after_course event (Runs doing) books =
     record books { own = own_after event doing books; name = names_after doing books }
@@ -233,12 +233,12 @@ after_course event (Remade node boot count name floor) books = record books {
   name = if may_remake books node boot count name floor then with_names node name books.name else books.name;
 }
 
--- the books after all of this, the first of which has this number
+-- the books after the events, the first of which has the given number
 unfoldable pub go : ℕ → List Course → Books → Books
 go first [] books = books
 go first (course ∷ more) books = go (suc first) more (after_course first course books)
 
--- members that open without any token, at these boots, while this is on its way from former stores of theirs
+-- members that open without tokens at the given boots, with messages of their former stores on their way
 abbrev pub blank_books : ℕ → ℕ → (ℕ → ℕ) → List Envelope → Books
 blank_books n tokens boot old = record {
   tokens = tokens;
@@ -254,9 +254,9 @@ blank_books n tokens boot old = record {
   };
 }
 
--- ---- what it is over canonical names
+-- ---- the roster over canonical names
 
--- the deed that it is
+-- the action of the roster
 abbrev pub deed_by : Books → Doing → Deed
 deed_by books (Begins node number lo hi drift) =
     if nat_lt number (rows_of books node) then Proposes node (books.name node number) lo hi drift else Rests node
@@ -270,7 +270,7 @@ deed_by books (Adds node token floor) =
     if may_add books node token then Enrols node (λ other. other == token) (λ other. floor) else Rests node
 deed_by books (Waits node) = Rests node
 
--- what happens
+-- the event of the roster
 abbrev pub happening_by : Books → Course → Happening
 happening_by books (Runs doing) = Does (deed_by books doing)
 happening_by books (Breaks kept doing) = Stops kept (deed_by books doing)
@@ -281,39 +281,39 @@ happening_by books (Remade node boot count name floor) =
     then Renews node boot (λ token. is_number (number_of count name token)) floor
     else Does (Rests node)
 
--- all that happens from these books on
+-- the events of the roster for the events from the books on
 unfoldable pub happenings_by : ℕ → List Course → Books → List Happening
 happenings_by first [] books = []
 happenings_by first (course ∷ more) books =
     happening_by books course ∷ happenings_by (suc first) more (after_course first course books)
 
--- how they open, over names: no floor is bound
+-- the opening of the roster, without bounds
 abbrev pub blank_opening : (ℕ → ℕ) → List Envelope → Opening
 blank_opening boot old = record { boot = boot; floor = λ node token. 0; old = old }
 
--- the first free factor that the node has of the token of that name before the event of that number
+-- the floor that the node has of the token `token` before the event of the given number
 abbrev pub free_in : Books → List Course → ℕ → ℕ → ℕ → ℕ
 free_in books courses node token event = free_of (go 0 (take event courses) books) node token
 
--- no store is made for the node in these events, from the first to before the later
+-- no event from `first` to before `later` replaces the node's store
 abbrev pub KeepsBook : List Course → ℕ → ℕ → ℕ → Type 0
 KeepsBook courses node first later =
     (event boot count : ℕ) (name floor : ℕ → ℕ) → first ≤ event → event < later
     → slice_get courses event ≡ Some (Remade node boot count name floor) → ⊥
 
--- where the event gives a store a row for the token of that name, its floor is at least this
+-- if the event gives a store a row for the token `token`, its floor is at least `least`
 abbrev pub IsAddedFrom : ℕ → ℕ → Course → Type 0
 IsAddedFrom token least (Runs (Adds node other floor)) = other ≡ token → least ≤ floor
 IsAddedFrom token least (Breaks kept (Adds node other floor)) = other ≡ token → least ≤ floor
 IsAddedFrom token least (Remade node boot count name floor) = least ≤ floor token
 IsAddedFrom token least course = Unit {0}
 
--- the same of all these events
+-- each of the events gives rows for the token only with floors of at least `least`
 abbrev pub AreAddedFrom : ℕ → ℕ → List Course → Type 0
 AreAddedFrom token least courses =
     (i : ℕ) (course : Course) → slice_get courses i ≡ Some course → IsAddedFrom token least course
 
--- the doing is the proposal that the acceptance is of, under these names of the rows
+-- the action is the proposal of the acceptance, under the names of the rows
 abbrev pub IsBegunIn : (ℕ → ℕ → ℕ) → Acceptance → Doing → Type 0
 IsBegunIn name acceptance (Begins node number lo hi drift) =
     (node ≡ acceptance.node) × (name node number ≡ acceptance.token) × (lo ≡ acceptance.lo) × (hi ≡ acceptance.hi)
@@ -324,7 +324,7 @@ IsBegunIn name acceptance (Shuts node number gate) = ⊥
 IsBegunIn name acceptance (Adds node token floor) = ⊥
 IsBegunIn name acceptance (Waits node) = ⊥
 
--- what happens is that doing, whose change was kept
+-- the event is the proposal of the acceptance, and its change was kept
 abbrev pub IsBegunBy : (ℕ → ℕ → ℕ) → Acceptance → Option Course → Type 0
 IsBegunBy name acceptance None = ⊥
 IsBegunBy name acceptance (Some (Runs doing)) = IsBegunIn name acceptance doing
@@ -334,14 +334,13 @@ IsBegunBy name acceptance (Some (Starts node)) = ⊥
 IsBegunBy name acceptance (Some (Gone node)) = ⊥
 IsBegunBy name acceptance (Some (Remade node boot count names floor)) = ⊥
 
--- each was proposed in the event where it began, under the names that the rows had then
+-- each acceptance was proposed in the event in which it began, under the names that the rows had at that time
 abbrev pub AreBegun : Books → List Course → List Acceptance → Type 0
 AreBegun books courses accepted =
     (i : ℕ) (acceptance : Acceptance) → slice_get accepted i ≡ Some acceptance
     → IsBegunBy (go 0 (take acceptance.began courses) books).name acceptance (slice_get courses acceptance.began)
 
--- Each message that was sent, of whose token the receiver has a row, may be handed to the receiver's voter under the
--- receiver's number.
+-- The receiver of each message sent may take it, under its own number of the token, if it has a row for the token.
 abbrev pub AreHeard : ℕ → Books → Type 0
 AreHeard n books =
     (i : ℕ) (envelope : Envelope) (number : ℕ) → slice_get books.own.sent i ≡ Some envelope

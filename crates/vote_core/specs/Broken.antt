@@ -1,5 +1,4 @@
--- Small calls of a voter, openings and events, each of which breaks one field of what is promised. No contract cites
--- them.
+-- Small calls of a voter, openings and events, each of which breaks one field of a promise. No contract cites them.
 use Rattle.std.specs.Prelude.{ℕ, pos, List, [], Option, Some, None, Result, Ok, Err}
 use Rattle.floor_store.specs.Content.{Content, with_next_boot}
 use Rattle.floor_store.specs.Records.{ProposalRecord}
@@ -11,15 +10,15 @@ use Rattle.vote_core.specs.State.{BallotRecord, VoterRecord}
 use Rattle.vote_core.specs.Voting.{VoterState, Voted}
 use Rattle.vote_core.specs.declared.step.Step.{Step}
 
--- a voter that is alone, of no token, at boot 0
+-- a voter of a single node, with no token, at boot 0
 abbrev pub lone_voter : VoterRecord
 lone_voter = record { place = place 1 1; tokens = 0; boot = 0; ballots = []; seq = 0; turn = 0 }
 
--- a ballot of one factor that nobody has answered
+-- a ballot of one factor without answers
 abbrev pub small_ballot : BallotRecord
 small_ballot = record { seq = 0; token = 0; lo = 5; hi = 5; drift = pos 0; age = 0; granting = 0; denying = 0 }
 
--- a step that leaves this content, and nothing else
+-- a step that leaves the given content, and does nothing else
 abbrev pub leaving : Content → VoterState → Voted
 leaving content voter = record { content = content; voter = voter; sends = []; begun = None; decisions = [] }
 
@@ -31,22 +30,22 @@ no_step content voter = leaving content voter
 abbrev pub boot_step : Content → VoterState → Voted
 boot_step content voter = leaving (with_next_boot content) voter
 
--- what a call answers that sends and decides nothing, and has begun this
+-- the result of a call that sends and decides nothing, and began the given proposal
 abbrev pub begins : Option ProposalRecord → Result (Step 1 1) StoreFault
 begins begun = Ok (record { sends = record { items = [] }; begun = begun; decisions = record { items = [] } })
 
--- the first proposal of that voter
+-- the first proposal of the voter
 abbrev pub begun_one : Option ProposalRecord
 begun_one = Some (proposal 1 0 0)
 
--- a call that met a failure of the disk
+-- the result of a call that met a disk failure
 abbrev pub disk_failed : Result (Step 1 1) StoreFault
 disk_failed = Err Disk
 
--- nodes that open, each at the boot of its number, while these messages are on their way
+-- an opening of nodes, each at the boot of its number, with the given messages on their way
 abbrev pub opening_with : List Envelope → Opening
 opening_with old = record { boot = λ node. node; floor = own_floors; old = old }
 
--- a store is made for the node
+-- the replacement of the node's store
 abbrev pub replaced : ℕ → Event
 replaced node = Replaced node 2 (λ token. 0)

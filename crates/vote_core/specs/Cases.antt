@@ -1,4 +1,4 @@
--- What is seen of a step and of a cluster, and written-out contents, voters and members that they start from.
+-- Views of a step and of a cluster, and the contents, voters and members of worked cases.
 use Rattle.std.specs.Prelude.{ℕ, ℤ, pos, negsuc, zero, suc, ◌+◌, ◌==◌, nat_lt, Bool, true, false, ◌||◌, ◌&&◌, List, [], ◌∷◌, map, Option, Some, None, if◌then◌else◌, slice_index_or}
 use Rattle.std.specs.List.{filter, flat_map}
 use Rattle.floor_store.specs.Content.{Content}
@@ -11,7 +11,7 @@ use Rattle.vote_core.specs.declared.message.Message.{Message}
 use Rattle.vote_core.specs.declared.message.Message.TheVariants.{Ask, Floor, Grant}
 use Rattle.vote_core.specs.declared.step.Decision.{Decision}
 
--- ---- what is seen
+-- ---- views
 
 -- a ballot, with lists of the nodes that have granted and denied it
 pub record BallotView : Type 0 where
@@ -24,13 +24,13 @@ pub record BallotView : Type 0 where
   pub granting : List ℕ
   pub denying : List ℕ
 
--- a voter with such ballots
+-- a voter with views of its ballots
 pub record VoterView : Type 0 where
   pub pending : List BallotView
   pub seq : ℕ
   pub turn : ℕ
 
--- a step that leaves such a voter
+-- a step with a view of the voter that it leaves
 pub record StepView : Type 0 where
   pub content : Content
   pub voter : VoterView
@@ -38,7 +38,7 @@ pub record StepView : Type 0 where
   pub begun : Option ProposalRecord
   pub decisions : List (ℕ × Decision)
 
--- a member with such a voter
+-- a member with a view of its voter
 pub record MemberView : Type 0 where
   pub content : Content
   pub voter : VoterView
@@ -52,16 +52,16 @@ pub record ClusterView : Type 0 where
   pub begun : List (ProposalRecord × Begun)
   pub accepted : List Acceptance
 
--- the set of these nodes
+-- the set of the nodes in the list
 abbrev pub set_of : List ℕ → ℕ → Bool
 set_of [] node = false
 set_of (first ∷ rest) node = (node == first) || set_of rest node
 
--- the nodes of a set, of those from 0 to 6
+-- the nodes from 0 to 6 that are in the set
 abbrev pub nodes_in : (ℕ → Bool) → List ℕ
 nodes_in set = filter set (0 ∷ 1 ∷ 2 ∷ 3 ∷ 4 ∷ 5 ∷ 6 ∷ [])
 
--- the ballot that is seen so
+-- the ballot of a view
 abbrev pub ballot_seen : BallotView → Ballot
 ballot_seen view = record {
   seq = view.seq;
@@ -74,7 +74,7 @@ ballot_seen view = record {
   denying = set_of view.denying;
 }
 
--- what is seen of a ballot
+-- the view of a ballot
 abbrev pub ballot_view : Ballot → BallotView
 ballot_view ballot = record {
   seq = ballot.seq;
@@ -87,15 +87,15 @@ ballot_view ballot = record {
   denying = nodes_in ballot.denying;
 }
 
--- the voter that is seen so
+-- the voter of a view
 abbrev pub voter_seen : VoterView → VoterState
 voter_seen view = record { pending = map ballot_seen view.pending; seq = view.seq; turn = view.turn }
 
--- what is seen of a voter
+-- the view of a voter
 abbrev pub voter_view : VoterState → VoterView
 voter_view voter = record { pending = map ballot_view voter.pending; seq = voter.seq; turn = voter.turn }
 
--- what is seen of a step
+-- the view of a step
 abbrev pub step_view : Voted → StepView
 step_view step = record {
   content = step.content;
@@ -105,30 +105,30 @@ step_view step = record {
   decisions = step.decisions;
 }
 
--- the member that is seen so
+-- the member of a view
 abbrev pub member_seen : MemberView → Member
 member_seen view = record { content = view.content; voter = voter_seen view.voter; running = view.running }
 
--- what is seen of a member
+-- the view of a member
 abbrev pub member_view : Member → MemberView
 member_view member =
     record { content = member.content; voter = voter_view member.voter; running = member.running }
 
 -- ---- rows, contents, ballots and voters
 
--- the place of a node among so many
+-- the place of a node among `n` members
 abbrev pub place : ℕ → ℕ → PlaceRecord
 place me n = record { me = me; n = n }
 
--- the proposal of that node, boot and number
+-- the proposal of the node, boot and number
 abbrev pub proposal : ℕ → ℕ → ℕ → ProposalRecord
 proposal node boot seq = record { node = node; boot = boot; seq = seq }
 
--- the pass of a token's factors, of that boot and number
+-- the pass of a token's factors, of the boot and number
 abbrev pub pass : ℕ → ℕ → ℕ → ℕ → ℕ → PassRecord
 pass token lo hi boot seq = record { token = token; lo = lo; hi = hi; boot = boot; seq = seq }
 
--- a row that nothing was granted from, with a clear gate
+-- a row without a grant, with a clear gate
 abbrev pub free_row : ℕ → RowRecord
 free_row next = record { next = next; grant = None; gate = record { fails = 0; until = 0 }; drift = pos 0 }
 
@@ -144,11 +144,11 @@ fast_row next by lo hi = record (open_row next by lo hi) { drift = pos 3 }
 abbrev pub with_failures : RowRecord → RowRecord
 with_failures old = record old { gate = record { fails = 2; until = 130 } }
 
--- a row with a grant, after two failures, of a token whose clock is two time steps behind
+-- a row with a grant, after two failures, of a token whose clock is two time steps late
 abbrev pub shut_row : ℕ → ProposalRecord → ℕ → ℕ → RowRecord
 shut_row next by lo hi = record (with_failures (open_row next by lo hi)) { drift = negsuc 1 }
 
--- two rows at boot 7, after that pass
+-- two rows at boot 7, after the given pass
 abbrev pub two_rows : RowRecord → RowRecord → PassRecord → Content
 two_rows first second last = record { rows = first ∷ second ∷ []; boot = 7; last = Some last }
 
@@ -173,7 +173,7 @@ ballot seq token lo hi age granting denying = record {
   denying = denying;
 }
 
--- a voter with these ballots, the next number and the token whose floor is told next
+-- a voter with the ballots, the next number and the token for the next Floor
 abbrev pub voter : List BallotView → ℕ → ℕ → VoterView
 voter pending seq turn = record { pending = pending; seq = seq; turn = turn }
 
@@ -181,46 +181,46 @@ voter pending seq turn = record { pending = pending; seq = seq; turn = turn }
 abbrev pub idle_voter : VoterView
 idle_voter = voter [] 4 1
 
--- the ballot of the fourth proposal of node 1, with these answers
+-- the ballot of the fourth proposal of node 1, with the given answers
 abbrev pub fourth : List ℕ → List ℕ → BallotView
 fourth granting denying = ballot 3 0 5 6 2 granting denying
 
--- the ballot of the fifth
+-- the ballot of the fifth proposal of node 1
 abbrev pub fifth : BallotView
 fifth = ballot 4 1 3 3 0 (1 ∷ []) []
 
--- node 1 with both, after these answers to the former
+-- node 1 with both ballots, after the given answers to the fourth
 abbrev pub asking : List ℕ → List ℕ → VoterView
 asking granting denying = voter (fourth granting denying ∷ fifth ∷ []) 5 1
 
 -- ---- steps
 
--- what is seen of the step in which a node proposes factors of token 0, for a drift of three
+-- the view of the step in which a node proposes factors of token 0, for a drift of three
 abbrev pub proposed_at : PlaceRecord → ℕ → ℕ → Content → VoterView → StepView
 proposed_at place lo hi content voter = step_view (propose place 0 lo hi (pos 3) content (voter_seen voter))
 
--- what is seen of the step of a node that is handed a message
+-- the view of the step of a node that takes a message
 abbrev pub heard_at : PlaceRecord → ℕ → Message → Content → VoterView → StepView
 heard_at place from message content voter = step_view (on_message place from message content (voter_seen voter))
 
--- what node 1 of three, without ballots, makes of an Ask of its node 3 or of another
+-- the view of the step of node 1 of three, without ballots, on an Ask of the node `from`
 abbrev pub asked_by : ℕ → Message → StepView
 asked_by from message = heard_at (place 1 3) from message granted idle_voter
 
--- what node 1 of five makes of a message while it asks, with these answers so far
+-- the view of the step of node 1 of five, which asks and has the given answers, on a message
 abbrev pub heard_of_five : ℕ → Message → List ℕ → List ℕ → StepView
 heard_of_five from message granting denying = heard_at (place 1 5) from message proposed (asking granting denying)
 
--- what node 1 of so many decides on a message while it asks
+-- the decisions of node 1 of `n`, which asks and has the given answers, on a message
 abbrev pub decided_of : ℕ → ℕ → Message → List ℕ → List ℕ → List (ℕ × Decision)
 decided_of n from message granting denying =
     (heard_at (place 1 n) from message proposed (asking granting denying)).decisions
 
--- what is seen of a tick at node 1 of so many
+-- the view of a tick at node 1 of `n`
 abbrev pub ticked_of : ℕ → Content → VoterView → StepView
 ticked_of n content voter = step_view (tick (place 1 n) content (voter_seen voter))
 
--- a step that leaves this, sends these messages, and decides nothing
+-- a step that leaves the content and the voter, sends the messages, and decides nothing
 abbrev pub telling : List (ℕ × Message) → Content → VoterView → StepView
 telling sends content voter =
     record { content = content; voter = voter; sends = sends; begun = None; decisions = [] }
@@ -235,23 +235,23 @@ grant = Grant (proposal 1 7 3) 0 (span_of 5 6)
 abbrev pub is_proposal : ProposalRecord → ProposalRecord → Bool
 is_proposal one other = (one.node == other.node) && ((one.boot == other.boot) && (one.seq == other.seq))
 
--- what a proposal was begun for, by the list of what was begun
+-- the record of a proposal in a list of begun proposals
 abbrev pub begun_of : List (ProposalRecord × Begun) → ProposalRecord → Option Begun
 begun_of [] proposal = None
 begun_of (first ∷ rest) proposal = if is_proposal first.0 proposal then Some first.1 else begun_of rest proposal
 
--- the proposal after which its record is, if it is on record
+-- the proposal beside its record, if it is on record
 abbrev pub on_record : ProposalRecord → Option Begun → List (ProposalRecord × Begun)
 on_record proposal None = []
 on_record proposal (Some begun) = (proposal, begun) ∷ []
 
--- proposals that are near to one another
+-- proposals with close nodes, boots and numbers
 abbrev pub near_proposals : List ProposalRecord
 near_proposals =
     proposal 1 3 3 ∷ proposal 1 3 4 ∷ proposal 1 3 5 ∷ proposal 1 4 4 ∷ proposal 2 3 4 ∷ proposal 1 1 0 ∷ proposal 1 1 1
     ∷ []
 
--- a node that is there in no cluster below
+-- a node that is in none of the clusters below
 abbrev pub outsider : MemberView
 outsider = record {
   content = record { rows = free_row 5 ∷ free_row 0 ∷ []; boot = 8; last = None };
@@ -259,7 +259,7 @@ outsider = record {
   running = true;
 }
 
--- the cluster that is seen so
+-- the cluster of a view
 abbrev pub cluster_seen : ClusterView → Cluster
 cluster_seen view = record {
   n = view.n;
@@ -271,7 +271,7 @@ cluster_seen view = record {
   accepted = view.accepted;
 }
 
--- what is seen of a cluster
+-- the view of a cluster
 abbrev pub cluster_view : Cluster → ClusterView
 cluster_view cluster = record {
   n = cluster.n;
@@ -281,7 +281,7 @@ cluster_view cluster = record {
   accepted = cluster.accepted;
 }
 
--- what a proposal of a token's factors was begun for, and in which event
+-- the record of a proposal: the token, the factors, and the event in which it was begun
 abbrev pub begun : ℕ → ℕ → ℕ → ℕ → Begun
 begun token lo hi event = record { token = token; lo = lo; hi = hi; event = event }
 
@@ -289,17 +289,17 @@ begun token lo hi event = record { token = token; lo = lo; hi = hi; event = even
 abbrev pub envelope : ℕ → ℕ → Message → Envelope
 envelope sender receiver message = record { sender = sender; receiver = receiver; message = message }
 
--- an acceptance by these events, at a node, of a token's factors
+-- an acceptance of a token's factors at a node, with the events in which it began and ended
 abbrev pub accepted : ℕ → ℕ → ℕ → ℕ → ℕ → ℕ → Acceptance
 accepted began ended node token lo hi =
     record { began = began; ended = ended; node = node; token = token; lo = lo; hi = hi }
 
--- a content of two rows at a boot, after a pass of an earlier one
+-- a content of two rows at a boot, after a pass of an earlier boot
 abbrev pub content_at : ℕ → RowRecord → RowRecord → Content
 content_at boot first second =
     record { rows = first ∷ second ∷ []; boot = boot; last = Some (pass 1 9 9 0 1) }
 
--- a content of two rows that was just opened
+-- a content of two rows after the first opening
 abbrev pub new_content : RowRecord → RowRecord → Content
 new_content first second = record { rows = first ∷ second ∷ []; boot = 1; last = None }
 
@@ -307,15 +307,15 @@ new_content first second = record { rows = first ∷ second ∷ []; boot = 1; la
 abbrev pub runner : Content → VoterView → MemberView
 runner content voter = record { content = content; voter = voter; running = true }
 
--- a node that runs no more
+-- a stopped node
 abbrev pub stopped : Content → VoterView → MemberView
 stopped content voter = record { content = content; voter = voter; running = false }
 
--- the content of node 1 at boot 3: it was asked by node 2, and then proposed
+-- the content of node 1 at boot 3, after node 2 asked it and it proposed
 abbrev pub first_content : Content
 first_content = content_at 3 (shut_row 5 (proposal 2 1 0) 4 4) (open_row 1 (proposal 1 3 3) 0 0)
 
--- the same once its proposal is accepted
+-- the content after the acceptance of its proposal
 abbrev pub accepted_content : Content
 accepted_content = record first_content {
   rows = shut_row 5 (proposal 2 1 0) 4 4 ∷ fast_row 1 (proposal 1 3 3) 0 0 ∷ [];
@@ -334,18 +334,18 @@ second_content = content_at 1 (free_row 5) (free_row 0)
 abbrev pub second_voter : VoterView
 second_voter = voter [] 1 1
 
--- a voter that was just opened
+-- a fresh voter
 abbrev pub new_voter : VoterView
 new_voter = voter [] 0 0
 
--- what nodes 1 and 2 have sent: an Ask, a Floor and a Grant
+-- the messages that nodes 1 and 2 have sent: an Ask, a Floor and a Grant
 abbrev pub three_sent : List Envelope
 three_sent =
     envelope 1 2 (Ask (proposal 1 3 3) 1 (span_of 0 0)) ∷ envelope 2 1 (Floor 0 9)
     ∷ envelope 2 1 (Grant (proposal 1 3 3) 1 (span_of 0 0)) ∷ []
 
--- Nodes 1 and 2, after what they have sent: node 2 has accepted factor 4 of token 0, and node 1 asks for factor 0 of
--- token 1 since event 4.
+-- Nodes 1 and 2 after these messages. Node 2 has accepted factor 4 of token 0. Node 1 has asked for factor 0 of token 1
+-- since event 4.
 abbrev pub pair_of : MemberView → MemberView → ClusterView
 pair_of first second = record {
   n = 2;
@@ -355,23 +355,23 @@ pair_of first second = record {
   accepted = accepted 0 1 2 0 4 4 ∷ [];
 }
 
--- both as they are
+-- both nodes, running
 abbrev pub pair : ClusterView
 pair = pair_of (runner first_content first_voter) (runner second_content second_voter)
 
--- the same while node 1 is at another content and voter
+-- both nodes, with another content and voter of node 1
 abbrev pub pair_with : Content → VoterView → ClusterView
 pair_with content voter = pair_of (runner content voter) (runner second_content second_voter)
 
--- the same while node 1 has stopped
+-- both nodes, with node 1 stopped
 abbrev pub stopped_pair : Content → VoterView → ClusterView
 stopped_pair content voter = pair_of (stopped content voter) (runner second_content second_voter)
 
--- what is seen of a cluster after event 7
+-- the view of a cluster after event 7
 abbrev pub after : Event → ClusterView → ClusterView
 after event view = cluster_view (after_event 7 event (cluster_seen view))
 
--- what is seen of a cluster after these events, from event 7 on
+-- the view of a cluster after the events, the first of which is event 7
 abbrev pub after_all : List Event → ClusterView → ClusterView
 after_all events view = cluster_view (run 7 events (cluster_seen view))
 
@@ -383,25 +383,26 @@ begin node token lo hi = Begin node token lo hi (pos 3)
 abbrev pub may_propose : ClusterView → ℕ → ℕ → ℕ → ℕ → Bool
 may_propose view node token lo hi = may_begin (cluster_seen view) node token lo hi
 
--- so many ballots
+-- the given number of ballots
 abbrev pub ballots : ℕ → List BallotView
 ballots zero = []
 ballots (suc count) = ballot count 1 0 0 0 (1 ∷ []) [] ∷ ballots count
 
--- node 1 with so many ballots
+-- node 1 with the given number of ballots
 abbrev pub pair_waiting : ℕ → ClusterView
 pair_waiting count = pair_with first_content (voter (ballots count) 32 0)
 
--- floors that differ at each of nodes 0 to 3 and tokens 0 and 1
+-- floors that differ by node, from 0 to 3, and by token, 0 and 1
 abbrev pub own_floors : ℕ → ℕ → ℕ
 own_floors node token = slice_index_or (0 ∷ 10 ∷ 20 ∷ 30 ∷ []) node 90 + token
 
--- a node alone: a factor, a tick, two factors, a stop that loses the next factor, and after it the same again
+-- a schedule of a single node: one factor, a tick, two factors, a stop that drops the next factor, and the next factor
+-- again
 abbrev pub alone : List Event
 alone =
     Happens (Begin 1 0 10 10 (negsuc 0)) ∷ Happens (Tick 1) ∷ Happens (Begin 1 0 11 12 (pos 3))
     ∷ Cut false (Begin 1 0 13 13 (pos 4)) ∷ Happens (Begin 1 0 13 13 (pos 4)) ∷ []
 
--- A node takes factor 5 of each token in event 1, and the others keep it.
+-- A node takes factor 5 of each token in event 1, and the other nodes keep it.
 abbrev pub taken_at : ℕ → ℕ → ℕ → ℕ → ℕ
 taken_at taker node token event = if (node == taker) && nat_lt 1 event then 6 else 5

@@ -1,5 +1,5 @@
--- How a store numbers its rows is its own affair: each of its numbers has a canonical name, no two the same one. What a
--- voter does over its own numbers is, seen through the names, what it would do over the canonical ones.
+-- The numbers that a store gives to its own rows: each has a canonical name, and no two share one. The names turn the
+-- steps of a voter over its own numbers into steps over canonical numbers.
 use Rattle.std.specs.Prelude.{◌≡◌, ℕ, ◌<◌, ◌++◌, [], ◌∷◌, List, length, map, nat_lt, if◌then◌else◌, Some, slice_get, option_map}
 use Rattle.floor_store.specs.Content.{Content, opening_row}
 use Rattle.floor_store.specs.Records.{PassRecord}
@@ -10,14 +10,14 @@ use Rattle.vote_core.specs.declared.message.Message.TheVariants.{Ask, Grant, Den
 use Rattle.vote_core.specs.declared.step.Decision.{Decision}
 use Rattle.vote_core.specs.declared.step.Decision.TheVariants.{Accepted, Spent, Timeout}
 
--- a message under its token's name
+-- a message with its token's name
 abbrev pub named_message : (ℕ → ℕ) → Message → Message
 named_message name (Ask proposal token span) = Ask proposal (name token) span
 named_message name (Grant proposal token span) = Grant proposal (name token) span
 named_message name (Deny proposal token next) = Deny proposal (name token) next
 named_message name (Floor token next) = Floor (name token) next
 
--- the same of what is sent, of a ballot, a pass and a decision
+-- a message with its receiver, a ballot, a pass and a decision, each with its token's name
 abbrev pub named_send : (ℕ → ℕ) → ℕ × Message → ℕ × Message
 named_send name send = (send.0, named_message name send.1)
 
@@ -35,7 +35,7 @@ named_decision name Timeout = Timeout
 abbrev pub named_made : (ℕ → ℕ) → ℕ × Decision → ℕ × Decision
 named_made name made = (made.0, named_decision name made.1)
 
--- the store's own rows are those of the canonical content under their names
+-- the store's own rows are rows of the canonical content, under their names
 pub record IsNamed (name : ℕ → ℕ) (own canonical : Content) : Type 0 where
   pub one : (j k : ℕ) → j < length own.rows → k < length own.rows → name j ≡ name k → j ≡ k
   pub there : (k : ℕ) → k < length own.rows → name k < length canonical.rows
@@ -44,13 +44,13 @@ pub record IsNamed (name : ℕ → ℕ) (own canonical : Content) : Type 0 where
   pub last : canonical.last ≡ option_map (named_pass name) own.last
   pub last_known : (pass : PassRecord) → own.last ≡ Some pass → pass.token < length own.rows
 
--- the same of a voter over so many rows; whose turn it is to be told is its own affair
+-- a voter over `tokens` rows and its canonical counterpart, which may differ in the token of the next Floor
 pub record IsNamedVoter (name : ℕ → ℕ) (tokens : ℕ) (own canonical : VoterState) : Type 0 where
   pub known : (i : ℕ) (ballot : Ballot) → slice_get own.pending i ≡ Some ballot → ballot.token < tokens
   pub pending : canonical.pending ≡ map (named_ballot name) own.pending
   pub seq : canonical.seq ≡ own.seq
 
--- the same of a step of a voter over so many rows
+-- a step of a voter over `tokens` rows and its canonical counterpart
 pub record IsNamedStep (name : ℕ → ℕ) (tokens : ℕ) (own canonical : Voted) : Type 0 where
   pub size : length own.content.rows ≡ tokens
   pub content : IsNamed name own.content canonical.content
@@ -59,16 +59,16 @@ pub record IsNamedStep (name : ℕ → ℕ) (tokens : ℕ) (own canonical : Vote
   pub begun : canonical.begun ≡ own.begun
   pub decisions : canonical.decisions ≡ map (named_made name) own.decisions
 
--- the names of the turn's token, if there is one
+-- the name of the turn's token, if it has a row
 abbrev pub named_turn : (ℕ → ℕ) → Content → VoterState → List ℕ
 named_turn name content voter =
     if nat_lt voter.turn (length content.rows) then name voter.turn ∷ [] else []
 
--- the store with one row more
+-- the store with another row
 abbrev pub with_new_row : ℕ → Content → Content
 with_new_row floor content = record content { rows = content.rows ++ opening_row floor ∷ [] }
 
--- the canonical content with that row, and all else as it was
+-- the canonical content with the new row, and otherwise unchanged
 pub record HasNewRow (name : ℕ → ℕ) (floor : ℕ) (own old new : Content) : Type 0 where
   pub apart : (k : ℕ) → k < length own.rows → name k ≡ name (length own.rows) → ⊥
   pub there : name (length own.rows) < length new.rows

@@ -1,15 +1,16 @@
--- A book that changes while the cluster serves: tokens are enrolled at one member after another, in any order, while
--- the others go on.
+-- A book that changes while the cluster serves: members enrol tokens one after another, in any order, while the others
+-- serve.
 --
--- A token's number is its canonical name here: one number for one identity of a token, the same at each member, and
--- never one number for two. How a store numbers its own rows is another matter.
+-- Floor: the first free factor of a token at a node. A token's number is its canonical name here: one number for one
+-- identity, the same at each member, and never one number for two. Numbers.antt has the numbers that a store gives to
+-- its own rows.
 --
--- In the cluster each member has a row for every token. `enrolled` says of which tokens the member's store really has
--- one. The row of a token that is not enrolled is a bound: its first free factor is the least with which the token may
--- be enrolled there. A member neither proposes nor answers nor tells such a token, and drops what comes about it.
+-- In the cluster each member has a row for every token. `enrolled` says for which tokens the member's store really has
+-- one. The row of a token that is not enrolled is a bound: its floor is the least that an enrolment there may give. A
+-- member neither proposes nor tells a token that it has not enrolled, and drops messages about it.
 --
--- Each deed is an act of the schedule, or idleness where the roster does not allow it. To retire a token is no event:
--- its row stays in the store, and the member does nothing with it any more. To take it back is none either.
+-- Each action is an act of the schedule, or idleness if the roster doesn't allow it. Retiring a token is no event: its
+-- row stays in the store, and the member no longer uses it. Taking a retired token back is no event either.
 use Rattle.std.specs.Prelude.{◌≡◌, ℕ, ℤ, suc, ◌==◌, nat_le, Bool, true, false, not, ◌&&◌, ◌||◌, if◌then◌else◌, List, [], ◌∷◌, take, Option, Some, None, slice_get, ◌≤◌, ◌<◌}
 use Rattle.std.specs.List.{filter}
 use Rattle.otp_core.specs.Acceptance.{Acceptance}
@@ -19,14 +20,14 @@ use Rattle.vote_core.specs.Schedule.{Envelope, Cluster, Act, Begin, Deliver, Tic
 use Rattle.vote_core.specs.declared.message.Message.{Message}
 use Rattle.vote_core.specs.declared.message.Message.TheVariants.{Ask, Grant, Deny, Floor}
 
--- a cluster, and by the node which tokens are enrolled at it
+-- a cluster, and the tokens enrolled at each node
 pub record Roster : Type 0 where
   pub cluster : Cluster
   pub enrolled : ℕ → ℕ → Bool
 
--- A deed of a node. Ticks and Tells say which floors are told, of those that are enrolled; any of them, and none.
--- Enrols: the store gets rows for those of the given tokens that it has not, each with this first free factor. The
--- node may be stopped or run; a node that has to be stopped for it restarts afterwards.
+-- An action of a node. Ticks and Tells list tokens, and the node tells the floors of the enrolled ones among them.
+-- Enrols: the store gets rows for the given tokens without a row, each with the given floor. The node may be stopped or
+-- running; a node that has to stop for it restarts afterwards.
 pub data Deed : Type 0 where
   Proposes : (node token lo hi : ℕ) (drift : ℤ) → Deed
   Hears : (number : ℕ) → Deed
@@ -36,7 +37,7 @@ pub data Deed : Type 0 where
   Enrols : (node : ℕ) (given : ℕ → Bool) (floor : ℕ → ℕ) → Deed
   Rests : (node : ℕ) → Deed
 
--- Renews: a store is made anew for a lost node, with rows for the given tokens, each with this first free factor.
+-- Renews: the lost node gets a replacement store with rows for the given tokens, each with the given floor.
 pub data Happening : Type 0 where
   Does : (deed : Deed) → Happening
   Stops : (kept : Bool) (deed : Deed) → Happening
@@ -44,28 +45,28 @@ pub data Happening : Type 0 where
   Loses : (node : ℕ) → Happening
   Renews : (node boot : ℕ) (given : ℕ → Bool) (floor : ℕ → ℕ) → Happening
 
--- the token that a message is about
+-- the token of a message
 abbrev pub token_of : Message → ℕ
 token_of (Ask proposal token span) = token
 token_of (Grant proposal token span) = token
 token_of (Deny proposal token next) = token
 token_of (Floor token next) = token
 
--- the act in which an envelope comes: what is about a token that the receiver does not know is dropped
+-- the act in which an envelope arrives; the receiver drops a message about a token that it hasn't enrolled
 abbrev pub act_of_hearing : Roster → ℕ → Option Envelope → Act
 act_of_hearing roster number None = Deliver number
 act_of_hearing roster number (Some envelope) =
     if roster.enrolled envelope.receiver (token_of envelope.message) then Deliver number else Idle envelope.receiver
 
--- The token is enrolled by this: it is given and not enrolled yet, and its floor is not below the bound. A token that is
--- enrolled keeps its row, also one that the node retired.
+-- The action enrols the token: the token is given and not enrolled yet, and its floor is not below the bound. An
+-- enrolled token keeps its row, even if the node retired it.
 abbrev pub is_new : Roster → ℕ → (ℕ → Bool) → (ℕ → ℕ) → ℕ → Bool
 is_new roster node given floor token =
     given token
     && (not (roster.enrolled node token)
     && nat_le (row (roster.cluster.nodes node).content token).next (floor token))
 
--- the act of the schedule that a deed is
+-- the act of the schedule for an action
 abbrev pub act_of : Roster → Deed → Act
 act_of roster (Proposes node token lo hi drift) =
     if roster.enrolled node token then Begin node token lo hi drift else Idle node
@@ -78,11 +79,11 @@ act_of roster (Enrols node given floor) =
     Raise node (λ token. if is_new roster node given floor token then floor token else 0)
 act_of roster (Rests node) = Idle node
 
--- the first free factors of a store that is made anew: where a token is not given, the bound that holds for it
+-- the floors of a replacement store; a token that isn't given keeps the bound that holds for it
 abbrev pub renewed_floor : Cluster → (ℕ → Bool) → (ℕ → ℕ) → ℕ → ℕ
 renewed_floor cluster given floor token = if given token then floor token else cluster.least token
 
--- the event of the schedule that happens
+-- the event of the schedule
 abbrev pub event_of : Roster → Happening → Event
 event_of roster (Does deed) = Happens (act_of roster deed)
 event_of roster (Stops kept deed) = Cut kept (act_of roster deed)
@@ -91,11 +92,11 @@ event_of roster (Loses node) = Lost node
 event_of roster (Renews node boot given floor) =
     Replaced node boot (renewed_floor roster.cluster given floor)
 
--- the tokens by the node, with these at this one
+-- the tokens by node, with other tokens at the node `changed`
 abbrev pub with_tokens : ℕ → (ℕ → Bool) → (ℕ → ℕ → Bool) → ℕ → ℕ → Bool
 with_tokens changed tokens enrolled node = if node == changed then tokens else enrolled node
 
--- what is enrolled after a deed that was kept
+-- the tokens enrolled after an action that was kept
 abbrev pub enrolled_by : Roster → Deed → ℕ → ℕ → Bool
 enrolled_by roster (Proposes node token lo hi drift) = roster.enrolled
 enrolled_by roster (Hears number) = roster.enrolled
@@ -108,7 +109,7 @@ enrolled_by roster (Enrols node given floor) =
     else roster.enrolled
 enrolled_by roster (Rests node) = roster.enrolled
 
--- what is enrolled after what happens; at a lost node what was enrolled stays named until its store is made anew
+-- the tokens enrolled after an event; a lost node keeps its list until its store is replaced
 abbrev pub enrolled_after : Roster → Happening → ℕ → ℕ → Bool
 enrolled_after roster (Does deed) = enrolled_by roster deed
 enrolled_after roster (Stops true deed) = enrolled_by roster deed
@@ -120,41 +121,41 @@ enrolled_after roster (Renews node boot given floor) =
     then with_tokens node given roster.enrolled
     else roster.enrolled
 
--- the roster after what happens in the event of that number
+-- the roster after the event of the given number
 abbrev pub after_happening : ℕ → Happening → Roster → Roster
 after_happening event happening roster = record {
   cluster = after_event event (event_of roster happening) roster.cluster;
   enrolled = enrolled_after roster happening;
 }
 
--- the roster after all of this, the first of which has this number
+-- the roster after the events, the first of which has the given number
 unfoldable pub serve : ℕ → List Happening → Roster → Roster
 serve first [] roster = roster
 serve first (happening ∷ more) roster = serve (suc first) more (after_happening first happening roster)
 
--- Members that open so, with these tokens enrolled by the node. What the opening says of the floor of another token is
--- its bound.
+-- A roster after its opening, with the tokens enrolled at each node. The opening's floor of any other token is its
+-- bound.
 abbrev pub opened : ℕ → ℕ → Opening → (ℕ → ℕ → Bool) → Roster
 opened n tokens opening enrolled = record { cluster = start n tokens opening; enrolled = enrolled }
 
--- the roster after all of this
+-- the roster after its opening and the events
 abbrev pub served : ℕ → ℕ → Opening → (ℕ → ℕ → Bool) → List Happening → Roster
 served n tokens opening enrolled happenings = serve 0 happenings (opened n tokens opening enrolled)
 
--- all that is accepted
+-- all acceptances
 abbrev pub taken : ℕ → ℕ → Opening → (ℕ → ℕ → Bool) → List Happening → List Acceptance
 taken n tokens opening enrolled happenings = (served n tokens opening enrolled happenings).cluster.accepted
 
--- all that is sent
+-- all messages sent
 abbrev pub posted : ℕ → ℕ → Opening → (ℕ → ℕ → Bool) → List Happening → List Envelope
 posted n tokens opening enrolled happenings = (served n tokens opening enrolled happenings).cluster.sent
 
--- the first free factor that the node has of the token before the event of that number
+-- the floor that the node has of the token before the event of the given number
 abbrev pub free_before : ℕ → ℕ → Opening → (ℕ → ℕ → Bool) → List Happening → ℕ → ℕ → ℕ → ℕ
 free_before n tokens opening enrolled happenings node token event =
     (row ((served n tokens opening enrolled (take event happenings)).cluster.nodes node).content token).next
 
--- the deed is the proposal that the acceptance is of
+-- the action is the proposal of the acceptance
 abbrev pub IsDeedOf : Acceptance → Deed → Type 0
 IsDeedOf acceptance (Proposes node token lo hi drift) =
     (node ≡ acceptance.node) × (token ≡ acceptance.token) × (lo ≡ acceptance.lo) × (hi ≡ acceptance.hi)
@@ -165,7 +166,7 @@ IsDeedOf acceptance (Throttles node token gate) = ⊥
 IsDeedOf acceptance (Enrols node given floor) = ⊥
 IsDeedOf acceptance (Rests node) = ⊥
 
--- what happens is that deed, whose change was kept
+-- the event is the proposal of the acceptance, and its change was kept
 abbrev pub IsDoneIn : Acceptance → Option Happening → Type 0
 IsDoneIn acceptance None = ⊥
 IsDoneIn acceptance (Some (Does deed)) = IsDeedOf acceptance deed
@@ -175,49 +176,49 @@ IsDoneIn acceptance (Some (Reopens node)) = ⊥
 IsDoneIn acceptance (Some (Loses node)) = ⊥
 IsDoneIn acceptance (Some (Renews node boot given floor)) = ⊥
 
--- each was proposed in the event where it began
+-- each acceptance was proposed in the event in which it began
 abbrev pub AreDone : List Happening → List Acceptance → Type 0
 AreDone happenings accepted =
     (i : ℕ) (acceptance : Acceptance) → slice_get accepted i ≡ Some acceptance
     → IsDoneIn acceptance (slice_get happenings acceptance.began)
 
--- no store is made for the node in these events, from the first to before the later
+-- no event from `first` to before `later` replaces the node's store
 abbrev pub SparesStore : List Happening → ℕ → ℕ → ℕ → Type 0
 SparesStore happenings node first later =
     (event boot : ℕ) (given : ℕ → Bool) (floor : ℕ → ℕ) → first ≤ event → event < later
     → slice_get happenings event ≡ Some (Renews node boot given floor) → ⊥
 
--- Each store that is made anew gets all that any other member, whose store is there, has enrolled then.
+-- Each replacement store gets every token that another member with a store has enrolled at the time.
 abbrev pub AreGivenAll : ℕ → ℕ → Opening → (ℕ → ℕ → Bool) → List Happening → Type 0
 AreGivenAll n tokens opening enrolled happenings =
     (event node boot : ℕ) (given : ℕ → Bool) (floor : ℕ → ℕ) → slice_get happenings event ≡ Some (Renews node boot given floor)
     → (other token : ℕ) → has_store (served n tokens opening enrolled (take event happenings)).cluster other ≡ true
     → (served n tokens opening enrolled (take event happenings)).enrolled other token ≡ true → given token ≡ true
 
--- nothing is said of the floors of tokens that are not enrolled as the members open
+-- no opening bound for the tokens that aren't enrolled
 abbrev pub AreUnbound : Opening → (ℕ → ℕ → Bool) → Type 0
 AreUnbound opening enrolled = (node token : ℕ) → enrolled node token ≡ false → opening.floor node token ≡ 0
 
--- where the deed or the store gives the token, its floor is at least this
+-- if the event gives the token, its floor is at least `least`
 abbrev pub IsGivenFrom : ℕ → ℕ → Happening → Type 0
 IsGivenFrom token least (Does (Enrols node given floor)) = given token ≡ true → least ≤ floor token
 IsGivenFrom token least (Stops kept (Enrols node given floor)) = given token ≡ true → least ≤ floor token
 IsGivenFrom token least (Renews node boot given floor) = given token ≡ true → least ≤ floor token
 IsGivenFrom token least happening = Unit {0}
 
--- the token is enrolled with no floor below this, as the members open or later
+-- the token is enrolled with no floor below `least`, at the opening or later
 abbrev pub IsEnrolledFrom : ℕ → ℕ → Opening → (ℕ → ℕ → Bool) → List Happening → Type 0
 IsEnrolledFrom token least opening enrolled happenings =
     ((node : ℕ) → enrolled node token ≡ true → least ≤ opening.floor node token)
     × ((event : ℕ) (happening : Happening) → slice_get happenings event ≡ Some happening → IsGivenFrom token least happening)
 
--- ---- a book that stays as it is
+-- ---- a book that never changes
 
--- every token is enrolled at every member
+-- every token, enrolled at every member
 abbrev pub all_tokens : ℕ → ℕ → Bool
 all_tokens node token = true
 
--- The deed that an act is where all tokens are enrolled: a tick tells the floor of the turn's token. Nothing is left to
+-- The action of an act when all tokens are enrolled: a tick tells the floor of the turn's token. Nothing is left to
 -- enrol.
 abbrev pub deed_of : Cluster → Act → Deed
 deed_of cluster (Begin node token lo hi drift) = Proposes node token lo hi drift
@@ -229,7 +230,7 @@ deed_of cluster (TickTelling node told) = Ticks node told
 deed_of cluster (Tell node told) = Tells node told
 deed_of cluster (Raise node floor) = Rests node
 
--- what happens in an event where all tokens are enrolled
+-- the event of a roster for an event of the schedule when all tokens are enrolled
 abbrev pub happening_of : Cluster → Event → Happening
 happening_of cluster (Happens act) = Does (deed_of cluster act)
 happening_of cluster (Cut kept act) = Stops kept (deed_of cluster act)
@@ -237,13 +238,13 @@ happening_of cluster (Restart node) = Reopens node
 happening_of cluster (Lost node) = Loses node
 happening_of cluster (Replaced node boot floor) = Renews node boot (λ token. true) floor
 
--- what happens in these events from the cluster on, the first of which has this number
+-- the events of a roster for the events of the schedule from the cluster on, the first of which has the given number
 unfoldable pub happenings_of : ℕ → List Event → Cluster → List Happening
 happenings_of first [] cluster = []
 happenings_of first (event ∷ events) cluster =
     happening_of cluster event ∷ happenings_of (suc first) events (after_event first event cluster)
 
--- the event raises no floors, as no event does over a book that stays as it is
+-- the event raises no floors; no event does over a book that never changes
 abbrev pub RaisesNone : Event → Type 0
 RaisesNone (Happens (Raise node floor)) = ⊥
 RaisesNone (Cut kept (Raise node floor)) = ⊥

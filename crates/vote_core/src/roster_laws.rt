@@ -15,8 +15,10 @@ ghost use Rattle.vote_core.specs.Schedule.{Envelope, Event, has_store, Opening, 
 ghost use Rattle.vote_core.specs.Voting.{on_message, propose, tell, tick, tick_telling, VoterState};
 ghost use Rattle.vote_core.specs.declared.message.Message.{Message};
 
-/// Whatever happens to `n` nodes that open so, each with tokens of its own, and with tokens enrolled at one node after
-/// another while the others serve: what they accept is safe.
+/// Safety of votes over a roster: in every schedule of `n` nodes, acceptances are safe.
+///
+/// Each node opens with tokens of its own. A schedule may enrol tokens at one node after another while the others
+/// serve.
 pub fn votes_over_a_roster_are_safe()
     ensures single_use { (n tokens : ℕ) (opening : Opening) (enrolled : ℕ → ℕ → Bool) (happenings : List Happening)
         → MayOpen n tokens opening → HaveSingleUse (taken n tokens opening enrolled happenings) }
@@ -37,8 +39,11 @@ pub fn votes_over_a_roster_are_safe()
         → AreFrom token least (taken n tokens opening enrolled happenings) }
 {}
 
-/// The first free factors of nodes of which each majority has one tell all that was accepted, and what is read of a
-/// node stays at least so great, as long as no store is made for it.
+/// Floors over a roster tell all: no acceptance is missing from the floors of enough nodes, read after all events.
+///
+/// Floor: the first free factor of a token at a node. If each majority has a node that was read, the greatest floor
+/// read of a token lies above each of its accepted factors. The floor of a node never falls while nobody replaces its
+/// store.
 pub fn floors_over_a_roster_tell_all()
     ensures rise { (n tokens : ℕ) (opening : Opening) (enrolled : ℕ → ℕ → Bool) (happenings : List Happening)
         → MayOpen n tokens opening
@@ -51,16 +56,19 @@ pub fn floors_over_a_roster_tell_all()
         (taken n tokens opening enrolled happenings) }
 {}
 
-/// Each message that was sent goes to a member, comes from another one and fits the receiver's voter, once its token is
-/// enrolled there.
+/// Delivery over a roster: each message sent goes to a member, comes from another member, and fits the receiver's
+/// voter.
+///
+/// The receiver may take it after it has enrolled the message's token.
 pub fn messages_over_a_roster_may_be_heard()
     ensures { (n tokens : ℕ) (opening : Opening) (enrolled : ℕ → ℕ → Bool) (happenings : List Happening)
         → MayOpen n tokens opening → AreDeliverable n tokens (posted n tokens opening enrolled happenings) }
 {}
 
-/// A row of a token that is not enrolled at a node is a bound and no more. To enrol the token makes it an opening row of
-/// the floor that is given. Where each store that is made anew gets all that another member has, there is no bound: a
-/// token may be enrolled with any floor wherever it is not.
+/// Free enrolment: the row of a token that is not enrolled at a node is only a bound on its floor.
+///
+/// Enrolling the token makes the row an opening row with the given floor. If each replacement store gets every token
+/// that another member has, there is no bound: a token may be enrolled with any floor.
 pub fn enrolments_are_free()
     ensures untouched { (n tokens : ℕ) (opening : Opening) (enrolled : ℕ → ℕ → Bool) (happenings : List Happening)
         → (node token : ℕ) → (served n tokens opening enrolled happenings).enrolled node token ≡ false
@@ -79,8 +87,9 @@ pub fn enrolments_are_free()
         → row ((served n tokens opening enrolled happenings).cluster.nodes node).content token ≡ opening_row 0 }
 {}
 
-/// A schedule over a book that stays as it is is one of rosters, event by event: all tokens are enrolled at all members,
-/// and each tick tells the floor of its turn.
+/// Fixed books: a schedule over a book that never changes is a schedule of rosters, event by event.
+///
+/// All tokens are enrolled at all members, and each tick tells the floor of its turn's token.
 pub fn fixed_books_are_rosters()
     ensures tick { (place : PlaceRecord) (content : Content) (voter : VoterState)
         → tick place content voter ≡ tick_telling place (voter.turn ∷ []) content voter }
@@ -89,8 +98,10 @@ pub fn fixed_books_are_rosters()
         ≡ run 0 events (start n tokens opening) }
 {}
 
-/// What a voter does over its own numbers of tokens is, under their canonical names, what it would do over these. A tick
-/// tells the name of the turn's token. The rows of all other tokens stay as they are.
+/// Own numbers: the actions of a voter over its own token numbers are, under canonical names, its actions over these
+/// names.
+///
+/// A tick tells the name of the turn's token. The rows of all other tokens stay unchanged.
 pub fn own_numbers_are_names()
     ensures proposed { (name : ℕ → ℕ) (place : PlaceRecord) (own canonical : Content) (voter named : VoterState)
         → IsNamed name own canonical → IsNamedVoter name (length own.rows) voter named
@@ -118,7 +129,7 @@ pub fn own_numbers_are_names()
         → row (on_message place from message content voter).content other ≡ row content other }
 {}
 
-/// Some rosters, worked through: what is accepted, and how many messages are sent.
+/// Worked cases.
 pub fn rosters_are_worked()
     ensures dropped { outcome_over dropped_where_unknown ≡ record { accepted = acceptance 2 5 1 0 ∷ []; sent = 3 } }
     ensures higher { outcome_over enrolled_higher ≡ record { accepted = acceptance 3 7 1 0 ∷ []; sent = 4 } }
@@ -137,8 +148,9 @@ pub fn rosters_are_worked()
     ensures stopped { outcome_over stopped_enrolments ≡ record { accepted = []; sent = 2 } }
 {}
 
-/// Members open without tokens, and each numbers the rows of its store as it likes: rows are added while the others
-/// serve. What they accept and send, under the tokens' names, is what comes of a roster; so it is safe.
+/// Safety over own books: under the tokens' names, acceptances and messages belong to a roster, and so they are safe.
+///
+/// Members open without tokens. Each numbers the rows of its store in any order, and adds rows while the others serve.
 pub fn own_books_are_safe()
     ensures single_use { (n tokens : ℕ) (boot : ℕ → ℕ) (old : List Envelope) (courses : List Course)
         → MayOpen n tokens (blank_opening boot old)
@@ -185,7 +197,7 @@ pub fn own_books_are_safe()
         (happenings_by 0 courses (blank_books n tokens boot old)) }
 {}
 
-/// Some books, worked through: what is accepted, by names, and how many messages are sent.
+/// Worked cases.
 pub fn books_are_worked()
     ensures crossed { outcome_in crossed_both ≡ record { accepted = accepted 4 7 1 0 0 0 ∷ accepted 8 10 2 1 3 3 ∷ []; sent = 6 } }
     ensures again { outcome_in crossed_again ≡ record { accepted = accepted 4 7 1 0 0 0 ∷ []; sent = 3 } }

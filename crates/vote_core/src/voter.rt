@@ -1,4 +1,6 @@
-//! A voter: what the messages of the others and its own proposals make of its store.
+//! A member's voter, which changes its store by its own proposals and the messages of the others.
+//!
+//! Floor: the first free factor of a token at a node.
 
 ghost use Rattle.std.specs.List.{list_any};
 ghost use Rattle.std.specs.Prelude.{◌≡◌, ◌<◌, ◌≤◌, ◌^◌, ◌==◌, ◌↔◌, Err, length, IfOk, IsFalse, IsTrue};
@@ -62,7 +64,7 @@ impl Model for Voter {
 }
 
 impl Voter {
-    /// A voter of a new boot: nothing waits, and the floor of token 0 is told first.
+    /// Opens a voter in a new boot. No proposal is pending, and the next tick tells the floor of token 0.
     pub fn open<S: FloorStore>(store: &mut S, place: Place) -> Result<Voter, StoreFault>
         ensures opened { IfOk result (λ voter. voter_of voter ≡ fresh_voter) }
         ensures place { IfOk result (λ voter. voter.place ≡ place) }
@@ -80,14 +82,14 @@ impl Voter {
         })
     }
 
-    /// Its place among the members.
+    /// Returns the node's place among the members.
     pub fn place(&self) -> Place
         ensures { result ≡ self.now.place }
     {
         self.place
     }
 
-    /// The boot that it was opened with.
+    /// Returns the boot that the voter was opened with.
     pub fn boot(&self) -> u64
         ensures value { result ≡ self.now.boot }
         ensures range { IsCount result }
@@ -95,7 +97,7 @@ impl Voter {
         self.boot
     }
 
-    /// How many tokens the store had then.
+    /// Returns the number of tokens that the store had when the voter was opened.
     pub fn tokens(&self) -> u32
         ensures value { result ≡ self.now.tokens }
         ensures range { result ≤ 10000 }
@@ -103,8 +105,10 @@ impl Voter {
         self.tokens
     }
 
-    /// Whether the message may be handed in: it comes from another member, is for a token that is
-    /// there, and is of a proposal of the sender where it asks, of this node where it answers.
+    /// Returns whether `message` from the node `from` may go to [`Voter::on_message`].
+    ///
+    /// It must come from another member and be about an existing token. An Ask must be of a proposal of the sender. A
+    /// Grant or a Deny must be of a proposal of this node.
     pub fn fits(&self, from: u8, message: &Message) -> bool
         ensures { IsTrue result
             ↔ (IsOther self.now.place from × FitsVoter self.now.place self.now.tokens from message.now) }
@@ -113,7 +117,7 @@ impl Voter {
         is_other && fits_tokens(self.place, self.tokens, from, *message)
     }
 
-    /// The number of the next proposal, from 0 to 2^62; 2^62 says that none is left.
+    /// Returns the number of the next proposal, from 0 to 2^62. At 2^62 no number is left.
     pub fn next_seq(&self) -> u64
         ensures value { result ≡ self.now.seq }
         ensures range { result ≤ 2 ^ 62 }
@@ -121,14 +125,14 @@ impl Voter {
         self.seq
     }
 
-    /// Whether the proposal of this number waits for votes.
+    /// Returns whether the proposal with the number `seq` is pending.
     pub fn is_pending(&self, seq: u64) -> bool
         ensures { result ≡ list_any (λ ballot. ballot.seq == seq) self.now.ballots }
     {
         self.ballots.iter().any(|ballot| ballot.seq() == seq)
     }
 
-    /// How many proposals wait for votes.
+    /// Returns the number of pending proposals.
     pub fn pending(&self) -> usize
         ensures value { result ≡ length self.now.ballots }
         ensures range { result ≤ 32 }
@@ -136,7 +140,7 @@ impl Voter {
         self.ballots.len()
     }
 
-    /// Whether as many proposals wait as there is room for, `MAX_PENDING`.
+    /// Returns whether `MAX_PENDING` proposals are pending, so that there is no room for another.
     pub fn is_busy(&self) -> bool
         ensures busy { IsTrue result ↔ (length self.now.ballots ≡ 32) }
         ensures room { IsFalse result → length self.now.ballots < 32 }
@@ -144,8 +148,13 @@ impl Voter {
         self.ballots.is_full()
     }
 
-    /// Begins a proposal to use the span up; its acceptance keeps the drift. The node grants it, and
-    /// asks the others; a node alone accepts it.
+    /// Begins a proposal to use up `span`. Its acceptance keeps `drift`.
+    ///
+    /// The node grants the proposal and asks the others. A node alone accepts the proposal at once.
+    ///
+    /// # Errors
+    /// - Returns `Spent` if no proposal number of this boot is left. Nothing changes.
+    /// - Returns `Store` if the store fails.
     pub fn propose<S: FloorStore>(
         &mut self,
         store: &mut S,
@@ -171,7 +180,7 @@ impl Voter {
         }
     }
 
-    /// What another member sent.
+    /// Takes `message`, which the member `from` sent.
     pub fn on_message<S: FloorStore>(
         &mut self,
         store: &mut S,
@@ -184,13 +193,12 @@ impl Voter {
         ensures { Votes S.held store.old store.new self.old self.new
             (spec_on_message self.old.place from message) result }
     {
-        // At most nine members: the sender has a bit.
+        // There are at most nine members, so the sender has a bit.
         let _members = self.place.n();
         self.hear(store, from, message)
     }
 
-    /// A tick: each proposal is a tick older. The others are asked again, and told the floor of one
-    /// token.
+    /// Makes each pending proposal a tick older. Asks the others again, and tells them the floor of one token.
     pub fn tick<S: FloorStore>(&mut self, store: &mut S) -> Result<TickStep, StoreFault>
         requires { IsStoreOf self.old (S.held store.old) }
         ensures votes { Votes S.held store.old store.new self.old self.new (spec_tick self.old.place) result }
@@ -200,16 +208,18 @@ impl Voter {
     }
 }
 
-/// Whether a vote is on a token that is there, for a proposal of this node.
+/// Returns whether a vote is on an existing token, for a proposal of the node `node`.
 fn fits_vote(tokens: u32, node: u8, proposal: Proposal, token: u32, span: Span) -> bool
     ensures { IsTrue result ↔ FitsVote tokens node proposal token span }
 {
-    // A span is one factor, or two that follow one another.
+    // A span is one factor, or two consecutive ones.
     let _last = span.hi();
     token < tokens && proposal.node() == node
 }
 
-/// Whether the message is for a token that is there, and of a proposal of the node that sends such ones.
+/// Returns whether the message is about an existing token, and its proposal is of the right node.
+///
+/// The right node is the sender for an Ask, and this node for a Grant or a Deny.
 fn fits_tokens(place: Place, tokens: u32, from: u8, message: Message) -> bool
     ensures { IsTrue result ↔ FitsVoter place tokens from message }
 {
