@@ -3,7 +3,7 @@
 use Rattle.std.specs.Prelude.{◌≡◌, ◌≢◌, ℕ, zero, suc, ◌+◌, ◌/◌, ◌<◌, ◌≤◌, Bool, true, List, Some, slice_get, if◌then◌else◌}
 
 -- an accepted submission: the event in which it began, the event in which it was accepted, the node, the token, and
--- the factors lo to hi that it uses up. An event is its place in the list of all events.
+-- the factors lo to hi that it uses up; an event is its place in the list of all events
 pub record Acceptance : Type 0 where
   pub began : ℕ
   pub ended : ℕ

@@ -48,7 +48,7 @@ impl Factor {
     }
 }
 
-/// The floor of a token: its first free factor. 2^62 means that none is left.
+/// The floor of a token: its first free factor. 2^62 means that no factor is left.
 #[derive(Clone, Copy, Debug, PartialEq, Eq, PartialOrd, Ord, Hash)]
 pub struct Next {
     value: u64,
