@@ -68,7 +68,7 @@ pub fn quiet_turns_are_worked()
         ≡ record { quiets = 5; due = 1200 } }
 {}
 
-/// Pace: without a wait there are at most as many quiet turns as intervals, and one at the start.
+/// Pace: the number of quiet turns without a wait is at most the number of elapsed intervals plus one.
 ///
 /// If the receives begin at most an interval apart, there are no fewer.
 pub fn quiet_turns_keep_their_pace()
