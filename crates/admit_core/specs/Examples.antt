@@ -44,11 +44,11 @@ token_with password = token_of password secret_of_20 Event Six Sha1
 abbrev pub checked : Password
 checked = Equal (record { items = codes "pw" })
 
--- that password, as a line gives it
+-- the right password in a line
 abbrev pub right : Option (List ℕ)
 right = Some (codes "pw")
 
--- another one
+-- a wrong password in a line
 abbrev pub wrong : Option (List ℕ)
 wrong = Some (codes "pW")
 
@@ -56,6 +56,6 @@ wrong = Some (codes "pW")
 abbrev pub some_limits : Limits
 some_limits = limits_of 3 1 8
 
--- the same with a drift
+-- a look-ahead of 3, a skew of 1, a range of 8 and the given drift
 abbrev pub drifting : ℕ → Limits
 drifting drift = record some_limits { drift = drift }

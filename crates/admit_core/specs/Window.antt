@@ -1,6 +1,8 @@
--- Which factors a token accepts at a moment: for an event token those from the first free one on (RFC
--- 4226, sections 7.2 and 7.4), for a time token those around the time step at its clock (RFC 6238,
--- sections 5.2 and 6). None below the first free one is accepted (RFC 6238, section 5.2: one time only).
+-- The factors that a token accepts at a moment. Floor: the first free factor of a token at a node.
+--
+-- An event token accepts factors from the floor on (RFC 4226, sections 7.2 and 7.4). A time token accepts factors
+-- around the time step at its clock (RFC 6238, sections 5.2 and 6). No token accepts a factor below the floor (RFC
+-- 6238, section 5.2: one time only).
 use Rattle.std.specs.Prelude.{ℕ, ◌+◌, ◌-◌, ◌^◌, ◌≤◌, ◌↔◌, nat_lt, max, ℤ, pos, negsuc, ◌+ℤ◌, ◌-ℤ◌, ◌≤ℤ◌, List, filter, Option, Some, None}
 use Rattle.std.specs.List.{range_with_len}
 use Rattle.otp_core.specs.Limits.{Limits}
@@ -10,13 +12,13 @@ use Rattle.token_file.specs.declared.token.Kind.{Kind}
 use Rattle.token_file.specs.Credential.{period_of}
 use Rattle.admit_core.specs.Drift.{token_step}
 
--- of an event token: the first free factor, and so many more
+-- the window of an event token: the floor and the next `reach` factors
 pub record IsWithinReach (next reach number : ℕ) : Type 0 where
   pub free : next ≤ number
   pub near : number ≤ next + reach
   pub factor : IsFactor number
 
--- of a time token: free, and at most so many steps before or after the one at its clock
+-- the window of a time token: free, and at most `skew` steps before or after the step at its clock
 pub record IsWithinSkew (next : ℕ) (step : ℤ) (skew number : ℕ) : Type 0 where
   pub free : next ≤ number
   pub recent : step ≤ℤ pos (number + skew)
@@ -29,8 +31,8 @@ pub record IsFactorBetween (first last number : ℕ) : Type 0 where
   pub to : number ≤ last
   pub factor : IsFactor number
 
--- the window by the period of the token, None where it counts events, with the reach that an event token has, for the
--- first free factor and the drift that are stored
+-- the window by the period of the token, None for events, with the reach of an event token, for the stored floor and
+-- drift
 abbrev pub InPeriodWindow : Option ℕ → ℕ → Limits → ℕ → ℤ → ℕ → ℕ → Type 0
 InPeriodWindow None reach limits next drift moment = IsWithinReach next reach
 InPeriodWindow (Some period) reach limits next drift moment =
@@ -40,29 +42,29 @@ InPeriodWindow (Some period) reach limits next drift moment =
 abbrev pub InWindow : Kind → ℕ → Limits → ℕ → ℤ → ℕ → ℕ → Type 0
 InWindow kind = InPeriodWindow (period_of kind)
 
--- the window of one code: an event token has the look-ahead
+-- the window of one code: an event token has the look-ahead as its reach
 abbrev pub InCheckWindow : Kind → Limits → ℕ → ℤ → ℕ → ℕ → Type 0
 InCheckWindow kind limits = InWindow kind limits.look_ahead limits
 
--- the window of two codes in a row: an event token has the range (RFC 4226, section 7.4)
+-- the window of two consecutive codes: an event token has the range as its reach (RFC 4226, section 7.4)
 abbrev pub InResyncWindow : Kind → Limits → ℕ → ℤ → ℕ → ℕ → Type 0
 InResyncWindow kind limits = InWindow kind limits.range limits
 
--- a set is not empty, and it is the numbers from one to another
+-- a nonempty set: the numbers from one to another
 pub record AreEnds (InSet : ℕ → Type 0) (first last : ℕ) : Type 0 where
   pub ordered : first ≤ last
   pub members : (number : ℕ) → InSet number ↔ ((first ≤ number) × (number ≤ last))
 
--- the factors from one number on and below another, ascending
+-- the factors from one number up to but without another, ascending
 abbrev pub factors_below : ℕ → ℕ → List ℕ
 factors_below first end = filter (λ number. nat_lt number (2 ^ 62)) (range_with_len first (end - first))
 
--- a number, or 0 in place of one below 0
+-- the number, or 0 if it is negative
 abbrev pub from_zero : ℤ → ℕ
 from_zero (pos number) = number
 from_zero (negsuc less) = 0
 
--- the free steps around the one at the token's clock, ascending
+-- the free steps around the step at the token's clock, ascending
 abbrev pub skew_numbers : ℕ → ℤ → ℕ → List ℕ
 skew_numbers next step skew =
     factors_below (max next (from_zero (step -ℤ pos skew))) (from_zero (step +ℤ pos (skew + 1)))

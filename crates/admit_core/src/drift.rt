@@ -5,9 +5,10 @@ ghost use Rattle.otp_core.specs.Range.{IsMoment};
 use otp_core::{Drift, Factor, Settings, step};
 use token_file::Token;
 
-/// The drift that an acceptance keeps (RFC 6238, section 6): from the time step of the moment at which its line came
-/// to its last factor, brought to the nearest drift that the settings allow. An event token keeps none. The moment is
-/// in seconds since 1970-01-01 00:00:00 UTC.
+/// Returns the drift that an acceptance keeps (RFC 6238, section 6).
+///
+/// It is `hi` less the time step of `moment`, brought to the nearest drift that the settings allow. An event token
+/// keeps no drift. `moment` is the time at which the line was received, in seconds since 1970-01-01 00:00:00 UTC.
 pub fn drift_after(token: &Token, hi: Factor, moment: u64, settings: &Settings) -> Drift
     requires { IsMoment moment }
     ensures { result ≡ kept_drift token.now.kind settings.now moment hi }

@@ -18,9 +18,10 @@ ghost use Rattle.token_file.specs.Credential.{Credential, period_of};
 ghost use Rattle.token_file.specs.declared.token.Kind.{Kind};
 ghost use Rattle.token_file.specs.declared.token.Password.{Password};
 
-/// The two numbers of a gate are those of the list of results, each failure and each acceptance
-/// changes them as [`Gate::fail`](crate::Gate::fail) and [`Gate::clear`](crate::Gate::clear) do, and
-/// they tell when the token is open.
+/// Gates: the two numbers of a gate tell when the token is open, as the list of results does.
+///
+/// Each failure changes them as [`Gate::fail`](crate::Gate::fail) does, and each acceptance as
+/// [`Gate::clear`](crate::Gate::clear) does.
 pub fn gate_keeps_throttle()
     ensures start { gate_after [] ≡ clear_gate }
     ensures failed { (results : List Result) (moment : ℕ) →
@@ -32,14 +33,14 @@ pub fn gate_keeps_throttle()
         (gate_after results).until - moment ≡ wait_after results moment }
 {}
 
-/// Where each failure came while the token was open, any failures in a row are far apart.
+/// Throttle: k failures in a row span at least 5k(k - 1)/2 seconds, if each came while the token was open and k is at
+/// most 10,000.
 pub fn failures_are_spaced()
     ensures { (results : List Result) → AreGated results → SpacesFailures results }
 {}
 
-/// The first factor of a window's list that fits is the least one of the window that does, and there
-/// is none exactly where nothing in the window fits. It is what the searches find between the ends of
-/// the window.
+/// Smallest fit: the first fit of a window's list is the smallest fit of the window, and exists exactly if something in
+/// the window fits. The searches find it between the ends of the window.
 pub fn least_fit_is_least()
     ensures some { (credential : Credential) (limits : Limits) (next : ℕ) (drift : ℤ) (moment : ℕ)
         (submission : Submission) (lo hi : ℕ) →
@@ -70,7 +71,7 @@ pub fn least_fit_is_least()
         least_fit credential limits next drift moment submission ≡ None }
 {}
 
-/// The windows of event tokens and of time tokens, worked through at their ends.
+/// Worked cases. The windows of event tokens and of time tokens at their ends.
 pub fn windows_are_worked()
     ensures events { window_numbers Kind.Event 10 some_limits 7 (pos 0) 0 ≡ range_with_len 7 11 }
     ensures last_events { window_numbers Kind.Event 10 some_limits 4611686018427387902 (pos 0) 0
@@ -118,8 +119,9 @@ pub fn windows_are_worked()
         × (AreEnds (λ number. number < 5) 1 4 → ⊥) × (AreEnds (λ number. ⊥) 1 0 → ⊥) }
 {}
 
-/// Drifts of time tokens, worked through: the steps at their clocks, the windows around them, one that is empty and one
-/// that begins below 0 among them, and what acceptances keep. An event token has none.
+/// Worked cases. The steps at the clocks of time tokens, the windows around them, and the drifts that acceptances keep.
+///
+/// One window is empty and one begins below 0. An event token has no drift.
 pub fn drifts_are_worked()
     ensures clocks { map (λ drift. token_step (drifting 3) drift 8) (negsuc 9 ∷ negsuc 1 ∷ pos 0 ∷ pos 3 ∷ pos 10 ∷ [])
         ≡ pos 5 ∷ pos 6 ∷ pos 8 ∷ pos 11 ∷ pos 11 ∷ [] }
@@ -149,7 +151,8 @@ pub fn drifts_are_worked()
     ensures no_drift_of_events { kept_drift Kind.Event (drifting 10) 120 3 ≡ pos 0 }
 {}
 
-/// Where the settings allow no drift, every window is the one without a drift, whatever is stored, and nothing is kept.
+/// No drift: if the settings allow no drift, every window is the one without drift, whatever drift is stored, and an
+/// acceptance keeps 0.
 pub fn no_drift_is_as_before()
     ensures window { (kind : Kind) (reach : ℕ) (limits : Limits) (next : ℕ) (drift : ℤ) (moment number : ℕ) →
         limits.drift ≡ 0 → InWindow kind reach limits next drift moment number
@@ -161,7 +164,7 @@ pub fn no_drift_is_as_before()
         limits.drift ≡ 0 → kept_drift kind limits moment hi ≡ pos 0 }
 {}
 
-/// What fits a token, worked through with the codes of the standards: within the window and past each of its ends.
+/// Worked cases. Fits of a token with the codes of the standards, within the window and past each of its ends.
 pub fn fits_are_worked()
     ensures checks { least_fit (token_of_kind Kind.Event) some_limits 0 (pos 0) 0 (Check (codes "755224"))
         ∷ least_fit (token_of_kind Kind.Event) some_limits 0 (pos 0) 0 (Check (codes "969429"))
@@ -209,7 +212,7 @@ pub fn fits_are_worked()
         × (NoneBetween (token_of_kind Kind.Event) 3 3 (Check (codes "969429")) → ⊥) }
 {}
 
-/// The delay of RFC 4226, section 7.3, worked through with 5 seconds.
+/// Worked cases. The delay of RFC 4226, section 7.3, with T = 5 seconds.
 pub fn throttle_is_worked()
     ensures gates { map gate_after ([] ∷ (Failed 100 ∷ []) ∷ (Failed 105 ∷ Failed 100 ∷ [])
         ∷ (Accepted ∷ Failed 100 ∷ []) ∷ (Failed 130 ∷ Accepted ∷ Failed 105 ∷ Failed 100 ∷ []) ∷ [])
@@ -229,7 +232,7 @@ pub fn throttle_is_worked()
         × (AreGated (Accepted ∷ Failed 104 ∷ Failed 100 ∷ []) → ⊥) }
 {}
 
-/// What is promised of an acceptance and of the throttle is broken by the least that is wrong.
+/// Counterexamples: each promise of an acceptance and of the throttle fails for a minimal one.
 pub fn promises_can_be_broken()
     ensures passwords { PasswordFits Password.NoneAllowed None × PasswordFits Password.NotChecked None
         × PasswordFits Password.NotChecked wrong × PasswordFits checked right }

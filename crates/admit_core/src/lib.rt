@@ -1,6 +1,7 @@
-//! What decides whether a submission is admitted: the window of factors, the search for the least
-//! one that fits, the password column, and the gate that slows down guessing (RFC 4226, sections 7.2 to
-//! 7.4; RFC 6238, sections 5.2 and 6). Nothing here takes memory.
+//! The rules for admitting a submission (RFC 4226, sections 7.2 to 7.4; RFC 6238, sections 5.2 and 6).
+//!
+//! The rules are the window of factors, the search for the smallest one that fits, the password column, and the
+//! gate that slows guessing down. No function allocates.
 #![tactic(auto)]
 
 mod drift;

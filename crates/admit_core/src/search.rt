@@ -8,8 +8,9 @@ ghost use Rattle.token_file.specs.Credential.{Credential};
 use otp_core::{Code, Codes, Factor};
 use token_file::Token;
 
-/// The least factor of the window whose code is the one given. The window is its first and its last
-/// factor.
+/// Returns the smallest factor of `window` with the code `given`, or None.
+///
+/// `window` is the first and the last factor.
 pub fn find_check(token: &Token, window: (Factor, Factor), given: &Code) -> Option<Factor>
     ensures least { IfSome result
         (λ factor. IsLeastBetween token.now window.0 window.1 (Check given.now) factor factor) }
@@ -26,8 +27,10 @@ pub fn find_check(token: &Token, window: (Factor, Factor), given: &Code) -> Opti
     None
 }
 
-/// The least factor of the window whose code is the first one given, where the next factor is in
-/// the window too and its code is the second one (RFC 4226, section 7.4). Each code is computed once.
+/// Returns the smallest factor of `window` with the code `given`, if the next factor is in the window and has the code
+/// `given_next` (RFC 4226, section 7.4).
+///
+/// Returns None if there is no such factor. Computes each code once.
 pub fn find_resync(
     token: &Token,
     window: (Factor, Factor),
@@ -56,14 +59,14 @@ pub fn find_resync(
     None
 }
 
-/// The codes of a token, whose key is set up once.
+/// Returns the codes of a token, with its key set up once.
 fn codes_of(token: &Token) -> Codes
     ensures { AreCodesOf result token.now.hash token.now.secret (count_of token.now.digits) }
 {
     Codes::new(token.hash(), token.secret().as_slice(), token.digits())
 }
 
-/// The code of a token at a factor.
+/// Returns the code of a token at a factor.
 #[tactic(auto, unfolding(crate::specs::Fit::code_at))]
 fn code_of(codes: &Codes, factor: Factor) -> Code
     ensures { (credential : Credential) →

@@ -6,13 +6,14 @@ ghost use Rattle.otp_core.specs.Totp.{step_of};
 use otp_core::{Drift, FACTORS_END, Factor, Next, Settings, step};
 use token_file::{Kind, Token};
 
-/// The greatest factor.
+/// The maximum factor.
 const LAST_FACTOR: u64 = FACTORS_END - 1;
 
-/// The first and the last factor that a check may take (RFC 4226, sections 7.2 and 7.4; RFC 6238,
-/// sections 5.2 and 6), or `None` where there is none. A time token's window moves with its clock's drift, which
-/// is first brought to the nearest one that the settings allow. The moment is in seconds since 1970-01-01 00:00:00
-/// UTC.
+/// Returns the first and the last factor that a check may take, or None if there is no such factor (RFC 4226, sections
+/// 7.2 and 7.4; RFC 6238, sections 5.2 and 6).
+///
+/// A time token's window moves with the drift of its clock, which is first brought to the nearest drift that `settings`
+/// allow. `moment` is in seconds since 1970-01-01 00:00:00 UTC.
 pub fn window(
     token: &Token,
     next: Next,
@@ -36,8 +37,10 @@ pub fn window(
     )
 }
 
-/// The first and the last factor that a resynchronization may take (RFC 4226, section 7.4; RFC 6238,
-/// sections 5.2 and 6), or `None` where there is none. A time token has the window of a check.
+/// Returns the first and the last factor that a resynchronization may take, or None if there is no such factor (RFC
+/// 4226, section 7.4; RFC 6238, sections 5.2 and 6).
+///
+/// A time token has the window of a check.
 pub fn resync_window(
     token: &Token,
     next: Next,
@@ -61,7 +64,7 @@ pub fn resync_window(
     )
 }
 
-/// The ends of a window by the kind of its token, and the reach of an event token.
+/// Returns the ends of a window by the kind of its token, with the reach of an event token.
 fn window_of(
     kind: Kind,
     reach: u64,
@@ -86,7 +89,7 @@ fn window_of(
     }
 }
 
-/// The first free factor, and the last of so many more.
+/// Returns the floor (the first free factor) and the last of the next `reach` factors.
 fn reach_from(next: Next, reach: u64) -> Option<(Factor, Factor)>
     requires { reach ≤ 1000 }
     ensures ends { IfSome result (λ ends. AreEnds (IsWithinReach next reach) ends.0 ends.1) }
@@ -96,7 +99,7 @@ fn reach_from(next: Next, reach: u64) -> Option<(Factor, Factor)>
     ends(first, first + reach)
 }
 
-/// The first and the last free step that is at most so many before or after the one at the token's clock.
+/// Returns the first and the last free step that is at most `skew` steps before or after the step at the token's clock.
 fn steps_around(
     next: Next,
     drift: Drift,
@@ -121,7 +124,7 @@ fn steps_around(
     ends(first as u64, last as u64)
 }
 
-/// The first and the last factor between two numbers.
+/// Returns the first and the last factor between two numbers, or None.
 fn ends(first: u64, last: u64) -> Option<(Factor, Factor)>
     ensures ends { IfSome result (λ ends. AreEnds (IsFactorBetween first last) ends.0 ends.1) }
     ensures none { IfNone result ((number : ℕ) → IsFactorBetween first last number → ⊥) }

@@ -1,4 +1,4 @@
--- What a client is answered.
+-- The bytes of answers to clients.
 use Rattle.std.specs.Prelude.{ℕ, List, ◌++◌, codes}
 use Rattle.std.specs.Fmt.{decimal}
 use Rattle.client_lines.specs.declared.answer.Answer.{Answer}
@@ -8,7 +8,7 @@ use Rattle.client_lines.specs.declared.answer.Outcome.TheVariants.{Accepted, Ref
 use Rattle.client_lines.specs.declared.answer.Reason.{Reason}
 use Rattle.client_lines.specs.declared.answer.Reason.TheVariants.{Unknown, Password, Throttled, Invalid, Spent, Timeout, Busy, Clock, Exhausted}
 
--- why a line is refused, after a space; numbers are decimal, without leading zeros
+-- the reason of a refusal, after a space; numbers are decimal, without leading zeros
 abbrev pub reason_bytes : Reason → List ℕ
 reason_bytes Unknown = codes " UNKNOWN"
 reason_bytes Password = codes " PASSWORD"
@@ -20,7 +20,7 @@ reason_bytes Busy = codes " BUSY"
 reason_bytes Clock = codes " CLOCK"
 reason_bytes Exhausted = codes " EXHAUSTED"
 
--- the bytes of what became of a line, behind its nonce
+-- the bytes of the outcome of a line, with its nonce
 abbrev pub reply_bytes : List ℕ → Outcome → List ℕ
 reply_bytes nonce (Accepted factor) = codes "OK " ++ nonce ++ codes " " ++ decimal factor
 reply_bytes nonce (Refused reason) = codes "NO " ++ nonce ++ reason_bytes reason

@@ -1,4 +1,4 @@
--- Lines that the laws work through.
+-- Worked cases: lines of clients.
 use Rattle.std.specs.Prelude.{ℕ, List, ◌++◌, replicate, Option, Some, codes}
 use Rattle.otp_core.specs.Submission.{Check}
 use Rattle.client_lines.specs.Request.{Request}
@@ -12,16 +12,16 @@ check_with password = Some (record {
   password = password;
 })
 
--- so many letters
+-- `count` letters
 abbrev pub letters : ℕ → List ℕ
 letters count = replicate count 97
 
--- a CHECK with this nonce, user, code and password
+-- the text of a CHECK with a nonce, user, code and password
 abbrev pub check_text : List ℕ → List ℕ → List ℕ → List ℕ → List ℕ
 check_text nonce user code password =
     codes "CHECK " ++ nonce ++ codes " " ++ user ++ codes " " ++ code ++ codes " " ++ password
 
--- the request of a CHECK with this nonce, user, code and password
+-- the request of a CHECK with a nonce, user, code and password
 abbrev pub check_request : List ℕ → List ℕ → List ℕ → List ℕ → Option Request
 check_request nonce user code password =
     Some (record { nonce = nonce; user = user; submission = Check code; password = Some password })

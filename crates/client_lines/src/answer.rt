@@ -10,13 +10,14 @@ use itoa::Buffer;
 use otp_core::Factor;
 use std::marker::Model;
 
-/// The room of an answer in bytes: that of a datagram to a peer, so a node keeps both in arrays of one kind.
+/// The maximum length of an answer, in bytes. It equals the length of a datagram to a peer, so that a node keeps both
+/// in arrays of one type.
 pub const MAX_ANSWER_LEN: usize = 64;
 
-/// The most bytes of a nonce.
+/// The maximum length of a nonce, in bytes.
 const MAX_NONCE_LEN: usize = 20;
 
-/// By what a client tells the answer to one line from another: 1 to 20 ASCII letters or digits.
+/// The nonce of a line, by which a client matches answers with lines: 1 to 20 ASCII letters or digits.
 #[derive(Debug, Drop, PartialEq, Eq)]
 pub struct Nonce {
     text: ArrayVec<u8, MAX_NONCE_LEN>,
@@ -35,7 +36,7 @@ impl Model for Nonce {
     ghost inverse = { λ text. record { text = record { items = text } } };
 }
 
-/// Whether a text is 1 to 20 ASCII letters or digits.
+/// Returns whether `text` is 1 to 20 ASCII letters or digits.
 pub(crate) fn is_nonce(text: &[u8]) -> bool
     ensures { IsTrue result ↔ IsNonce text.now }
 {
@@ -45,7 +46,7 @@ pub(crate) fn is_nonce(text: &[u8]) -> bool
 }
 
 impl Nonce {
-    /// The nonce that is written so, or `None` where the text is none.
+    /// Returns the nonce with the text `text`, or None if it is not 1 to 20 ASCII letters or digits.
     pub fn new(text: &[u8]) -> Option<Self>
         ensures valid { IsSome result ↔ IsNonce text.now }
         ensures value { IfSome result (λ nonce. nonce ≡ text.now) }
@@ -57,7 +58,7 @@ impl Nonce {
         Some(Nonce { text })
     }
 
-    /// The bytes of the nonce.
+    /// Returns the bytes of the nonce.
     pub fn as_slice(&self) -> &[u8]
         ensures value { result.now ≡ self.now }
         ensures range { IsNonce result.now }
@@ -67,28 +68,28 @@ impl Nonce {
 }
 
 impl Default for Nonce {
-    /// The nonce `0`.
+    /// Returns the nonce `0`.
     fn default() -> Self {
         Nonce::new(b"0").unwrap()
     }
 }
 
-/// Why a line is refused.
+/// The reason why a line is refused.
 #[derive(Clone, Copy, Debug, PartialEq, Eq)]
 pub enum Reason {
     /// No such user.
     Unknown,
-    /// The password is not as the token's column says.
+    /// The password does not fit the token's column.
     Password,
-    /// The token is closed for so many seconds more.
+    /// The token is closed for the given number of seconds.
     Throttled(u64),
     /// The code fits no factor of the window.
     Invalid,
-    /// Too few members are left that may grant the factors.
+    /// Too few members remain that may grant the factors.
     Spent,
-    /// Too few members have granted the factors in time.
+    /// Too few members granted the factors in time.
     Timeout,
-    /// As many submissions wait as there is room for.
+    /// The maximum number of submissions wait.
     Busy,
     /// The moment is outside the range.
     Clock,
@@ -96,10 +97,10 @@ pub enum Reason {
     Exhausted,
 }
 
-/// What became of a line.
+/// The outcome of a line.
 #[derive(Clone, Copy, Debug, PartialEq, Eq)]
 pub enum Outcome {
-    /// Accepted, with its last factor.
+    /// The line is accepted. The factor is the last one that it used up.
     Accepted(Factor),
     Refused(Reason),
 }
@@ -107,12 +108,12 @@ pub enum Outcome {
 /// The answer to a line.
 #[derive(Debug, Drop, PartialEq, Eq)]
 pub enum Answer {
-    /// The line is outside the grammar.
+    /// The line is not in the grammar.
     BadLine,
     Reply(Nonce, Outcome),
 }
 
-/// Appends the bytes.
+/// Appends `bytes`.
 fn push_all(out: &mut ArrayVec<u8, MAX_ANSWER_LEN>, bytes: &[u8])
     requires { array_vec_len out.old + length bytes.now ≤ 64 }
     ensures { out.new.items ≡ out.old.items ++ bytes.now }
@@ -120,7 +121,7 @@ fn push_all(out: &mut ArrayVec<u8, MAX_ANSWER_LEN>, bytes: &[u8])
     let _ = out.try_extend_from_slice(bytes);
 }
 
-/// A nonce between two texts.
+/// Returns `nonce` between two texts.
 fn around(front: &[u8], nonce: &Nonce, back: &[u8]) -> ArrayVec<u8, MAX_ANSWER_LEN>
     requires { length front.now + length back.now ≤ 44 }
     ensures text { result.items ≡ front.now ++ nonce.now ++ back.now }
@@ -133,7 +134,7 @@ fn around(front: &[u8], nonce: &Nonce, back: &[u8]) -> ArrayVec<u8, MAX_ANSWER_L
     out
 }
 
-/// A nonce between two texts, and a number.
+/// Returns `nonce` between two texts, followed by `number`.
 fn numbered(front: &[u8], nonce: &Nonce, back: &[u8], number: u64) -> ArrayVec<u8, MAX_ANSWER_LEN>
     requires { length front.now + length back.now ≤ 24 }
     ensures { result.items ≡ front.now ++ nonce.now ++ back.now ++ decimal number }
@@ -143,7 +144,7 @@ fn numbered(front: &[u8], nonce: &Nonce, back: &[u8], number: u64) -> ArrayVec<u
     out
 }
 
-/// The bytes of a refusal of a line with this nonce.
+/// Returns the bytes of a refusal of a line with the nonce `nonce`.
 fn write_refusal(nonce: &Nonce, reason: Reason) -> ArrayVec<u8, MAX_ANSWER_LEN>
     ensures { result.items ≡ reply_bytes nonce.now (Refused reason) }
 {
@@ -160,7 +161,7 @@ fn write_refusal(nonce: &Nonce, reason: Reason) -> ArrayVec<u8, MAX_ANSWER_LEN>
     }
 }
 
-/// The bytes of the answer to a line with this nonce.
+/// Returns the bytes of the answer to a line with the nonce `nonce`.
 pub fn write_reply(nonce: &Nonce, outcome: Outcome) -> ArrayVec<u8, MAX_ANSWER_LEN>
     ensures { result.items ≡ reply_bytes nonce.now outcome }
 {
@@ -170,7 +171,7 @@ pub fn write_reply(nonce: &Nonce, outcome: Outcome) -> ArrayVec<u8, MAX_ANSWER_L
     }
 }
 
-/// The bytes of an answer, without a line end.
+/// Returns the bytes of an answer, without a line end.
 pub fn write_answer(answer: &Answer) -> ArrayVec<u8, MAX_ANSWER_LEN>
     ensures { result.items ≡ answer_bytes answer.now }
 {

@@ -9,13 +9,13 @@ ghost use Rattle.client_lines.specs.declared.answer.Outcome.TheVariants.{Accepte
 ghost use Rattle.client_lines.specs.declared.answer.Reason.TheVariants.{Busy, Clock, Exhausted, Invalid, Password, Spent, Throttled, Timeout, Unknown};
 ghost use Rattle.client_lines.specs.declared.line.Codes.TheVariants.{One, Two};
 
-/// A line is in the grammar exactly where it is read so.
+/// Grammar: the reader accepts a line exactly if it is in the grammar.
 pub fn grammar_is_read()
     ensures { (bytes : List ℕ) (request : Request)
         → IsLine bytes request ↔ (request_at bytes ≡ Some request) }
 {}
 
-/// Some lines, and what they say.
+/// Worked cases. Lines and their requests.
 pub fn lines_are_worked()
     ensures check { request_at (codes "CHECK 1 silver 755224 -") ≡ check_with None }
     ensures password { request_at (codes "CHECK 1 silver 755224 pw") ≡ check_with (Some (codes "pw")) }
@@ -30,7 +30,7 @@ pub fn lines_are_worked()
     ensures submissions { map submission_of (One (codes "755224") ∷ Two (codes "755224") (codes "287082") ∷ [])
         ≡ Check (codes "755224") ∷ Resync (codes "755224") (codes "287082") ∷ [] }
 
-    // one LF at the end, and nothing else
+    // one LF at the end, and no other one
     ensures lf { request_at (codes "CHECK 1 silver 755224 -" ++ 10 ∷ []) ≡ check_with None }
     ensures two_lfs { request_at (codes "CHECK 1 silver 755224 -" ++ 10 ∷ 10 ∷ []) ≡ None }
     ensures cr_lf { request_at (codes "CHECK 1 silver 755224 -" ++ 13 ∷ 10 ∷ []) ≡ None }
@@ -71,7 +71,7 @@ pub fn lines_are_worked()
     ensures resync_password { request_at (codes "RESYNC 1 silver 755224 287082 " ++ letters 65) ≡ None }
 {}
 
-/// The text of each answer.
+/// Worked cases. The text of each answer.
 pub fn answers_are_worked()
     ensures bad_line { answer_bytes BadLine ≡ codes "NO - BADLINE" }
     ensures accepted { answer_bytes (Reply (codes "a1") (Accepted 4611686018427387903))

@@ -1,7 +1,7 @@
 //! The lines of clients and the answers to them, as bytes.
 //!
-//! A client's line is read by [`read_line`], which takes exactly the grammar (the law [`grammar_is_read`]), and
-//! answered with what [`write_answer`] writes. Nothing here takes memory.
+//! [`read_line`] reads a client's line. It accepts exactly the grammar (the law [`grammar_is_read`]). [`write_answer`]
+//! writes an answer. No function allocates.
 #![tactic(auto)]
 
 mod answer;

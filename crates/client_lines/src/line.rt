@@ -9,17 +9,17 @@ use field_text::{cut_at, is_word};
 use otp_core::Code;
 use std::marker::Model;
 
-/// The most bytes of a client's line, its LF with them.
+/// The maximum length of a client's line, in bytes with its LF.
 const MAX_LINE_LEN: usize = 256;
 
-/// What a line submits: the code of one factor, or the codes of two factors in a row.
+/// The codes of a line: the code of one factor, or the codes of two consecutive factors.
 #[derive(Drop, PartialEq, Eq)]
 pub enum Codes {
     One(Code),
     Two(Code, Code),
 }
 
-/// What a client's line asks for.
+/// The request of a client's line.
 #[derive(Drop)]
 pub struct Line<'a> {
     nonce: &'a [u8],
@@ -52,7 +52,7 @@ impl<'a> Line<'a> {
     ghost use Rattle.client_lines.specs.Codes.{submission_of};
     ghost use Rattle.client_lines.specs.Field.{IsNonce};
 
-    /// By what the client tells the answer to this line from another.
+    /// Returns the nonce, by which the client matches the answer with the line.
     pub fn nonce(&self) -> &'a [u8]
         ensures value { result.now ≡ self.now.nonce }
         ensures range { IsNonce result.now }
@@ -60,28 +60,28 @@ impl<'a> Line<'a> {
         self.nonce
     }
 
-    /// For whom the codes are.
+    /// Returns the user whose codes the line submits.
     pub fn user(&self) -> &'a [u8]
         ensures { result.now ≡ self.now.user }
     {
         self.user
     }
 
-    /// The codes.
+    /// Returns the codes.
     pub fn codes(&self) -> &Codes
         ensures { submission_of result.now ≡ self.now.submission }
     {
         &self.codes
     }
 
-    /// The password, where one is given.
+    /// Returns the password, or None if the line gives none.
     pub fn password(&self) -> Option<&'a [u8]>
         ensures { option_copied result ≡ self.now.password }
     {
         self.password
     }
 
-    /// The nonce, to be kept.
+    /// Returns the nonce as a value that outlives the line.
     pub fn to_nonce(&self) -> Nonce
         ensures { result ≡ self.now.nonce }
     {
@@ -89,7 +89,7 @@ impl<'a> Line<'a> {
     }
 }
 
-/// The text without one LF at its end.
+/// Returns the text without one LF at its end.
 pub fn without_lf(bytes: &[u8]) -> &[u8]
     ensures { result.now ≡ spec.without_lf bytes.now }
 {
@@ -100,7 +100,7 @@ pub fn without_lf(bytes: &[u8]) -> &[u8]
     }
 }
 
-/// The password that a field gives: none where it is `-`.
+/// Returns the password of a field, or None if it is `-`.
 fn given(field: &[u8]) -> Option<&[u8]>
     ensures { option_copied result ≡ given_in field.now }
 {
@@ -111,7 +111,7 @@ fn given(field: &[u8]) -> Option<&[u8]>
     }
 }
 
-/// The line of these fields, or `None` where one of them is outside the grammar.
+/// Returns the line of a CHECK with these fields, or None if a field is not in the grammar.
 fn check_line<'a>(
     word: &'a [u8],
     nonce: &'a [u8],
@@ -134,7 +134,7 @@ fn check_line<'a>(
     })
 }
 
-/// The line of these fields, or `None` where one of them is outside the grammar.
+/// Returns the line of a RESYNC with these fields, or None if a field is not in the grammar.
 fn resync_line<'a>(
     word: &'a [u8],
     nonce: &'a [u8],
@@ -158,7 +158,7 @@ fn resync_line<'a>(
     })
 }
 
-/// The line of the fields that stand between single spaces.
+/// Returns the line of a text without its LF, or None if it is not in the grammar.
 fn read_fields(text: &[u8]) -> Option<Line<'_>>
     ensures { Reads (fields_of text.now) result }
 {
@@ -175,14 +175,15 @@ fn read_fields(text: &[u8]) -> Option<Line<'_>>
     }
 }
 
-/// What a client's line says, or `None` where it is outside the line grammar: `CHECK`, a nonce, a user,
-/// a code and a password, or `RESYNC`, a nonce, a user, two codes and a password, with single spaces
-/// between, and at most one LF behind.
+/// Returns the request of a client's line, or None if the line is not in the grammar.
+///
+/// A line is `CHECK nonce user code password` or `RESYNC nonce user code next-code password`. Fields are separated by
+/// one space. One LF may follow.
 #[tactic(auto, using(crate::proofs::RequestLemmas::line_read, crate::proofs::RequestLemmas::line_too_long))]
 pub fn read_line(bytes: &[u8]) -> Option<Line<'_>>
-    // What is read is in the grammar.
+    // Every line that is read is in the grammar.
     ensures some { IfSome result (IsLine bytes.now) }
-    // What is in the grammar is read.
+    // Every line in the grammar is read.
     ensures none { IfNone result ((request : Request) → IsLine bytes.now request → ⊥) }
     // The reader as a function.
     ensures exact { result ≡ spec.request_at bytes.now }

@@ -14,7 +14,7 @@ pub record Address : Type 0 where
   pub octets : List ℕ
   pub port : ℕ
 
--- what an address of the code says
+-- the value of a socket address
 abbrev pub address_value : SocketAddrV4 → Address
 address_value address = record { octets = ipv4_octets (v4_ip address); port = v4_port address }
 
@@ -28,8 +28,8 @@ pub record IsAddress (address : Address) : Type 0 where
 abbrev pub address_with : List ℕ × ℕ → Address
 address_with parts = record { octets = parts.0; port = parts.1 }
 
--- The address that a whole text says: four decimal numbers below 256 without leading zeros and with dots between, a
--- colon, and a decimal number below 65,536.
+-- The address of a whole text: four decimal numbers below 256 without leading zeros, divided by dots, a colon, and a
+-- decimal number below 65,536; or None.
 abbrev pub address_of : List ℕ → Option Address
 address_of text = option_map address_with (whole_value (read_socket_v4 text))
 
@@ -37,10 +37,10 @@ address_of text = option_map address_with (whole_value (read_socket_v4 text))
 unfoldable pub address_text : Address → List ℕ
 address_text address = ipv4_text address.octets ++ codes ":" ++ decimal address.port
 
--- whether two addresses are the same
+-- whether two addresses are equal
 unfoldable pub is_same : Address → Address → Bool
 is_same address other = bytes_eq other.octets address.octets && other.port == address.port
 
--- whether an address is one of others
+-- whether an address is in a list
 abbrev pub is_among : Address → List Address → Bool
 is_among address others = list_any (is_same address) others

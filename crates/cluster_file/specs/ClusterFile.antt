@@ -1,4 +1,4 @@
--- What a cluster file says. The first fault of the first faulty line decides, and then what is missing at the end.
+-- The content of a cluster file. The first fault of the first faulty line decides, and then missing values at the end.
 use Rattle.std.specs.Prelude.{ℕ, ◌+◌, ◌==◌, nat_le, Bool, true, false, List, [], ◌∷◌, length, map, take, Option, Some, None, Result, Ok, Err, unwrap_or, if◌then◌else◌}
 use Rattle.otp_core.specs.Limits.{Limits}
 use Rattle.token_file.specs.Fields.{fields_of, lines_of}
@@ -9,14 +9,14 @@ use Rattle.cluster_file.specs.Address.{Address, address_value}
 use Rattle.cluster_file.specs.Fields.{◌>>=◌}
 use Rattle.cluster_file.specs.Said.{KeyPlace, Said, after_fields, key_place, nothing_said}
 
--- what a whole file says
+-- the content of a whole file
 pub record ClusterRecord : Type 0 where
   pub members : List Address
   pub settings : Limits
   pub key : KeyPlace
   pub life : List ℕ
 
--- what a cluster of the code is
+-- the value of a cluster
 abbrev pub cluster_value : Cluster → ClusterRecord
 cluster_value cluster =
     record {
@@ -26,7 +26,7 @@ cluster_value cluster =
       life = cluster.life.now;
     }
 
--- the settings that were given, and the usual ones in place of the others
+-- the given settings, with defaults for the others
 abbrev pub settings_of : Said → Limits
 settings_of said =
     record {
@@ -36,35 +36,36 @@ settings_of said =
       drift = unwrap_or said.drift 0;
     }
 
--- the cluster of what was said, with a key, and a life if there is one
+-- the cluster of the lines with a key, and with a life if the lines give one
 abbrev pub cluster_with_life : Said → KeyPlace → Option (List ℕ) → Result ClusterRecord LineFault
 cluster_with_life said key None = Err NoLife
 cluster_with_life said key (Some life) =
     Ok (record { members = said.members; settings = settings_of said; key = key; life = life })
 
--- the cluster of what was said, with a key if there is one
+-- the cluster of the lines, with a key if the lines give one
 abbrev pub cluster_with_key : Said → Option KeyPlace → Result ClusterRecord LineFault
 cluster_with_key said None = Err NoKey
 cluster_with_key said (Some key) = cluster_with_life said key said.life
 
--- the cluster of what was said by all lines, or what is missing
+-- the cluster of all lines, or the fault of a missing value
 abbrev pub finished : Said → Result ClusterRecord LineFault
 finished said = if length said.members == 0 then Err NoMember else cluster_with_key said said.key
 
--- an outcome with the number of the line that a fault is at
+-- an outcome with the line number of a fault
 abbrev pub at_line : {A : Type 0} → ℕ → Result A LineFault → Result A (ℕ × LineFault)
 at_line number (Ok value) = Ok value
 at_line number (Err fault) = Err (number, fault)
 
--- what is said by lines from a number on, after what was said before
+-- the values of the lines from a number on, added to earlier values
 abbrev pub after_lines : ℕ → Said → List (List ℕ) → Result Said (ℕ × LineFault)
 after_lines number said [] = Ok said
 after_lines number said (line ∷ lines) = do
   new ← at_line number (after_fields said (fields_of line))
   after_lines (number + 1) new lines
 
--- What a text of at most so many bytes says, or the line of its first fault and the fault. What is missing is told at
--- the line behind the last LF. A text that is too long is not read: its fault is at the line that passes the limit.
+-- The cluster of a text of at most `limit` bytes, or its first fault with the line. A missing value has the number of
+-- the line after the last LF. A text that is too long is not read: its fault has the line of the first byte above the
+-- limit.
 abbrev pub outcome_of : ℕ → List ℕ → Result ClusterRecord (ℕ × LineFault)
 outcome_of limit text =
     if nat_le (length text) limit then (do
@@ -72,11 +73,11 @@ outcome_of limit text =
       at_line (length (lines_of text)) (finished said))
     else Err (length (lines_of (take limit text)), TooLong)
 
--- what a cluster file says, of at most 65,536 bytes
+-- the cluster of a file of at most 65,536 bytes
 abbrev pub cluster_of : List ℕ → Result ClusterRecord (ℕ × LineFault)
 cluster_of text = outcome_of 65536 text
 
--- whether a fault is for want of memory, and not one of the text
+-- whether a fault is a refused allocation, and not one of the text
 abbrev pub is_memory : LineFault → Bool
 is_memory Memory = true
 is_memory fault = false

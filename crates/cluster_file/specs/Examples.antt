@@ -1,4 +1,4 @@
--- Worked lines of a cluster file, and what they say.
+-- Worked cases: lines of a cluster file, and their values.
 use Rattle.std.specs.Prelude.{ℕ, List, [], ◌∷◌, ◌++◌, map, replicate, codes, Some, Result}
 use Rattle.std.specs.List.{flat_map}
 use Rattle.token_file.specs.Examples.{event_token, time_token}
@@ -15,11 +15,11 @@ use Rattle.cluster_file.specs.Shared.{Shared}
 abbrev pub address_at : ℕ → Address
 address_at last = record { octets = 192 ∷ 0 ∷ 2 ∷ last ∷ []; port = 7101 }
 
--- nothing is said but some members
+-- the values of some members' lines alone
 abbrev pub with_members : List ℕ → Said
 with_members lasts = record nothing_said { members = map address_at lasts }
 
--- everything but members was said
+-- values for everything except members
 abbrev pub all_given : Said
 all_given =
     record {
@@ -32,11 +32,11 @@ all_given =
       life = Some (codes "l");
     }
 
--- what is said after a line
+-- the values after a line
 abbrev pub after_text : Said → List ℕ → Result Said LineFault
 after_text said line = after_fields said (fields_of line)
 
--- what is said after each of some lines alone
+-- the values after each of some lines alone
 abbrev pub after_each : Said → List (List ℕ) → List (Result Said LineFault)
 after_each said lines = map (after_text said) lines
 
@@ -44,11 +44,11 @@ after_each said lines = map (after_text said) lines
 abbrev pub text_of : List (List ℕ) → List ℕ
 text_of lines = flat_map (λ line. line ++ 10 ∷ []) lines
 
--- so many digits `0`
+-- `count` digits `0`
 abbrev pub zeros : ℕ → List ℕ
 zeros count = replicate count 0x30
 
--- so many bytes `u`
+-- `len` bytes `u`
 abbrev pub word_of : ℕ → List ℕ
 word_of len = replicate len 117
 
@@ -56,7 +56,7 @@ word_of len = replicate len 117
 abbrev pub small_file : List (List ℕ)
 small_file = codes "member 1 192.0.2.1:7101" ∷ codes "key-file /etc/k" ∷ codes "life a" ∷ []
 
--- what it says
+-- the cluster of the small file
 abbrev pub small_cluster : ClusterRecord
 small_cluster =
     record {
@@ -73,7 +73,7 @@ three_file =
     ++ codes "  member  3 192.0.2.3:7101 " ∷ codes "look-ahead 20" ∷ codes "skew 2" ∷ codes "range 30" ∷ []
     ++ codes "drift 3" ∷ [] ∷ (codes "key " ++ zeros 32) ∷ codes "life 2026-11a" ∷ []
 
--- what it says
+-- the cluster of the file of three members
 abbrev pub three_cluster : ClusterRecord
 three_cluster =
     record {
@@ -93,7 +93,7 @@ three_shared =
       book = event_token (codes "a") ∷ time_token Time60 ∷ [];
     }
 
--- nothing but a life
+-- the shared values of a life alone, without members and tokens
 abbrev pub least_shared : Shared
 least_shared =
     record {
@@ -109,7 +109,7 @@ key_of_32 =
     0 ∷ 1 ∷ 2 ∷ 3 ∷ 4 ∷ 5 ∷ 6 ∷ 7 ∷ 8 ∷ 9 ∷ 10 ∷ 11 ∷ 12 ∷ 13 ∷ 14 ∷ 15 ∷ 16 ∷ 17 ∷ 18 ∷ 19 ∷ 20 ∷ 21 ∷ 22 ∷ 23 ∷ 24
     ∷ 25 ∷ 26 ∷ 27 ∷ 28 ∷ 29 ∷ 30 ∷ 31 ∷ []
 
--- what these members share under that key, by Python's module hmac
+-- the shared key of the three members under the key of 32 bytes, by Python's module hmac
 abbrev pub three_key : List ℕ
 three_key =
     0x1d ∷ 0x8c ∷ 0xb5 ∷ 0xfb ∷ 0x6b ∷ 0xc0 ∷ 0x8c ∷ 0xfb ∷ 0x27 ∷ 0x90 ∷ 0xe7 ∷ 0x00 ∷ 0x21 ∷ 0x36 ∷ 0x4e ∷ 0xda ∷ 0x86

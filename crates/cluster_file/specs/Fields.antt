@@ -1,4 +1,4 @@
--- The fields of a line behind its word, and what a field may be.
+-- The fields of a line after its word, and their values.
 use Rattle.std.specs.Prelude.{ℕ, nat_le, List, [], ◌∷◌, Option, Some, None, Result, Ok, Err, codes, if◌then◌else◌}
 use Rattle.std.specs.Borrow.{Bor}
 use Rattle.std.specs.Str.{bytes_eq}
@@ -13,13 +13,13 @@ use Rattle.cluster_file.specs.declared.fault.LineFault.TheVariants.{MissingField
 use Rattle.cluster_file.specs.declared.word.Word.{Word}
 use Rattle.cluster_file.specs.declared.word.Word.TheVariants.{Member, LookAhead, Skew, Range, Drift, KeyFile, Key, Life}
 
--- what comes next, where there is no fault before it
+-- the result of the next step, or the first fault
 infixl 10 ◌>>=◌
 abbrev pub ◌>>=◌ : {A B E : Type 0} → Result A E → (A → Result B E) → Result B E
 Ok x >>= next = next x
 Err fault >>= next = Err fault
 
--- what a line is about, by its first field
+-- the word of a line, by its first field
 abbrev pub word_of : List ℕ → Option Word
 word_of text =
     if bytes_eq text (codes "member") then Some Member
@@ -32,35 +32,35 @@ word_of text =
     else if bytes_eq text (codes "life") then Some Life
     else None
 
--- the one field of some
+-- the field of a list of one
 abbrev pub one_field : List (List ℕ) → Result (List ℕ) LineFault
 one_field [] = Err MissingField
 one_field (field ∷ []) = Ok field
 one_field (field ∷ other ∷ rest) = Err SurplusField
 
--- the two fields of some
+-- the fields of a list of two
 abbrev pub two_fields : List (List ℕ) → Result (List ℕ × List ℕ) LineFault
 two_fields [] = Err MissingField
 two_fields (first ∷ []) = Err MissingField
 two_fields (first ∷ second ∷ []) = Ok (first, second)
 two_fields (first ∷ second ∷ other ∷ rest) = Err SurplusField
 
--- a field that the code read
+-- the value of a field or its fault
 abbrev pub field_value : Result (Bor (List ℕ)) LineFault → Result (List ℕ) LineFault
 field_value (Ok field) = Ok field.now
 field_value (Err fault) = Err fault
 
--- two fields that the code read
+-- the values of two fields or their fault
 abbrev pub fields_value : Result (Bor (List ℕ) × Bor (List ℕ)) LineFault → Result (List ℕ × List ℕ) LineFault
 fields_value (Ok fields) = Ok (fields.0.now, fields.1.now)
 fields_value (Err fault) = Err fault
 
--- what a line says, where no line before it said the like
+-- the value of a line, if no earlier line gave the same one
 abbrev pub unless_given : {A B : Type 0} → Option A → Result B LineFault → Result B LineFault
 unless_given None said = said
 unless_given (Some before) said = Err Twice
 
--- a number that was read, where it is at most another
+-- the number, if it is at most `most`
 abbrev pub number_up_to : ℕ → Option ℕ → Result ℕ LineFault
 number_up_to most None = Err BadNumber
 number_up_to most (Some number) = if nat_le number most then Ok number else Err BadNumber
@@ -71,16 +71,16 @@ setting_of most before fields = do
   text ← one_field fields
   unless_given before (number_up_to most (number_of text))
 
--- the key that hexadecimal digits say, where they aren't refused
+-- the key of hexadecimal digits, if they aren't refused
 abbrev pub key_unless_refused : Option SecretFault → Result (List ℕ) FromHexError → Result (List ℕ) LineFault
 key_unless_refused None (Ok key) = Ok key
 key_unless_refused None (Err error) = Err BadKey
 key_unless_refused (Some refusal) decoded = Err BadKey
 
--- the key of 16 to 64 bytes that a text in hexadecimal says
+-- the key of 16 to 64 bytes of a text in hexadecimal
 abbrev pub key_of : List ℕ → Result (List ℕ) LineFault
 key_of text = key_unless_refused (key_refusal_of text) (decode_of text)
 
--- a word for the life of the databases: 1 to 64 bytes without a blank
+-- the `life` of the databases: a word of 1 to 64 bytes without a blank
 abbrev pub life_of : List ℕ → Result (List ℕ) LineFault
 life_of text = if is_word text then Ok text else Err BadLife

@@ -1,4 +1,4 @@
--- The key under which members tag their datagrams, and a print of it that people compare.
+-- The key under which members tag their datagrams, and a fingerprint of it that people compare.
 use Rattle.std.specs.Prelude.{◌≡◌, ℕ, List, take, codes}
 use Rattle.hex.specs.Hex.{encode_lower}
 use Rattle.hmac_core.specs.Hash.{mac_of}
@@ -14,7 +14,7 @@ shared_key_of key shared = mac_of Sha256 key (shared_text shared)
 abbrev pub fingerprint_of : List ℕ → List ℕ
 fingerprint_of shared_key = encode_lower (take 8 (mac_of Sha256 shared_key (codes "fingerprint")))
 
--- two texts with the same MAC under a key: for HMAC-SHA-256 nobody knows any
+-- two different texts with the same MAC under a key; no such texts are known for HMAC-SHA-256
 pub record IsCollision (key text other : List ℕ) : Type 0 where
   pub different : text ≡ other → ⊥
   pub same : mac_of Sha256 key text ≡ mac_of Sha256 key other

@@ -1,4 +1,4 @@
--- What lines of a cluster file say, one after another.
+-- The values that the lines of a cluster file give.
 use Rattle.std.specs.Prelude.{ℕ, ◌+◌, ◌==◌, nat_le, Bool, false, not, List, [], ◌∷◌, ◌++◌, length, Option, Some, None, Result, Ok, Err, if◌then◌else◌}
 use Rattle.field_text.specs.Number.{number_of}
 use Rattle.cluster_file.specs.declared.fault.LineFault.{LineFault}
@@ -10,17 +10,17 @@ use Rattle.cluster_file.specs.declared.word.Word.TheVariants.{Member, LookAhead,
 use Rattle.cluster_file.specs.Address.{Address, address_of, is_among}
 use Rattle.cluster_file.specs.Fields.{◌>>=◌, key_of, life_of, one_field, setting_of, two_fields, unless_given, word_of}
 
--- where the key is: in the file at a path, or given with its bytes
+-- the place of the key: the file at a path, or the cluster file itself
 pub data KeyPlace : Type 0 where
   InFile : (path : List ℕ) → KeyPlace
   Given : (key : List ℕ) → KeyPlace
 
--- where a key of the code is
+-- the place of a key source
 abbrev pub key_place : KeySource → KeyPlace
 key_place (source.File path) = InFile path.now
 key_place (source.Given key) = Given key
 
--- what lines said: the members in order, and what else was given
+-- the values of some lines: the members in order, and the given settings, key and life
 pub record Said : Type 0 where
   pub members : List Address
   pub look_ahead : Option ℕ
@@ -30,17 +30,17 @@ pub record Said : Type 0 where
   pub key : Option KeyPlace
   pub life : Option (List ℕ)
 
--- no line said anything
+-- the values of no line
 abbrev pub nothing_said : Said
 nothing_said =
     record { members = []; look_ahead = None; skew = None; range = None; drift = None; key = None; life = None }
 
--- whether a text is a number
+-- whether a number that was read, or None, is the given one
 abbrev pub is_number : Option ℕ → ℕ → Bool
 is_number None number = false
 is_number (Some read) number = read == number
 
--- a member that was read, where no other has its address
+-- the member of an address, if no other member has the address
 abbrev pub new_member : List Address → Option Address → Result Address LineFault
 new_member members None = Err BadAddress
 new_member members (Some address) = if is_among address members then Err TwiceAddress else Ok address
@@ -76,7 +76,7 @@ life_in before fields = do
   text ← one_field fields
   unless_given before (life_of text)
 
--- what is said after a line of a word
+-- the values after a line of a word
 abbrev pub after_word : Said → Word → List (List ℕ) → Result Said LineFault
 after_word said Member fields = do
   member ← member_of said.members fields
@@ -103,7 +103,7 @@ after_word said Life fields = do
   life ← life_in said.life fields
   Ok (record said { life = Some life })
 
--- what is said after a line of a word, if its first field is one
+-- the values after a line of a word, or a fault if its first field is not one
 abbrev pub after_named : Said → Option Word → List (List ℕ) → Result Said LineFault
 after_named said None fields = Err UnknownWord
 after_named said (Some word) fields = after_word said word fields
@@ -113,7 +113,7 @@ abbrev pub is_remark : List ℕ → Bool
 is_remark [] = false
 is_remark (byte ∷ bytes) = byte == 35
 
--- what is said after a line of these fields
+-- the values after a line of the given fields
 abbrev pub after_fields : Said → List (List ℕ) → Result Said LineFault
 after_fields said [] = Ok said
 after_fields said (word ∷ fields) = if is_remark word then Ok said else after_named said (word_of word) fields

@@ -1,4 +1,4 @@
--- What must be equal at all members of a cluster, as one text.
+-- The values that must be equal at all members of a cluster, as one text.
 use Rattle.std.specs.Prelude.{ℕ, ◌+◌, List, [], ◌∷◌, ◌++◌, codes, IsTrue}
 use Rattle.std.specs.Fmt.{decimal}
 use Rattle.std.specs.List.{flat_map, AllByRecursion}
@@ -9,19 +9,19 @@ use Rattle.token_file.specs.Writing.{IsCredential, row_text}
 use Rattle.cluster_file.specs.Address.{Address, IsAddress, address_text}
 use Rattle.cluster_file.specs.ClusterFile.{ClusterRecord}
 
--- the life, the members in order, the settings, and the tokens in order. What a token has counted is not among it.
+-- the life, the members in order, the settings, and the tokens in order, without the tokens' counters
 pub record Shared : Type 0 where
   pub life : List ℕ
   pub members : List Address
   pub settings : Limits
   pub book : List Credential
 
--- what the members of a cluster with a book share
+-- the shared values of a cluster with a book
 abbrev pub shared_of : ClusterRecord → List Credential → Shared
 shared_of cluster book =
     record { life = cluster.life; members = cluster.members; settings = cluster.settings; book = book }
 
--- what every cluster file and users file give
+-- the ranges of the shared values of a cluster file and a users file
 pub record IsShared (shared : Shared) : Type 0 where
   pub life : IsTrue (is_word shared.life)
   pub members : AllByRecursion IsAddress shared.members

@@ -10,7 +10,7 @@ use crate::shared::{token_at, write_members, write_number, write_settings, write
 use std::io::{self, Write};
 use token_file::{Book, Kind, Token};
 
-/// Whether a kind is another one.
+/// Returns whether two kinds are equal.
 fn is_kind(kind: Kind, other: Kind) -> bool
     ensures { result ≡ is_kind kind other }
 {
@@ -22,7 +22,7 @@ fn is_kind(kind: Kind, other: Kind) -> bool
     }
 }
 
-/// The word of a kind.
+/// Returns the word of a kind.
 fn kind_text(kind: Kind) -> &'static [u8]
     ensures { result.now ≡ kind_word kind }
 {
@@ -33,7 +33,7 @@ fn kind_text(kind: Kind) -> &'static [u8]
     }
 }
 
-/// How many tokens of a kind a token is: one or none.
+/// Returns 1 if the token is of the kind, else 0.
 fn one_of_kind(token: &Token, kind: Kind) -> u64
     ensures value { result ≡ (if is_kind kind token.now.kind then 1 else 0) }
     ensures bound { result ≤ 1 }
@@ -41,7 +41,7 @@ fn one_of_kind(token: &Token, kind: Kind) -> u64
     if is_kind(kind, token.kind()) { 1 } else { 0 }
 }
 
-/// How many tokens of a book are of a kind.
+/// Returns the number of tokens of the kind in the book.
 fn kind_count(book: &Book, kind: Kind) -> io::Result<u64>
     ensures { IfOk result (λ count. count ≡ kind_count kind book.now) }
 {
@@ -73,11 +73,12 @@ fn write_counts<W: Write>(writer: &mut W, book: &Book) -> io::Result<()>
     write_count(writer, book, Kind::Time60)
 }
 
-/// Writes what two sites compare of a cluster with this book, with the fingerprint of its shared key: the life, the
-/// members, the settings, how many tokens there are of each kind, and the fingerprint, each on a line.
+/// Writes the text that two sites compare: the life, the members, the settings, the number of tokens of each kind, and
+/// the fingerprint of the shared key, each on a line.
 ///
 /// # Errors
-/// Those of the writer. A front of the text may have been written then.
+///
+/// - Returns the writer's error. A prefix of the text may have been written.
 pub fn write_summary<W: Write>(
     writer: &mut W,
     cluster: &Cluster,

@@ -2,24 +2,24 @@ use otp_core::Settings;
 use std::net::SocketAddrV4;
 use vote_wire::ClusterKey;
 
-/// Where the key of a cluster is.
+/// The place of a cluster's key.
 #[derive(Debug, Drop)]
 pub enum KeySource<'a> {
-    /// In the file at this path.
+    /// The file at the path.
     File(&'a [u8]),
-    /// In the cluster file itself.
+    /// The cluster file itself, with the key.
     Given(ClusterKey),
 }
 
-/// What a cluster file says.
+/// The content of a cluster file.
 #[derive(Drop)]
 pub struct Cluster<'a> {
-    /// The addresses of the members, of which the first is member 1: one to nine, each another.
+    /// The addresses of the members: one to nine, all different. The first is member 1.
     pub members: Vec<SocketAddrV4>,
-    /// How far the members look for a code.
+    /// The settings: how far the members look for a code.
     pub settings: Settings,
-    /// Where the key is that the members share.
+    /// The place of the key that the members share.
     pub key: KeySource<'a>,
-    /// A word of 1 to 64 bytes that is new whenever the databases are made anew.
+    /// The `life`: a word of 1 to 64 bytes, which is new after every replacement of all databases.
     pub life: &'a [u8],
 }

@@ -1,19 +1,19 @@
 use thiserror::Error;
 
-/// Why no cluster is read from a cluster file, and the line that was being read.
+/// The fault of a cluster file, with the line that was read.
 #[derive(Clone, Copy, Debug, PartialEq, Eq, Error)]
 #[error("line {line}: {kind}")]
 pub struct ClusterFault {
     /// The number of the line, from 1.
     pub line: u64,
-    /// What is wrong there.
+    /// The fault of the line.
     pub kind: LineFault,
 }
 
-/// What is wrong at a line of a cluster file.
+/// A fault at a line of a cluster file.
 #[derive(Clone, Copy, Debug, PartialEq, Eq, Error)]
 pub enum LineFault {
-    /// The first field is none of the words of a cluster file.
+    /// The first field is not a word of a cluster file.
     #[error("UnknownWord")]
     UnknownWord,
     /// The line has too few fields for its word.
@@ -22,22 +22,22 @@ pub enum LineFault {
     /// The line has too many fields for its word.
     #[error("SurplusField")]
     SurplusField,
-    /// There are nine members already.
+    /// The file has nine members before the line.
     #[error("TooManyMembers")]
     TooManyMembers,
     /// The member's number is not the next one, from 1.
     #[error("MemberNumber")]
     MemberNumber,
-    /// The member's address is no IPv4 address with a port.
+    /// The member's address is not an IPv4 address with a port.
     #[error("BadAddress")]
     BadAddress,
-    /// Another member has this address.
+    /// Another member has the same address.
     #[error("TwiceAddress")]
     TwiceAddress,
-    /// Another line says the like.
+    /// Another line gives the same value.
     #[error("Twice")]
     Twice,
-    /// The setting's number is no number in decimal digits, or above the setting's greatest.
+    /// The setting's number is not in decimal digits, or is above the setting's maximum.
     #[error("BadNumber")]
     BadNumber,
     /// The key is not 16 to 64 bytes in hexadecimal.
@@ -49,16 +49,16 @@ pub enum LineFault {
     /// No line names a member.
     #[error("NoMember")]
     NoMember,
-    /// No line says what the key is or where.
+    /// No line gives the key or its path.
     #[error("NoKey")]
     NoKey,
-    /// No line says the life.
+    /// No line gives the life.
     #[error("NoLife")]
     NoLife,
-    /// The file has more than 65,536 bytes. The line is the one that passes them.
+    /// The file has more than 65,536 bytes. The line is the one with the first byte above the limit.
     #[error("TooLong")]
     TooLong,
-    /// No memory was left for a member.
+    /// The allocator refused the memory for a member.
     #[error("out of memory")]
     Memory,
 }

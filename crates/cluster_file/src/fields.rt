@@ -9,28 +9,28 @@ use crate::fault::LineFault;
 use field_text::{is_word, read_number};
 use vote_wire::ClusterKey;
 
-/// Whether a byte divides fields.
+/// Returns whether a byte divides fields.
 fn is_blank_byte(byte: u8) -> bool
     ensures { result ≡ is_blank byte }
 {
     byte == b'\t' || byte == b'\n' || byte == b'\r' || byte == b' '
 }
 
-/// The place of the first byte that is no blank.
+/// Returns the place of the first byte that is not a blank, or None.
 fn first_visible(line: &[u8]) -> Option<usize>
     ensures { result ≡ position_from is_visible 0 line.now }
 {
     line.iter().position(|&byte| !is_blank_byte(byte))
 }
 
-/// The place of the first blank.
+/// Returns the place of the first blank, or None.
 fn first_blank(line: &[u8]) -> Option<usize>
     ensures { result ≡ position_from is_blank 0 line.now }
 {
     line.iter().position(|&byte| is_blank_byte(byte))
 }
 
-/// The first field of a line, and what stands behind it.
+/// Returns the first field of a line and the rest after it, or None if the line has no field.
 pub(crate) fn first_field(line: &[u8]) -> Option<(&[u8], &[u8])>
     ensures fields { MatchOption result (fields_of line.now ≡ [])
         (λ found. fields_of line.now ≡ found.0.now ∷ fields_of found.1.now) }
@@ -40,7 +40,7 @@ pub(crate) fn first_field(line: &[u8]) -> Option<(&[u8], &[u8])>
     Some(line.split_at(first_blank(line).unwrap_or(line.len())))
 }
 
-/// The one field of what stands behind a word.
+/// Returns the one field after a word.
 pub(crate) fn one_field(rest: &[u8]) -> Result<&[u8], LineFault>
     ensures { field_value result ≡ one_field (fields_of rest.now) }
 {
@@ -53,7 +53,7 @@ pub(crate) fn one_field(rest: &[u8]) -> Result<&[u8], LineFault>
     }
 }
 
-/// The two fields of what stands behind a word.
+/// Returns the two fields after a word.
 pub(crate) fn two_fields(rest: &[u8]) -> Result<(&[u8], &[u8]), LineFault>
     ensures { fields_value result ≡ two_fields (fields_of rest.now) }
 {
@@ -69,7 +69,7 @@ pub(crate) fn two_fields(rest: &[u8]) -> Result<(&[u8], &[u8]), LineFault>
     }
 }
 
-/// A number that is at most another.
+/// Returns the number of a text, which is at most `most`.
 fn number_up_to(most: u64, text: &[u8]) -> Result<u64, LineFault>
     ensures { result ≡ number_up_to most (number_of text.now) }
 {
@@ -79,7 +79,7 @@ fn number_up_to(most: u64, text: &[u8]) -> Result<u64, LineFault>
     }
 }
 
-/// The number of a setting that is given once.
+/// Returns the number of a setting that the file gives once.
 pub(crate) fn setting(most: u64, before: Option<u64>, rest: &[u8]) -> Result<u64, LineFault>
     ensures { result ≡ setting_of most before (fields_of rest.now) }
 {
@@ -90,7 +90,7 @@ pub(crate) fn setting(most: u64, before: Option<u64>, rest: &[u8]) -> Result<u64
     number_up_to(most, text)
 }
 
-/// The key that a text in hexadecimal says.
+/// Returns the key of a text in hexadecimal.
 pub(crate) fn key(text: &[u8]) -> Result<ClusterKey, LineFault>
     ensures { result ≡ key_of text.now }
 {
@@ -100,7 +100,7 @@ pub(crate) fn key(text: &[u8]) -> Result<ClusterKey, LineFault>
     }
 }
 
-/// The life that a text says.
+/// Returns the life of a text.
 pub(crate) fn life(text: &[u8]) -> Result<&[u8], LineFault>
     ensures { field_value result ≡ life_of text.now }
 {

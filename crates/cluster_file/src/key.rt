@@ -10,11 +10,12 @@ use std::alloc::{AllocError, Global};
 use token_file::Book;
 use vote_wire::ClusterKey;
 
-/// The bytes of a MAC that a fingerprint shows.
+/// The number of bytes of a MAC that a fingerprint shows.
 const PRINT_LEN: usize = 8;
 
-/// The key under which the members of a cluster with this book tag their datagrams: HMAC-SHA-256 (RFC 2104) under the
-/// cluster's key over the shared text, all 32 bytes.
+/// Returns the shared key, under which members tag their datagrams.
+///
+/// It is HMAC-SHA-256 (RFC 2104) of the shared text of `cluster` and `book` under the cluster's key, all 32 bytes.
 pub fn shared_key(
     alloc: Global,
     key: &ClusterKey,
@@ -29,8 +30,9 @@ pub fn shared_key(
     Ok(ClusterKey::new(mac.as_slice()).unwrap())
 }
 
-/// The fingerprint of a shared key, 16 hexadecimal digits that two sites compare: the first 8 bytes of HMAC-SHA-256
-/// under it over the word `fingerprint`.
+/// Returns the fingerprint of a shared key, 16 hexadecimal digits that two sites compare.
+///
+/// They are the first 8 bytes of HMAC-SHA-256 of the word `fingerprint` under the shared key.
 pub fn fingerprint(shared_key: &ClusterKey) -> [u8; 2 * PRINT_LEN]
     ensures { result ≡ fingerprint_of shared_key.now }
 {

@@ -18,30 +18,31 @@ ghost use Rattle.cluster_file.specs.Shared.{IsShared, Shared, shared_of, shared_
 ghost use Rattle.cluster_file.specs.declared.fault.LineFault.{LineFault};
 ghost use Rattle.cluster_file.specs.declared.word.Word.{Word};
 
-/// Equal shared texts say equal lives, members, settings and tokens, each in the same order.
+/// Injective: equal shared texts have equal lives, members, settings and tokens, each in the same order.
 pub fn shared_texts_tell()
     ensures { (a b : Shared) → IsShared a → IsShared b → shared_text a ≡ shared_text b → a ≡ b }
 {}
 
-/// What a cluster file says, with a book of tokens, is of the kind of which `shared_texts_tell` speaks.
+/// Range: the shared values of a cluster file with a book of tokens are values that `shared_texts_tell` covers.
 pub fn clusters_are_shared()
     ensures { (text : List ℕ) (cluster : ClusterRecord) (book : List Credential) → cluster_of text ≡ Ok cluster →
         AllByRecursion IsCredential book → IsShared (shared_of cluster book) }
 {}
 
-/// Members that don't share the same have different shared keys, unless their texts collide under HMAC-SHA-256.
+/// Different keys: members with different shared values have different shared keys, unless their texts collide under
+/// HMAC-SHA-256.
 pub fn shared_keys_tell()
     ensures { (key : List ℕ) (a b : Shared) → IsShared a → IsShared b → (a ≡ b → ⊥) →
         shared_key_of key a ≡ shared_key_of key b → IsCollision key (shared_text a) (shared_text b) }
 {}
 
-/// An address is read from exactly the texts that std's grammar says spell it.
+/// Addresses: the texts that are read as an address are exactly its spellings in std's grammar.
 pub fn addresses_are_spelled()
     ensures { (text : List ℕ) (address : AnyAddress) →
         (address_of text ≡ Some (address_value address)) ↔ IsSocketV4Text text address }
 {}
 
-/// The fields of lines, worked through.
+/// Worked cases. The fields of lines.
 pub fn fields_are_worked()
     ensures words { map spec_word_of (codes "member" ∷ codes "look-ahead" ∷ codes "skew" ∷ codes "range"
         ∷ codes "drift" ∷ codes "key-file" ∷ codes "key" ∷ codes "life" ∷ [])
@@ -66,7 +67,7 @@ pub fn fields_are_worked()
         ≡ Ok (word_of 1) ∷ Ok (word_of 64) ∷ Err LineFault.BadLife ∷ [] }
 {}
 
-/// Lines of a cluster file, worked through.
+/// Worked cases. Lines of a cluster file.
 pub fn lines_are_worked()
     ensures passed_over { after_each nothing_said ([] ∷ codes "  " ∷ codes "# member" ∷ codes " #member" ∷ [])
         ≡ replicate 4 (Ok nothing_said) }
@@ -110,7 +111,7 @@ pub fn lines_are_worked()
         ≡ replicate 8 (Err LineFault.SurplusField) }
 {}
 
-/// Cluster files, worked through.
+/// Worked cases. Cluster files.
 pub fn files_are_worked()
     ensures small { cluster_of (text_of small_file) ≡ Ok small_cluster }
     ensures no_last_end { cluster_of (codes "life a" ++ 10 ∷ codes "key-file /etc/k" ++ 13 ∷ 10 ∷
@@ -133,7 +134,7 @@ pub fn files_are_worked()
     ensures faults { map is_memory faults ≡ replicate 15 false ++ true ∷ [] }
 {}
 
-/// A shared text, its key and its fingerprint, worked through.
+/// Worked cases. A shared text, its key and its fingerprint.
 pub fn keys_are_worked()
     ensures text { shared_text three_shared ≡ text_of (codes "wakdulg 1" ∷ codes "life 2026-11a"
         ∷ codes "member 1 192.0.2.1:7101" ∷ codes "member 2 192.0.2.2:7101" ∷ codes "member 3 192.0.2.3:7101"
@@ -144,8 +145,9 @@ pub fn keys_are_worked()
     ensures fingerprint { fingerprint_of three_key ≡ codes "b1061f3a2d61dfbd" }
 {}
 
-/// What is said of an address and of what members share holds of a value, and each part of it is broken by one that
-/// keeps all others; so is each part of what is said of a collision, of which none is known.
+/// Counterexamples: each promise of addresses, shared values and collisions fails for a minimal one.
+///
+/// No collision is known, so no example keeps the promise of one.
 pub fn promises_can_be_broken()
     ensures address { IsAddress (address_at 255) }
     ensures no_octets { IsAddress (record { octets = []; port = 0 }) → ⊥ }
@@ -167,7 +169,7 @@ pub fn promises_can_be_broken()
     ensures two_macs { IsCollision [] [] (0 ∷ []) → ⊥ }
 {}
 
-/// What a check prints, worked through.
+/// Worked cases. The printed text of a check.
 pub fn checks_are_worked()
     ensures kinds { map (λ kind. map (is_kind kind) (Event ∷ Time30 ∷ Time60 ∷ [])) (Event ∷ Time30 ∷ Time60 ∷ [])
         ≡ (true ∷ false ∷ false ∷ []) ∷ (false ∷ true ∷ false ∷ []) ∷ (false ∷ false ∷ true ∷ []) ∷ [] }

@@ -1,13 +1,16 @@
-//! The cluster file: what all members of a cluster must agree on, in one text; and the key that follows from it.
+//! The cluster file, on whose content all members of a cluster must agree, and the key that follows from it.
 //!
-//! [`read_cluster`] reads the file. [`shared_text`] writes all that must be equal at the members: the life, the
-//! members in order, the settings, and the users in order. It is one-to-one (`shared_texts_tell`). [`shared_key`] is
-//! the HMAC of that text under the cluster's key: members that tag their datagrams under it have the same key only
-//! where all of it is equal, or their texts collide (`shared_keys_tell`). [`fingerprint`] is 16 digits by which two
-//! sites compare their shared keys, and [`write_summary`] writes them with the rest that sites compare.
+//! [`read_cluster`] reads the file. [`shared_text`] writes all values that must be equal at the members: the life, the
+//! members in order, the settings, and the users in order. The text is one-to-one (`shared_texts_tell`).
 //!
-//! No two of these MACs are over the same bytes: those of datagrams begin with `OV`, the shared text with `wakdulg`,
-//! and the fingerprint's are the word `fingerprint`.
+//! [`shared_key`] is the HMAC of the text under the cluster's key. Members tag their datagrams under it. They have the
+//! same key only if all values are equal, or if their texts collide (`shared_keys_tell`).
+//!
+//! [`fingerprint`] is 16 digits by which two sites compare their shared keys. [`write_summary`] writes it with the
+//! other values that sites compare.
+//!
+//! No two of these MACs are over the same bytes. The MAC of a datagram is over bytes that begin with `OV`. The shared
+//! text begins with `wakdulg`, and the fingerprint's text is the word `fingerprint`.
 #![tactic(auto)]
 
 mod address;

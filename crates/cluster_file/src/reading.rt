@@ -9,17 +9,17 @@ use crate::fault::{ClusterFault, LineFault};
 use crate::said::Said;
 use std::alloc::Global;
 
-/// The longest cluster file, in bytes.
+/// The maximum length of a cluster file, in bytes.
 pub const MAX_CLUSTER_LEN: usize = 65_536;
 
-/// Whether a byte ends a line.
+/// Returns whether a byte ends a line.
 fn is_line_end(byte: &u8) -> bool
     ensures { result ≡ (byte.now == 10) }
 {
     *byte == b'\n'
 }
 
-/// The number of the line at the end of a text, from 1.
+/// Returns the number of the last line of a text, from 1.
 fn last_line(text: &[u8]) -> u64
     ensures { result ≡ length (lines_of text.now) }
 {
@@ -30,7 +30,7 @@ fn last_line(text: &[u8]) -> u64
     number
 }
 
-/// What all lines of a text said.
+/// Returns the values of all lines of a text.
 fn read_lines(alloc: Global, text: &[u8]) -> Result<Said<'_>, ClusterFault>
     ensures said { IfOk result (λ said. after_lines 1 nothing_said (lines_of text.now) ≡ Ok said) }
     ensures fault { IfErr result (λ fault. is_memory fault.kind ≡ false →
@@ -48,7 +48,7 @@ fn read_lines(alloc: Global, text: &[u8]) -> Result<Said<'_>, ClusterFault>
     Ok(said)
 }
 
-/// The cluster that a text says, of at most so many bytes.
+/// Returns the cluster of a text of at most `limit` bytes.
 fn read_up_to(alloc: Global, limit: usize, text: &[u8]) -> Result<Cluster<'_>, ClusterFault>
     ensures cluster { IfOk result (λ cluster. outcome_of limit text.now ≡ Ok (cluster_value cluster)) }
     ensures fault { IfErr result (λ fault. is_memory fault.kind ≡ false →
@@ -70,11 +70,13 @@ fn read_up_to(alloc: Global, limit: usize, text: &[u8]) -> Result<Cluster<'_>, C
     }
 }
 
-/// The cluster that a cluster file says, of at most 65,536 bytes. It borrows the text.
+/// Reads a cluster file of at most 65,536 bytes. The result borrows the text.
 ///
 /// # Errors
-/// The first fault of the first faulty line, and then what is missing, at the line behind the last LF. `Memory` comes
-/// at any member.
+///
+/// - Returns the first fault of the first faulty line.
+/// - Returns a fault of a missing value, with the number of the line after the last LF.
+/// - Returns `Memory` if the allocator refuses the memory for a member. It can come at any member.
 pub fn read_cluster(alloc: Global, text: &[u8]) -> Result<Cluster<'_>, ClusterFault>
     ensures cluster { IfOk result (λ cluster. cluster_of text.now ≡ Ok (cluster_value cluster)) }
     ensures members { IfOk result (λ cluster.

@@ -18,22 +18,22 @@ use std::marker::Model;
 use std::net::SocketAddrV4;
 use vote_wire::ClusterKey;
 
-/// The most members of a cluster.
+/// The maximum number of members of a cluster.
 const MAX_MEMBERS: usize = 9;
 
-/// The greatest look-ahead.
+/// The maximum look-ahead.
 const MAX_LOOK_AHEAD: u64 = 100;
 
-/// The greatest skew.
+/// The maximum skew.
 const MAX_SKEW: u64 = 10;
 
-/// The greatest range.
+/// The maximum range.
 const MAX_RANGE: u64 = 1000;
 
-/// The greatest drift.
+/// The maximum drift.
 const MAX_DRIFT: u64 = 10;
 
-/// What lines said so far.
+/// The values of the lines that were read.
 #[derive(Drop)]
 pub(crate) struct Said<'a> {
     members: Vec<SocketAddrV4>,
@@ -69,7 +69,7 @@ impl<'a> Model for Said<'a> {
 }
 
 impl<'a> Said<'a> {
-    /// No line said anything.
+    /// Returns the values of no line.
     pub(crate) fn new(alloc: Global) -> Self
         ensures { result ≡ nothing_said }
     {
@@ -84,7 +84,7 @@ impl<'a> Said<'a> {
         }
     }
 
-    /// Takes a line more. What a refusal leaves is not used again.
+    /// Takes a line. After a fault the values are not used again.
     pub(crate) fn take_line(&mut self, line: &'a [u8]) -> Result<(), LineFault>
         ensures ok { OnOk result (after_fields self.old (fields_of line.now) ≡ Ok self.new) }
         ensures fault { IfErr result (λ fault. is_memory fault ≡ false →
@@ -102,7 +102,7 @@ impl<'a> Said<'a> {
         }
     }
 
-    /// Takes what stands behind a word.
+    /// Takes the fields after a word.
     fn take_word(&mut self, word: Word, rest: &'a [u8]) -> Result<(), LineFault>
         ensures ok { OnOk result (after_word self.old word (fields_of rest.now) ≡ Ok self.new) }
         ensures fault { IfErr result (λ fault. is_memory fault ≡ false →
@@ -128,7 +128,7 @@ impl<'a> Said<'a> {
         Ok(())
     }
 
-    /// The member that a line adds.
+    /// Returns the member that a line adds.
     fn next_member(&self, rest: &[u8]) -> Result<SocketAddrV4, LineFault>
         ensures ok { IfOk result (λ member.
             member_of self.now.members (fields_of rest.now) ≡ Ok (address_value member)) }
@@ -150,7 +150,7 @@ impl<'a> Said<'a> {
         Ok(member)
     }
 
-    /// The path of the key that a line says.
+    /// Returns the path of the key in a line.
     fn key_path(&self, rest: &'a [u8]) -> Result<&'a [u8], LineFault>
         ensures { field_value result ≡ path_of self.now.key (fields_of rest.now) }
     {
@@ -161,7 +161,7 @@ impl<'a> Said<'a> {
         Ok(path)
     }
 
-    /// The key that a line says.
+    /// Returns the key in a line.
     fn key_bytes(&self, rest: &[u8]) -> Result<ClusterKey, LineFault>
         ensures { result ≡ bytes_of self.now.key (fields_of rest.now) }
     {
@@ -172,7 +172,7 @@ impl<'a> Said<'a> {
         key(text)
     }
 
-    /// The life that a line says.
+    /// Returns the life in a line.
     fn new_life(&self, rest: &'a [u8]) -> Result<&'a [u8], LineFault>
         ensures { field_value result ≡ life_in self.now.life (fields_of rest.now) }
     {
@@ -183,7 +183,7 @@ impl<'a> Said<'a> {
         life(text)
     }
 
-    /// The settings that were given, and the usual ones in place of the others.
+    /// Returns the given settings, with defaults for the others.
     fn settings(&self) -> Settings
         ensures { result ≡ settings_of self.now }
     {
@@ -197,7 +197,7 @@ impl<'a> Said<'a> {
         .unwrap()
     }
 
-    /// The cluster, after the last line.
+    /// Returns the cluster, after the last line.
     pub(crate) fn finish(self) -> Result<Cluster<'a>, LineFault>
         ensures ok { IfOk result (λ cluster. finished self.entry ≡ Ok (cluster_value cluster)) }
         ensures fault { IfErr result (λ fault. finished self.entry ≡ Err fault) }
@@ -222,7 +222,7 @@ impl<'a> Said<'a> {
     }
 }
 
-/// Whether a word begins a remark.
+/// Returns whether a word begins a remark.
 fn is_remark(word: &[u8]) -> bool
     ensures { result ≡ is_remark word.now }
 {
@@ -232,7 +232,7 @@ fn is_remark(word: &[u8]) -> bool
     }
 }
 
-/// Whether a text is a number.
+/// Returns whether `text` is the number `number`.
 fn is_number(text: &[u8], number: u64) -> bool
     ensures { result ≡ is_number (number_of text.now) number }
 {

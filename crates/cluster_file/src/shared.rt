@@ -77,7 +77,7 @@ pub(crate) fn write_settings<W: Write>(writer: &mut W, settings: Settings) -> io
     write_number(writer, b"drift", settings.drift())
 }
 
-/// The first free factor of a token of which none is taken.
+/// Returns the floor (the first free factor) of a token without a used factor: 0.
 fn first_factor() -> Next
     ensures { result ≡ 0 }
 {
@@ -91,7 +91,8 @@ fn write_token<W: Write>(writer: &mut W, token: &Token) -> io::Result<()>
     write_row(writer, token, first_factor())
 }
 
-/// The token with a number. A book has no more tokens than there are numbers of tokens.
+/// Returns the id of the token with the number `number`. A book has at most 10,000 tokens, so every number of its
+/// tokens has one.
 pub(crate) fn token_at(number: usize) -> io::Result<TokenId>
     ensures { IfOk result (λ id. id ≡ number) }
 {
@@ -113,7 +114,7 @@ fn write_book<W: Write>(writer: &mut W, book: &Book) -> io::Result<()>
     Ok(())
 }
 
-/// Writes what the members of a cluster with this book share.
+/// Writes the shared values of a cluster with a book.
 fn write_shared<W: Write>(writer: &mut W, cluster: &Cluster, book: &Book) -> io::Result<()>
     ensures { OnOk result (Appends (W.contents writer.old) (W.contents writer.new)
         (shared_text (shared_of (cluster_value cluster.now) book.now))) }
@@ -125,11 +126,13 @@ fn write_shared<W: Write>(writer: &mut W, cluster: &Cluster, book: &Book) -> io:
     write_book(writer, book)
 }
 
-/// What the members of a cluster with this book share, as one text: equal texts say equal lives, members, settings and
-/// tokens (`shared_texts_tell`). What the tokens have counted is not in it.
+/// Returns the shared values of a cluster with a book as one text, without the tokens' counters.
+///
+/// Equal texts have equal lives, members, settings and tokens (`shared_texts_tell`).
 ///
 /// # Errors
-/// Want of memory alone.
+///
+/// - Returns `AllocError` if the allocator refuses the memory.
 pub fn shared_text(alloc: Global, cluster: &Cluster, book: &Book) -> Result<Vec<u8>, AllocError>
     ensures { IfOk result (λ text. text.items ≡ shared_text (shared_of (cluster_value cluster.now) book.now)) }
 {

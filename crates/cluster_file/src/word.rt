@@ -2,35 +2,35 @@ ghost use Rattle.std.specs.Prelude.{◌≡◌};
 ghost use Rattle.std.specs.Str.{bytes_eq};
 ghost use Rattle.cluster_file.specs.Fields.{word_of};
 
-/// What a line is about.
+/// The subject of a line.
 #[derive(Clone, Copy, Debug, PartialEq, Eq)]
 pub(crate) enum Word {
     /// A member and its address.
     Member,
-    /// How many factors past the first free one a check may take.
+    /// The number of factors above the floor (the first free factor) that a check may take.
     LookAhead,
-    /// How many time steps before and after the present one a check may take.
+    /// The number of time steps before and after the current one that a check may take.
     Skew,
-    /// How many factors past the first free one a resynchronization may take.
+    /// The number of factors above the floor that a resynchronization may take.
     Range,
-    /// By how many time steps a clock may have drifted.
+    /// The number of time steps by which a clock may have drifted.
     Drift,
-    /// Where the key is.
+    /// The path of the key.
     KeyFile,
-    /// What the key is.
+    /// The key.
     Key,
     /// The life of the databases.
     Life,
 }
 
-/// Whether two words have the same bytes.
+/// Returns whether two words have the same bytes.
 fn is_same(word: &[u8], other: &[u8]) -> bool
     ensures { result ≡ bytes_eq word.now other.now }
 {
     word == other
 }
 
-/// What a line is about, by its first field.
+/// Returns the subject of a line by its first field, or None if the field is not a word of a cluster file.
 pub(crate) fn read_word(text: &[u8]) -> Option<Word>
     ensures { result ≡ word_of text.now }
 {

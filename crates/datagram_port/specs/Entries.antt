@@ -4,19 +4,19 @@ use Rattle.datagram_port.specs.Port.{PortEvent, Received, Quiet, Faulted, Offere
 use Rattle.datagram_port.specs.declared.list_port.PortEntry.{PortEntry}
 use Rattle.datagram_port.specs.declared.list_port.PortEntry.TheVariants.{Received as ReceivedEntry, Quiet as QuietEntry, Faulted as FaultedEntry, Offered as OfferedEntry}
 
--- what an entry says
+-- the event of an entry
 abbrev pub event_of_entry : PortEntry → PortEvent
 event_of_entry (ReceivedEntry sender bytes) = Received sender bytes.items
 event_of_entry QuietEntry = Quiet
 event_of_entry FaultedEntry = Faulted
 event_of_entry (OfferedEntry to bytes) = Offered to bytes.items
 
--- what is kept: these entries, as long as none was lost
+-- the events of the entries, if no entry was lost
 abbrev pub events_kept : Bool → List PortEntry → Option (List PortEvent)
 events_kept true entries = Some (map event_of_entry entries)
 events_kept false entries = None
 
--- what was told, as long as nothing of it was lost
+-- the moments that a clock told, if none was lost
 abbrev pub moments_kept : Bool → List (Option ℕ) → Option (List (Option ℕ))
 moments_kept true told = Some told
 moments_kept false told = None

@@ -5,7 +5,7 @@ ghost use Rattle.datagram_port.specs.declared.list_port.PortEntry.TheVariants.{F
 ghost use Rattle.datagram_port.specs.declared.port.Received.TheVariants.{Datagram, Fault, Quiet as QuietReceive};
 ghost use Rattle.datagram_port.specs.declared.port.Sender.TheVariants.{Peer};
 
-/// What a receive and a poll leave on record, what lies in the buffer, and what is kept of a record, worked through.
+/// Worked cases. The events of a receive and a poll, the content of the buffer, and kept records.
 pub fn records_are_worked()
     ensures receives { map (λ received. event_of_receive received (1 ∷ 2 ∷ 3 ∷ []))
         (Datagram (Peer 1) 2 ∷ QuietReceive ∷ Fault ∷ []) ≡ Received (Peer 1) (1 ∷ 2 ∷ []) ∷ Quiet ∷ Faulted ∷ [] }
@@ -18,8 +18,7 @@ pub fn records_are_worked()
     ensures lost_moments { moments_kept false [] ≡ None }
 {}
 
-/// That a record grows by what was added behind it, and was there before where it is there now, is broken by the least
-/// that is wrong.
+/// Counterexamples: the promise of a growing record fails for each minimal one.
 pub fn records_can_be_broken()
     ensures grows { Grows (Some (Quiet ∷ [])) (Some (Quiet ∷ Faulted ∷ [])) (Faulted ∷ []) }
     ensures grows_unseen { Grows (Some (Quiet ∷ [])) None (Faulted ∷ []) }

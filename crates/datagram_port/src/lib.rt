@@ -1,8 +1,8 @@
-//! What a server of datagrams stands over: a port, which datagrams come from and go to, and a clock.
+//! The surroundings of a datagram server: a port, which receives and sends datagrams, and a clock.
 //!
-//! A [`Port`] hands in datagrams, one for each receive or poll, and takes datagrams to be sent. A receive waits for
-//! one, and a poll doesn't. A [`Clock`] tells the moment. Both may keep a record of their calls: [`ListPort`] and
-//! [`ListClock`], which stand in memory, do.
+//! A [`Port`] returns one datagram for each receive or poll, and sends datagrams. A receive waits for a datagram, a
+//! poll doesn't. A [`Clock`] tells the time. Both may keep a record of their calls. [`ListPort`] and [`ListClock`] are
+//! in memory and keep one.
 #![tactic(auto)]
 
 mod clock;

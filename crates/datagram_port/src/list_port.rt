@@ -1,4 +1,4 @@
-//! A port and a clock in memory, which keep a record, for tests of what is built on them.
+//! A port and a clock in memory, which keep a record, for tests of the crates above.
 
 ghost use Rattle.std.specs.Option.{option_map};
 ghost use Rattle.std.specs.Prelude.{◌≡◌, ◌∷◌, [], Some, None, IfOk, OnErr, length, map};
@@ -10,34 +10,34 @@ use crate::port::{MAX_DATAGRAM_LEN, Port, Received, Sender};
 use std::alloc::{AllocError, Global};
 use std::marker::Model;
 
-/// What a port in memory is to hand in.
+/// An input of a port in memory.
 #[derive(Clone, Copy)]
 pub enum Coming<'a> {
     /// A datagram, which is cut to 512 bytes.
     Datagram { sender: Sender, bytes: &'a [u8] },
-    /// Nothing in a while. A poll finds nothing, and leaves it to the next receive.
+    /// A quiet turn. A poll finds nothing, and leaves it to the next receive.
     Quiet,
     /// A fault.
     Fault,
-    /// What follows comes later: a poll finds nothing once, and a receive waits for what follows.
+    /// A pause: a poll finds nothing once, and a receive waits for the next input.
     Pause,
 }
 
 /// An entry of the record of a port in memory.
 #[derive(Debug, Drop, PartialEq, Eq)]
 pub enum PortEntry {
-    /// A datagram that was handed in.
+    /// A datagram that the port returned.
     Received { sender: Sender, bytes: Vec<u8> },
     /// A quiet receive.
     Quiet,
     /// A receive that failed.
     Faulted,
-    /// A datagram that was offered, whether it was taken or not.
+    /// An offered datagram, whether the port took it or not.
     Offered { to: Sender, bytes: Vec<u8> },
 }
 
-/// A port in memory. It hands in what it was given, in order, and then it is quiet. It keeps a record of its calls as
-/// long as there is memory for it.
+/// A port in memory. It returns its inputs in order, and is then quiet. It keeps a record of its calls as long as the
+/// allocator grants the memory.
 #[derive(Drop)]
 pub struct ListPort<'a> {
     alloc: Global,
@@ -57,7 +57,7 @@ impl<'a> Model for ListPort<'a> {
     ghost view = { λ port. events_kept port.is_whole port.entries.items };
 }
 
-/// The entry of a receive.
+/// Returns the entry of a receive.
 fn entry_of_receive(
     alloc: Global,
     received: Received,
@@ -78,7 +78,7 @@ fn entry_of_receive(
 }
 
 impl<'a> ListPort<'a> {
-    /// A port that is to hand these in.
+    /// Returns a port with the inputs `comings`.
     pub fn new(alloc: Global, comings: &'a [Coming<'a>]) -> Self
         ensures { result ≡ Some [] }
     {
@@ -91,14 +91,14 @@ impl<'a> ListPort<'a> {
         }
     }
 
-    /// From now on each send fails.
+    /// Makes every later send fail.
     pub fn fail_sends(&mut self)
         ensures { self.new ≡ self.old }
     {
         self.takes_sends = false;
     }
 
-    /// What was received and offered, in order; None where there was no memory for it.
+    /// Returns the received and offered datagrams in order, or None if the allocator refused memory for one.
     pub fn record(&self) -> Option<&[PortEntry]>
         ensures { option_map (λ entries. map event_of_entry entries.now) result ≡ self.now }
     {
@@ -108,7 +108,7 @@ impl<'a> ListPort<'a> {
         None
     }
 
-    /// Adds an entry to the record, if there is one and memory for it.
+    /// Appends an entry to the record, if there is a record and memory for it.
     fn keep(&mut self, entry: Result<PortEntry, AllocError>)
         ensures kept { IfOk entry (λ kept. Grows self.old self.new (event_of_entry kept ∷ [])) }
         ensures lost { OnErr entry (self.new ≡ None) }
@@ -123,7 +123,7 @@ impl<'a> ListPort<'a> {
         }
     }
 
-    /// Adds the entry of a receive.
+    /// Appends the entry of a receive.
     fn keep_received(&mut self, received: Received, buffer: &[u8; 512])
         requires { IsWithin received }
         ensures { Grows self.old self.new (event_of_receive received buffer.now ∷ []) }
@@ -132,7 +132,7 @@ impl<'a> ListPort<'a> {
         self.keep(entry);
     }
 
-    /// Takes out what is next but for pauses.
+    /// Takes the next input except pauses.
     fn next(&mut self) -> Coming<'a>
         ensures { self.new ≡ self.old }
     {
@@ -150,7 +150,7 @@ impl<'a> ListPort<'a> {
         Coming::Quiet
     }
 
-    /// Whether a poll finds nothing. A pause is then over.
+    /// Returns whether a poll finds nothing. Ends a pause.
     fn is_empty_now(&mut self) -> bool
         ensures { self.new ≡ self.old }
     {
@@ -168,7 +168,7 @@ impl<'a> ListPort<'a> {
         }
     }
 
-    /// Hands in what is next.
+    /// Returns the next input. Writes its bytes to `buffer`.
     fn hand_in(&mut self, buffer: &mut [u8; 512]) -> Received
         ensures within { IsWithin result }
         ensures record { self.new ≡ self.old }
@@ -217,8 +217,8 @@ impl Port for ListPort<'_> {
     }
 }
 
-/// A clock in memory. It tells the moments that it was given, in order, and then fails. It keeps a record of what
-/// it told as long as there is memory for it.
+/// A clock in memory. It tells its moments in order, and then fails. It keeps a record of the moments that it told as
+/// long as the allocator grants the memory.
 #[derive(Drop)]
 pub struct ListClock<'a> {
     moments: &'a [u64],
@@ -236,7 +236,7 @@ impl<'a> Model for ListClock<'a> {
 }
 
 impl<'a> ListClock<'a> {
-    /// A clock that is to tell these.
+    /// Returns a clock that tells `moments`.
     pub fn new(alloc: Global, moments: &'a [u64]) -> Self
         ensures { result ≡ Some [] }
     {
@@ -247,7 +247,7 @@ impl<'a> ListClock<'a> {
         }
     }
 
-    /// What it told, in order; None where there was no memory for it.
+    /// Returns the moments that the clock told, in order, or None if the allocator refused memory for one.
     pub fn record(&self) -> Option<&[Option<u64>]>
         ensures { option_map (λ told. told.now) result ≡ self.now }
     {
@@ -257,7 +257,7 @@ impl<'a> ListClock<'a> {
         None
     }
 
-    /// The next moment.
+    /// Returns the next moment, or None.
     fn next(&mut self) -> Option<u64>
         ensures { self.new ≡ self.old }
     {

@@ -1,43 +1,43 @@
-//! Where datagrams come from and go to.
+//! The trait of a port, which a node receives datagrams from and sends them to.
 
-/// The most bytes of a datagram that are handed in. A longer one is cut.
+/// The maximum number of bytes of a received datagram. A longer one is cut.
 pub const MAX_DATAGRAM_LEN: usize = 512;
 
-/// Whom a datagram comes from or goes to.
+/// The sender or the receiver of a datagram.
 #[derive(Clone, Copy, Debug, PartialEq, Eq)]
 pub enum Sender {
-    /// The member of this number.
+    /// The member with the number.
     Peer(u8),
-    /// The client of this number.
+    /// The client with the number.
     Client(u64),
 }
 
-/// What a receive comes to.
+/// The result of a receive.
 #[derive(Clone, Copy, Debug, PartialEq, Eq)]
 pub enum Received {
-    /// A datagram: its first bytes, at most 512, are so many of the buffer's first ones.
+    /// A datagram. The first `len` bytes of the buffer are its first bytes, at most 512.
     Datagram { sender: Sender, len: usize },
-    /// Nothing came in a while.
+    /// A quiet turn: no datagram came in the port's time.
     Quiet,
-    /// The port failed.
+    /// A failure of the port.
     Fault,
 }
 
-/// A port of datagrams. Where it keeps a record of its calls, each call adds its entry at the end.
+/// A port of datagrams. If it keeps a record of its calls, each call appends its entry.
 pub trait Port {
     ghost use Rattle.std.specs.Prelude.{◌≢◌, ◌∷◌, [], List, Option, Some, None, IfSome};
     ghost use Rattle.datagram_port.specs.Port.{Grows, IsWithin, PortEvent, Offered, entries_of_poll, event_of_receive};
     ghost use Rattle.datagram_port.specs.declared.port.Received.TheVariants.{Quiet as QuietReceive};
 
-    // What was received and offered, in order. None: it keeps no record, or couldn't keep it.
+    // The received and offered datagrams, in order. None: the port keeps no record, or could not keep it.
     ghost events: { Self → Option (List PortEvent) } = { λ _. None };
 
-    /// Waits a while for a datagram, and puts its first bytes into the buffer.
+    /// Waits for a datagram for a limited time, and writes its first bytes to the buffer.
     fn receive(&mut self, buffer: &mut [u8; 512]) -> Received
         ensures within { IsWithin result }
         ensures event { Grows (events self.old) (events self.new) (event_of_receive result buffer.new ∷ []) };
 
-    /// A datagram that is there already, or a fault; it doesn't wait, and is never quiet. None where nothing is there.
+    /// Returns a queued datagram or a fault, or None if nothing is queued. Does not wait, and never returns `Quiet`.
     fn poll(&mut self, buffer: &mut [u8; 512]) -> Option<Received>
         ensures within { IfSome result IsWithin }
         ensures waits { result ≢ Some QuietReceive }
@@ -47,7 +47,7 @@ pub trait Port {
         None
     }
 
-    /// Offers a datagram, and tells whether it was taken. A datagram that isn't taken is lost.
+    /// Offers a datagram to the port, and returns whether the port took it. A datagram that it didn't take is lost.
     fn send(&mut self, to: Sender, bytes: &[u8]) -> bool
         ensures { Grows (events self.old) (events self.new) (Offered to bytes.now ∷ []) };
 }

@@ -7,7 +7,7 @@ use Rattle.floor_store.specs.Held.{Held}
 use Rattle.floor_store.specs.declared.fault.StoreFault.{StoreFault}
 use Rattle.floor_store.specs.declared.fault.StoreFault.TheVariants.{Disk, Memory, Spent}
 
--- a store: a stop leaves what it holds, or this other content
+-- a store that has one content, and of which a stop leaves that content or `other`
 pub record SmallStore : Type 0 where
   pub content : Content
   pub other : Content
@@ -15,7 +15,7 @@ pub record SmallStore : Type 0 where
   pub failures : ℕ
   pub is_clean : Bool
 
--- what is to be seen of it
+-- the contract's view of a small store
 abbrev pub small_held : SmallStore → Held
 small_held store = record {
   content = store.content;
@@ -25,50 +25,50 @@ small_held store = record {
   leaves = λ content. (content ≡ store.content) ⊎ (content ≡ store.other);
 }
 
--- no token, at that boot
+-- the content of no token, at a boot
 abbrev pub booted : ℕ → Content
 booted boot = content_at boot []
 
--- a clean store of this content alone
+-- a clean store of the content alone
 abbrev pub holding : Content → SmallStore
 holding content = record { content = content; other = content; fault = None; failures = 0; is_clean = true }
 
--- a clean store of no token, at that boot
+-- a clean store of no token, at a boot
 abbrev pub store_at : ℕ → SmallStore
 store_at boot = holding (booted boot)
 
--- the same, where a stop may leave an earlier or a later boot
+-- a clean store of no token, of which a stop may leave an earlier or a later boot
 abbrev pub unsettled_at : ℕ → ℕ → SmallStore
 unsettled_at boot other = record (store_at boot) { other = booted other }
 
--- the same, broken by the disk at its first failure
+-- a store of no token, broken by the disk at its first failure
 abbrev pub broken_at : ℕ → SmallStore
 broken_at boot = record (store_at boot) { fault = Some Disk; failures = 1 }
 
--- the same, over a disk that returned something else
+-- a store of no token over a disk that returned other data
 abbrev pub fallen_at : ℕ → SmallStore
 fallen_at boot = record (store_at boot) { is_clean = false }
 
--- a store at boot 0 behind a fuse of one write, after so many, which loses the write that blows it
+-- a store at boot 0 with a fuse of one write, after `passed` writes; the write that blows the fuse is lost
 abbrev pub fuse : ℕ → Bool → FuseRecord SmallStore
 fuse passed is_blown = record { inner = store_at 0; writes = 1; passed = passed; after = false; is_blown = is_blown }
 
--- the same, where the write that blows it is kept
+-- the same fuse, but the write that blows it is kept
 abbrev pub keeping_fuse : ℕ → Bool → FuseRecord SmallStore
 keeping_fuse passed is_blown = record (fuse passed is_blown) { after = true }
 
--- what is to be seen of it
+-- the contract's view of a store with a fuse
 abbrev pub small_fuse : FuseRecord SmallStore → Held
 small_fuse = fuse_held small_held
 
--- a call that went well, and one that met a failure of the disk
+-- a call that succeeded, and one that met a failure of the disk
 abbrev pub done : Result ℕ StoreFault
 done = Ok 0
 
 abbrev pub failed : Result ℕ StoreFault
 failed = Err Disk
 
--- one that found no memory
+-- a call that got no memory
 abbrev pub out_of_memory : Result ℕ StoreFault
 out_of_memory = Err Memory
 
@@ -76,6 +76,6 @@ out_of_memory = Err Memory
 abbrev pub spent : Result ℕ StoreFault
 spent = Err Spent
 
--- the boot is read
+-- the boot is the content's
 abbrev pub IsBootOf : Content → ℕ → Type 0
 IsBootOf content boot = boot ≡ content.boot

@@ -1,4 +1,4 @@
--- A store behind a fuse, by what it holds.
+-- A store with a fuse, by its values.
 use Rattle.std.specs.Prelude.{◌≡◌, ℕ, ◌+◌, ◌<◌, Bool, true, false, Some, None, IsErr, IsErrOf, OnOk, OnErr, Result, if◌then◌else◌, refl}
 use Rattle.std.specs.Coded.{Coded, code_by, coded×, coded_ℕ, coded_bool}
 use Rattle.floor_store.specs.Content.{Content}
@@ -8,7 +8,7 @@ use Rattle.floor_store.specs.declared.fault.StoreFault.TheVariants.{Disk}
 
 pub record FuseRecord (S : Type 0) : Type 0 where
   pub inner : S
-  -- how many writes it lets pass, and how many have passed
+  -- the number of writes that the fuse lets pass, and the number that have passed
   pub writes : ℕ
   pub passed : ℕ
   -- whether the write that blows it is kept
@@ -22,30 +22,30 @@ fuse_code {S} inner =
     (λ f. (f.inner, (f.writes, (f.passed, (f.after, f.is_blown)))))
     (λ p. record { inner = p.0; writes = p.1.0; passed = p.1.1.0; after = p.1.1.1.0; is_blown = p.1.1.1.1 }) (λ _. refl)
 
--- What is seen of the store behind it, but that a blown fuse answers Disk, and that it blew is one failure more.
+-- The contract's view of a store with a fuse: the inner store's, except that a blown fuse returns Disk and is one more
+-- failure.
 abbrev pub fuse_held : {S : Type 0} → (S → Held) → FuseRecord S → Held
 fuse_held inner f = record (inner f.inner) {
   fault = if f.is_blown then Some Disk else (inner f.inner).fault;
   failures = (if f.is_blown then 1 else 0) + (inner f.inner).failures;
 }
 
--- it works, and lets no write pass any more
+-- the store works, and the fuse lets no further write pass
 pub record IsAtEnd {S : Type 0} (held : FuseRecord S → Held) (f : FuseRecord S) : Type 0 where
   pub works : (held f).fault ≡ None
   pub none_left : f.passed ≡ f.writes
 
--- the write was one of those that it lets pass
+-- the fuse let the write pass
 pub record Passes {S : Type 0} (old new : FuseRecord S) : Type 0 where
   pub left : old.passed < old.writes
   pub counted : new.passed ≡ old.passed + 1
 
--- the write blew it
+-- the write blew the fuse
 pub record Blows {S : Type 0} (old new : FuseRecord S) : Type 0 where
   pub whole : old.is_blown ≡ false
   pub blown : new.is_blown ≡ true
 
--- A write, which is to make this of the content, blows the fuse if it is the one after those that it lets pass, and not
--- before.
+-- A write of `made` blows the fuse if it is the first one after the writes that the fuse lets pass, and not earlier.
 pub record Burns {S A : Type 0} (held : FuseRecord S → Held) (old new : FuseRecord S) (made : Content)
     (result : Result A StoreFault) : Type 0 where
   pub passes : OnOk result (Passes old new)
@@ -53,7 +53,7 @@ pub record Burns {S A : Type 0} (held : FuseRecord S → Held) (old new : FuseRe
   pub holds : old.passed < old.writes → new.is_blown ≡ old.is_blown
   pub ends : old.passed ≡ old.writes → IsErr result
   pub blown : Blows old new → IsErrOf result Disk
-  -- the change is lost or kept, as the fuse was made
+  -- the change is lost or kept, by the choice of `after`
   pub lost : IsAtEnd held old → old.after ≡ false → new ≡ record old { is_blown = true }
   pub kept : Blows old new → old.after ≡ true → (held new).is_clean → (held new).content ≡ made
   pub limits : (new.writes ≡ old.writes) × (new.after ≡ old.after)

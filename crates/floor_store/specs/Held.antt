@@ -1,7 +1,7 @@
--- What contracts see of a store, and what its calls do.
+-- The contract's view of a store, and the effects of its calls.
 --
--- Each record below is read as a sentence about one call: `Writes held old new made result` says that the call which
--- took a store from `old` to `new` and answered `result` writes `made`. `held` tells what is to be seen of a store.
+-- Each record below is a sentence about one call: `Writes held old new made result` says that the call took a store
+-- from `old` to `new`, returned `result`, and writes `made`. `held` is the contract's view of a store.
 use Rattle.std.specs.Prelude.{◌≡◌, ◌≢◌, ◌⊎◌, ℕ, ◌+◌, ◌^◌, ◌≤◌, length, Option, None, IsSome, Result, Err, IfOk, IfErr, OnOk, OnErr}
 use Rattle.floor_store.specs.Content.{Content, with_next_boot}
 use Rattle.floor_store.specs.Fault.{IsBrokenBy, IsCounted}
@@ -10,22 +10,22 @@ use Rattle.floor_store.specs.declared.fault.StoreFault.TheVariants.{Spent}
 
 -- a store at one moment
 pub record Held : Type 1 where
-  -- what it holds
+  -- the content
   pub content : Content
-  -- the fault that broke it, and how many failures it has met
+  -- the fault that broke the store, and the number of failures that it has met
   pub fault : Option StoreFault
   pub failures : ℕ
-  -- So far what is below it has returned what was written. It may fall at any call, and nothing is said of the content
-  -- where it has fallen.
+  -- The layers below have returned what was written. They may stop doing so at any call, and then the contracts say
+  -- nothing about the content.
   pub is_clean : Type 0
-  -- what it may be found to hold after a stop at this moment
+  -- the contents that a stop at this moment may leave
   pub leaves : Content → Type 0
 
--- a stop leaves what it holds, and nothing else
+-- a stop leaves the content, and nothing else
 abbrev pub IsSettled : Held → Type 0
 IsSettled store = (c : Content) → store.leaves c → c ≡ store.content
 
--- what was there, or what the whole call makes
+-- atomic: the content is the old one or the complete new one
 abbrev pub OldOrNew : Content → Content → Content → Type 0
 OldOrNew old made now = (now ≡ old) ⊎ (now ≡ made)
 
@@ -36,52 +36,53 @@ pub record Reads {A : Type 0} (store : Held) (is_right : Content → A → Type 
   pub intact : OnOk result (store.fault ≡ None)
   pub broken : IfErr result (IsBrokenBy store.fault)
 
--- The content becomes `made`, whole or not at all.
+-- The content becomes `made`, completely or not at all.
 pub record Makes {S A E : Type 0} (held : S → Held) (old new : S) (made : Content)
     (result : Result A E) : Type 0 where
-  -- After Ok the store holds what was to be made, after Err that or what it held before.
+  -- After Ok the content is `made`, after Err `made` or the old one.
   pub ok : (held new).is_clean → OnOk result ((held new).content ≡ made)
   pub err : (held new).is_clean → OnErr result (OldOrNew (held old).content made (held new).content)
-  -- A broken store stays as it is, failures are not forgotten, and what is below does not become clean again.
+  -- A broken store stays unchanged, the count of failures never falls, and the layers below don't become clean again.
   pub stays : IsSome (held old).fault → new ≡ old
   pub count : (held old).failures ≤ (held new).failures
   pub clean : (held new).is_clean → (held old).is_clean
-  -- no token comes or goes
+  -- the number of tokens stays
   pub tokens : length (held new).content.rows ≡ length (held old).content.rows
 
--- A call that puts `made`. A stop before the next commit may leave it, or what a stop before the call could leave.
+-- A call that puts `made`. A stop before the next commit may leave `made`, or a content that a stop before the call
+-- could leave.
 pub record Puts {S A E : Type 0} (held : S → Held) (old new : S) (made : Content)
     (result : Result A E) : Type 0 where
   pub makes : Makes held old new made result
   pub left : (c : Content) → (held new).leaves c → (held old).leaves c ⊎ (c ≡ made)
-  -- Ok is of a store that was not broken, and is not
+  -- after Ok the store is not broken, and was not before
   pub intact : OnOk result (((held old).fault ≡ None) × ((held new).fault ≡ None))
 
 -- A call that writes `made`.
 pub record Writes {S A E : Type 0} (held : S → Held) (old new : S) (made : Content)
     (result : Result A E) : Type 0 where
   pub makes : Makes held old new made result
-  -- A stop leaves what a stop before the call could leave, or what was to be made; after Ok only what the store holds.
+  -- A stop leaves `made`, or a content that a stop before the call could leave; after Ok it leaves only the content.
   pub left : (c : Content) → (held new).leaves c → (held old).leaves c ⊎ (c ≡ made)
   pub settled : (held new).is_clean → OnOk result (IsSettled (held new))
-  -- Ok is of a store that was not broken, and is not
+  -- after Ok the store is not broken, and was not before
   pub intact : OnOk result (((held old).fault ≡ None) × ((held new).fault ≡ None))
 
--- The commit of all that was put: the store holds what it held, and after Ok a stop leaves nothing else. A stop in the
--- midst leaves what a stop before the call could leave, or all of it.
+-- The commit of all puts: the content stays, and after Ok a stop leaves nothing else. A stop during the commit leaves
+-- the content, or one that a stop before the call could leave.
 abbrev pub Commits : {S A E : Type 0} → (S → Held) → S → S → Result A E → Type 0
 Commits held old new result = Writes held old new (held old).content result
 
--- A call that puts `made`, or finds it there and puts nothing. What is made follows from rows that it reads, which are
--- right where the store is clean.
+-- A call that puts `made`, or finds it and puts nothing. `made` follows from rows that the call reads, which are right
+-- if the store is clean.
 pub record MayPut {S A E : Type 0} (held : S → Held) (old new : S) (made : Content)
     (result : Result A E) : Type 0 where
   pub makes : Makes held old new made result
   pub left : (held old).is_clean → (c : Content) → (held new).leaves c → (held old).leaves c ⊎ (c ≡ made)
   pub intact : (held old).fault ≡ None → OnOk result ((held new).fault ≡ None)
 
--- A call that writes `made`, or finds it there and writes nothing, and commits. What is made follows from rows that it
--- reads, which are right where the store is clean.
+-- A call that writes `made`, or finds it and writes nothing, and commits. `made` follows from rows that the call reads,
+-- which are right if the store is clean.
 pub record MayWrite {S A E : Type 0} (held : S → Held) (old new : S) (made : Content)
     (result : Result A E) : Type 0 where
   pub makes : Makes held old new made result
@@ -89,12 +90,12 @@ pub record MayWrite {S A E : Type 0} (held : S → Held) (old new : S) (made : C
   pub settled : (held new).is_clean → IsSettled (held old) → OnOk result (IsSettled (held new))
   pub intact : (held old).fault ≡ None → OnOk result ((held new).fault ≡ None)
 
--- The store is broken by the fault that the call answers: since before, or by a failure that the call met and counted.
+-- The fault that the call returns broke the store: earlier, or by a failure that the call met and counted.
 pub record Breaks {S : Type 0} (held : S → Held) (old new : S) (fault : StoreFault) : Type 0 where
   pub broken : IsBrokenBy (held new).fault fault
   pub counted : IsCounted (held old).fault (held old).failures (held new).failures fault
 
--- The write that raises the boot by one. `Spent` says that it is the last boot: nothing is changed, and nothing broken.
+-- The write that raises the boot by one. `Spent` says that the boot is the last one: nothing changes or breaks.
 pub record RaisesBoot {S A : Type 0} (held : S → Held) (old new : S) (result : Result A StoreFault) : Type 0 where
   pub writes : Writes held old new (with_next_boot (held old).content) result
   pub breaks : IfErr result (λ fault. fault ≢ Spent → Breaks held old new fault)

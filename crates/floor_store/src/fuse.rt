@@ -11,8 +11,9 @@ use crate::row::{Pass, Row};
 use crate::store::FloorStore;
 use std::marker::Model;
 
-/// A store that lets some writes pass, and then fails as one whose disk is full or gone. `put`, `commit`
-/// and `raise_boot` are a write each.
+/// A store that lets some writes pass, and then fails like one whose disk is full or gone.
+///
+/// Each call of `put`, `commit` and `raise_boot` is one write.
 #[derive(Drop)]
 pub struct FuseStore<S> {
     inner: S,
@@ -42,8 +43,9 @@ impl<S> Model for FuseStore<S> {
 }
 
 impl<S: FloorStore> FuseStore<S> {
-    /// Lets `writes` writes pass. The next one answers `Disk`, and its change is kept where `after`
-    /// says so.
+    /// Returns a store that lets `writes` writes pass.
+    ///
+    /// The next write returns `Disk`. Its change is kept if `after` is true.
     pub fn new(inner: S, writes: u64, after: bool) -> Self
         ensures { result ≡ record { inner = inner; writes = writes; passed = 0; after = after; is_blown = false } }
     {
@@ -56,7 +58,7 @@ impl<S: FloorStore> FuseStore<S> {
         }
     }
 
-    /// How many writes passed.
+    /// Returns the number of writes that passed.
     pub fn passed(&self) -> u64
         ensures value { result ≡ self.now.passed }
         ensures within { result ≤ self.now.writes }
@@ -64,8 +66,7 @@ impl<S: FloorStore> FuseStore<S> {
         self.passed
     }
 
-    /// Whether the next write reaches the store behind it, which answers for itself where it is
-    /// broken.
+    /// Returns whether the next write reaches the inner store. A broken inner store returns its own fault.
     fn reaches(&self) -> bool
         ensures { IsTrue result ↔ ((self.now.passed < self.now.writes) ⊎ (self.now.after ≡ true)
             ⊎ IsSome (S.held self.now.inner).fault) }
@@ -73,7 +74,11 @@ impl<S: FloorStore> FuseStore<S> {
         self.passed < self.writes || self.after || self.inner.is_broken()
     }
 
-    /// Counts a write that passes, or blows.
+    /// Counts a write that passes, or blows the fuse.
+    ///
+    /// # Errors
+    ///
+    /// - Returns `Disk` if no further write may pass.
     fn burn(&mut self) -> Result<(), StoreFault>
         ensures passes { OnOk result ((self.old.passed < self.old.writes)
             × (self.new ≡ record self.old { passed = self.old.passed + 1 })) }
@@ -89,7 +94,7 @@ impl<S: FloorStore> FuseStore<S> {
         }
     }
 
-    /// The store behind the fuse, as it stands.
+    /// Returns the inner store without the fuse.
     pub fn mend(self) -> S
         ensures { result ≡ self.inner }
     {

@@ -9,7 +9,7 @@ ghost use Rattle.floor_store.specs.Range.{IsPass, IsProposal, IsSpan};
 ghost use Rattle.floor_store.specs.Records.{RowRecord, span_of};
 ghost use Rattle.floor_store.specs.declared.fault.StoreFault.TheVariants.{AlreadyThere, Disk, Memory, Spent, Unusable};
 
-/// What each write makes of a content, worked through.
+/// Worked cases. The content after each write.
 pub fn contents_are_worked()
     ensures first { with_row (two_rows granted_row (free_row 9) (Some old_pass)) 0 later_row None
         ≡ two_rows later_row (free_row 9) (Some old_pass) }
@@ -35,7 +35,7 @@ pub fn contents_are_worked()
     ensures empty { opening_content [] ≡ record { rows = []; boot = 0; last = None } }
 {}
 
-/// The ends of each range, one beyond each end, and the faults that break a store.
+/// Worked cases. The ends of each range, one beyond each end, and the faults that break a store.
 pub fn ranges_are_worked()
     ensures boots { IsContent (content_at 4611686018427387903 []) }
     ensures boot_too_many { IsContent (content_at 4611686018427387904 []) → ⊥ }
@@ -72,8 +72,7 @@ pub fn ranges_are_worked()
     ensures other_before { IsCounted (Some Memory) 0 1 Disk → ⊥ }
 {}
 
-/// What is promised of a call of a store holds of the least that keeps it, and each field is broken by the least that
-/// keeps all others.
+/// Counterexamples: each promise of a store's call fails for a minimal one.
 pub fn promises_can_be_broken()
     ensures settled { IsSettled (small_held (store_at 1)) }
     ensures not_settled { IsSettled (small_held (unsettled_at 1 0)) → ⊥ }
@@ -145,10 +144,10 @@ pub fn promises_can_be_broken()
     ensures raises_boot_last { RaisesBoot small_held (store_at 0) (store_at 0) spent → ⊥ }
 {}
 
-/// What is promised of a store behind a fuse holds of the least that keeps it, and each field but `ends`, which follows
-/// from `passes`, is broken by the least that keeps all others.
+/// Counterexamples: each promise of a store with a fuse fails for a minimal one, except `ends`, which follows from
+/// `passes`.
 pub fn fuses_can_be_broken()
-    // what is seen of the store: a blown fuse answers Disk, and is one failure more
+    // the contract's view of the store: a blown fuse returns Disk, and is one more failure
     ensures seen_fault { (small_fuse (fuse 1 false)).fault ≡ None }
     ensures seen_failures { (small_fuse (fuse 1 false)).failures ≡ 0 }
     ensures seen_content { (small_fuse (record (fuse 1 true) { inner = store_at 3 })).content ≡ booted 3 }

@@ -10,8 +10,7 @@ use otp_core::Next;
 use std::alloc::Global;
 use std::marker::Model;
 
-/// A store in memory. Once it is made it takes no more memory, and no call of it fails, the last
-/// boot aside.
+/// A store in memory. After its creation it allocates no memory, and no call fails except at the last boot.
 #[derive(Drop)]
 pub struct MemStore {
     rows: Vec<Row>,
@@ -31,8 +30,11 @@ impl Model for MemStore {
 }
 
 impl MemStore {
-    /// A store with a row for each of these first free factors, at boot 0. Its one
-    /// refusal is that memory ran out.
+    /// Returns a store with a row for each floor of `floors`, at boot 0. A floor is the first free factor of a token.
+    ///
+    /// # Errors
+    ///
+    /// - Returns `Memory` if the allocator refuses the memory.
     pub fn new(alloc: Global, floors: &[Next]) -> Result<Self, StoreFault>
         requires { length floors.now ≤ 10000 }
         ensures opening { IfOk result (λ store. store ≡ opening_content floors.now) }
@@ -41,7 +43,11 @@ impl MemStore {
         MemStore::new_at(alloc, 0, floors)
     }
 
-    /// The same at another boot, below 2^62: so a store begins that takes the place of a lost one.
+    /// Returns a store as [`MemStore::new`] does, at the boot `boot`, below 2^62. Use it to replace a lost store.
+    ///
+    /// # Errors
+    ///
+    /// - Returns `Memory` if the allocator refuses the memory.
     pub fn new_at(alloc: Global, boot: u64, floors: &[Next]) -> Result<Self, StoreFault>
         requires boot { boot < 2 ^ 62 }
         requires tokens { length floors.now ≤ 10000 }

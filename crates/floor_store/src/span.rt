@@ -6,7 +6,7 @@ ghost use Rattle.otp_core.specs.Range.{IsFactor};
 use otp_core::{Factor, Next};
 use std::marker::Model;
 
-/// What a proposal uses up: one factor, or two that follow one another.
+/// The factors that a proposal uses up: one, or two consecutive ones.
 #[derive(Clone, Copy, Debug, PartialEq, Eq)]
 pub struct Span {
     lo: Factor,
@@ -24,8 +24,7 @@ impl Model for Span {
 }
 
 impl Span {
-    /// The span from `lo` to `hi`, or `None` where these are neither one factor nor two that follow
-    /// one another.
+    /// Returns the span from `lo` to `hi`, or None if they are neither one factor nor two consecutive ones.
     pub fn new(lo: Factor, hi: Factor) -> Option<Self>
         ensures valid { IsSome result ↔ IsSpan lo hi }
         ensures value { IfSome result (λ span. span ≡ span_of lo hi) }
@@ -37,7 +36,7 @@ impl Span {
         }
     }
 
-    /// The span of one factor.
+    /// Returns the span of one factor.
     pub fn one(factor: Factor) -> Self
         ensures { result ≡ span_of factor factor }
     {
@@ -47,7 +46,7 @@ impl Span {
         }
     }
 
-    /// The span of a factor and the next one.
+    /// Returns the span of the factor `first` and the next one.
     pub fn two(first: Factor) -> Self
         requires { IsFactor (first + 1) }
         ensures { result ≡ span_of first (first + 1) }
@@ -58,7 +57,7 @@ impl Span {
         }
     }
 
-    /// The first factor.
+    /// Returns the first factor.
     pub fn lo(self) -> Factor
         ensures value { result ≡ self.lo }
         ensures span { IsSpan self.lo self.hi }
@@ -66,7 +65,7 @@ impl Span {
         self.lo
     }
 
-    /// The last factor, which is the first or the one after it.
+    /// Returns the last factor, which is the first or the one after it.
     pub fn hi(self) -> Factor
         ensures value { result ≡ self.hi }
         ensures span { IsSpan self.lo self.hi }
@@ -74,7 +73,7 @@ impl Span {
         self.hi
     }
 
-    /// The first factor that is free once the span is used up.
+    /// Returns the floor after the span is used up: the first free factor.
     pub fn next(self) -> Next
         ensures { result ≡ self.hi + 1 }
     {

@@ -1,4 +1,4 @@
--- A key that is set up. No contract cites it.
+-- A key that was set up. No contract cites it.
 use Rattle.std.specs.Prelude.{ℕ, List, replicate}
 use Rattle.sha1.specs.Sha1.{hash_after}
 use Rattle.hmac_core.specs.Hmac.{ipad, opad, xor_each}
@@ -6,7 +6,7 @@ use Rattle.hmac_core.specs.declared.hasher.Hasher.{Hasher}
 use Rattle.hmac_core.specs.declared.hasher.Hasher.TheVariants.{Sha1}
 use Rattle.hmac_core.specs.declared.keyed.Keyed.{Keyed}
 
--- a hash under SHA-1 that has taken one block
+-- the hash under SHA-1 that has taken one block
 abbrev pub after_block : List ℕ → Hasher
 after_block block = Sha1 (record { h = hash_after block 1; buffer = replicate 64 0; total = 64 })
 

@@ -1,4 +1,4 @@
--- A hash that has taken a part of a message.
+-- A hash that has taken a prefix of a message.
 use Rattle.std.specs.Prelude.{◌≡◌, ℕ, List}
 use Rattle.sha1.specs.Sha1 as S1
 use Rattle.sha2.specs.Hashers.{Holds256, Holds512}
@@ -7,7 +7,7 @@ use Rattle.hmac_core.specs.declared.hash.Hash.TheVariants as H
 use Rattle.hmac_core.specs.declared.hasher.Hasher.{Hasher}
 use Rattle.hmac_core.specs.declared.hasher.Hasher.TheVariants.{Sha1, Sha256, Sha512}
 
--- the hasher is one of this hash, and these are the bytes that it has taken
+-- the hasher computes `hash` and has taken `bytes`
 abbrev pub HasTaken : Hasher → Hash → List ℕ → Type 0
 HasTaken (Sha1 state) hash bytes = (hash ≡ H.Sha1) × S1.Holds state bytes
 HasTaken (Sha256 state) hash bytes = (hash ≡ H.Sha256) × Holds256 state bytes

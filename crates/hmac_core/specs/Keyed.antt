@@ -1,4 +1,4 @@
--- A key that is set up for HMAC (RFC 2104, section 4).
+-- A key that was set up for HMAC (RFC 2104, section 4).
 use Rattle.std.specs.Prelude.{ℕ, List}
 use Rattle.hmac_core.specs.Hash.{block_len_of, digest_of}
 use Rattle.hmac_core.specs.Hasher.{HasTaken}
@@ -6,7 +6,7 @@ use Rattle.hmac_core.specs.Hmac.{block_key, ipad, opad, xor_each}
 use Rattle.hmac_core.specs.declared.hash.Hash.{Hash}
 use Rattle.hmac_core.specs.declared.keyed.Keyed.{Keyed}
 
--- these are the hash and the key that were set up: one hasher has taken the inner block, the other the
+-- `keyed` was set up with the hash and the key: one hasher has taken the inner block, the other the
 -- outer one
 unfoldable pub IsKeyed : Keyed → Hash → List ℕ → Type 0
 IsKeyed keyed hash key =

@@ -8,7 +8,7 @@ use crate::hash::{Digest, Hash};
 use sha1::Sha1;
 use sha2::{Digest as _, Sha256, Sha512};
 
-/// A hash that has taken the first part of a message. Any number of messages go on from there.
+/// A hash that has taken a prefix of a message. Any number of messages can continue from it.
 #[derive(Drop)]
 pub(crate) enum Hasher {
     Sha1(Sha1),
@@ -17,7 +17,7 @@ pub(crate) enum Hasher {
 }
 
 impl Hasher {
-    /// A hash that takes this first part.
+    /// Returns a hasher that has taken `first`.
     pub(crate) fn new(hash: Hash, first: &[u8]) -> Self
         ensures { HasTaken result hash first.now }
     {
@@ -32,7 +32,7 @@ impl Hasher {
         }
     }
 
-    /// The digest of the first part and the rest, as one message. The state stays as it is.
+    /// Returns the digest of the prefix followed by `rest`. The state stays.
     pub(crate) fn digest_with(&self, rest: &[u8]) -> Digest
         ensures { (hash : Hash) (first : List ℕ) → HasTaken self.now hash first →
             digest_bytes result ≡ digest_of hash (first ++ rest.now) }

@@ -8,14 +8,16 @@ use crate::hash::{Hash, MAX_BLOCK_LEN};
 use crate::hasher::Hasher;
 use crate::mac::Mac;
 
-/// The byte that the inner key is made with (RFC 2104, section 2).
+/// The byte that pads the inner key (RFC 2104, section 2).
 const IPAD: u8 = 0x36;
 
-/// The byte that the outer key is made with.
+/// The byte that pads the outer key (RFC 2104, section 2).
 const OPAD: u8 = 0x5c;
 
-/// A key that is set up for many messages: each MAC goes on from what the hash has made of the key's
-/// two blocks (RFC 2104, section 4). Short messages take half the time of [`hmac`](crate::hmac).
+/// A key that is set up for many messages (RFC 2104, section 4).
+///
+/// Each MAC continues from the states of the hash after the key's two blocks. A short message takes half the time of
+/// [`hmac`](crate::hmac).
 #[derive(Drop)]
 pub struct Keyed {
     inner: Hasher,
@@ -36,7 +38,7 @@ impl Keyed {
         }
     }
 
-    /// The MAC of a message under the key.
+    /// Returns the MAC of `msg` under the key.
     #[tactic(auto, unfolding(crate::specs::Keyed::IsKeyed))]
     pub fn mac(&self, msg: &[u8]) -> Mac
         ensures { (hash : Hash) (key : List ℕ) → IsKeyed self.now hash key →
@@ -47,8 +49,9 @@ impl Keyed {
     }
 }
 
-/// The key as a block of the hash, which the array begins with: the key itself, or its digest where
-/// it is longer than a block, and zeros.
+/// Returns an array that begins with the key's block of the hash.
+///
+/// The block is the key, or its digest if the key is longer than a block. Zeros follow.
 fn block_of(hash: Hash, key: &[u8]) -> [u8; MAX_BLOCK_LEN]
     ensures { take (block_len_of hash) result ≡ block_key (digest_of hash) (block_len_of hash) key.now }
 {
@@ -59,7 +62,7 @@ fn block_of(hash: Hash, key: &[u8]) -> [u8; MAX_BLOCK_LEN]
     }
 }
 
-/// The bytes, and zeros after them.
+/// Returns `bytes` followed by zeros.
 fn padded(bytes: &[u8]) -> [u8; MAX_BLOCK_LEN]
     requires { length bytes.now ≤ MAX_BLOCK_LEN }
     ensures { result ≡ with_zeros MAX_BLOCK_LEN bytes.now }
@@ -69,7 +72,7 @@ fn padded(bytes: &[u8]) -> [u8; MAX_BLOCK_LEN]
     block
 }
 
-/// The block with each byte xor the pad.
+/// Returns the block with each byte xor the pad.
 fn xored(mut block: [u8; MAX_BLOCK_LEN], pad: u8) -> [u8; MAX_BLOCK_LEN]
     ensures { result ≡ xor_each pad block }
 {

@@ -9,7 +9,7 @@ ghost use Rattle.hmac_core.specs.Hash.{mac_of};
 ghost use Rattle.hmac_core.specs.Keyed.{IsKeyed};
 ghost use Rattle.hmac_core.specs.Mac.{IsMacLen};
 
-/// MACs of the standards, worked through, with a key that is shorter than a block, as long, and longer.
+/// Worked cases. MACs of the standards, with a key shorter than a block, as long, and longer.
 pub fn macs_are_worked()
     ensures sha1 { mac_of Hash.Sha1 (replicate 20 0x0b) (codes "Hi There") ≡ mac_of_sha1 }
     ensures sha256 { mac_of Hash.Sha256 (replicate 20 0x0b) (codes "Hi There") ≡ mac_of_sha256 }
@@ -20,8 +20,10 @@ pub fn macs_are_worked()
     ensures lens { IsMacLen 20 × IsMacLen 32 × IsMacLen 64 × (IsMacLen 28 → ⊥) × (IsMacLen 48 → ⊥) }
 {}
 
-/// What is said of a key that is set up holds of the empty key, and each part of it can be broken: by a hasher that
-/// stands for the other, by a state of another hash, and by one of another key.
+/// Counterexamples: each promise of a key that was set up fails for a minimal one.
+///
+/// The empty key keeps them. A hasher in the place of the other, a state of another hash, and a state of another key
+/// break them.
 pub fn promises_can_be_broken()
     ensures set_up { IsKeyed empty_key Hash.Sha1 [] }
     ensures inner_is_the_outer { (keyed : Keyed) → IsKeyed keyed Hash.Sha1 [] →

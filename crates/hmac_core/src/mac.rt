@@ -30,7 +30,7 @@ impl Model for Mac {
 }
 
 impl Mac {
-    /// The MAC with these bytes, or `None` where no hash has digests of that length.
+    /// Returns the MAC of `bytes`, or None if no hash has digests of their length.
     pub fn new(bytes: &[u8]) -> Option<Self>
         ensures valid { IsSome result ↔ IsMacLen (length bytes.now) }
         ensures value { IfSome result (λ mac. mac ≡ bytes.now) }
@@ -44,7 +44,7 @@ impl Mac {
         Some(Mac { digest })
     }
 
-    /// The bytes of the MAC.
+    /// Returns the bytes of the MAC.
     pub fn as_slice(&self) -> &[u8]
         ensures bytes { result.now ≡ self.now }
         ensures len { IsMacLen (length result.now) }

@@ -1,10 +1,9 @@
 -- Accepted submissions, and what must hold of them (RFC 4226, section 7.2; RFC 6238, section 5.2).
--- Nothing here says how a submission comes to be accepted.
+-- The definitions don't say how a submission is accepted. Floor: the first free factor of a token at a node.
 use Rattle.std.specs.Prelude.{◌≡◌, ◌≢◌, ℕ, zero, suc, ◌+◌, ◌/◌, ◌<◌, ◌≤◌, Bool, true, List, Some, slice_get, if◌then◌else◌}
 
--- A submission that was accepted: the event in which it began and the one in which it was accepted,
--- both by their places in the list of all events, the node, the token, and the factors lo to hi that
--- it uses up.
+-- an accepted submission: the event in which it began, the event in which it was accepted, the node, the token, and
+-- the factors lo to hi that it uses up; an event is its place in the list of all events
 pub record Acceptance : Type 0 where
   pub began : ℕ
   pub ended : ℕ
@@ -29,30 +28,30 @@ pub record HaveSingleUse (accepted : List Acceptance) : Type 0 where
   pub factors : (i j : ℕ) (a b : Acceptance) → i ≢ j → slice_get accepted i ≡ Some a → slice_get accepted j ≡ Some b
       → ShareNoFactor a b
 
--- Real-time order: what begins after an acceptance for its token lies above it.
+-- Real-time order: a submission that begins after an acceptance for its token uses only greater factors.
 abbrev pub KeepRealTimeOrder : List Acceptance → Type 0
 KeepRealTimeOrder accepted = (i j : ℕ) (a b : Acceptance)
     → slice_get accepted i ≡ Some a → slice_get accepted j ≡ Some b
     → a.token ≡ b.token → a.ended < b.began → a.hi < b.lo
 
--- more than half of so many nodes
+-- more than half of the given number of nodes
 abbrev pub majority_of : ℕ → ℕ
 majority_of nodes = nodes / 2 + 1
 
--- how many of the nodes 1 to n are in a set, which is given by its test
+-- the number of nodes from 1 to n in a set, which is given by its test
 abbrev pub size : ℕ → (ℕ → Bool) → ℕ
 size zero set = 0
 size (suc n) set = (if set (suc n) then 1 else 0) + size n set
 
--- A node let the factors of an acceptance go in this event, and for good. The first free factor of a
--- node for a token before an event is floor node token event.
+-- The node gives up the factors of the acceptance in the event, for good. `floor node token event` is the node's floor
+-- of the token before the event.
 pub record LetsGo (floor : ℕ → ℕ → ℕ → ℕ) (a : Acceptance) (node event : ℕ) : Type 0 where
   pub after_it_began : a.began ≤ event
   pub before_it_ended : event ≤ a.ended
   pub free : floor node a.token event ≤ a.lo
   pub used : (later : ℕ) → event < later → a.hi < floor node a.token later
 
--- Witnesses: a majority of the nodes 1 to n, each of which let the factors go.
+-- Witnesses: a majority of the nodes 1 to n, each of which gave up the factors.
 pub record HasMajority (n : ℕ) (floor : ℕ → ℕ → ℕ → ℕ) (a : Acceptance) : Type 0 where
   pub nodes : ℕ → Bool
   pub many : majority_of n ≤ size n nodes

@@ -1,7 +1,7 @@
--- The gate of a token at one node: two numbers that stand for the list of its results there.
+-- The gate of a token at one node: two numbers that stand for all results of the token at the node.
 use Rattle.std.specs.Prelude.{ℕ, ◌+◌, ◌*◌, ◌^◌, ◌≤◌, min}
 
--- how many failures count, and the moment from which the token is open
+-- the number of failures that count, and the moment from which the token is open
 pub record GateRecord : Type 0 where
   pub fails : ℕ
   pub until : ℕ
@@ -10,7 +10,7 @@ pub record GateRecord : Type 0 where
 abbrev pub IsGate : ℕ → ℕ → Type 0
 IsGate fails until = (fails ≤ 10000) × (until ≤ 2 ^ 40 + 50000)
 
--- no failure counts
+-- the gate without failures
 abbrev pub clear_gate : GateRecord
 clear_gate = record { fails = 0; until = 0 }
 

@@ -4,10 +4,10 @@ ghost use Rattle.otp_core.specs.Code.{IsCode, decimal_digits};
 use arrayvec::ArrayVec;
 use std::marker::Model;
 
-/// The most digits that a code has.
+/// The maximum number of digits of a code.
 const MAX_DIGITS: usize = 8;
 
-/// How many digits a code has.
+/// The number of digits of a code.
 #[derive(Clone, Copy, Debug, PartialEq, Eq, Hash)]
 pub enum Digits {
     Six,
@@ -18,7 +18,7 @@ pub enum Digits {
 impl Digits {
     ghost use Rattle.otp_core.specs.Digits.{count_of};
 
-    /// So many digits, or `None` where it is not 6, 7 or 8.
+    /// Returns the variant for `count` digits, or None if `count` is not 6, 7 or 8.
     pub fn new(count: usize) -> Option<Self>
         ensures valid { IsSome result ↔ ((6 ≤ count) × (count ≤ 8)) }
         ensures value { IfSome result (λ digits. count_of digits ≡ count) }
@@ -31,7 +31,7 @@ impl Digits {
         }
     }
 
-    /// The number of digits.
+    /// Returns the number of digits.
     pub fn count(self) -> usize
         ensures { result ≡ count_of self }
     {
@@ -65,7 +65,7 @@ impl Model for Code {
 impl Code {
     ghost use Rattle.otp_core.specs.Digits.{count_of};
 
-    /// The code that is written so, or `None` where the text is not 6 to 8 ASCII digits.
+    /// Returns the code with the text `text`, or None if it is not 6 to 8 ASCII digits.
     pub fn new(text: &[u8]) -> Option<Self>
         ensures valid { IsSome result ↔ IsCode text.now }
         ensures value { IfSome result (λ code. code ≡ text.now) }
@@ -77,7 +77,7 @@ impl Code {
         Some(Code { digits })
     }
 
-    /// The last digits of a number, with zeros before it where it has fewer.
+    /// Returns the last `digits` digits of `number`, padded with zeros on the left.
     pub(crate) fn of_number(number: u32, digits: Digits) -> Self
         ensures { result ≡ decimal_digits (count_of digits) number }
     {
@@ -90,7 +90,7 @@ impl Code {
         Code { digits: text }
     }
 
-    /// The digits, in ASCII.
+    /// Returns the digits, in ASCII.
     pub fn as_slice(&self) -> &[u8]
         ensures value { result.now ≡ self.now }
         ensures digits { IsCode result.now }

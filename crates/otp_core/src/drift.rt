@@ -5,8 +5,8 @@ ghost use Rattle.otp_core.specs.Range.{IsDrift};
 use crate::settings::Settings;
 use std::marker::Model;
 
-/// How many time steps the clock of a time token is ahead of the server's, below 0 where it is behind (RFC 6238,
-/// section 6): -10 to 10. By default there is none.
+/// The number of time steps by which a time token's clock is ahead of the server's (RFC 6238, section 6): -10 to 10.
+/// It is negative if the clock lags. The default is 0.
 #[derive(Clone, Copy, Debug, PartialEq, Eq)]
 pub struct Drift {
     steps: i8,
@@ -26,7 +26,7 @@ impl Model for Drift {
 }
 
 impl Drift {
-    /// So many steps, or `None` below -10 and above 10.
+    /// Returns the drift of `steps`, or None if it is below -10 or above 10.
     pub fn new(steps: i8) -> Option<Self>
         ensures valid { IsSome result ↔ IsDrift steps }
         ensures value { IfSome result (λ drift. drift ≡ steps) }
@@ -38,7 +38,7 @@ impl Drift {
         }
     }
 
-    /// Of the drifts that the settings allow, the one nearest to so many time steps.
+    /// Returns the drift nearest to `steps` that `settings` allow.
     pub fn allowed(steps: i64, settings: Settings) -> Self
         ensures { result ≡ allowed_drift settings steps }
     {
@@ -48,7 +48,7 @@ impl Drift {
         }
     }
 
-    /// The number of steps.
+    /// Returns the number of steps.
     pub fn steps(self) -> i8
         ensures value { result ≡ self }
         ensures range { IsDrift result }
@@ -62,7 +62,7 @@ impl Default for Drift {
 
     ghost is_default = { λ drift. drift ≡ pos 0 };
 
-    /// No drift.
+    /// Returns the drift of 0 steps.
     fn default() -> Self {
         Drift { steps: 0 }
     }

@@ -3,7 +3,7 @@ ghost use Rattle.otp_core.specs.Range.{IsFactor, IsNext};
 
 use std::marker::Model;
 
-/// The factors end here: no token has factor 2^62, and a first free factor of 2^62 says that none is left.
+/// The end of the factors: no token has factor 2^62. A floor of 2^62 says that no factor is left.
 pub const FACTORS_END: u64 = 1 << 62;
 
 /// A moving factor: the counter of an event token, or the step of a time token. It is at most
@@ -27,7 +27,7 @@ impl Model for Factor {
 }
 
 impl Factor {
-    /// The factor with this number, or `None` above 2^62 - 1.
+    /// Returns the factor with the number `value`, or None if it is above 2^62 - 1.
     pub fn new(value: u64) -> Option<Self>
         ensures valid { IsSome result ↔ IsFactor value }
         ensures value { IfSome result (λ factor. factor ≡ value) }
@@ -39,7 +39,7 @@ impl Factor {
         }
     }
 
-    /// The number of the factor.
+    /// Returns the number of the factor.
     pub fn value(self) -> u64
         ensures value { result ≡ self }
         ensures range { IsFactor result }
@@ -48,7 +48,7 @@ impl Factor {
     }
 }
 
-/// The first factor of a token that is free. 2^62 means that none is left.
+/// The floor of a token: its first free factor. 2^62 means that no factor is left.
 #[derive(Clone, Copy, Debug, PartialEq, Eq, PartialOrd, Ord, Hash)]
 pub struct Next {
     value: u64,
@@ -68,7 +68,7 @@ impl Model for Next {
 }
 
 impl Next {
-    /// The first free factor with this number, or `None` above 2^62.
+    /// Returns the floor with the number `value`, or None if it is above 2^62.
     pub fn new(value: u64) -> Option<Self>
         ensures valid { IsSome result ↔ IsNext value }
         ensures value { IfSome result (λ next. next ≡ value) }
@@ -80,7 +80,7 @@ impl Next {
         }
     }
 
-    /// The first free factor once all up to this one are used up.
+    /// Returns the floor of a token whose factors up to `last` are used up.
     pub fn after(last: Factor) -> Self
         ensures { result ≡ last + 1 }
     {
@@ -89,7 +89,7 @@ impl Next {
         }
     }
 
-    /// The number of the first free factor.
+    /// Returns the number of the floor.
     pub fn value(self) -> u64
         ensures value { result ≡ self }
         ensures range { IsNext result }

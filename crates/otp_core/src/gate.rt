@@ -4,18 +4,19 @@ ghost use Rattle.otp_core.specs.Range.{IsMoment};
 
 use std::marker::Model;
 
-/// How many failures count at most.
+/// The maximum number of failures that count.
 const MAX_FAILS: u64 = 10_000;
 
-/// How long a token is closed for each failure that counts.
+/// The number of seconds for which each failure that counts closes a token.
 const SECONDS_PER_FAILURE: u64 = 5;
 
-/// The latest moment from which a gate is open again.
+/// The latest moment from which a gate can be open.
 const LAST_UNTIL: u64 = (1 << 40) + 50_000;
 
-/// Whether a token is open at one node (RFC 4226, section 7.3): how many failures count since the
-/// last acceptance, and the moment from which it is open again. Moments are seconds since 1970-01-01
-/// 00:00:00 UTC.
+/// The state that opens or closes a token at one node (RFC 4226, section 7.3).
+///
+/// It has the number of failures since the last acceptance, and the moment from which the token is open. Moments are
+/// seconds since 1970-01-01 00:00:00 UTC.
 #[derive(Clone, Copy, Debug, PartialEq, Eq)]
 pub struct Gate {
     fails: u64,
@@ -33,8 +34,8 @@ impl Model for Gate {
 }
 
 impl Gate {
-    /// The gate with these numbers, or `None` where more than 10,000 failures count, or it would
-    /// open later than any failure makes it.
+    /// Returns the gate with these numbers, or None if more than 10,000 failures count or `until` is above
+    /// 2^40 + 50,000.
     pub fn new(fails: u64, until: u64) -> Option<Self>
         ensures valid { IsSome result ↔ IsGate fails until }
         ensures value { IfSome result (λ gate. gate ≡ record { fails = fails; until = until }) }
@@ -46,7 +47,7 @@ impl Gate {
         }
     }
 
-    /// How many failures count.
+    /// Returns the number of failures that count.
     pub fn fails(self) -> u64
         ensures value { result ≡ self.fails }
         ensures range { result ≤ 10000 }
@@ -54,7 +55,7 @@ impl Gate {
         self.fails
     }
 
-    /// The moment from which it is open.
+    /// Returns the moment from which the token is open.
     pub fn until(self) -> u64
         ensures value { result ≡ self.until }
         ensures range { result ≤ 2 ^ 40 + 50000 }
@@ -62,22 +63,22 @@ impl Gate {
         self.until
     }
 
-    /// Whether the token is open at a moment.
+    /// Returns whether the token is open at `moment`.
     pub fn is_open(self, moment: u64) -> bool
         ensures { IsTrue result ↔ (self.until ≤ moment) }
     {
         self.until <= moment
     }
 
-    /// How many seconds are left until it is open: 0 where it is.
+    /// Returns the number of seconds after `moment` until the token is open, or 0 if it is open.
     pub fn wait(self, moment: u64) -> u64
         ensures { result ≡ self.until - moment }
     {
         self.until.saturating_sub(moment)
     }
 
-    /// Counts a failure. From this moment the token is closed for 5 seconds for each failure that
-    /// counts, so for 50,000 seconds at most.
+    /// Counts a failure. Closes the token from `moment` for 5 seconds for each failure that counts, so for
+    /// 50,000 seconds at most.
     pub fn fail(&mut self, moment: u64)
         requires { IsMoment moment }
         ensures { self.new ≡ with_failure self.old moment }
@@ -89,7 +90,7 @@ impl Gate {
         };
     }
 
-    /// Forgets all failures, as an acceptance does.
+    /// Clears all failures, as an acceptance does.
     pub fn clear(&mut self)
         ensures { self.new ≡ clear_gate }
     {

@@ -14,7 +14,7 @@ ghost use Rattle.otp_core.specs.Totp.{step_of};
 ghost use Rattle.otp_core.specs.declared.digits.Digits.{Digits};
 ghost use Rattle.otp_core.specs.declared.hotp.Codes.{Codes};
 
-/// The codes of RFC 4226, appendix D, and of RFC 6238, appendix B, worked through.
+/// Worked cases. The vectors of RFC 4226, appendix D, and RFC 6238, appendix B.
 pub fn codes_are_worked()
     ensures truncation { truncation_of (factor_mac Hash.Sha1 secret_of_20 0) ≡ 0x4c93cf18 }
     ensures table { map (λ counter. code_of Hash.Sha1 secret_of_20 counter 6) (range_with_len 0 10)
@@ -29,7 +29,7 @@ pub fn codes_are_worked()
     ensures zeros_before { decimal_digits 6 42 ≡ codes "000042" }
 {}
 
-/// The ranges of the numbers at their ends, and the time steps.
+/// Worked cases. The ranges of the numbers at their ends, and time steps.
 pub fn ranges_are_worked()
     ensures factors { IsFactor 4611686018427387903 × (IsFactor 4611686018427387904 → ⊥) }
     ensures nexts { IsNext 4611686018427387904 × (IsNext 4611686018427387905 → ⊥) }
@@ -49,7 +49,7 @@ pub fn ranges_are_worked()
         × (step_of 159 100 30 ≡ 1) }
 {}
 
-/// What a failure makes of a gate, a gate where none counts, and the ranges of its numbers, worked through.
+/// Worked cases. A failure, a gate without failures, and the ranges of a gate's numbers.
 pub fn gates_are_worked()
     ensures after_failures { map (λ fails. with_failure (record { fails = fails; until = 3 }) 100)
         (0 ∷ 1 ∷ 9999 ∷ 10000 ∷ [])
@@ -61,7 +61,7 @@ pub fn gates_are_worked()
     ensures too_late { IsGate 0 1099511677777 → ⊥ }
 {}
 
-/// The ranges of a drift at their ends, and drifts brought into those that settings allow.
+/// Worked cases. The ranges of a drift at their ends, and the nearest allowed drift.
 pub fn drifts_are_worked()
     ensures drifts { IsDrift (negsuc 9) × IsDrift (pos 10) }
     ensures beyond { (IsDrift (negsuc 10) → ⊥) × (IsDrift (pos 11) → ⊥) }
@@ -72,9 +72,11 @@ pub fn drifts_are_worked()
         ≡ pos 0 ∷ pos 0 ∷ pos 0 ∷ [] }
 {}
 
-/// What the theorems promise of acceptances is broken by one code twice and by an older code after a newer one,
-/// also where they overlap at one end alone, at any two nodes and with another acceptance between them; and it is kept
-/// where they don't. What is said of codes is broken by those of another key, or of another length.
+/// Counterexamples: each promise of acceptances and codes fails for a minimal one.
+///
+/// One code twice, and an older code after a newer one, break the promises of acceptances. They do so if the factors
+/// overlap at one end alone, at any two nodes, and with another acceptance between them. Codes of another key or of
+/// another length break the promise of codes.
 pub fn promises_can_be_broken()
     ensures twice { HaveSingleUse (accepted_at 0 5 ∷ accepted_at 1 5 ∷ []) → ⊥ }
     ensures twice_at_hi { HaveSingleUse (accepted 0 0 4 5 ∷ accepted_at 1 5 ∷ []) → ⊥ }
@@ -102,8 +104,7 @@ pub fn promises_can_be_broken()
         AreCodesOf codes Hash.Sha1 [] 7 → ⊥ }
 {}
 
-/// Witnesses of an acceptance are refused where they let its factors go too early, too late or not for good, and
-/// where they are too few.
+/// Counterexamples: witnesses that give up the factors too early, too late or not for good, and too few witnesses.
 pub fn witnesses_can_be_refused()
     ensures ends { LetsGo (floor_until 1) witnessed 1 1 × LetsGo (floor_until 3) witnessed 1 3 }
     ensures early { LetsGo (floor_until 0) witnessed 1 0 → ⊥ }

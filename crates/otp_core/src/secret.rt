@@ -5,7 +5,7 @@ use arrayvec::ArrayVec;
 use std::fmt;
 use std::marker::Model;
 
-/// The longest secret, in bytes.
+/// The maximum length of a secret, in bytes.
 pub const MAX_SECRET_LEN: usize = 128;
 
 /// The secret that a token shares with the server: 1 to 128 bytes.
@@ -28,7 +28,7 @@ impl Model for Secret {
 }
 
 impl Secret {
-    /// The secret of these bytes, or `None` where there are none or more than 128.
+    /// Returns the secret of `bytes`, or None if it has no byte or more than 128.
     pub fn new(bytes: &[u8]) -> Option<Self>
         ensures valid { IsSome result ↔ IsSecret bytes.now }
         ensures value { IfSome result (λ secret. secret ≡ bytes.now) }
@@ -40,7 +40,7 @@ impl Secret {
         Some(Secret { bytes })
     }
 
-    /// The bytes of the secret.
+    /// Returns the bytes of the secret.
     pub fn as_slice(&self) -> &[u8]
         ensures value { result.now ≡ self.now }
         ensures len { IsSecret result.now }
@@ -49,7 +49,7 @@ impl Secret {
     }
 }
 
-/// It shows no byte of the secret.
+/// Shows no byte of the secret.
 impl fmt::Debug for Secret {
     fn fmt<W: fmt::Write>(&self, f: &mut fmt::Formatter<W>) -> fmt::Result {
         f.write_str("Secret(..)")

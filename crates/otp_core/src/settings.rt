@@ -3,19 +3,21 @@ ghost use Rattle.otp_core.specs.Limits.{Limits, AreLimits, default_limits, limit
 
 use std::marker::Model;
 
-/// The farthest that a check looks past the first free counter.
+/// The maximum number of counters above the floor that a check looks at.
 const MAX_LOOK_AHEAD: u64 = 100;
 
-/// The most time steps before and after the present one.
+/// The maximum number of time steps before and after the current one.
 const MAX_SKEW: u64 = 10;
 
-/// The farthest that a resynchronization looks past the first free counter.
+/// The maximum number of counters above the floor that a resynchronization looks at.
 const MAX_RANGE: u64 = 1000;
 
-/// The most time steps that a token's clock may have drifted.
+/// The maximum drift of a token's clock, in time steps.
 const MAX_DRIFT: u64 = 10;
 
-/// How far a server looks for a code.
+/// The settings of a server: how far it looks for a code.
+///
+/// Floor: the first free factor of a token.
 #[derive(Clone, Copy, Debug, PartialEq, Eq)]
 pub struct Settings {
     look_ahead: u64,
@@ -52,7 +54,7 @@ impl Model for Settings {
 }
 
 impl Settings {
-    /// These settings, with no drift, or `None` where the look-ahead is above 100, the skew above 10 or the
+    /// Returns the settings with no drift, or None if the look-ahead is above 100, the skew above 10 or the
     /// range above 1,000.
     pub fn new(look_ahead: u64, skew: u64, range: u64) -> Option<Self>
         ensures valid { IsSome result ↔ AreLimits (limits_of look_ahead skew range) }
@@ -69,7 +71,7 @@ impl Settings {
         })
     }
 
-    /// The settings with this drift, or `None` where it is above 10.
+    /// Returns the settings with the drift `drift`, or None if it is above 10.
     pub fn with_drift(self, drift: u64) -> Option<Self>
         ensures valid { IsSome result ↔ (drift ≤ 10) }
         ensures value { IfSome result (λ settings. settings ≡ record self { drift = drift }) }
@@ -80,7 +82,7 @@ impl Settings {
         Some(Settings { drift, ..self })
     }
 
-    /// How many factors past the first free one a check of an event token may take (RFC 4226,
+    /// Returns the number of factors above the floor that a check of an event token may take (RFC 4226,
     /// section 7.2): 0 to 100.
     pub fn look_ahead(self) -> u64
         ensures value { result ≡ self.look_ahead }
@@ -89,7 +91,7 @@ impl Settings {
         self.look_ahead
     }
 
-    /// How many time steps before and after the present one a time token may take (RFC 6238,
+    /// Returns the number of time steps before and after the current one that a time token may take (RFC 6238,
     /// section 5.2): 0 to 10.
     pub fn skew(self) -> u64
         ensures value { result ≡ self.skew }
@@ -98,7 +100,7 @@ impl Settings {
         self.skew
     }
 
-    /// How many factors past the first free one a resynchronization of an event token may take
+    /// Returns the number of factors above the floor that a resynchronization of an event token may take
     /// (RFC 4226, section 7.4): 0 to 1,000.
     pub fn range(self) -> u64
         ensures value { result ≡ self.range }
@@ -107,8 +109,8 @@ impl Settings {
         self.range
     }
 
-    /// How many time steps the clock of a time token may have drifted, ahead or behind (RFC 6238, section 6):
-    /// 0 to 10.
+    /// Returns the number of time steps by which a time token's clock may have drifted, ahead or behind (RFC 6238,
+    /// section 6): 0 to 10.
     pub fn drift(self) -> u64
         ensures value { result ≡ self.drift }
         ensures range { result ≤ 10 }
@@ -120,7 +122,7 @@ impl Settings {
 impl Default for Settings {
     ghost is_default = { λ settings. settings ≡ default_limits };
 
-    /// A look-ahead of 10, a skew of 1, a range of 100 and no drift.
+    /// Returns the settings with a look-ahead of 10, a skew of 1, a range of 100 and no drift.
     fn default() -> Self {
         Settings {
             look_ahead: 10,

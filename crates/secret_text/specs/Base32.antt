@@ -1,4 +1,4 @@
--- Base32 (RFC 4648, section 6), read leniently and written canonically. 32 is the space, 61 is `=`.
+-- Base32 (RFC 4648, section 6): lenient reading, canonical writing. 32 is the space, 61 is `=`.
 use Rattle.std.specs.Prelude.{◌≡◌, ℕ, ◌+◌, ◌-◌, ◌*◌, ◌%◌, ◌<◌, ◌==◌, ◌&&◌, ◌||◌, not, nat_lt, nat_le, Bool, if◌then◌else◌, List, [], ◌∷◌, ◌++◌, length, map, replicate, count_by, Option, Some, None, is_some}
 use Rattle.std.specs.List.{AllByRecursion, filter_map, list_all, position_from}
 use Rattle.std.specs.Int.{is_in_range}
@@ -21,7 +21,7 @@ symbol_of value = if nat_lt value 26 then value + 65 else value + 24
 
 -- ---- reading
 
--- whether a text is padding, as another may end with: spaces, and at most six `=`
+-- whether a text is padding, as the end of a text may be: spaces, and at most six `=`
 abbrev pub is_padding : List ℕ → Bool
 is_padding text =
     list_all (λ c. c == 32 || c == 61) text && nat_le (count_by (λ c. c == 61) text) 6
@@ -39,11 +39,11 @@ is_bad c = not (c == 32) && not (is_some (symbol_value c))
 abbrev pub values_of : List ℕ → List ℕ
 values_of text = filter_map symbol_value (text_before_padding text)
 
--- whether so many characters end within a byte, past the bits that belong to none
+-- whether the last of `count` characters end within a byte
 abbrev pub is_cut : ℕ → Bool
 is_cut count = count % 8 == 1 || count % 8 == 3 || count % 8 == 6
 
--- why so many characters are no secret
+-- the reason why `count` characters are not a secret, or None
 abbrev pub count_refusal : ℕ → Option SecretFault
 count_refusal count =
     if count == 0 then Some Empty
@@ -51,17 +51,17 @@ count_refusal count =
     else if nat_lt 205 count then Some TooLong
     else None
 
--- why a text is refused, by the place of its first bad character and its number of characters
+-- the reason why a text is refused, by the place of its first bad character and its number of characters
 abbrev pub refusal_at : Option ℕ → ℕ → Option SecretFault
 refusal_at (Some place) count = Some (BadCharacter place)
 refusal_at None count = count_refusal count
 
--- why a text is refused, if it is
+-- the reason why a text is refused, or None
 abbrev pub refusal_of : List ℕ → Option SecretFault
 refusal_of text = refusal_at (position_from is_bad 0 (text_before_padding text)) (length (values_of text))
 
--- The text spells the secret: the bits of its characters, five each, are those of the secret's bytes,
--- eight each, and fewer than five more.
+-- The text spells the secret: the bits of its characters, five each, are the bits of the secret's bytes, eight each,
+-- and fewer than five more.
 pub record Spells (text secret : List ℕ) : Type 0 where
   pub are_bytes : IsBytes secret
   pub rest : List ℕ
@@ -70,7 +70,7 @@ pub record Spells (text secret : List ℕ) : Type 0 where
 
 -- ---- writing
 
--- how many `=` follow the characters of so many bytes (the cases of the last group)
+-- the number of `=` after the characters of `count` bytes (the cases of the last group)
 abbrev pub padding_len : ℕ → ℕ
 padding_len count =
     if count % 5 == 1 then 6
@@ -79,7 +79,7 @@ padding_len count =
     else if count % 5 == 4 then 1
     else 0
 
--- bits, and the zeros on the right that fill their last group of five
+-- the bits, followed by the zeros that fill their last group of five
 abbrev pub filled_bits : List ℕ → List ℕ
 filled_bits bits = bits ++ replicate ((5 - length bits % 5) % 5) 0
 
@@ -93,7 +93,7 @@ abbrev pub base32_text : List ℕ → List ℕ
 base32_text secret =
     map symbol_of (fives_of (filled_bits (bits_of_each 8 secret))) ++ replicate (padding_len (length secret)) 61
 
--- A step of writing: the characters of the text, and then the bits that wait, are the bits.
+-- A step of writing: the characters of the text and then the waiting bits are the bits.
 pub record IsWritten (text waiting bits : List ℕ) : Type 0 where
   pub values : List ℕ
   pub below_32 : AllByRecursion (λ value. value < 32) values

@@ -1,11 +1,11 @@
--- The alphabet of base32 (RFC 4648, table 3), and a secret whose text has every character of it once.
+-- The alphabet of base32 (RFC 4648, table 3), and a secret whose text has each character of it once.
 use Rattle.std.specs.Prelude.{ℕ, List, [], ◌∷◌, codes}
 
 -- the characters of the values 0 to 25
 abbrev pub capitals : List ℕ
 capitals = codes "ABCDEFGHIJKLMNOPQRSTUVWXYZ"
 
--- the same in lower case
+-- the characters of the values 0 to 25 in lower case
 abbrev pub small_letters : List ℕ
 small_letters = codes "abcdefghijklmnopqrstuvwxyz"
 

@@ -12,16 +12,16 @@ use crate::fault::SecretFault;
 use arrayvec::ArrayVec;
 use otp_core::{MAX_SECRET_LEN, Secret};
 
-/// The most characters of a secret, which has 128 bytes then.
+/// The maximum number of characters of a secret, for 128 bytes.
 const MAX_CHARACTERS: usize = 205;
 
-/// The longest text that is written, in bytes.
+/// The maximum length of a written text, in bytes.
 const MAX_TEXT_LEN: usize = 208;
 
-/// The most `=` that may end a text.
+/// The maximum number of `=` at the end of a text.
 const MAX_PADDING: usize = 6;
 
-/// The value of a character, in either case, or `None` where the byte is not in the alphabet.
+/// Returns the value of a character, in either case, or None if the byte is not in the alphabet.
 fn symbol_value_of(byte: u8) -> Option<u8>
     ensures { result ≡ symbol_value byte }
 {
@@ -33,7 +33,7 @@ fn symbol_value_of(byte: u8) -> Option<u8>
     }
 }
 
-/// The upper case character of a value.
+/// Returns the upper case character of a value.
 fn symbol(value: u8) -> u8
     requires { value < 32 }
     ensures { result ≡ symbol_of value }
@@ -45,7 +45,7 @@ fn symbol(value: u8) -> u8
     }
 }
 
-/// The text before its padding: the spaces and up to six `=` that it ends with.
+/// Returns the text before its padding, which is the spaces and up to six `=` at its end.
 fn before_padding(text: &[u8]) -> &[u8]
     ensures { result.now ≡ text_before_padding text.now }
 {
@@ -62,21 +62,21 @@ fn before_padding(text: &[u8]) -> &[u8]
     front
 }
 
-/// Whether a byte is neither a space nor in the alphabet.
+/// Returns whether a byte is neither a space nor in the alphabet.
 fn is_bad_byte(byte: u8) -> bool
     ensures { result ≡ is_bad byte }
 {
     byte != b' ' && symbol_value_of(byte).is_none()
 }
 
-/// The place of the first byte that is neither a space nor in the alphabet.
+/// Returns the place of the first byte that is neither a space nor in the alphabet, or None.
 fn first_bad(text: &[u8]) -> Option<usize>
     ensures { result ≡ position_from is_bad 0 text.now }
 {
     text.iter().position(|&byte| is_bad_byte(byte))
 }
 
-/// The number of characters that have a value.
+/// Returns the number of characters that have a value.
 fn count_values(text: &[u8]) -> usize
     ensures { result ≡ length (filter_map symbol_value text.now) }
 {
@@ -85,7 +85,7 @@ fn count_values(text: &[u8]) -> usize
         .count()
 }
 
-/// Why so many characters are no secret.
+/// Returns the reason why `count` characters are not a secret, or None.
 fn count_fault(count: usize) -> Option<SecretFault>
     ensures { result ≡ count_refusal count }
 {
@@ -100,10 +100,16 @@ fn count_fault(count: usize) -> Option<SecretFault>
     }
 }
 
-/// Reads a secret in base32 (RFC 4648, section 6), in either case. Spaces do not count, nor do up to
-/// six `=` at the end, nor the bits after the last whole byte. Any other byte is a bad character, and
-/// the first one decides; then no character, a number of characters that ends within a byte, and more
-/// than 205 characters.
+/// Reads a secret in base32 (RFC 4648, section 6), in either case.
+///
+/// Ignores spaces, up to six `=` at the end, and the bits after the last whole byte.
+///
+/// # Errors
+///
+/// - Returns `BadCharacter` with the place of the first other byte.
+/// - Returns `Empty` if there is no character.
+/// - Returns `BadLength` if the characters end within a byte.
+/// - Returns `TooLong` if there are more than 205 characters.
 pub fn read_base32(text: &[u8]) -> Result<Secret, SecretFault>
     ensures fault { result_err result ≡ refusal_of text.now }
     ensures found { IfOk result (Spells text.now) }
@@ -118,7 +124,7 @@ pub fn read_base32(text: &[u8]) -> Result<Secret, SecretFault>
     Ok(secret_of(&bytes_of(text)))
 }
 
-/// The secret of these bytes.
+/// Returns the secret of `bytes`.
 fn secret_of(bytes: &[u8]) -> Secret
     requires { IsSecret bytes.now }
     ensures value { result ≡ bytes.now }
@@ -127,7 +133,7 @@ fn secret_of(bytes: &[u8]) -> Secret
     Secret::new(bytes).unwrap()
 }
 
-/// The whole bytes that the characters of a text make.
+/// Returns the whole bytes of the characters of a text.
 fn bytes_of(text: &[u8]) -> ArrayVec<u8, MAX_SECRET_LEN>
     requires { length (filter_map symbol_value text.now) ≤ MAX_CHARACTERS }
     ensures { (rest : List ℕ) × (length rest < 8)
@@ -144,7 +150,7 @@ fn bytes_of(text: &[u8]) -> ArrayVec<u8, MAX_SECRET_LEN>
     bytes
 }
 
-/// Takes the five bits of a character, and writes the byte that they complete, if they do.
+/// Takes the five bits of a character. Writes a byte if they complete one.
 fn push_value(bytes: &mut ArrayVec<u8, MAX_SECRET_LEN>, bits: &mut Bits, value: u8)
     requires value { value < 32 }
     requires waiting { length bits.old < 8 }
@@ -159,7 +165,7 @@ fn push_value(bytes: &mut ArrayVec<u8, MAX_SECRET_LEN>, bits: &mut Bits, value: 
     }
 }
 
-/// The number of `=` that follow the characters of so many bytes.
+/// Returns the number of `=` after the characters of `count` bytes.
 fn padding_of(count: usize) -> usize
     ensures { result ≡ padding_len count }
 {
@@ -199,7 +205,7 @@ fn push_byte(text: &mut ArrayVec<u8, MAX_TEXT_LEN>, bits: &mut Bits, byte: u8)
     }
 }
 
-/// Writes the bits that are left, with zeros after them, as the last character.
+/// Writes the remaining bits, followed by zeros, as the last character.
 fn finish(text: &mut ArrayVec<u8, MAX_TEXT_LEN>, bits: &mut Bits)
     requires waiting { length bits.old < 5 }
     requires room { array_vec_len text.old < MAX_TEXT_LEN }
@@ -213,7 +219,7 @@ fn finish(text: &mut ArrayVec<u8, MAX_TEXT_LEN>, bits: &mut Bits)
     }
 }
 
-/// Writes so many `=`.
+/// Writes `count` times `=`.
 fn push_padding(text: &mut ArrayVec<u8, MAX_TEXT_LEN>, count: usize)
     requires { array_vec_len text.old + count ≤ MAX_TEXT_LEN }
     ensures { text.new.items ≡ text.old.items ++ replicate count 61 }
@@ -223,7 +229,7 @@ fn push_padding(text: &mut ArrayVec<u8, MAX_TEXT_LEN>, count: usize)
     }
 }
 
-/// The canonical base32 text of a secret (RFC 4648, section 6): upper case, with the padding.
+/// Returns the canonical base32 text of a secret (RFC 4648, section 6): upper case, with the padding.
 pub fn write_base32(secret: &Secret) -> ArrayVec<u8, MAX_TEXT_LEN>
     ensures text { result.items ≡ base32_text secret.now }
     ensures bytes { IsBytes secret.now }

@@ -7,8 +7,14 @@ use crate::fault::SecretFault;
 use hex::FromHexError;
 use otp_core::{MAX_SECRET_LEN, Secret};
 
-/// Reads a secret in hexadecimal: two digits a byte, in either case, and nothing else. No digit decides
-/// first, then an odd number, then more than 256, and then the first byte that is no digit.
+/// Reads a secret in hexadecimal: two digits a byte, in either case, and nothing else.
+///
+/// # Errors
+///
+/// - Returns `Empty` if there is no digit.
+/// - Returns `BadLength` if the number of digits is odd.
+/// - Returns `TooLong` if there are more than 256 digits.
+/// - Returns `BadCharacter` with the place of the first byte that is not a digit.
 pub fn read_hex(text: &[u8]) -> Result<Secret, SecretFault>
     ensures fault { result_err result ≡ hex_refusal_of text.now }
     ensures value { IfOk result (λ secret. decode_of text.now ≡ Ok secret) }
@@ -30,7 +36,7 @@ pub fn read_hex(text: &[u8]) -> Result<Secret, SecretFault>
     }
 }
 
-/// The fault that an error of decoding is.
+/// Returns the fault of an error of decoding.
 fn fault_of(error: FromHexError) -> SecretFault
     ensures { result ≡ hex_fault error }
 {

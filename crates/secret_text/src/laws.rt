@@ -10,8 +10,7 @@ ghost use Rattle.secret_text.specs.Examples.{capitals, every_symbol, low_digits,
 ghost use Rattle.secret_text.specs.Hexadecimal.{hex_fault, hex_refusal_of, is_no_digit};
 ghost use Rattle.secret_text.specs.declared.fault.SecretFault.{SecretFault};
 
-/// What is written is read again: the text of a secret is not refused, and it spells that secret and
-/// no other.
+/// Round trip: the text of a secret is not refused, and spells exactly the secret.
 pub fn reads_what_it_wrote()
     ensures taken { (secret : List ℕ) → IsSecret secret → refusal_of (base32_text secret) ≡ None }
     ensures spelled { (secret : List ℕ) → IsBytes secret → Spells (base32_text secret) secret }
@@ -19,7 +18,7 @@ pub fn reads_what_it_wrote()
         → Spells (base32_text secret) other → other ≡ secret }
 {}
 
-/// The texts of RFC 4648, sections 6 and 10, worked through both ways, and each fault of a text with its place.
+/// Worked cases. The texts of RFC 4648, sections 6 and 10, both ways, and each fault of a text with its place.
 pub fn texts_are_worked()
     ensures bits { bits_of 8 0xa5 ≡ 1 ∷ 0 ∷ 1 ∷ 0 ∷ 0 ∷ 1 ∷ 0 ∷ 1 ∷ [] }
     ensures written { map base32_text ([] ∷ codes "f" ∷ codes "fo" ∷ codes "foo" ∷ codes "foob" ∷ codes "fooba"

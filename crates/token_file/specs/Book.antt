@@ -13,7 +13,7 @@ use Rattle.token_file.specs.Credential.{Credential, place_of}
 abbrev pub name_cmp : ArrayVec ℕ → ArrayVec ℕ → Ordering
 name_cmp a b = slice_cmp nat_cmp a.items b.items
 
--- at most 10,000 tokens, each with a name of its own of at most 64 bytes, and the index has the place of each name
+-- at most 10,000 tokens with distinct names of at most 64 bytes; the index maps each name to the token's place
 pub record IsIndexed (book : List Credential) (index : BTreeMap (ArrayVec ℕ) ℕ) : Type 0 where
   pub few : length book ≤ 10000
   pub short : AllByRecursion (λ token. length token.name ≤ 64) book

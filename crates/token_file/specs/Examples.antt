@@ -1,4 +1,4 @@
--- Worked lines of a users file, and the tokens that they say.
+-- Worked cases: lines of a users file, and their tokens.
 use Rattle.std.specs.Prelude.{ℕ, List, [], ◌∷◌, ◌++◌, replicate, codes, Option, Some}
 use Rattle.hmac_core.specs.declared.hash.Hash.{Hash}
 use Rattle.hmac_core.specs.declared.hash.Hash.TheVariants.{Sha1}
@@ -18,7 +18,7 @@ use Rattle.token_file.specs.Row.{Row, row_of}
 use Rattle.token_file.specs.UsersFile.{Import, Instant}
 use Rattle.token_file.specs.WrittenFile.{WrittenRow}
 
--- a type that a word names
+-- the type that a word names, by its parts
 abbrev pub named : Kind → Digits → Hash → Option TokenType
 named kind digits hash = Some (record { kind = kind; digits = digits; hash = hash })
 
@@ -55,15 +55,15 @@ appendix_token digits =
       hash = Sha1;
     }
 
--- the columns of an event token with this name, this column of the password and this secret
+-- the columns of an event token with a name, a column of the password and a secret
 abbrev pub columns : List ℕ → List ℕ → List ℕ → List (List ℕ)
 columns name password secret = codes "HOTP" ∷ name ∷ password ∷ secret ∷ []
 
--- so many bytes `u`
+-- `len` bytes `u`
 abbrev pub word_of : ℕ → List ℕ
 word_of len = replicate len 117
 
--- so many bytes of a comment
+-- `len` bytes of a comment
 abbrev pub comment_of : ℕ → List ℕ
 comment_of len = replicate len 35
 
@@ -71,7 +71,7 @@ comment_of len = replicate len 35
 abbrev pub at_59 : Instant
 at_59 = record { skew = 1; moment = 59 }
 
--- so many tokens of the same name
+-- `count` tokens of the same name
 abbrev pub many_tokens : ℕ → Import
 many_tokens count = record { book = replicate count (event_token (codes "u")); floors = replicate count 0 }
 
@@ -85,10 +85,10 @@ faults =
     MissingField ∷ BadSecret ∷ BadCounter ∷ DuplicateUser ∷ NameTooLong ∷ TooMany ∷ LineTooLong ∷ FileTooLong ∷ Read
     ∷ Memory ∷ []
 
--- a token and its first free factor
+-- a token and its floor
 abbrev pub row : Credential → ℕ → WrittenRow
 row credential next = record { credential = credential; next = next }
 
--- an event token of no free factor but the last, and a time token
+-- an event token without a free factor, and a time token
 abbrev pub written_rows : List WrittenRow
 written_rows = row (event_token (codes "a")) 4611686018427387904 ∷ row (time_token Time60) 7 ∷ []

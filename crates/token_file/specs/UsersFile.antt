@@ -1,4 +1,5 @@
--- The book of a users file: its rows in order. The first fault of the first faulty line decides.
+-- The book of a users file: its rows in order. The first fault of the first faulty line decides. Floor: the first free
+-- factor of a token.
 use Rattle.std.specs.Prelude.{◌≡◌, ℕ, ◌+◌, Bool, true, false, nat_lt, nat_le, is_some, List, [], ◌∷◌, ◌++◌, length, take, Option, Some, None, Result, Ok, Err, if◌then◌else◌}
 use Rattle.otp_core.specs.Limits.{Limits}
 use Rattle.token_file.specs.declared.fault.LineFault.{LineFault}
@@ -8,12 +9,12 @@ use Rattle.token_file.specs.Credential.{Credential, place_of}
 use Rattle.token_file.specs.Fields.{lines_of, fields_of}
 use Rattle.token_file.specs.Row.{Row, Ignored, Faulty, Holds, row_of, first_free}
 
--- the tokens of some rows, and the first free factor of each
+-- the tokens of some rows, and their floors
 pub record Import : Type 0 where
   pub book : List Credential
   pub floors : List ℕ
 
--- the import of a book and its first free factors
+-- the import of a book and its floors
 abbrev pub import_of : List Credential → List ℕ → Import
 import_of book floors = record { book = book; floors = floors }
 
@@ -21,7 +22,7 @@ import_of book floors = record { book = book; floors = floors }
 abbrev pub empty_import : Import
 empty_import = record { book = []; floors = [] }
 
--- when an import is made, and the skew of the server
+-- the moment of an import, and the skew of the server
 pub record Instant : Type 0 where
   pub skew : ℕ
   pub moment : ℕ
@@ -56,12 +57,12 @@ abbrev pub after_last : Option LineFault → Instant → Import → List ℕ →
 after_last None at so_far line = after_line at so_far line
 after_last (Some fault) at so_far line = if nat_lt 4096 (length line) then Err LineTooLong else Err fault
 
--- an outcome with the number of the line that a fault is at
+-- an outcome with the line number of a fault
 abbrev pub at_line : ℕ → Result Import LineFault → Result Import (ℕ × LineFault)
 at_line number (Ok import) = Ok import
 at_line number (Err fault) = Err (number, fault)
 
--- the outcome of what comes next, or the fault that came before
+-- the outcome of the next part, or the earlier fault
 abbrev pub outcome_then :
     Result Import (ℕ × LineFault) → (Import → Result Import (ℕ × LineFault)) → Result Import (ℕ × LineFault)
 outcome_then (Ok import) next = next import
@@ -75,17 +76,17 @@ after_lines cut at number so_far (line ∷ next ∷ lines) =
     outcome_then (at_line number (after_line at so_far line))
     (λ import. after_lines cut at (number + 1) import (next ∷ lines))
 
--- what a text of at most so many bytes gives, where a fault cuts it off or, with None, it ends
+-- the outcome of a text of at most `limit` bytes, which a fault cuts off or, with None, ends
 abbrev pub outcome_of : Option LineFault → ℕ → Instant → List ℕ → Result Import (ℕ × LineFault)
 outcome_of cut limit at text =
     if nat_le (length text) limit then after_lines cut at 1 empty_import (lines_of text)
     else after_lines (Some FileTooLong) at 1 empty_import (lines_of (take limit text))
 
--- the book and the floors of a whole text, or the line of its first fault and the fault
+-- the book and the floors of a whole text, or its first fault with the line
 abbrev pub book_of : ℕ → Instant → List ℕ → Result Import (ℕ × LineFault)
 book_of limit at text = outcome_of None limit at text
 
--- whether a fault is one of the text, and not of a pull or of the memory
+-- whether a fault is one of the text, not of a pull or of the memory
 abbrev pub is_of_text : LineFault → Bool
 is_of_text MissingField = true
 is_of_text BadSecret = true
@@ -111,13 +112,13 @@ is_read FileTooLong = false
 is_read Memory = false
 is_read Read = true
 
--- whether a result tells of a failed pull
+-- whether a result has a failed pull
 abbrev pub is_read_result : {A : Type 0} → Result A FileFault → Bool
 is_read_result (Ok x) = false
 is_read_result (Err fault) = is_read fault.kind
 
--- a fault cuts a text off in the line with a number, after some of its bytes: none of the lines before it is
--- faulty, and what was taken of it is not too long
+-- a fault cuts a text off in the line with a number. No earlier line is faulty, and the part before the cut is not too
+-- long.
 pub record IsCutOff (cut : LineFault) (limit : ℕ) (at : Instant) (text : List ℕ) (number : ℕ) : Type 0 where
   pub taken : List ℕ
   pub left : List ℕ

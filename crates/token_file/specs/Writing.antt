@@ -1,4 +1,5 @@
--- Rows of a users file as they are written: one TAB between fields, and an LF at the end.
+-- Rows of a users file as the program writes them: one TAB between fields, and an LF at the end. Floor: the first free
+-- factor of a token.
 use Rattle.std.specs.Prelude.{ℕ, List, [], ◌∷◌, ◌++◌, codes, IsTrue}
 use Rattle.std.specs.List.{join_with_byte}
 use Rattle.std.specs.Fmt.{decimal}
@@ -20,19 +21,19 @@ kind_word Event = codes "HOTP/E"
 kind_word Time30 = codes "HOTP/T30"
 kind_word Time60 = codes "HOTP/T60"
 
--- what a type adds to the word of its kind for the digits
+-- the part of a type's word for the digits
 abbrev pub digits_word : Digits → List ℕ
 digits_word Six = codes "/6"
 digits_word Seven = codes "/7"
 digits_word Eight = codes "/8"
 
--- what a type adds for the hash: SHA-1 isn't named
+-- the part of a type's word for the hash: SHA-1 isn't named
 abbrev pub hash_word : Hash → List ℕ
 hash_word Sha1 = []
 hash_word Sha256 = codes "/SHA256"
 hash_word Sha512 = codes "/SHA512"
 
--- a type with its digits always, as `HOTP/E/6`, `HOTP/T30/8` and `HOTP/T60/7/SHA256`
+-- the word of a type, always with its digits, as `HOTP/E/6`, `HOTP/T30/8` and `HOTP/T60/7/SHA256`
 abbrev pub type_word : Kind → Digits → Hash → List ℕ
 type_word kind digits hash = kind_word kind ++ digits_word digits ++ hash_word hash
 
@@ -42,20 +43,20 @@ password_column NoneAllowed = 45 ∷ []
 password_column NotChecked = 43 ∷ []
 password_column (Equal password) = password.items
 
--- the fields after the secret: the first free factor of an event token, and none of a time token
+-- the fields after the secret: the floor of an event token, and none of a time token
 abbrev pub factor_fields : Kind → ℕ → List (List ℕ)
 factor_fields Event next = decimal next ∷ []
 factor_fields Time30 next = []
 factor_fields Time60 next = []
 
--- the fields of the row of a token and its first free factor
+-- the fields of the row of a token and its floor
 abbrev pub written_fields : Credential → ℕ → List (List ℕ)
 written_fields credential next =
     type_word credential.kind credential.digits credential.hash
     ∷ credential.name ∷ password_column credential.password ∷ encode_lower credential.secret
     ∷ factor_fields credential.kind next
 
--- the line of a token and its first free factor
+-- the line of a token and its floor
 abbrev pub row_line : Credential → ℕ → List ℕ
 row_line credential next = join_with_byte 9 (written_fields credential next)
 
@@ -63,13 +64,13 @@ row_line credential next = join_with_byte 9 (written_fields credential next)
 abbrev pub row_text : Credential → ℕ → List ℕ
 row_text credential next = row_line credential next ++ 10 ∷ []
 
--- the counter that the line of a token has: that of a time token counts nothing
+-- the counter in the line of a token: 0 for a time token, which counts no events
 abbrev pub written_counter : Kind → ℕ → ℕ
 written_counter Event next = next
 written_counter Time30 next = 0
 written_counter Time60 next = 0
 
--- what every token is: its parts fit together, and its secret is 1 to 128 bytes
+-- the parts of every token fit together, and its secret is 1 to 128 bytes
 pub record IsCredential (credential : Credential) : Type 0 where
   pub parts : IsTrue (is_credential credential.name credential.password credential.kind credential.hash)
   pub secret : IsSecret credential.secret

@@ -6,7 +6,7 @@ use Rattle.token_file.specs.Row.{first_free}
 use Rattle.token_file.specs.UsersFile.{Instant}
 use Rattle.token_file.specs.Writing.{IsCredential, row_text, written_counter}
 
--- a token, and its first free factor
+-- a token, and its floor, which is its first free factor
 pub record WrittenRow : Type 0 where
   pub credential : Credential
   pub next : ℕ
@@ -20,11 +20,11 @@ file_text (row ∷ rows) = row_text row.credential row.next ++ file_text rows
 abbrev pub credentials_of : List WrittenRow → List Credential
 credentials_of rows = map (λ row. row.credential) rows
 
--- the first factor of a row that is free at an import
+-- the floor of a row after an import
 abbrev pub read_floor : Instant → WrittenRow → ℕ
 read_floor at row = first_free at.skew at.moment row.credential (written_counter row.credential.kind row.next) None
 
--- rows of tokens, of which none has the name of one before it, the tokens before the first row among them
+-- rows of tokens with distinct names, none of them the name of a token of `before`
 abbrev pub AreRows : List Credential → List WrittenRow → Type 0
 AreRows before [] = Unit {0}
 AreRows before (row ∷ rows) =

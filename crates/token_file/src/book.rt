@@ -27,7 +27,7 @@ impl Model for TokenId {
 }
 
 impl TokenId {
-    /// The token with this number, or `None` from 10,000 on.
+    /// Returns the token with the number `number`, or None from 10,000 on.
     pub fn new(number: u32) -> Option<Self>
         ensures valid { IsSome result ↔ (number < MAX_TOKENS) }
         ensures value { IfSome result (λ id. id ≡ number) }
@@ -39,7 +39,7 @@ impl TokenId {
         }
     }
 
-    /// The number of the token.
+    /// Returns the number of the token.
     pub fn value(self) -> u32
         ensures value { result ≡ self }
         ensures range { result < MAX_TOKENS }
@@ -48,7 +48,7 @@ impl TokenId {
     }
 }
 
-/// The tokens of a server, at most 10,000, in the order of their rows, each with a name of its own.
+/// The tokens of a server, at most 10,000, in the order of their rows, with distinct names.
 #[derive(Debug, Drop)]
 pub struct Book {
     tokens: Vec<Token>,
@@ -68,7 +68,7 @@ impl Model for Book {
 }
 
 impl Book {
-    /// A book without tokens.
+    /// Returns a book without tokens.
     pub(crate) fn new(alloc: Global) -> Self
         ensures { result ≡ [] }
     {
@@ -78,7 +78,7 @@ impl Book {
         }
     }
 
-    /// How many tokens there are, at most 10,000.
+    /// Returns the number of tokens, at most 10,000.
     pub fn len(&self) -> usize
         ensures value { result ≡ length self.now }
         ensures range { result ≤ MAX_TOKENS }
@@ -86,14 +86,14 @@ impl Book {
         self.tokens.len()
     }
 
-    /// Whether there is no token.
+    /// Returns whether the book has no token.
     pub fn is_empty(&self) -> bool
         ensures { result ≡ (length self.now == 0) }
     {
         self.tokens.is_empty()
     }
 
-    /// The token with a number. `find` gives that number for its name.
+    /// Returns the token with the number `id`. `find` returns the number for the token's name.
     pub fn token(&self, id: TokenId) -> &Token
         requires { id < length self.now }
         ensures value { slice_get self.now id ≡ Some result.now }
@@ -102,7 +102,7 @@ impl Book {
         &self.tokens[id.value() as usize]
     }
 
-    /// The number of the token with this name.
+    /// Returns the number of the token with the name `name`, or None.
     pub fn find(&self, name: &[u8]) -> Option<TokenId>
         ensures place { result ≡ place_of name.now self.now }
         ensures within { IfSome result (λ id. id < length self.now) }
@@ -113,7 +113,7 @@ impl Book {
         self.look_up(name)
     }
 
-    /// The number of the token with this name, by the index.
+    /// Returns the number of the token with the name `name`, or None, by the index.
     fn look_up(&self, name: &[u8]) -> Option<TokenId>
         ensures { result ≡ place_of name.now self.now }
     {

@@ -1,28 +1,28 @@
 use thiserror::Error;
 
-/// Why no book is read from a users file, and the line that was being read.
+/// The fault of a users file, with the line that was read.
 #[derive(Clone, Copy, Debug, PartialEq, Eq, Error)]
 #[error("line {line}: {kind}")]
 pub struct FileFault {
     /// The number of the line, from 1.
     pub line: u32,
-    /// What is wrong there.
+    /// The fault of the line.
     pub kind: LineFault,
 }
 
-/// What is wrong at a line of a users file.
+/// A fault at a line of a users file.
 #[derive(Clone, Copy, Debug, PartialEq, Eq, Error)]
 pub enum LineFault {
     /// A line with a type has fewer than four fields.
     #[error("MissingField")]
     MissingField,
-    /// The secret is no secret in hexadecimal.
+    /// The secret is not a secret in hexadecimal.
     #[error("BadSecret")]
     BadSecret,
     /// The counter of an event token is not a number of 1 to 19 digits that is at most 2^62.
     #[error("BadCounter")]
     BadCounter,
-    /// A token of this name stands on an earlier line.
+    /// An earlier line has a token with the same name.
     #[error("DuplicateUser")]
     DuplicateUser,
     /// The user or the password has more than 64 bytes.
@@ -37,10 +37,10 @@ pub enum LineFault {
     /// A pull failed while the line was read.
     #[error("cannot read")]
     Read,
-    /// No memory was left for its token.
+    /// The allocator refused the memory for the line's token.
     #[error("out of memory")]
     Memory,
-    /// The file has more than 16,777,216 bytes. The line is the one that passes them.
+    /// The file has more than 16,777,216 bytes. The line is the one with the first byte above the limit.
     #[error("FileTooLong")]
     FileTooLong,
 }

@@ -7,7 +7,7 @@ use crate::entry::Entry;
 use crate::token::Token;
 use otp_core::{Factor, Next, Settings, code};
 
-/// Whether the last password that was taken is the code of the counter.
+/// Returns whether the last accepted code is the code of the counter.
 fn is_last_taken(token: &Token, counter: u64, last: Option<&[u8]>) -> bool
     ensures { result ≡ is_taken token.now counter (option_copied last.entry) }
 {
@@ -25,7 +25,8 @@ fn is_last_taken(token: &Token, counter: u64, last: Option<&[u8]>) -> bool
     }
 }
 
-/// The first free factor of a time token: its steps up to the moment and the skew are used up by an import.
+/// Returns the floor of a time token after an import: its first free factor. The steps up to the step of `moment` and
+/// the skew are used up.
 fn step_floor_of(period: u64, settings: Settings, moment: u64) -> u64
     requires moment { IsMoment moment }
     requires period { 30 ≤ period }
@@ -35,7 +36,7 @@ fn step_floor_of(period: u64, settings: Settings, moment: u64) -> u64
     moment / period + settings.skew() + 1
 }
 
-/// The first free factor of a row at its import.
+/// Returns the floor of a row's token after its import: its first free factor.
 pub(crate) fn first_floor(entry: &Entry<'_>, settings: Settings, moment: u64) -> Next
     requires { IsMoment moment }
     ensures { result

@@ -24,7 +24,7 @@ fn are_bytes(bytes: &[u8])
     ensures { IsBytes bytes.now }
 {}
 
-/// Every token is one of which `rows_read_back` speaks.
+/// Every token is one that `rows_read_back` covers.
 pub fn tokens_are_credentials(token: &Token)
     ensures { IsCredential token.now }
 {
@@ -32,7 +32,8 @@ pub fn tokens_are_credentials(token: &Token)
     are_bytes(token.secret().as_slice());
 }
 
-/// A row that was written is one line, and is read as the same token with the same first free factor.
+/// Round trip of rows: a written row is one line, and reads as the same token with the same floor. The floor is the
+/// token's first free factor.
 pub fn rows_read_back()
     ensures row { (credential : Credential) (next : ℕ) → IsCredential credential → IsNext next →
         row_of (fields_of (row_line credential next))
@@ -48,8 +49,7 @@ pub fn rows_read_back()
         ≡ after_token at so_far credential (written_counter credential.kind next) None }
 {}
 
-/// A file of rows that were written is read as the same tokens in the same order. A row has at most
-/// 425 bytes.
+/// Round trip of files: a file of written rows reads as the same tokens in the same order. A row has at most 425 bytes.
 pub fn files_read_back()
     ensures read { (limit : ℕ) (at : Instant) (rows : List WrittenRow) → AreRows [] rows →
         length rows ≤ MAX_TOKENS → length (file_text rows) ≤ limit → book_of limit at (file_text rows)
@@ -57,7 +57,7 @@ pub fn files_read_back()
     ensures short { (rows : List WrittenRow) → AreRows [] rows → length (file_text rows) ≤ 425 * length rows }
 {}
 
-/// The types of a users file and the fields of a line, worked through, and what each line says.
+/// Worked cases. The types of a users file, the fields of a line, and the row of each line.
 pub fn rows_are_worked()
     ensures event_types { map type_of (codes "HOTP" ∷ codes "HOTP/E" ∷ codes "HOTP/E/6" ∷ codes "HOTP/E/7"
         ∷ codes "HOTP/E/8" ∷ [])
@@ -129,8 +129,7 @@ pub fn rows_are_worked()
     ensures periods { map period_of (Kind.Event ∷ Kind.Time30 ∷ Kind.Time60 ∷ []) ≡ None ∷ Some 30 ∷ Some 60 ∷ [] }
 {}
 
-/// The first free factors of an import, what a users file gives, what a failed pull is, and how rows are written,
-/// worked through.
+/// Worked cases. The floors of an import, the outcome of a users file, failed pulls, and written rows.
 pub fn files_are_worked()
     ensures event_floors { first_free 1 59 (appendix_token Digits.Six) 0 None
         ∷ first_free 1 59 (appendix_token Digits.Six) 0 (Some (codes "755224"))
@@ -205,8 +204,7 @@ pub fn files_are_worked()
         ≡ 7 ∷ 0 ∷ 0 ∷ [] }
 {}
 
-/// What is said of a pull, of what stays and of a text holds of the least that keeps it, and each part of it is broken
-/// by the least that keeps all others.
+/// Counterexamples: each promise of pulls, kept values and texts fails for a minimal one.
 pub fn promises_can_be_broken()
     ensures pulls { Pulls (Some (5 ∷ 6 ∷ [])) (Some (6 ∷ [])) (Pulled.Bytes 1) (5 ∷ 9 ∷ []) }
     ensures pulls_at_the_end { Pulls (Some []) (Some []) (Pulled.Bytes 0) (9 ∷ []) }

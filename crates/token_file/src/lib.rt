@@ -1,4 +1,4 @@
-//! The users file: the tokens of a server, and the first free factor of each.
+//! The users file: the tokens of a server, and the floor of each, which is its first free factor.
 #![tactic(auto)]
 
 mod book;

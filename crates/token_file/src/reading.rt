@@ -14,25 +14,25 @@ use otp_core::{MAX_TOKENS, Next, Settings};
 use std::alloc::Global;
 use std::marker::Model;
 
-/// The longest line of a users file, in bytes without its LF.
+/// The maximum length of a line of a users file, in bytes without its LF.
 pub const MAX_LINE_LEN: usize = 4096;
 
-/// The longest users file, in bytes.
+/// The maximum length of a users file, in bytes.
 pub const MAX_FILE_LEN: u32 = 16_777_216;
 
-/// How many bytes a pull asks for.
+/// The number of bytes that a pull asks for.
 const PIECE_LEN: usize = 4096;
 
-/// What was read so far of a users file.
+/// The part of a users file that was read.
 #[derive(Drop)]
 struct Reading {
     book: Book,
     floors: Vec<Next>,
     /// The number of the line that is being read, from 1.
     number: u32,
-    /// What was read of that line.
+    /// The bytes of the line that were read.
     line: ArrayVec<u8, MAX_LINE_LEN>,
-    /// How many bytes may still be read.
+    /// The number of bytes that may still be read.
     room: u32,
 }
 
@@ -53,7 +53,7 @@ impl Model for Reading {
 }
 
 impl Reading {
-    /// Nothing is read yet.
+    /// Begins to read a file of at most `limit` bytes.
     fn new(alloc: Global, limit: u32) -> Self
         requires { limit < 2 ^ 30 }
         ensures { result ≡ initial_progress limit }
@@ -67,7 +67,7 @@ impl Reading {
         }
     }
 
-    /// A fault at the line that is being read.
+    /// Returns a fault at the current line.
     fn fault(&self, kind: LineFault) -> FileFault
         ensures fault { result ≡ record { line = self.now.number; kind = kind } }
         ensures len { length self.now.begun ≤ 4096 }
@@ -78,7 +78,7 @@ impl Reading {
         }
     }
 
-    /// Reads one byte further.
+    /// Reads `byte`.
     fn take(&mut self, byte: u8, settings: Settings, moment: u64) -> Result<(), FileFault>
         requires { IsMoment moment }
         ensures ok { OnOk result (Leads (instant_of settings moment) self.old (byte ∷ []) self.new) }
@@ -93,7 +93,7 @@ impl Reading {
         }
     }
 
-    /// Reads one byte of a line further.
+    /// Reads `byte` into the current line.
     fn take_more(&mut self, byte: u8) -> Result<(), FileFault>
         requires room { 0 < self.old.room }
         requires byte { byte ≢ 10 }
@@ -108,7 +108,7 @@ impl Reading {
         Ok(())
     }
 
-    /// Reads the LF of a line.
+    /// Reads the LF of the current line.
     fn take_end(&mut self, settings: Settings, moment: u64) -> Result<(), FileFault>
         requires moment { IsMoment moment }
         requires room { 0 < self.old.room }
@@ -122,7 +122,7 @@ impl Reading {
         Ok(())
     }
 
-    /// Adds the row of the line that is being read, at its end.
+    /// Adds the row of the current line, at its end.
     fn end_line(&mut self, settings: Settings, moment: u64) -> Result<(), FileFault>
         requires { IsMoment moment }
         ensures ok { OnOk result
@@ -148,7 +148,7 @@ impl Reading {
         }
     }
 
-    /// Reads some bytes further.
+    /// Reads `bytes` in order.
     fn take_all(&mut self, bytes: &[u8], settings: Settings, moment: u64) -> Result<(), FileFault>
         requires { IsMoment moment }
         ensures ok { OnOk result (Leads (instant_of settings moment) self.old bytes.now self.new) }
@@ -160,7 +160,7 @@ impl Reading {
         Ok(())
     }
 
-    /// The book and the floors, where the text ends here.
+    /// Ends the text. Returns the book and the floors.
     fn finish(mut self, settings: Settings, moment: u64) -> Result<(Book, Vec<Next>), FileFault>
         requires { IsMoment moment }
         ensures ok { IfOk result (λ read.
@@ -178,7 +178,7 @@ impl Reading {
     }
 }
 
-/// Adds the row of a line. After a refusal the book and the floors are not used again.
+/// Adds the row of a line. After a fault the book and the floors are not used again.
 fn add_line(
     book: &mut Book,
     floors: &mut Vec<Next>,
@@ -213,9 +213,10 @@ fn add_line(
     Ok(())
 }
 
-/// The book of a users file and the first free factor of each token, at an import at this moment. A pull
-/// asks for 4,096 bytes at most, and no more is pulled after a fault. What stands behind the text in the source
-/// stays.
+/// Reads a users file. Returns its book and the floor of each token after an import at `moment`. The floor is the
+/// token's first free factor.
+///
+/// A pull asks for at most 4,096 bytes, and a fault ends the pulls. The part of the source after the text stays.
 pub fn read_book<S: Source>(
     alloc: Global,
     source: &mut S,
@@ -239,7 +240,7 @@ pub fn read_book<S: Source>(
     read_lines(alloc, source, MAX_FILE_LEN, settings, moment)
 }
 
-/// The same with another limit.
+/// Reads a users file as [`read_book`] does, of at most `limit` bytes.
 pub(crate) fn read_lines<S: Source>(
     alloc: Global,
     source: &mut S,

@@ -15,13 +15,13 @@ use field_text::read_number;
 use otp_core::{FACTORS_END, Secret};
 use secret_text::read_hex;
 
-/// The most digits of a counter.
+/// The maximum number of digits of a counter.
 const MAX_COUNTER_LEN: usize = 19;
 
-/// The greatest counter.
+/// The maximum counter.
 const MAX_COUNTER: u64 = FACTORS_END;
 
-/// The row of a line, or `None` where the line holds none.
+/// Returns the row of a line, or None if the line holds no row.
 pub(crate) fn read_row(line: &[u8]) -> Result<Option<Entry<'_>>, LineFault>
     ensures row { line_row result ≡ row_of (fields_of line.now) }
     ensures unread { IfErr result (λ fault. is_read fault ≡ false) }
@@ -38,7 +38,7 @@ pub(crate) fn read_row(line: &[u8]) -> Result<Option<Entry<'_>>, LineFault>
     }
 }
 
-/// The row of a type and the fields after it.
+/// Returns the row of a type and the fields after it.
 fn read_typed(token_type: TokenType, fields: &[u8]) -> Result<Entry<'_>, LineFault>
     requires { is_hash_of token_type.kind token_type.hash ≡ true }
     ensures row { entry_row result ≡ typed_row token_type (fields_of fields.now) }
@@ -73,7 +73,7 @@ fn read_typed(token_type: TokenType, fields: &[u8]) -> Result<Entry<'_>, LineFau
     })
 }
 
-/// The token of these fields.
+/// Returns the token with these fields.
 fn token_of(token_type: TokenType, name: &[u8], password: &[u8], secret: Secret) -> Token
     requires hash { is_hash_of token_type.kind token_type.hash ≡ true }
     requires name { IsTrue (is_word name.now) }
@@ -91,7 +91,7 @@ fn token_of(token_type: TokenType, name: &[u8], password: &[u8], secret: Secret)
     .unwrap()
 }
 
-/// The password that a column asks for.
+/// Returns the password that a column asks for.
 fn read_password(column: &[u8]) -> Password
     requires { IsTrue (is_word column.now) }
     ensures value { result ≡ password_of column.now }
@@ -106,14 +106,14 @@ fn read_password(column: &[u8]) -> Password
     }
 }
 
-/// The secret of a hexadecimal text.
+/// Returns the secret of a hexadecimal text, or None if it isn't one.
 fn read_secret(text: &[u8]) -> Option<Secret>
     ensures { result ≡ secret_of text.now }
 {
     read_hex(text).ok()
 }
 
-/// The counter and the last password of an event token: the fields after its secret.
+/// Returns the counter and the last accepted code of an event token, from the fields after its secret.
 fn read_counter(fields: &[u8]) -> Result<(u64, Option<&[u8]>), LineFault>
     ensures bound { IfOk result (λ read. read.0 ≤ 2 ^ 62) }
     ensures row { (credential : Credential) →
@@ -132,7 +132,7 @@ fn read_counter(fields: &[u8]) -> Result<(u64, Option<&[u8]>), LineFault>
     }
 }
 
-/// The counter that a field is, or `None` where it is none.
+/// Returns the counter of a field, or None if it isn't one.
 fn counter_in(text: &[u8]) -> Option<u64>
     ensures bound { IfSome result (λ counter. counter ≤ 2 ^ 62) }
     ensures value { result ≡ counter_of text.now }

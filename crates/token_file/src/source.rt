@@ -3,36 +3,36 @@ ghost use Rattle.std.specs.IoError.{error_kind};
 
 use std::io::{Error, ErrorKind, Read};
 
-/// How often in a row an interrupted read is tried again.
+/// The maximum number of consecutive interrupted reads that are tried again.
 const MAX_TRIES: u32 = 64;
 
-/// What a pull gave.
+/// The result of a pull.
 #[derive(Clone, Copy, Debug, PartialEq, Eq)]
 pub enum Pulled {
-    /// So many bytes at the front of the buffer. There are none only at the end.
+    /// The number of bytes at the front of the buffer. It is 0 only at the end.
     Bytes(usize),
     /// The pull failed.
     Failed,
 }
 
-/// Where a text comes from, in pieces.
+/// A source of a text, in pieces.
 pub trait Source {
     ghost use Rattle.std.specs.Prelude.{◌||◌, ℕ, Bool, List, length, Option, None};
     ghost use Rattle.token_file.specs.Source.{Pulls, Stays, is_failure};
 
-    // The bytes that are left, where the source tells.
+    // The bytes that are left, if the source knows them.
     ghost left: { Self → Option (List ℕ) } = { λ _. None };
 
-    // The words in which the source tells what stands behind its text.
+    // The type of the part of the source after its text.
     ghost Behind: { Type 0 } = { Unit {0} };
 
-    // What stands behind its text, where the source tells.
+    // The part of the source after its text, if the source knows it.
     ghost behind: { Self → Option Self.Behind };
 
     // Whether a pull has failed.
     ghost has_failed: { Self → Bool };
 
-    /// Takes bytes from the front of what is left into the buffer. What stands behind the text stays.
+    /// Moves the first bytes that are left into the buffer. The part of the source after the text stays.
     fn pull(&mut self, buffer: &mut [u8]) -> Pulled
         requires { 0 < length buffer.old }
         ensures bytes { Pulls (left self.old) (left self.new) result buffer.new }
@@ -40,7 +40,7 @@ pub trait Source {
         ensures failed { has_failed self.new ≡ (has_failed self.old || is_failure result) };
 }
 
-/// A source over a reader. An interrupted read is tried again, at most 64 times in a row.
+/// A source over a reader. It tries an interrupted read again, at most 64 times in a row.
 #[derive(Debug, Drop)]
 pub struct FromRead<R> {
     reader: R,
@@ -50,7 +50,7 @@ pub struct FromRead<R> {
 impl<R: Read> FromRead<R> {
     ghost use Rattle.std.specs.Prelude.{false};
 
-    /// A source over this reader.
+    /// Returns a source over `reader`.
     pub fn new(reader: R) -> Self
         ensures left { ⟦<FromRead<R> as Source>⟧.left result ≡ R.remaining reader }
         ensures failed { ⟦<FromRead<R> as Source>⟧.has_failed result ≡ false }
@@ -82,7 +82,7 @@ impl<R: Read> Source for FromRead<R> {
     }
 }
 
-/// Whether a read that was refused is tried again, after so many reads that were interrupted before it.
+/// Returns whether a read that failed with `error` is tried again, after `tries` consecutive interrupted reads.
 fn is_tried_again(error: &Error, tries: u32) -> bool
     ensures { IsTrue result ↔ ((error_kind error.now ≡ ErrorKind.Interrupted) × (tries < 64)) }
 {

@@ -9,10 +9,10 @@ use otp_core::{Digits, Secret};
 use std::fmt;
 use std::marker::Model;
 
-/// The longest user name and the longest password, in bytes.
+/// The maximum length of a user name and of a password, in bytes.
 pub const MAX_NAME_LEN: usize = 64;
 
-/// What the codes of a token count.
+/// The kind of a token's factors.
 #[derive(Clone, Copy, Debug, PartialEq, Eq)]
 pub enum Kind {
     /// Events: the factor is a counter.
@@ -24,7 +24,7 @@ pub enum Kind {
 }
 
 impl Kind {
-    /// How many seconds a time step has, or `None` where events are counted.
+    /// Returns the number of seconds of a time step, or None for events.
     pub fn period(self) -> Option<u64>
         ensures value { result ≡ period_of self }
         ensures range { IfSome result (λ seconds. 30 ≤ seconds) }
@@ -37,18 +37,18 @@ impl Kind {
     }
 }
 
-/// What a line has to give as the password of a token.
+/// The password that a line has to give for a token.
 #[derive(Drop, PartialEq, Eq)]
 pub enum Password {
-    /// None.
+    /// No password.
     NoneAllowed,
-    /// Anything: it is not checked here.
+    /// Any password: it is not checked here.
     NotChecked,
-    /// These bytes.
+    /// A password of these bytes.
     Equal(ArrayVec<u8, MAX_NAME_LEN>),
 }
 
-/// It shows no byte of the password.
+/// Shows no byte of the password.
 impl fmt::Debug for Password {
     fn fmt<W: fmt::Write>(&self, f: &mut fmt::Formatter<W>) -> fmt::Result {
         f.write_str(match self {
@@ -98,9 +98,10 @@ impl Model for Token {
 }
 
 impl Token {
-    /// The token of these parts. There is none where the name or the password is empty or has a
-    /// blank or an LF, the password is one of the marks `-` and `+`, or the hash of an event token is
-    /// not SHA-1.
+    /// Returns the token of these parts, or None if they don't fit together.
+    ///
+    /// They don't fit if the name or the password is empty or has a blank or an LF, or if the password is one of the
+    /// marks `-` and `+`. The hash of an event token must be SHA-1.
     pub fn new(
         name: ArrayVec<u8, MAX_NAME_LEN>,
         password: Password,
@@ -133,14 +134,14 @@ impl Token {
         }
     }
 
-    /// The parts of every token fit together.
+    /// States that the parts of every token fit together.
     pub(crate) fn parts_fit(&self)
         ensures { IsTrue (is_credential self.now.name self.now.password self.now.kind self.now.hash) }
     {
         let _kind = self.kind;
     }
 
-    /// The user's name.
+    /// Returns the user's name.
     pub fn name(&self) -> &[u8]
         ensures value { result.now ≡ self.now.name }
         ensures word { IsTrue (spec_is_word result.now) }
@@ -148,35 +149,35 @@ impl Token {
         &self.name
     }
 
-    /// What a line has to give as the password.
+    /// Returns the password that a line has to give.
     pub fn password(&self) -> &Password
         ensures { result.now ≡ self.now.password }
     {
         &self.password
     }
 
-    /// The secret that its codes are made with.
+    /// Returns the secret that the codes are computed with.
     pub fn secret(&self) -> &Secret
         ensures { result.now ≡ self.now.secret }
     {
         &self.secret
     }
 
-    /// What its codes count.
+    /// Returns the kind of the factors.
     pub fn kind(&self) -> Kind
         ensures { result ≡ self.now.kind }
     {
         self.kind
     }
 
-    /// How many digits its codes have.
+    /// Returns the number of digits of the codes.
     pub fn digits(&self) -> Digits
         ensures { result ≡ self.now.digits }
     {
         self.digits
     }
 
-    /// The hash that its codes are made with.
+    /// Returns the hash that the codes are computed with.
     pub fn hash(&self) -> Hash
         ensures { result ≡ self.now.hash }
     {
@@ -184,7 +185,7 @@ impl Token {
     }
 }
 
-/// A name or a password as a value.
+/// Returns a name or a password as a value.
 pub(crate) fn array_of(text: &[u8]) -> ArrayVec<u8, MAX_NAME_LEN>
     requires { length text.now ≤ MAX_NAME_LEN }
     ensures { result.items ≡ text.now }
@@ -192,14 +193,14 @@ pub(crate) fn array_of(text: &[u8]) -> ArrayVec<u8, MAX_NAME_LEN>
     ArrayVec::try_from(text).unwrap()
 }
 
-/// Whether a column is one of the marks `-` and `+`.
+/// Returns whether a column is one of the marks `-` and `+`.
 fn is_mark_text(column: &[u8]) -> bool
     ensures { result ≡ is_mark column.now }
 {
     column == b"-".as_slice() || column == b"+".as_slice()
 }
 
-/// Whether a line can give this password.
+/// Returns whether a line can give the password.
 fn is_password_text(password: &Password) -> bool
     ensures { result ≡ is_password password.now }
 {
@@ -209,7 +210,7 @@ fn is_password_text(password: &Password) -> bool
     }
 }
 
-/// Whether tokens of this kind may have this hash.
+/// Returns whether tokens of this kind may have this hash.
 fn fits_hash(kind: Kind, hash: Hash) -> bool
     ensures { result ≡ is_hash_of kind hash }
 {

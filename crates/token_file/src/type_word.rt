@@ -7,7 +7,7 @@ use crate::token::Kind;
 use hmac_core::Hash;
 use otp_core::Digits;
 
-/// What the first field of a line says of a token.
+/// The type of a token, which the first field of a line names.
 #[derive(Clone, Copy, Debug, PartialEq, Eq)]
 pub(crate) struct TokenType {
     pub(crate) kind: Kind,
@@ -15,14 +15,14 @@ pub(crate) struct TokenType {
     pub(crate) hash: Hash,
 }
 
-/// Whether two words have the same bytes.
+/// Returns whether two words have the same bytes.
 fn is_same(word: &[u8], other: &[u8]) -> bool
     ensures { result ≡ bytes_eq word.now other.now }
 {
     word == other
 }
 
-/// The type that a word names, or `None` where it names none.
+/// Returns the type that a word names, or None.
 pub(crate) fn read_type(word: &[u8]) -> Option<TokenType>
     ensures value { result ≡ type_of word.now }
     ensures hash { IfSome result (λ found. is_hash_of found.kind found.hash ≡ true) }
@@ -36,7 +36,7 @@ pub(crate) fn read_type(word: &[u8]) -> Option<TokenType>
     }
 }
 
-/// The type of an event token that a word names.
+/// Returns the type of the event token that a word names, or None.
 fn event_type(word: &[u8]) -> Option<TokenType>
     ensures { result ≡ event_type_of word.now }
 {
@@ -59,7 +59,7 @@ fn event_type(word: &[u8]) -> Option<TokenType>
     })
 }
 
-/// The type of a time token, by what follows the time step in its word.
+/// Returns the type of a time token by the suffix of its word after the time step, or None.
 fn time_type(kind: Kind, suffix: &[u8]) -> Option<TokenType>
     ensures { result ≡ time_type_of kind suffix.now }
 {

@@ -9,7 +9,7 @@ use hmac_core::Hash;
 use otp_core::{Digits, MAX_SECRET_LEN, Next, Secret};
 use std::io::{self, Write};
 
-/// The word of a kind.
+/// Returns the word of a kind.
 fn kind_text(kind: Kind) -> &'static [u8]
     ensures { result.now ≡ kind_word kind }
 {
@@ -20,7 +20,7 @@ fn kind_text(kind: Kind) -> &'static [u8]
     }
 }
 
-/// What a type adds to the word of its kind for the digits.
+/// Returns the part of a type's word for the digits.
 fn digits_text(digits: Digits) -> &'static [u8]
     ensures { result.now ≡ digits_word digits }
 {
@@ -31,7 +31,7 @@ fn digits_text(digits: Digits) -> &'static [u8]
     }
 }
 
-/// What a type adds for the hash.
+/// Returns the part of a type's word for the hash.
 fn hash_text(hash: Hash) -> &'static [u8]
     ensures { result.now ≡ hash_word hash }
 {
@@ -42,7 +42,7 @@ fn hash_text(hash: Hash) -> &'static [u8]
     }
 }
 
-/// The column of a password.
+/// Returns the column of a password.
 fn column_of(password: &Password) -> &[u8]
     ensures { result.now ≡ password_column password.now }
 {
@@ -81,18 +81,18 @@ fn write_secret<W: Write>(writer: &mut W, secret: &Secret) -> io::Result<()>
     write_field(writer, text)
 }
 
-/// Writes a TAB and a first free factor.
+/// Writes a TAB and a floor.
 fn write_factor<W: Write>(writer: &mut W, next: Next) -> io::Result<()>
     ensures { OnOk result (Appends (W.contents writer.old) (W.contents writer.new) (9 ∷ decimal next)) }
 {
     write!(writer, "\t{}", next.value())
 }
 
-/// Writes the row of a token and its first free factor. A time token has no factor in its row.
+/// Writes the row of a token and its floor (the first free factor). The row of a time token has no factor.
 ///
 /// # Errors
 ///
-/// Those of the writer. A front of the row may have been written then.
+/// - Returns the writer's error. A prefix of the row may have been written.
 pub fn write_row<W: Write>(writer: &mut W, token: &Token, next: Next) -> io::Result<()>
     ensures text { OnOk result (Appends (W.contents writer.old) (W.contents writer.new) (row_text token.now next)) }
 {

@@ -1,4 +1,4 @@
--- Worked addresses and receives.
+-- Worked cases: addresses and receives.
 use Rattle.std.specs.Prelude.{ℕ, Bool, List, [], ◌∷◌, Option, Ok}
 use Rattle.std.specs.declared.net.socket_addr.SocketAddrV4.{SocketAddrV4}
 use Rattle.std.specs.declared.net.socket_addr.SocketAddr.TheVariants.{V4}
@@ -13,7 +13,7 @@ at_host host port = record { ip = record { octets = host ∷ 0 ∷ 0 ∷ 1 ∷ [
 abbrev pub at_local : ℕ → SocketAddrV4
 at_local port = at_host 127 port
 
--- what a receive of the given number of these bytes from an address comes to at a port that skips answers or not, and
--- whose one member is 127.0.0.1 with port 1
+-- the receipt of the first `len` bytes of `buffer` from an address at a port whose one member is 127.0.0.1 with port 1;
+-- `skips` says whether the port skips answers
 abbrev pub received_by_one : Bool → ℕ → SocketAddrV4 → List ℕ → Option Received
 received_by_one skips len address buffer = receipt_of skips (at_local 1 ∷ []) (Ok (len, V4 address)) buffer

@@ -1,4 +1,4 @@
--- What a receive of a socket comes to.
+-- The result of a socket's receive.
 use Rattle.std.specs.Prelude.{ℕ, Bool, false, ◌&&◌, ◌||◌, if◌then◌else◌, List, take, Option, Some, None, Result, Ok, Err, codes, nat_eq}
 use Rattle.std.specs.List.{starts_with}
 use Rattle.std.specs.IoError.{error_kind}
@@ -14,19 +14,19 @@ use Rattle.datagram_port.specs.declared.port.Received.{Received}
 use Rattle.datagram_port.specs.declared.port.Received.TheVariants.{Datagram, Quiet, Fault}
 use Rattle.udp_port.specs.Address.{sender_of}
 
--- these bytes are an answer of a node: they begin with OK or NO and a space
+-- the bytes are an answer of a node: they begin with OK or NO and a space
 abbrev pub is_answer : List ℕ → Bool
 is_answer bytes = starts_with nat_eq bytes (codes "OK ") || starts_with nat_eq bytes (codes "NO ")
 
--- A client's answer is passed over at a port that skips answers: it gets none, since two nodes of different clusters,
--- or a node and an echo, would answer each other for ever.
+-- A port that skips answers passes over an answer from a client. Otherwise two nodes of different clusters, or a node
+-- and an echo, would answer each other for ever.
 abbrev pub is_passed_over : Bool → Sender → List ℕ → Bool
 is_passed_over skips (Client number) bytes = skips && is_answer bytes
 is_passed_over skips (Peer number) bytes = false
 
--- What a receive that failed comes to. Where nothing came in time it is quiet. Where a signal came first, or a datagram
--- that was sent before found nobody at its address, it is passed over: the socket is well, and no time has passed, so
--- that whoever sends lines from an address that is gone makes no tick. Any other failure is a fault of the port.
+-- The result of a receive that failed. It is quiet if no datagram came in time. The port passes over a signal, and over
+-- the report that an earlier datagram found nobody at its address. Then the socket works and no time has passed, so
+-- that lines from an address without a receiver make no tick. Any other failure is a fault of the port.
 abbrev pub failure_of : ErrorKind → Option Received
 failure_of WouldBlock = Some Quiet
 failure_of TimedOut = Some Quiet
@@ -35,8 +35,8 @@ failure_of ConnectionRefused = None
 failure_of ConnectionReset = None
 failure_of kind = Some Fault
 
--- What a receive of a socket that left these bytes in the buffer comes to at a port with these members, or None where
--- it is passed over. An IPv6 address is none of a client.
+-- The result of a socket's receive that left `buffer`, at a port with the given members, or None if the port passes
+-- over it. An IPv6 address belongs to no client.
 abbrev pub receipt_of : Bool → List SocketAddrV4 → Result (ℕ × SocketAddr) Error → List ℕ → Option Received
 receipt_of skips members (Ok (len, V4 address)) buffer =
     let sender = sender_of members address in

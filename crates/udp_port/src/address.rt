@@ -1,4 +1,4 @@
-//! Whose datagram comes from an address, and where one for them goes.
+//! Maps socket addresses to senders, and senders to socket addresses.
 
 ghost use Rattle.std.specs.Prelude.{◌≡◌, ◌<◌, ◌≤◌, ◌^◌, IfNone, IfSome, length};
 ghost use Rattle.udp_port.specs.Address.{HasNoAddress, IsAddressOf, number_of, sender_of};
@@ -6,10 +6,11 @@ ghost use Rattle.udp_port.specs.Address.{HasNoAddress, IsAddressOf, number_of, s
 use datagram_port::Sender;
 use std::net::{Ipv4Addr, SocketAddrV4};
 
-/// The numbers of clients are below this.
+/// The end of the numbers of clients.
 const CLIENTS_END: u64 = 1 << 48;
 
-/// The number of the client at an address: the IPv4 address as a number of 32 bits, times 65,536, and the port.
+/// Returns the number of the client at an address: the IPv4 address as a number of 32 bits, times 65,536, plus the
+/// port.
 pub fn client_number(address: SocketAddrV4) -> u64
     ensures value { result ≡ number_of address }
     ensures range { result < 2 ^ 48 }
@@ -17,7 +18,7 @@ pub fn client_number(address: SocketAddrV4) -> u64
     u64::from(address.ip().to_bits()) * 65_536 + u64::from(address.port())
 }
 
-/// The address of the client with this number, or `None` where no client has it, which is from 2^48 on.
+/// Returns the address of the client with the number `number`, or None from 2^48 on.
 pub fn client_address(number: u64) -> Option<SocketAddrV4>
     ensures some { IfSome result (λ address. number_of address ≡ number) }
     ensures none { IfNone result (2 ^ 48 ≤ number) }
@@ -29,7 +30,7 @@ pub fn client_address(number: u64) -> Option<SocketAddrV4>
     Some(SocketAddrV4::new(ip, (number % 65_536) as u16))
 }
 
-/// Whose datagram comes from an address: the member's whose address it is, or else a client's.
+/// Returns the sender of a datagram from `address`: the member with the address, or else a client.
 pub(crate) fn sender_of(members: &[SocketAddrV4], address: SocketAddrV4) -> Sender
     requires { length members.now ≤ 9 }
     ensures { result ≡ sender_of members.now address }
@@ -45,7 +46,7 @@ pub(crate) fn sender_of(members: &[SocketAddrV4], address: SocketAddrV4) -> Send
     Sender::Client(client)
 }
 
-/// The address of a member or a client, or `None` where there is none.
+/// Returns the address of a member or a client, or None if it has none.
 pub(crate) fn address_of(members: &[SocketAddrV4], to: Sender) -> Option<SocketAddrV4>
     ensures some { IfSome result (IsAddressOf members.now to) }
     ensures none { IfNone result (HasNoAddress members.now to) }

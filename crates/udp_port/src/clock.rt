@@ -8,22 +8,24 @@ use otp_core::MOMENTS_END;
 use std::io::{self, ErrorKind};
 use std::time::{Clock as TimeSource, Duration, SystemTime, UNIX_EPOCH};
 
-/// The system's clock, which tells whole seconds. It fails where the system has none, and where it is set before
-/// 1970-01-01 00:00:00 UTC or 2^40 seconds behind it or more. It keeps no record.
+/// The system's clock, which tells whole seconds. It keeps no record.
+///
+/// It fails if the system has no clock, or if the clock is set before 1970-01-01 00:00:00 UTC or 2^40 seconds or more
+/// after it.
 #[derive(Drop)]
 pub struct SystemClock<'a, R: TimeSource> {
     source: &'a R,
 }
 
 impl<'a, R: TimeSource> SystemClock<'a, R> {
-    /// The clock of this source.
+    /// Returns the clock of `source`.
     pub fn new(source: &'a R) -> Self
         ensures { result.source ≡ source.entry }
     {
         SystemClock { source }
     }
 
-    /// The present moment.
+    /// Returns the current time, or None if the clock fails.
     fn now(&self) -> Option<u64>
         ensures { IfSome result IsMoment }
     {
@@ -42,7 +44,7 @@ impl<R: TimeSource> Clock for SystemClock<'_, R> {
     }
 }
 
-/// A clock that fails: time passes for a port over it only where a wait of its socket ends.
+/// A clock that always fails. For a port over it, time passes only when a wait of its socket ends.
 #[derive(Clone, Copy)]
 pub struct NoClock;
 

@@ -12,7 +12,7 @@ ghost use Rattle.udp_port.specs.Examples.{at_host, at_local, received_by_one};
 ghost use Rattle.udp_port.specs.Pace.{AreClose, AreUpTo, due_after_quiet, due_after_start, interval, is_due, last_of, paced_of};
 ghost use Rattle.udp_port.specs.Receipt.{failure_of, is_answer, receipt_of};
 
-/// Numbers of addresses, and whose datagrams come from them.
+/// Worked cases. Numbers of addresses, and senders.
 pub fn addresses_are_worked()
     ensures number { number_of (at_local 5000) ≡ 139637976798088 }
     ensures second { sender_of (at_local 1 ∷ at_local 2 ∷ []) (at_local 2) ≡ Peer 2 }
@@ -21,7 +21,7 @@ pub fn addresses_are_worked()
     ensures other_host { sender_of (at_local 1 ∷ at_local 2 ∷ []) (at_host 10 1) ≡ Client 10995116343297 }
 {}
 
-/// What is an answer, and what receives come to.
+/// Worked cases. Answers of nodes, and results of receives.
 pub fn receipts_are_worked()
     ensures no { is_answer (codes "NO - BADLINE") ≡ true }
     ensures ok { is_answer (codes "OK 1 0") ≡ true }
@@ -29,13 +29,13 @@ pub fn receipts_are_worked()
     ensures no_space { is_answer (codes "OK") ≡ false }
     ensures small { is_answer (codes "no - BADLINE") ≡ false }
     ensures inside { is_answer (codes "CHECK 1 NO 755224 -") ≡ false }
-    // a client's answer is passed over at a port that skips answers, and a member's is none
+    // a port that skips answers passes over a client's answer, but not over a member's
     ensures client { received_by_one true 12 (at_local 2) (codes "NO - BADLINE") ≡ None }
     ensures heard { received_by_one false 4 (at_local 2) (codes "NO 1") ≡ Some (Datagram (Client 139637976793090) 4) }
     ensures member { received_by_one true 12 (at_local 1) (codes "NO - BADLINE") ≡ Some (Datagram (Peer 1) 12) }
     ensures line { received_by_one true 7 (at_local 2) (codes "CHECK 1LINE")
         ≡ Some (Datagram (Client 139637976793090) 7) }
-    // what an earlier datagram left in the buffer is none of this one
+    // the port ignores bytes that an earlier datagram left in the buffer
     ensures left { received_by_one true 2 (at_local 2) (codes "NO - BADLINE")
         ≡ Some (Datagram (Client 139637976793090) 2) }
     ensures no_datagram { failure_of WouldBlock ≡ Some Quiet }
@@ -46,7 +46,7 @@ pub fn receipts_are_worked()
     ensures fault { failure_of NotFound ≡ Some Fault }
 {}
 
-/// When quiet turns are due.
+/// Worked cases. The due times of quiet turns.
 pub fn quiet_turns_are_worked()
     ensures start { due_after_start (Some 1000) None ≡ Some 1200 }
     ensures no_start { is_due (Some 1000) None ≡ false }
@@ -56,7 +56,7 @@ pub fn quiet_turns_are_worked()
     ensures on_time { due_after_start (Some 1200) (Some 1200) ≡ Some 1400 }
     ensures late { due_after_start (Some 1399) (Some 1200) ≡ Some 1400 }
     ensures later { due_after_start (Some 1400) (Some 1200) ≡ Some 1600 }
-    // a wait that ends is quiet whenever it ends
+    // a wait that ends is quiet at any moment
     ensures waited { due_after_quiet (Some 1350) (Some 1200) ≡ Some 1400 }
     ensures waited_early { due_after_quiet (Some 1199) (Some 1200) ≡ Some 1399 }
     ensures waited_first { due_after_quiet (Some 1000) None ≡ Some 1200 }
@@ -68,8 +68,9 @@ pub fn quiet_turns_are_worked()
         ≡ record { quiets = 5; due = 1200 } }
 {}
 
-/// Whatever comes, there are no more quiet turns without a wait than intervals are past, and one at the start; and
-/// where the receives begin at most an interval apart, there are no fewer.
+/// Pace: the number of quiet turns without a wait is at most the number of elapsed intervals plus one.
+///
+/// If the receives begin at most an interval apart, there are no fewer.
 pub fn quiet_turns_keep_their_pace()
     ensures most { (due last : ℕ) (moments : List ℕ) → due ≤ last + interval → AreUpTo last moments
         → due + interval * (paced_of due moments).quiets ≤ last + interval }
@@ -77,8 +78,8 @@ pub fn quiet_turns_keep_their_pace()
         → last_of before moments < due + interval * (paced_of due moments).quiets }
 {}
 
-/// What is promised of an address and of moments is broken by the least that is wrong, and any receive that failed
-/// comes to what its kind says.
+/// Counterexamples: each promise of an address and of moments fails for a minimal one. The result of any receive that
+/// failed is the result of its kind.
 pub fn promises_can_be_broken()
     ensures member { IsAddressOf (at_local 1 ∷ at_local 2 ∷ []) (Peer 2) (at_local 2) }
     ensures member_0 { IsAddressOf (at_local 1 ∷ []) (Peer 0) (at_local 1) → ⊥ }

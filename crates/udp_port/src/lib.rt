@@ -1,10 +1,11 @@
 //! A node's port over a UDP socket, and the system's clock as a node's.
 //!
-//! What comes from the address of a member is that member's datagram, what comes from any other address is a client's,
-//! whose number is its address. A client's datagram that is an answer of a node, which begins with `OK ` or `NO `, is
-//! passed over. The caller binds the socket and sets its read timeout to the time from one quiet turn to the next:
-//! without one a receive waits for a datagram for ever, and the node learns of no time that passes. A poll makes the
-//! calls of the socket wait for nothing, and the next receive or send makes them wait again.
+//! A datagram from the address of a member is the member's. One from any other address is a client's, whose number is
+//! the address. The port passes over a client's datagram that is an answer of a node, which begins with `OK ` or `NO `.
+//!
+//! The caller binds the socket and sets its read timeout to the time from one quiet turn to the next. Without a timeout
+//! a receive waits for a datagram for ever, and the node learns of no time that passes. A poll switches the socket to
+//! non-blocking mode. The next receive or send switches it back.
 //!
 //! ```rust
 //! use std::net::{SocketAddr, UdpSocket};

@@ -1,4 +1,4 @@
-//! When quiet turns are due.
+//! The times of quiet turns.
 
 ghost use Rattle.std.specs.Prelude.{◌≡◌, ◌<◌, ◌^◌, IfSome};
 ghost use Rattle.udp_port.specs.Pace.{due_after, due_after_quiet, due_after_start, is_due};
@@ -9,13 +9,13 @@ use std::time::Clock as TimeSource;
 /// The time from one quiet turn to the next, in milliseconds.
 pub const QUIET_MILLIS: u64 = 200;
 
-/// When the next quiet turn is due, in milliseconds since the start of a clock, once that has told a moment.
+/// The due time of the next quiet turn, in milliseconds since the start of a clock, after the clock told a moment.
 #[derive(Clone, Copy, Default)]
 pub(crate) struct Pace {
     due: Option<u64>,
 }
 
-/// The present moment of a clock that never goes back, in milliseconds since its start.
+/// Returns the current moment of a monotonic clock, in milliseconds since its start, or None if it fails.
 pub(crate) fn millis_of<R: TimeSource>(clock: &R) -> Option<u64>
     ensures { IfSome result (λ moment. moment < 2 ^ 63) }
 {
@@ -26,7 +26,7 @@ pub(crate) fn millis_of<R: TimeSource>(clock: &R) -> Option<u64>
     Some(now.as_secs() * 1000 + u64::from(now.subsec_millis()))
 }
 
-/// When the next quiet turn is due after one at a moment that was due at another.
+/// Returns the due time of the next quiet turn after one at `moment`, which was due at `due`.
 fn due_after(moment: u64, due: u64) -> u64
     requires { moment < 2 ^ 63 }
     ensures { result ≡ due_after moment due }
@@ -39,7 +39,7 @@ fn due_after(moment: u64, due: u64) -> u64
 }
 
 impl Pace {
-    /// A receive begins at a moment, if the clock tells one. Whether it is quiet at once.
+    /// Begins a receive at `moment`, which is None if the clock fails. Returns whether the receive is quiet at once.
     pub(crate) fn begin(&mut self, moment: Option<u64>) -> bool
         requires { IfSome moment (λ moment. moment < 2 ^ 63) }
         ensures quiet { result ≡ is_due moment self.old.due }
@@ -57,7 +57,7 @@ impl Pace {
         true
     }
 
-    /// A receive was quiet at a moment, if the clock tells one, since nothing came in time.
+    /// Ends a wait that was quiet at `moment`, which is None if the clock fails.
     pub(crate) fn end_wait(&mut self, moment: Option<u64>)
         requires { IfSome moment (λ moment. moment < 2 ^ 63) }
         ensures { self.new.due ≡ due_after_quiet moment self.old.due }

@@ -12,10 +12,10 @@ use std::io::{self, ErrorKind};
 use std::net::{SocketAddr, SocketAddrV4, UdpSocket};
 use std::time::Clock as TimeSource;
 
-/// The most members of a cluster.
+/// The maximum number of members of a cluster.
 pub const MAX_MEMBERS: usize = 9;
 
-/// A receive passes over at most this many datagrams.
+/// The maximum number of datagrams that a receive passes over.
 const MAX_PASSED_OVER: u8 = 64;
 
 /// A port over a UDP socket. It keeps no record.
@@ -30,29 +30,29 @@ pub struct UdpPort<R: TimeSource + Drop> {
     ghost few: { length members.items ≤ 9 },
 }
 
-/// What a receive that failed comes to, or `None` where it is passed over.
+/// Returns the result of a receive that failed, or None if the port passes over it.
 fn failure_of(kind: ErrorKind) -> Option<Received>
     ensures { result ≡ failure_of kind }
 {
     match kind {
-        // nothing came in time
+        // no datagram came in time
         ErrorKind::WouldBlock | ErrorKind::TimedOut => Some(Received::Quiet),
         // a signal came first
         ErrorKind::Interrupted => None,
-        // an earlier datagram found nobody at its address: what is sent may be lost, and the socket is well
+        // an earlier datagram found nobody at its address: a sent datagram may be lost, and the socket works
         ErrorKind::ConnectionRefused | ErrorKind::ConnectionReset => None,
         _ => Some(Received::Fault),
     }
 }
 
-/// Whether these bytes are an answer of a node.
+/// Returns whether the bytes are an answer of a node.
 fn is_answer(bytes: &[u8]) -> bool
     ensures { result ≡ is_answer bytes.now }
 {
     bytes.starts_with(b"OK ") || bytes.starts_with(b"NO ")
 }
 
-/// Whether a datagram is passed over, at a port that skips answers or not.
+/// Returns whether the port passes over a datagram, by whether it skips answers.
 fn is_passed_over(skips_answers: bool, sender: Sender, bytes: &[u8]) -> bool
     ensures { result ≡ is_passed_over skips_answers sender bytes.now }
 {
@@ -62,7 +62,7 @@ fn is_passed_over(skips_answers: bool, sender: Sender, bytes: &[u8]) -> bool
     }
 }
 
-/// What a receive of a socket comes to, or `None` where it is passed over.
+/// Returns the result of a socket's receive, or None if the port passes over it.
 fn receipt_of(
     skips_answers: bool,
     members: &[SocketAddrV4],
@@ -88,10 +88,11 @@ fn receipt_of(
 }
 
 impl<R: TimeSource + Drop> UdpPort<R> {
-    /// A port of a node over this socket, which is bound to an IPv4 address and has a read timeout. `members` are the
-    /// addresses of the cluster's members in order of their numbers, the first of which is 1; there are at most 9. By
-    /// the clock quiet turns come each 200 milliseconds, whatever else comes; by one that fails only where a wait of
-    /// the socket ends. A client's answer is passed over.
+    /// Returns a port of a node over `socket`, which is bound to an IPv4 address and has a read timeout.
+    ///
+    /// `members` are the addresses of the cluster's members in the order of their numbers, from 1, at most 9. With
+    /// `clock` quiet turns come each 200 milliseconds, whatever datagrams come. If the clock fails, they come only when
+    /// a wait of the socket ends. The port passes over an answer from a client.
     pub fn new(socket: UdpSocket, members: Vec<SocketAddrV4>, clock: R) -> UdpPort<R>
         requires { length members.items ≤ 9 }
         ensures members { result.members ≡ members }
@@ -109,8 +110,9 @@ impl<R: TimeSource + Drop> UdpPort<R> {
 }
 
 impl UdpPort<NoClock> {
-    /// A port of a node or a client that plays rounds over this socket, as that of [`UdpPort::new`] by a clock that
-    /// fails. A client's answer is handed in as any other datagram is.
+    /// Returns a port of a node or a client that plays rounds over `socket`.
+    ///
+    /// It is the port of [`UdpPort::new`] with a clock that fails, but returns a client's answer as any other datagram.
     pub fn in_rounds(socket: UdpSocket, members: Vec<SocketAddrV4>) -> UdpPort<NoClock>
         requires { length members.items ≤ 9 }
         ensures members { result.members ≡ members }
@@ -128,7 +130,7 @@ impl UdpPort<NoClock> {
 }
 
 impl<R: TimeSource + Drop> UdpPort<R> {
-    /// Makes the calls of the socket wait, or not. Whether they do so now.
+    /// Switches the socket between blocking and non-blocking mode. Returns false if that failed.
     fn set_waits(&mut self, waits: bool) -> bool
         ensures waits { IsTrue result → self.new.waits ≡ waits }
         ensures same { self.new ≡ record self.old { waits = self.new.waits } }
@@ -182,7 +184,7 @@ impl<R: TimeSource + Drop> Port for UdpPort<R> {
     }
 
     fn send(&mut self, to: Sender, bytes: &[u8]) -> bool {
-        // where the socket takes no more just now, what is sent waits, and is not lost
+        // in blocking mode a send waits for room in the socket's buffer, and loses no datagram
         let _waits = self.set_waits(true);
         match address_of(&self.members, to) {
             Some(address) => self.socket.send_to(bytes, SocketAddr::V4(address)).is_ok(),

@@ -25,6 +25,6 @@ IsDatagramOf key bytes from to message = IsTagged key bytes × IsBodyOf (body_of
 unfoldable pub datagram_bytes : List ℕ → ℕ → ℕ → Message → List ℕ
 datagram_bytes key from to message = body_bytes from to message ++ tag_of key (body_bytes from to message)
 
--- who sends to whom, and what, where the tag is right
+-- the sender, the receiver and the message, if the tag is right
 unfoldable pub datagram_at : List ℕ → List ℕ → Option (ℕ × ℕ × Message)
 datagram_at key bytes = if bytes_eq (tag_at bytes) (tag_of key (body_of bytes)) then body_at (body_of bytes) else None

@@ -9,7 +9,7 @@ ghost use Rattle.vote_wire.specs.Datagram.{IsDatagramOf, datagram_at, datagram_b
 ghost use Rattle.vote_wire.specs.Examples.{ask, ask_body, ask_of, ask_tag, ask_with, deny, deny_body, floor, floor_body, grant, grant_body, read_again, tag_of_the_standard};
 ghost use Rattle.vote_wire.specs.Key.{IsClusterKey, key_refusal_of, tag_of};
 
-/// Under each key a message from one node to another has one spelling, and a datagram one reading.
+/// One spelling: under each key a message from one node to another has one spelling, and a datagram one reading.
 pub fn one_spelling()
     ensures spelling { (key bytes : List ℕ) (from to : ℕ) (message : Message) → AreBytes bytes →
         IsDatagramOf key bytes from to message
@@ -20,8 +20,8 @@ pub fn one_spelling()
         datagram_at key (datagram_bytes key from to message) ≡ Some (from, to, message) }
 {}
 
-/// A datagram under a key of 32 zeros, and what is read of it under that key and another, with another tag, and
-/// with another body. The tag of a test case of RFC 4231.
+/// Worked cases. A datagram under a key of 32 zeros, and its reading under another key, with another tag and with
+/// another body; the tag of a test case of RFC 4231.
 pub fn datagrams_are_worked()
     ensures tag { tag_of (replicate 20 0x0b) (codes "Hi There") ≡ tag_of_the_standard }
     ensures bytes { datagram_bytes (replicate 32 0) 1 2 ask ≡ ask_body ++ ask_tag }
@@ -33,7 +33,7 @@ pub fn datagrams_are_worked()
     ensures no_tag { datagram_at (replicate 32 0) ask_body ≡ None }
 {}
 
-/// The body of a datagram of each kind, and what is read where a byte is another.
+/// Worked cases. The body of a datagram of each kind, and its reading with one other byte.
 pub fn bodies_are_worked()
     ensures ask { body_bytes 1 2 ask ≡ ask_body }
     ensures grant { body_bytes 2 1 grant ≡ grant_body }
@@ -81,7 +81,7 @@ pub fn bodies_are_worked()
     ensures boot { read_again 1 2 (ask_of 4611686018427387904 0 0 0 0) ≡ None }
     ensures seq { read_again 1 2 (ask_of 0 4611686018427387904 0 0 0) ≡ None }
 
-    // the factors, and the first free factor
+    // the factors, and the floor
     ensures one_factor { read_again 1 2 (ask_of 0 0 0 5 5) ≡ Some (1, 2, ask_of 0 0 0 5 5) }
     ensures two_factors { read_again 1 2 (ask_of 0 0 0 5 6) ≡ Some (1, 2, ask_of 0 0 0 5 6) }
     ensures three_factors { read_again 1 2 (ask_of 0 0 0 5 7) ≡ None }
@@ -94,8 +94,7 @@ pub fn bodies_are_worked()
     ensures denied_next { read_again 3 2 (Deny (record { node = 2; boot = 1; seq = 0 }) 0 4611686018427387905) ≡ None }
 {}
 
-/// Texts of keys that are refused, and the shortest and the longest that are not; keys of the fewest and the most
-/// bytes, and of one byte less and more.
+/// Worked cases. Refused texts of keys, the shortest and the longest accepted text, and the limits of a key's length.
 pub fn keys_are_worked()
     ensures empty { key_refusal_of [] ≡ Some SecretFault.Empty }
     ensures digit { key_refusal_of (codes "0g") ≡ Some (SecretFault.BadCharacter 1) }

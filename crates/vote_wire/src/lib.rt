@@ -1,8 +1,8 @@
-//! The datagrams of peers, as bytes.
+//! The datagrams that members send each other, as bytes.
 //!
-//! A datagram of a peer says a message of [`vote_core`] from one member to another, and ends with a tag that
-//! only who has the cluster's key can make. [`read_message`] takes exactly what [`write_message`] writes, and
-//! nothing else (the law [`one_spelling`]). Nothing here takes memory.
+//! A datagram carries one message of [`vote_core`] from one member to another. It ends with a tag, which only a holder
+//! of the cluster's key can make. [`read_message`] accepts what [`write_message`] writes and nothing else (the law
+//! [`one_spelling`]). No function allocates.
 #![tactic(auto)]
 
 mod bytes;

@@ -1,4 +1,4 @@
-//! The datagrams of peers, read.
+//! Reading of peers' datagrams. Floor: the first free factor of a token.
 
 ghost use Rattle.std.specs.Prelude.{◌≡◌, ◌+◌, ◌≤◌, length, ℕ, IfSome, IfNone};
 ghost use Rattle.vote_core.specs.declared.message.Message.{Message};
@@ -12,10 +12,10 @@ use floor_store::{Proposal, Span};
 use otp_core::{Factor, MAX_TOKENS, Next};
 use vote_core::Message;
 
-/// The fewest bytes before a tag.
+/// The minimum number of bytes before a tag.
 const MIN_BODY_LEN: usize = 18;
 
-/// Whether the mark and the version stand first.
+/// Returns whether `body` begins with the mark, and the version follows.
 fn has_head(body: &[u8]) -> bool
     requires { 3 ≤ length body.now }
     ensures { result ≡ spec.has_head body.now }
@@ -23,14 +23,14 @@ fn has_head(body: &[u8]) -> bool
     body[0] == MARK[0] && body[1] == MARK[1] && body[2] == VERSION
 }
 
-/// Whether these may be the ends and the token of a message.
+/// Returns whether the numbers may be the ends and the token of a message.
 fn has_ends(from: u8, to: u8, token: u32) -> bool
     ensures { result ≡ spec.has_ends from to token }
 {
     1 <= from && from <= 9 && 1 <= to && to <= 9 && from != to && (token as usize) < MAX_TOKENS
 }
 
-/// The proposal, where its numbers are in range.
+/// Returns the proposal, or None if one of its numbers is out of range.
 #[tactic(auto, unfolding(crate::specs::Body::proposal_at))]
 fn proposal_at(body: &[u8]) -> Option<Proposal>
     requires { 27 ≤ length body.now }
@@ -39,7 +39,7 @@ fn proposal_at(body: &[u8]) -> Option<Proposal>
     Proposal::new(body[10], number_at(body, 11), number_at(body, 19))
 }
 
-/// The factor at a place.
+/// Returns the factor at `place`, or None if it is out of range.
 #[tactic(auto, unfolding(crate::specs::Body::factor_at))]
 fn factor_at(body: &[u8], place: usize) -> Option<Factor>
     requires { place + 8 ≤ length body.now }
@@ -48,7 +48,7 @@ fn factor_at(body: &[u8], place: usize) -> Option<Factor>
     Factor::new(number_at(body, place))
 }
 
-/// The first free factor at a place.
+/// Returns the floor at `place`, or None if it is out of range.
 #[tactic(auto, unfolding(crate::specs::Body::next_at))]
 fn next_at(body: &[u8], place: usize) -> Option<Next>
     requires { place + 8 ≤ length body.now }
@@ -57,7 +57,7 @@ fn next_at(body: &[u8], place: usize) -> Option<Next>
     Next::new(number_at(body, place))
 }
 
-/// A proposal of this node, and its span.
+/// Returns a proposal of `node` and its span, or None.
 #[tactic(auto, unfolding(crate::specs::Body::vote_at))]
 fn vote_at(body: &[u8], node: u8) -> Option<(Proposal, Span)>
     ensures { result ≡ spec.vote_at body.now node }
@@ -74,7 +74,7 @@ fn vote_at(body: &[u8], node: u8) -> Option<(Proposal, Span)>
     }
 }
 
-/// A proposal of this node, and a first free factor.
+/// Returns a proposal of `node` and a floor, or None.
 #[tactic(auto, unfolding(crate::specs::Body::denial_at))]
 fn denial_at(body: &[u8], node: u8) -> Option<(Proposal, Next)>
     ensures { result ≡ spec.denial_at body.now node }
@@ -91,7 +91,7 @@ fn denial_at(body: &[u8], node: u8) -> Option<(Proposal, Next)>
     }
 }
 
-/// A first free factor alone.
+/// Returns the floor of a message of it alone, or None.
 #[tactic(auto, unfolding(crate::specs::Body::floor_at))]
 fn floor_at(body: &[u8]) -> Option<Next>
     ensures { result ≡ spec.floor_at body.now }
@@ -102,7 +102,7 @@ fn floor_at(body: &[u8]) -> Option<Next>
     next_at(body, 10)
 }
 
-/// The message by its kind.
+/// Returns the message of the body's kind, or None.
 #[tactic(auto, unfolding(crate::specs::Body::message_at))]
 fn message_at(body: &[u8], from: u8, to: u8, token: u32) -> Option<Message>
     requires { 4 ≤ length body.now }
@@ -138,7 +138,7 @@ fn message_at(body: &[u8], from: u8, to: u8, token: u32) -> Option<Message>
     }
 }
 
-/// Who sends what to whom, by the bytes before the tag.
+/// Returns the sender, the receiver and the message of the bytes before the tag, or None.
 #[tactic(auto, unfolding(crate::specs::Body::body_at))]
 fn body_at(body: &[u8]) -> Option<(u8, u8, Message)>
     ensures { result ≡ spec.body_at body.now }
@@ -156,7 +156,7 @@ fn body_at(body: &[u8]) -> Option<(u8, u8, Message)>
     Some((from, to, message))
 }
 
-/// The bytes before the tag, where the tag is theirs.
+/// Returns the bytes before the tag, or None if the tag is not theirs.
 fn tagged_body<'a>(key: &ClusterKey, bytes: &'a [u8]) -> Option<&'a [u8]>
     ensures some { IfSome result (λ body. IsTagged key.now bytes.now × (body.now ≡ body_of bytes.now)) }
     ensures none { IfNone result (IsTagged key.now bytes.now → ⊥) }
@@ -170,12 +170,12 @@ fn tagged_body<'a>(key: &ClusterKey, bytes: &'a [u8]) -> Option<&'a [u8]>
     }
 }
 
-/// Who sends what to whom, by the bytes of a datagram under the key that the cluster shares, or `None`
-/// where they are outside the format or the tag is wrong.
+/// Returns the sender, the receiver and the message of a datagram, or None if `bytes` are not in the format or
+/// their tag is wrong under `key`.
 pub fn read_message(key: &ClusterKey, bytes: &[u8]) -> Option<(u8, u8, Message)>
-    // What is read is in the format.
+    // Every datagram that is read is in the format.
     ensures some { IfSome result (λ read. IsDatagramOf key.now bytes.now read.0 read.1 read.2) }
-    // What is in the format is read.
+    // Every datagram in the format is read.
     ensures none { IfNone result
         ((from to : ℕ) (message : Message) → IsDatagramOf key.now bytes.now from to message → ⊥) }
     // The reader as a function.

@@ -1,4 +1,4 @@
-//! The datagrams of peers, written.
+//! Writing of peers' datagrams. Floor: the first free factor of a token.
 
 ghost use Rattle.std.specs.Prelude.{◌≡◌, ◌+◌, ◌≤◌, ◌++◌, length};
 ghost use Rattle.std.specs.Int.{w64, to_be_bytes};
@@ -12,16 +12,17 @@ use floor_store::{Proposal, Span};
 use otp_core::Next;
 use vote_core::Message;
 
-/// The most bytes of what a node sends: a datagram to a peer has at most 59, an answer at most 54.
+/// The maximum length of a datagram that a node sends, in bytes: to a peer at most 59 are used, by an answer at most
+/// 54.
 pub const MAX_SENT_LEN: usize = 64;
 
-/// With what a datagram begins.
+/// The first bytes of a datagram.
 pub(crate) const MARK: [u8; 2] = *b"OV";
 
 /// The version of the format.
 pub(crate) const VERSION: u8 = 2;
 
-/// Appends the bytes.
+/// Appends `bytes`.
 fn push_all(out: &mut ArrayVec<u8, MAX_SENT_LEN>, bytes: &[u8])
     requires { array_vec_len out.old + length bytes.now ≤ 64 }
     ensures { out.new.items ≡ out.old.items ++ bytes.now }
@@ -29,7 +30,7 @@ fn push_all(out: &mut ArrayVec<u8, MAX_SENT_LEN>, bytes: &[u8])
     let _ = out.try_extend_from_slice(bytes);
 }
 
-/// Appends a number, its high-order byte first.
+/// Appends `number`, its high-order byte first.
 fn push_number(out: &mut ArrayVec<u8, MAX_SENT_LEN>, number: u64)
     requires { array_vec_len out.old + 8 ≤ 64 }
     ensures { out.new.items ≡ out.old.items ++ to_be_bytes w64 number }
@@ -37,7 +38,7 @@ fn push_number(out: &mut ArrayVec<u8, MAX_SENT_LEN>, number: u64)
     push_all(out, &number.to_be_bytes());
 }
 
-/// The mark, the version, the kind, the two ends and the token.
+/// Returns the mark, the version, the kind, the two ends and the token.
 fn head(kind: u8, from: u8, to: u8, token: u32) -> ArrayVec<u8, MAX_SENT_LEN>
     ensures { result.items ≡ head_bytes kind from to token }
 {
@@ -58,7 +59,7 @@ fn push_proposal(out: &mut ArrayVec<u8, MAX_SENT_LEN>, proposal: Proposal)
     push_number(out, proposal.seq());
 }
 
-/// A head, with a proposal and its span behind it.
+/// Returns the head `out` followed by a proposal and its span.
 fn with_vote(
     mut out: ArrayVec<u8, MAX_SENT_LEN>,
     proposal: Proposal,
@@ -73,7 +74,7 @@ fn with_vote(
     out
 }
 
-/// A head, with a proposal and a first free factor behind it.
+/// Returns the head `out` followed by a proposal and a floor.
 fn with_denial(
     mut out: ArrayVec<u8, MAX_SENT_LEN>,
     proposal: Proposal,
@@ -87,7 +88,7 @@ fn with_denial(
     out
 }
 
-/// A head, with a first free factor behind it.
+/// Returns the head `out` followed by a floor.
 fn with_floor(mut out: ArrayVec<u8, MAX_SENT_LEN>, next: Next) -> ArrayVec<u8, MAX_SENT_LEN>
     requires { array_vec_len out ≡ 10 }
     ensures { result.items ≡ out.items ++ to_be_bytes w64 next }
@@ -96,7 +97,7 @@ fn with_floor(mut out: ArrayVec<u8, MAX_SENT_LEN>, next: Next) -> ArrayVec<u8, M
     out
 }
 
-/// The bytes before the tag.
+/// Returns the bytes before the tag.
 fn body(from: u8, to: u8, message: &Message) -> ArrayVec<u8, MAX_SENT_LEN>
     ensures bytes { result.items ≡ body_bytes from to message.now }
     ensures len { array_vec_len result ≤ 43 }
@@ -121,7 +122,7 @@ fn body(from: u8, to: u8, message: &Message) -> ArrayVec<u8, MAX_SENT_LEN>
     }
 }
 
-/// The datagram by which one node tells another a message, under the key that the cluster shares.
+/// Returns the datagram that carries `message` from the node `from` to the node `to`, under the cluster's key.
 #[tactic(auto, unfolding(crate::specs::Datagram::datagram_bytes))]
 pub fn write_message(
     key: &ClusterKey,
