@@ -14,8 +14,8 @@ use Rattle.oath_node.specs.Hosted.{envelope_at}
 use Rattle.oath_node.specs.Machine.{Config, Made, NodeEvent, NodeState, Client, Peer, Tick, made_by_event, opened_node}
 use Rattle.cluster_sim.specs.World.{MayStart, Note, Start, Told, floor_at, floor_in as listed_floor, note_anew, note_of, passes_in, told_reply}
 
--- The setting of a cluster. It has the book, the limits and the key of all members, and the contents of the first
--- stores of the nodes 1, 2 .. It also has the datagrams of former incarnations that may still arrive.
+-- The setting of a cluster. It has the book, the limits and the key of all members. It has the contents of the first
+-- stores of the nodes 1, 2 .. in the history. It also has the datagrams of former incarnations that may still arrive.
 pub record Setting : Type 0 where
   pub config : Config
   pub key : List ℕ
@@ -344,8 +344,8 @@ AreGenuine setting first (deed ∷ deeds) scene =
     IsGenuineDeed setting scene deed
     × AreGenuine setting (suc first) deeds (scene_after_deed setting first deed scene)
 
--- A history of a cluster: actions of its nodes without a datagram forged under the key. The first stores are at boots
--- that no old datagram names.
+-- A history of a cluster: actions of its nodes without a datagram forged under the key. Datagrams from before fit, and
+-- name no boot of a node after that of its first store.
 pub record IsHistory (setting : Setting) (history : List Deed) : Type 0 where
   pub starts : MayStart setting.config (start_of setting)
   pub genuine : AreGenuine setting 0 history (first_scene setting)
