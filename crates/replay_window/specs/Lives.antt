@@ -1,4 +1,4 @@
--- The moments that windows admit over the runs of a process. `Life`: one run.
+-- The moments that windows admit over the incarnations of a process. `Life` is one incarnation.
 use Rattle.std.specs.Prelude.{ℕ, ◌≤◌, if◌then◌else◌, List, [], ◌∷◌, ◌++◌}
 use Rattle.std.specs.List.{AllByRecursion}
 use Rattle.replay_window.specs.Window.{WindowRecord, is_fresh, window_from, with_seen}
@@ -16,22 +16,22 @@ admitted window (arrival ∷ arrivals) =
     then arrival.moment ∷ admitted (with_seen window arrival.moment) arrivals
     else admitted window arrivals
 
--- a run of a process: the second at its start, and the arrivals
+-- an incarnation of a process: the second at its start, and the arrivals
 pub record Life : Type 0 where
   pub start : ℕ
   pub arrivals : List Arrival
 
--- the moments that the runs admit, in order
+-- the moments that the incarnations admit, in order
 abbrev pub admitted_in : List Life → List ℕ
 admitted_in [] = []
 admitted_in (life ∷ lives) = admitted (window_from life.start) life.arrivals ++ admitted_in lives
 
--- the clock at the start of each later run is at or after its seconds in the first run
+-- the clock at the start of each later incarnation is at or after its seconds in the first one
 abbrev pub IsBefore : Life → List Life → Type 0
 IsBefore life lives =
     AllByRecursion (λ later. AllByRecursion (λ arrival. arrival.now ≤ later.start) life.arrivals) lives
 
--- every run is before the later ones
+-- every incarnation is before the later ones
 abbrev pub AreInOrder : List Life → Type 0
 AreInOrder [] = Unit {0}
 AreInOrder (life ∷ lives) = IsBefore life lives × AreInOrder lives

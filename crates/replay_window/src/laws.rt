@@ -10,8 +10,9 @@ pub fn once_is_enough()
         AllByRecursion (λ moment. window.low < moment) (admitted window arrivals) }
 {}
 
-/// No replay over runs: no moment is admitted twice over the runs of a process, if the clock at the start of each run
-/// is at or after its seconds in earlier runs.
+/// No replay over incarnations: no moment is admitted twice over the incarnations of a process.
+///
+/// It holds if the clock at the start of each incarnation is at or after its seconds in earlier ones.
 pub fn lives_are_one()
     ensures { (lives : List Life) → AreInOrder lives → IsDistinct eqb (admitted_in lives) }
 {}

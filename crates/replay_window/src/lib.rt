@@ -5,7 +5,7 @@
 //! the mark (the law [`once_is_enough`]).
 //!
 //! The mark begins ahead of the clock at the start of the process, by the maximum lead of a moment. So no moment is
-//! admitted twice over several runs of a process, if the clock is not set back between them (the law
+//! admitted twice over several incarnations of a process, if the clock is not set back between them (the law
 //! [`lives_are_one`]). No function allocates.
 #![tactic(auto)]
 
