@@ -406,7 +406,7 @@ fn greater_of(one: Option<Next>, other: Option<Next>) -> Option<Next>
     }
 }
 
-/// Returns the greatest floor (the first free factor) in the files for a user, or None if no file has the user.
+/// Returns the greatest floor in the files for a user, or None if no file has the user. A floor is a first free factor.
 pub fn greatest(user: &[u8], files: &[Floors<'_>]) -> Option<Next>
     ensures { result ≡ greatest_of user.now (map floors_value files.now) }
 {
