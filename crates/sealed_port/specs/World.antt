@@ -41,7 +41,7 @@ abbrev pub GatesAnswer : List ℕ → List Making → ℕ → Type 0
 GatesAnswer key made client =
     (making : Making) → IsMade made making → making.head.kind ≡ Answer → WasSealed key made client making
 
--- An answer is to a client's line: the gate of the line's node opened exactly the line, at its moment, and the node's
+-- An answer is to a client's line. The gate of the line's node opened exactly the line, at its moment. The node's
 -- answer has the line's nonce.
 pub record AnswersLine (client : ℕ) (line : Making) (node : ℕ) (answer : List ℕ) : Type 0 where
   pub of_client : line.head.client ≡ client

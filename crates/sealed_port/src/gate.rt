@@ -178,8 +178,8 @@ impl Gate {
 
     /// Seals an answer of the node to a client, and forgets the client's line.
     ///
-    /// Returns None if the gate remembers no line for it, if no client with the number shares a key, or if it has more
-    /// than 256 bytes.
+    /// Returns None if the gate remembers no line for the answer, or knows no client with the number. Returns None too
+    /// if the answer has more than 256 bytes.
     pub(crate) fn seal(&mut self, client: u16, answer: &[u8]) -> Option<Sealed>
         ensures sealed { option_map (λ sealed. record { address = sealed.address; bytes = sealed.bytes.items }) result
             ≡ answered self.old client answer.now }

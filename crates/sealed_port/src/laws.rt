@@ -33,11 +33,11 @@ pub fn what_is_opened_is_sealed()
         opened gate now bytes ≡ Some line → IsOpenedOf gate now bytes line }
 {}
 
-/// Answers at a client: an answer that the client reads under its key, with its line's tag, is the answer of the line's
-/// node to exactly the line.
+/// Answers at a client: an answer that the client reads with its line's tag is the node's answer to exactly the line.
 ///
-/// The node's gate opened the line, and the answer has the line's nonce. It holds if no tag was forged, if no two
-/// sealed texts have the same tag, and if gates sealed all answers under the key.
+/// The client reads it under its key, and the node is the line's. The node's gate opened the line, and the answer has
+/// the line's nonce. It holds if no tag was forged, if no two sealed texts have the same tag, and if gates sealed all
+/// answers under the key.
 pub fn answers_are_for_their_lines()
     ensures { (key bytes answer : List ℕ) (head : Head) (made : List Making) (line : Making) (client : ℕ) →
         AreBytes bytes → AreMakings key made → IsMade made line → GatesAnswer key made client →
