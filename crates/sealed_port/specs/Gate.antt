@@ -9,8 +9,8 @@ use Rattle.replay_window.specs.Window.{is_fresh, with_seen}
 use Rattle.sealed_port.specs.Asked.{AskedRecord, clashes, line_at, nonce_in, nonce_of, place_of, remembered, without}
 use Rattle.sealed_port.specs.declared.client.Client.{Client}
 
--- the node of a gate, the clients that share a key with it, the plain IPv4 addresses, and the lines without an answer;
--- clients at a plain address may speak plainly
+-- A gate: its node, the clients that share a key with it, the plain IPv4 addresses, and the lines without an answer.
+-- Clients at a plain address may speak plainly.
 pub record GateRecord : Type 0 where
   pub node : ℕ
   pub clients : List Client
