@@ -1,4 +1,4 @@
-//! The last answers, in a ring, and their index.
+//! The last answers of a node, in a ring with an index.
 
 ghost use Rattle.std.specs.List.{position};
 ghost use Rattle.std.specs.Option.{option_copied, option_map};
@@ -13,14 +13,14 @@ use std::alloc::{AllocError, Global};
 use std::cmp::Ordering;
 use std::marker::Model;
 
-/// How many answers are kept.
+/// The maximum number of kept answers.
 const MAX_ANSWERS: usize = 1024;
 
 /// The last 1,024 answers, the oldest first.
 #[derive(Drop)]
 pub struct Answers {
     ring: HeapCircularBuffer<Kept>,
-    /// The places of the ring, in order of client and line, and of equal ones the older first.
+    /// The places of the ring, in order of client and line, the older first of equal ones.
     index: ArrayVec<u16, MAX_ANSWERS>,
 }
 
@@ -37,7 +37,7 @@ impl Model for Answers {
 }
 
 impl Answers {
-    /// Makes all the room. The only refusal is want of memory.
+    /// Allocates the whole ring. Fails only if the allocator refuses the memory.
     pub fn new(alloc: Global) -> Result<Self, AllocError>
         ensures { IfOk result (λ answers. answers ≡ []) }
     {
@@ -48,7 +48,7 @@ impl Answers {
         })
     }
 
-    /// The newest answer to this client and line, by at most 11 comparisons.
+    /// Returns the newest answer to the client and line of `sought`, or None. Makes at most 11 comparisons.
     pub fn find(&self, sought: &Kept, count: &mut Count) -> Option<&[u8]>
         requires { count.old ≡ 0 }
         ensures value { option_copied result ≡ kept_answer self.now sought.now.client sought.now.line }
@@ -61,7 +61,7 @@ impl Answers {
         }
     }
 
-    /// One more, and the oldest goes where there is no room. By at most 11 comparisons.
+    /// Adds `kept`. Drops the oldest answer first if the ring is full. Makes at most 11 comparisons.
     pub fn put(&mut self, kept: Kept, count: &mut Count)
         requires { count.old ≡ 0 }
         ensures kept { self.new ≡ kept_with self.old kept }
@@ -73,7 +73,7 @@ impl Answers {
         self.add(kept, count);
     }
 
-    /// Forgets all.
+    /// Removes all answers.
     pub fn clear(&mut self)
         ensures { self.new ≡ [] }
     {
@@ -81,7 +81,7 @@ impl Answers {
         self.index.clear();
     }
 
-    /// Makes room for one more.
+    /// Removes the oldest answer.
     fn forget_oldest(&mut self)
         requires { 0 < length self.old }
         ensures { self.new ≡ drop 1 self.old }
@@ -90,7 +90,7 @@ impl Answers {
         forget_first_place(&mut self.index);
     }
 
-    /// One more, where there is room.
+    /// Adds `kept` to a ring that is not full. Makes at most 11 comparisons.
     fn add(&mut self, kept: Kept, count: &mut Count)
         requires room { length self.old < 1024 }
         requires start { count.old ≡ 0 }
@@ -103,15 +103,15 @@ impl Answers {
     }
 }
 
-/// What a search finds.
+/// The result of a search.
 #[derive(Drop)]
 struct Found<'a> {
-    /// How many answers of the index are at most the one sought.
+    /// The number of answers of the index that are at most the sought one.
     end: usize,
     newest: Option<&'a Kept>,
 }
 
-/// Looks for the newest answer to the client and line of this one, by halves of the index.
+/// Searches the newest answer to the client and line of `sought`, by bisection of the index.
 fn search<'a>(
     ring: &'a HeapCircularBuffer<Kept>,
     index: &[u16],
@@ -147,7 +147,7 @@ fn search<'a>(
     Found { end: low, newest }
 }
 
-/// The index of what is left when the oldest answer has gone.
+/// Turns the index into the index of all answers except the oldest.
 fn forget_first_place(index: &mut ArrayVec<u16, MAX_ANSWERS>)
     ensures { IsIndexOfRest index.old.items index.new.items }
 {
@@ -157,14 +157,14 @@ fn forget_first_place(index: &mut ArrayVec<u16, MAX_ANSWERS>)
     lower_places(index.as_mut_slice());
 }
 
-/// Where the index has the oldest answer.
+/// Returns the place of the oldest answer in the index, or None.
 fn first_place(places: &[u16]) -> Option<usize>
     ensures { result ≡ position (λ place. place == 0) places.now }
 {
     places.iter().position(|place| *place == 0)
 }
 
-/// Each place one lower, as when an older answer has gone.
+/// Lowers each place by one, as after the removal of the oldest answer.
 fn lower_places(places: &mut [u16])
     ensures { places.new ≡ map (λ place. place - 1) places.old }
 {

@@ -1,4 +1,4 @@
-//! An answer that is kept, and how often two were compared.
+//! A kept answer, and the number of comparisons of two answers.
 
 ghost use Rattle.std.specs.Prelude.{◌≡◌, ◌+◌, ◌<◌, ◌≤◌, length, IfSome};
 ghost use Rattle.std.specs.Option.{option_copied};
@@ -9,13 +9,13 @@ use arrayvec::ArrayVec;
 use std::cmp::Ordering;
 use std::marker::Model;
 
-/// The most bytes of a line.
+/// The maximum length of a line, in bytes.
 pub const MAX_LINE_LEN: usize = 256;
 
-/// The most bytes of an answer.
+/// The maximum length of an answer, in bytes.
 pub const MAX_ANSWER_LEN: usize = 64;
 
-/// What a client was answered to a line, which stands without an LF at its end.
+/// An answer to a client's line. The line has no LF at its end.
 #[derive(Drop)]
 pub struct Kept {
     client: u64,
@@ -32,7 +32,7 @@ impl Model for Kept {
 }
 
 impl Kept {
-    /// An answer to this client and line, of at most [`MAX_ANSWER_LEN`] and [`MAX_LINE_LEN`] bytes.
+    /// Returns an answer to `client` and `line`, of at most [`MAX_ANSWER_LEN`] and [`MAX_LINE_LEN`] bytes.
     pub fn new(client: u64, line: &[u8], answer: &[u8]) -> Self
         requires line { length line.now ≤ 256 }
         requires answer { length answer.now ≤ 64 }
@@ -45,7 +45,7 @@ impl Kept {
         }
     }
 
-    /// The bytes of the answer.
+    /// Returns the bytes of the answer.
     pub fn answer(&self) -> &[u8]
         ensures value { result.now ≡ self.now.text }
         ensures len { length result.now ≤ 64 }
@@ -53,7 +53,7 @@ impl Kept {
         self.answer.as_slice()
     }
 
-    /// In order of clients, and of one client's lines in order of their bytes. Counts one more.
+    /// Compares two answers by client, and by the bytes of a client's lines. Counts one comparison.
     #[tactic(auto, unfolding(crate::specs::Answers::answer_order))]
     pub fn compare(&self, other: &Kept, count: &mut Count) -> Ordering
         requires { count.old < u64.MAX }
@@ -67,7 +67,7 @@ impl Kept {
     }
 }
 
-/// How often two answers were compared.
+/// The number of comparisons of two answers.
 #[derive(Drop)]
 pub struct Count {
     compared: u64,
@@ -89,8 +89,7 @@ impl Count {
     }
 }
 
-/// What this client was answered to this line, of at most [`MAX_LINE_LEN`] bytes, as long as that is
-/// kept.
+/// Returns the newest kept answer to `client` and `line`, or None. `line` has at most [`MAX_LINE_LEN`] bytes.
 pub fn answer_again<'a>(answers: &'a Answers, client: u64, line: &[u8]) -> Option<&'a [u8]>
     requires { length line.now ≤ 256 }
     ensures value { option_copied result ≡ kept_answer answers.now client line.now }
@@ -99,8 +98,8 @@ pub fn answer_again<'a>(answers: &'a Answers, client: u64, line: &[u8]) -> Optio
     answers.find(&Kept::new(client, line, &[]), &mut Count::new())
 }
 
-/// Keeps an answer, of at most [`MAX_ANSWER_LEN`] bytes, to this client and line, of at most
-/// [`MAX_LINE_LEN`].
+/// Keeps an answer of at most [`MAX_ANSWER_LEN`] bytes to `client` and `line`, which has at most [`MAX_LINE_LEN`]
+/// bytes.
 pub fn keep(answers: &mut Answers, client: u64, line: &[u8], answer: &[u8])
     requires line { length line.now ≤ 256 }
     requires answer { length answer.now ≤ 64 }

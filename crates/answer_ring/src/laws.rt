@@ -6,7 +6,7 @@ ghost use Rattle.answer_ring.specs.AnswerExamples.{kept_of, three_kept};
 ghost use Rattle.answer_ring.specs.AnswerIndex.{place_order};
 ghost use Rattle.answer_ring.specs.Answers.{KeptAnswer, answer_order, kept_answer, kept_with};
 
-/// What is kept and found, and the orders of answers and of their places, worked through.
+/// Worked cases. Kept and found answers, and the orders of answers and of their places.
 #[tactic(auto, unfolding(crate::specs::Answers::answer_order, crate::specs::AnswerIndex::place_order))]
 pub fn kept_answers_are_worked()
     ensures room { (kept : List KeptAnswer) (answer : KeptAnswer) → length kept < 1024 →

@@ -1,5 +1,6 @@
-//! The last answers of a node, to be given again to the same client and line. A ring keeps them in
-//! the order of their coming, and a fixed index in order of client and line finds one in few
+//! The last answers of a node, which it repeats to the same client and line.
+//!
+//! A ring keeps the answers in their order of arrival. A fixed index in order of client and line finds one in few
 //! comparisons.
 #![tactic(auto)]
 

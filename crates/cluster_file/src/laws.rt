@@ -18,7 +18,7 @@ ghost use Rattle.cluster_file.specs.Shared.{IsShared, Shared, shared_of, shared_
 ghost use Rattle.cluster_file.specs.declared.fault.LineFault.{LineFault};
 ghost use Rattle.cluster_file.specs.declared.word.Word.{Word};
 
-/// Injective: equal shared texts have equal lives, members, settings and tokens, each in the same order.
+/// Injective: equal shared texts have the same life, members, settings and tokens, each in the same order.
 pub fn shared_texts_tell()
     ensures { (a b : Shared) → IsShared a → IsShared b → shared_text a ≡ shared_text b → a ≡ b }
 {}

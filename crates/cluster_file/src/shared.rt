@@ -128,7 +128,7 @@ fn write_shared<W: Write>(writer: &mut W, cluster: &Cluster, book: &Book) -> io:
 
 /// Returns the shared values of a cluster with a book as one text, without the tokens' counters.
 ///
-/// Equal texts have equal lives, members, settings and tokens (`shared_texts_tell`).
+/// Equal texts have the same life, members, settings and tokens (`shared_texts_tell`).
 ///
 /// # Errors
 ///

@@ -15,19 +15,19 @@ use Rattle.cluster_law.specs.Promises.{nothing}
 
 -- ---- Processes
 
--- the process that opened the store that node 1 was made with
+-- the process that opened the first store of node 1
 abbrev pub just_opened : Setting → NodeState
 just_opened setting = opened_node (made_content setting 1)
 
--- what a tick makes of it, of three nodes
+-- the result of a tick of the process, of three nodes
 abbrev pub tick_made : Made
 tick_made = made_by_input three_nodes 1 Time (just_opened three_nodes)
 
--- what its port is offered then
+-- the offers of the tick to the port
 abbrev pub told_by_tick : List PortEvent
 told_by_tick = map (offer_of_handout three_nodes.key) (handouts_of 0 1 tick_made)
 
--- what the store of the one node holds once the right line was taken
+-- the content of the one node's store after it took the right line
 abbrev pub content_with_pass : Content
 content_with_pass = (made_by_input one_node 1 right_line (just_opened one_node)).state.content
 
@@ -37,7 +37,7 @@ content_with_pass = (made_by_input one_node 1 right_line (just_opened one_node))
 abbrev pub right_text : List ℕ
 right_text = codes "CHECK 1 silver 755224 -"
 
--- a wrong code comes, and the right one 4 seconds after it
+-- a wrong code arrives, and the right one 4 seconds later
 abbrev pub hurries : List Deed
 hurries =
     Opens 1 ∷ Takes 1 (Line 7 100 (codes "CHECK 1 silver 000000 -"))
@@ -45,36 +45,36 @@ hurries =
 
 -- ---- Scenes
 
--- a process in this state, at whatever node
+-- a process in the given state, at every node
 abbrev pub with_process : NodeState → Scene
 with_process state = record one_open { sites = λ node. Up state [] }
 
--- a proposal waits
+-- a node with a pending proposal
 abbrev pub pending_node : NodeState
 pending_node = record quiet_node { voter = record fresh_voter { pending = ballot_of small_ballot ∷ [] } }
 
--- a line waits
+-- a node with a waiting line
 abbrev pub owning_node : NodeState
 owning_node = record quiet_node { owners = record { seq = 0; client = 7; line = []; nonce = [] } ∷ [] }
 
 -- ---- Runs
 
--- three nodes, two of whose first free factors node 2 told node 1 in a former life
+-- three nodes after node 2 told node 1 two floors (first free factors) in a former incarnation
 abbrev pub two_floors : Setting
 two_floors = record three_nodes { old = old_floor ∷ record old_floor { message = Floor 0 2 } ∷ [] }
 
--- the run in which the second of these comes to node 1
+-- the run in which the second floor arrives at node 1
 abbrev pub second_floor_comes : List WorldEvent
 second_floor_comes = nothing ∷ Happens (Deliver 1 1) ∷ []
 
--- one node, whose store was made at the boot before the last
+-- one node whose first store is at the boot before the last
 abbrev pub late_node : Setting
 late_node = record one_node { boots = 4611686018427387902 ∷ [] }
 
--- a process opens it in the last boot, where a second one doesn't, takes a bad line, and answers
+-- a process opens the store in the last boot, takes a bad line, and answers; a second process doesn't open it
 abbrev pub answers_late : List Deed
 answers_late = Opens 1 ∷ Opens 1 ∷ Takes 1 (Line 7 100 []) ∷ Offers 1 ∷ []
 
--- the run in which the second one restarts the node, which stops
+-- the run in which the second process restarts the node, which stops
 abbrev pub stops_late : List WorldEvent
 stops_late = nothing ∷ Restart 1 ∷ Happens (Says 1 7 100 []) ∷ nothing ∷ []

@@ -1,4 +1,4 @@
--- What the network may do, byte for byte.
+-- The assumption about the network, byte for byte.
 use Rattle.std.specs.Prelude.{◌≡◌, ℕ, suc, ◌+◌, ◌^◌, ◌<◌, ◌≤◌, List, [], ◌∷◌, length, Some, slice_get}
 use Rattle.vote_core.specs.Schedule.{Envelope}
 use Rattle.vote_wire.specs.Body.{HasSpelling}
@@ -13,19 +13,18 @@ pub record IsSized (setting : Setting) : Type 0 where
   pub nodes : nodes_of setting ≤ 9
   pub floors : (node token : ℕ) → floor_at setting.floors node token ≤ 2 ^ 62
   pub boots : (node : ℕ) → made_boot setting node + 1 < 2 ^ 62
-  -- what was sent before has a spelling
+  -- the envelopes sent before have spellings
   pub old : (i : ℕ) (envelope : Envelope) → slice_get setting.old i ≡ Some envelope
       → HasSpelling envelope.sender envelope.receiver envelope.message
 
--- the bytes are, byte for byte, a datagram that was offered before
+-- the bytes are a datagram that was offered before, byte for byte
 pub record WereOffered (key : List ℕ) (offered : List Handout) (bytes : List ℕ) : Type 0 where
   pub place : ℕ
   pub envelope : Envelope
   pub is_there : slice_get offered place ≡ Some (Post envelope)
   pub bytes_are : bytes ≡ datagram_bytes key envelope.sender envelope.receiver envelope.message
 
--- A datagram from the address of a node that has a right tag and says that it is from this node was offered before,
--- byte for byte.
+-- A datagram with a valid tag, from the address of the sender that it names, was offered before, byte for byte.
 abbrev pub IsUnforged : List ℕ → List Handout → Input → Type 0
 IsUnforged key offered (Line client moment bytes) = Unit {0}
 IsUnforged key offered Time = Unit {0}
@@ -33,7 +32,8 @@ IsUnforged key offered (Datagram from bytes) =
     (envelope : Envelope) → envelope_at key bytes ≡ Some envelope → envelope.sender ≡ from
     → WereOffered key offered bytes
 
--- the deed takes, or begins to take, such a one; the first free factors of a store that is made anew are in range
+-- the action's input, if any, is unforged, also inside a stop; the floors (first free factors) of a replacement store
+-- are in range
 abbrev pub IsUnforgedDeed : Setting → Scene → Deed → Type 0
 IsUnforgedDeed setting scene (Opens node) = Unit {0}
 IsUnforgedDeed setting scene (FailsToOpen node raised) = Unit {0}
@@ -44,7 +44,7 @@ IsUnforgedDeed setting scene (StopsIn node kept input) = IsUnforged setting.key 
 IsUnforgedDeed setting scene (Loses node) = Unit {0}
 IsUnforgedDeed setting scene (Remakes node boot floors) = (token : ℕ) → floor_in floors token ≤ 2 ^ 62
 
--- each of these deeds does, the first of which has this number
+-- each of the actions is unforged; the first of them has the given number
 unfoldable pub AreUnforged : Setting → ℕ → List Deed → Scene → Type 0
 AreUnforged setting first [] scene = Unit {0}
 AreUnforged setting first (deed ∷ deeds) scene =

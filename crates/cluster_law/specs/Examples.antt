@@ -1,4 +1,5 @@
--- Histories to reckon with: one node, and three, with the one token of RFC 4226, Appendix D.
+-- Worked histories of one node and of three, with the one token of RFC 4226, Appendix D. Floor: the first free factor
+-- of a token at a node.
 use Rattle.std.specs.Prelude.{ℕ, Bool, true, false, List, [], ◌∷◌, ◌++◌, replicate, Some, None, codes}
 use Rattle.floor_store.specs.Content.{Content}
 use Rattle.floor_store.specs.Records.{ProposalRecord, span_of}
@@ -24,45 +25,45 @@ one_node = first_setting config [] ((0 ∷ []) ∷ [])
 abbrev pub right_line : Input
 right_line = Line 7 100 (codes "CHECK 1 silver 755224 -")
 
--- as the receipt of a turn
+-- the line as the receipt of a turn
 abbrev pub right_receipt : Receipt
 right_receipt = FromClient 7 (codes "CHECK 1 silver 755224 -") (Some 100)
 
--- a process takes it, and answers
+-- a process takes the line, and answers
 abbrev pub answers_once : List Deed
 answers_once = Opens 1 ∷ Takes 1 right_line ∷ Offers 1 ∷ []
 
--- it ends after that
+-- the process ends after its answer
 abbrev pub ends_after_the_answer : List Deed
 ends_after_the_answer = Opens 1 ∷ Takes 1 right_line ∷ Offers 1 ∷ Stops 1 ∷ []
 
--- a process takes it, and ends before it answers; the next one takes it again
+-- a process takes the line, and ends before it answers; the next process takes the line again
 abbrev pub ends_before_the_answer : List Deed
 ends_before_the_answer =
     Opens 1 ∷ Takes 1 right_line ∷ Stops 1 ∷ Offers 1 ∷ Opens 1 ∷ Takes 1 right_line ∷ Offers 1 ∷ []
 
--- A process ends inside the step; one ends while it opens, with its boot raised, and one without; the next takes the
--- line again.
+-- A process ends inside the step. Two more end while they open: one has raised the boot, and one hasn't. The next
+-- process takes the line again.
 abbrev pub ends_in_the_step : Bool → List Deed
 ends_in_the_step kept =
     Opens 1 ∷ StopsIn 1 kept right_line ∷ FailsToOpen 1 true ∷ FailsToOpen 1 false ∷ Opens 1 ∷ Takes 1 right_line
     ∷ Offers 1 ∷ []
 
--- a line that comes where no process is
+-- a line arrives at a node without a process
 abbrev pub comes_to_nobody : List Deed
 comes_to_nobody = Takes 1 right_line ∷ Offers 1 ∷ FailsToOpen 1 true ∷ Takes 1 right_line ∷ Offers 1 ∷ []
 
--- where a process is, another tries to open, and one fails to
+-- another process tries to open at a node with a process, and one fails to open
 abbrev pub opens_twice : List Deed
 opens_twice = Opens 1 ∷ Takes 1 right_line ∷ Opens 1 ∷ FailsToOpen 1 true ∷ Offers 1 ∷ []
 
--- deeds of nodes that are no members
+-- actions of nodes that aren't members
 abbrev pub strangers : List Deed
 strangers = Opens 0 ∷ Takes 0 right_line ∷ Offers 0 ∷ Opens 2 ∷ Takes 2 right_line ∷ Offers 2 ∷ []
 
 -- ---- Three nodes
 
--- three nodes, whose first free factor is 0
+-- three nodes with the floor 0
 abbrev pub three_nodes : Setting
 three_nodes = first_setting config (replicate 32 1) (replicate 3 (0 ∷ []))
 
@@ -74,7 +75,7 @@ first_proposal = record { node = 1; boot = 1; seq = 0 }
 abbrev pub ask : Envelope
 ask = record { sender = 1; receiver = 2; message = Ask first_proposal 0 (span_of 0 0) }
 
--- node 2 grants it
+-- node 2 grants the factor
 abbrev pub grant : Envelope
 grant = record { sender = 2; receiver = 1; message = Grant first_proposal 0 (span_of 0 0) }
 
@@ -82,52 +83,52 @@ grant = record { sender = 2; receiver = 1; message = Grant first_proposal 0 (spa
 abbrev pub bytes_of : Envelope → List ℕ
 bytes_of envelope = datagram_bytes three_nodes.key envelope.sender envelope.receiver envelope.message
 
--- what comes when the Ask and the Grant do
+-- the arrivals of the Ask and of the Grant
 abbrev pub ask_comes : Input
 ask_comes = Datagram 1 (bytes_of ask)
 
 abbrev pub grant_comes : Input
 grant_comes = Datagram 2 (bytes_of grant)
 
--- Node 3 has no process. Node 1 takes a line, and the first that it offers is its Ask to node 2; node 2 takes that, and
--- offers its Grant, which node 1 takes; then node 1 offers its Ask to node 3, and last its answer.
+-- Node 3 has no process. Node 1 takes a line, and offers its Ask to node 2. Node 2 takes the Ask and offers its Grant,
+-- which node 1 takes. Node 1 offers its Ask to node 3, and at last its answer.
 abbrev pub granted_by_two : List Deed
 granted_by_two =
     Opens 1 ∷ Opens 2 ∷ Takes 1 right_line ∷ Offers 1 ∷ Takes 2 ask_comes ∷ Offers 2 ∷ Takes 1 grant_comes ∷ Offers 1
     ∷ Offers 1 ∷ []
 
--- the Grant comes before node 2 offered it, though node 2 has made it
+-- the Grant arrives after node 2 made it and before node 2 offered it
 abbrev pub grant_before_its_offer : List Deed
 grant_before_its_offer =
     Opens 1 ∷ Opens 2 ∷ Takes 1 right_line ∷ Offers 1 ∷ Takes 2 ask_comes ∷ Takes 1 grant_comes ∷ Offers 2 ∷ []
 
--- a Grant that node 2 never made comes to node 1 from this node's address
+-- a Grant that node 2 never made arrives at node 1 from the address of the node `from`
 abbrev pub grant_from : ℕ → List Deed
 grant_from from = Opens 1 ∷ Takes 1 (Datagram from (bytes_of grant)) ∷ []
 
--- a process ends inside the step that takes such a one
+-- a process ends inside the step that takes such a Grant
 abbrev pub stop_in_a_forged_grant : List Deed
 stop_in_a_forged_grant = Opens 1 ∷ StopsIn 1 true grant_comes ∷ []
 
--- one node has a process
+-- the single node with a process
 abbrev pub one_open : Scene
 one_open = scene_of one_node (Opens 1 ∷ [])
 
--- two of the three have one
+-- two of the three nodes with processes
 abbrev pub two_open : Scene
 two_open = scene_of three_nodes (Opens 1 ∷ Opens 2 ∷ [])
 
--- node 2 is told by node 1 that its first free factor is 0
+-- node 1 tells node 2 its floor 0
 abbrev pub floor_comes : Input
 floor_comes = Datagram 1 (bytes_of (record { sender = 1; receiver = 2; message = Floor 0 0 }))
 
--- ---- Parts of deeds
+-- ---- Parts of actions
 
--- a store without rows, at this boot
+-- a store without rows, at the given boot
 abbrev pub content_of_boot : ℕ → Content
 content_of_boot boot = record { rows = []; boot = boot; last = None }
 
--- a node that has opened such a store
+-- a node that has opened a store without rows
 abbrev pub quiet_node : NodeState
 quiet_node = opened_node (content_of_boot 0)
 
@@ -138,25 +139,25 @@ tells_both = record (quiet_made quiet_node) {
   replies = record { client = 7; bytes = codes "NO" } ∷ [];
 }
 
--- its Floor, as node 1 hands it out
+-- the Floor of the step, as an output of node 1
 abbrev pub floor_out : Handout
 floor_out = Post (record { sender = 1; receiver = 2; message = Floor 0 4 })
 
--- its answer, as node 1 hands it out in event 5
+-- the answer of the step, as an output of node 1 in event 5
 abbrev pub answer_out : Handout
 answer_out = Answer (record { event = 5; node = 1; client = 7; bytes = codes "NO" })
 
--- ---- Grounds, and what becomes of answers
+-- ---- Grounds, and outcomes of answers
 
--- the acceptance of the right line in deed 1
+-- the acceptance of the right line in action 1
 abbrev pub first_pass : Acceptance
 first_pass = acceptance 1 1 1 0 0
 
--- its answer
+-- the answer to the right line
 abbrev pub first_ok : Told
 first_ok = told_outcome 1 1 7 (codes "1") (Accepted 0)
 
--- one node with a token that goes by a clock, whose first free factor is 2
+-- one node with a time token, with the floor 2
 abbrev pub clock_node : Setting
 clock_node = first_setting (clock_config 10) [] ((2 ∷ []) ∷ [])
 
@@ -164,11 +165,11 @@ clock_node = first_setting (clock_config 10) [] ((2 ∷ []) ∷ [])
 abbrev pub line_behind : Input
 line_behind = Line 7 120 (codes "CHECK 1 silver 969429 -")
 
--- a process takes it
+-- a process takes the line
 abbrev pub takes_behind : List Deed
 takes_behind = Opens 1 ∷ Takes 1 line_behind ∷ []
 
--- a process ends inside that step
+-- a process ends inside the step of the line
 abbrev pub ends_behind : Bool → List Deed
 ends_behind kept = Opens 1 ∷ StopsIn 1 kept line_behind ∷ []
 
@@ -176,33 +177,33 @@ ends_behind kept = Opens 1 ∷ StopsIn 1 kept line_behind ∷ []
 abbrev pub takes_twice : List Deed
 takes_twice = Opens 1 ∷ Takes 1 right_line ∷ Takes 1 right_line ∷ []
 
--- another node's deeds between those of the one that there is
+-- another node's actions between the single node's
 abbrev pub among_strangers : List Deed
 among_strangers = Opens 2 ∷ Opens 1 ∷ Takes 2 right_line ∷ Takes 1 right_line ∷ Stops 2 ∷ []
 
--- what the server tells where that token is the one of the one node
+-- the answers of the reference server to the history of the single node with the token
 abbrev pub told_by_reference : List Deed → List Told
 told_by_reference history = reference_of config [] (0 ∷ []) history
 
--- ---- Stores that are lost, and made anew
+-- ---- Losses and replacements of stores
 
 -- three nodes, the second of which is one factor ahead
 abbrev pub uneven_nodes : Setting
 uneven_nodes = record three_nodes { floors = (0 ∷ []) ∷ (1 ∷ []) ∷ (0 ∷ []) ∷ [] }
 
--- the store of node 1 is lost, under a process
+-- node 1 loses its store while it has a process
 abbrev pub loses_one : List Deed
 loses_one = Opens 1 ∷ Loses 1 ∷ []
 
--- then other deeds come to that node
+-- the same, followed by other actions at node 1
 abbrev pub comes_to_no_store : List Deed
 comes_to_no_store = loses_one ++ Opens 1 ∷ FailsToOpen 1 true ∷ Takes 1 right_line ∷ Loses 1 ∷ []
 
--- then one is made for it, at this boot and with this first free factor
+-- the same, followed by a replacement with the given boot and floor
 abbrev pub made_anew : ℕ → ℕ → List Deed
 made_anew boot next = loses_one ++ Remakes 1 boot (next ∷ []) ∷ []
 
--- then a second store is lost
+-- the same, followed by the loss of a second store
 abbrev pub loses_two : List Deed
 loses_two = loses_one ++ Loses 2 ∷ []
 
@@ -210,30 +211,30 @@ loses_two = loses_one ++ Loses 2 ∷ []
 abbrev pub second_line : Input
 second_line = Line 7 100 (codes "CHECK 2 silver 287082 -")
 
--- the first proposal of a process that opens the new store
+-- the first proposal of a process that opens the replacement store
 abbrev pub proposal_anew : ProposalRecord
 proposal_anew = record { node = 1; boot = 3; seq = 0 }
 
--- its Ask, and the Grant of node 2
+-- the process's Ask, and the Grant of node 2
 abbrev pub ask_anew : Envelope
 ask_anew = record { sender = 1; receiver = 2; message = Ask proposal_anew 0 (span_of 1 1) }
 
 abbrev pub grant_anew : Envelope
 grant_anew = record { sender = 2; receiver = 1; message = Grant proposal_anew 0 (span_of 1 1) }
 
--- that process accepts factor 1
+-- the process accepts factor 1
 abbrev pub accepts_anew : List Deed
 accepts_anew =
     made_anew 2 1
     ++ Opens 1 ∷ Opens 2 ∷ Takes 1 second_line ∷ Offers 1 ∷ Takes 2 (Datagram 1 (bytes_of ask_anew)) ∷ Offers 2
     ∷ Takes 1 (Datagram 2 (bytes_of grant_anew)) ∷ []
 
--- a wrong code comes to node 1, whose store is lost then, and made anew
+-- a wrong code arrives at node 1, whose store is then lost and replaced
 abbrev pub fails_and_loses : List Deed
 fails_and_loses =
     Opens 1 ∷ Takes 1 (Line 7 100 (codes "CHECK 1 silver 000000 -")) ∷ Loses 1 ∷ Remakes 1 2 (1 ∷ []) ∷ []
 
--- three nodes with the token that goes by a clock
+-- three nodes with the time token
 abbrev pub clock_nodes : Setting
 clock_nodes = first_setting (clock_config 10) (replicate 32 1) (replicate 3 (2 ∷ []))
 
@@ -244,26 +245,26 @@ ask_behind = record { sender = 1; receiver = 2; message = Ask first_proposal 0 (
 abbrev pub grant_behind : Envelope
 grant_behind = record { sender = 2; receiver = 1; message = Grant first_proposal 0 (span_of 3 3) }
 
--- node 1 accepts it; then its store is lost, and made anew
+-- node 1 accepts the step; its store is then lost and replaced
 abbrev pub drifts_and_loses : List Deed
 drifts_and_loses =
     Opens 1 ∷ Opens 2 ∷ Takes 1 line_behind ∷ Offers 1 ∷ Takes 2 (Datagram 1 (bytes_of ask_behind)) ∷ Offers 2
     ∷ Takes 1 (Datagram 2 (bytes_of grant_behind)) ∷ Loses 1 ∷ Remakes 1 2 (4 ∷ []) ∷ []
 
--- ---- Stores that were made anew, after former lives
+-- ---- Replacement stores after former incarnations
 
--- the three nodes, on stores that were made at these boots, after this was sent
+-- the three nodes, with first stores at the given boots, after the envelope was sent
 abbrev pub nodes_after : List ℕ → Envelope → Setting
 nodes_after boots envelope = record three_nodes { boots = boots; old = envelope ∷ [] }
 
--- node 1 takes a line, and then the Grant that node 2 sent to its first proposal in a former life
+-- node 1 takes a line, followed by the Grant that node 2 sent to its first proposal in a former incarnation
 abbrev pub old_grant_comes : List Deed
 old_grant_comes = Opens 1 ∷ Takes 1 right_line ∷ Takes 1 grant_comes ∷ []
 
--- the first free factor that node 2 told node 1 in a former life
+-- the floor that node 2 told node 1 in a former incarnation
 abbrev pub old_floor : Envelope
 old_floor = record { sender = 2; receiver = 1; message = Floor 0 1 }
 
--- it comes to node 1
+-- the old floor arrives at node 1
 abbrev pub old_floor_comes : List Deed
 old_floor_comes = Opens 1 ∷ Takes 1 (Datagram 2 (bytes_of old_floor)) ∷ []

@@ -1,4 +1,5 @@
--- When an acceptance of a history is justified by the line with which it began: in the words of the history alone.
+-- The justification of an acceptance by the line with which it began, in terms of the history. Floor: the first free
+-- factor of a token at a node.
 use Rattle.std.specs.Prelude.{◌≡◌, ℕ, ℤ, pos, ◌==◌, ◌&&◌, true, if◌then◌else◌, List, [], ◌∷◌, take, Option, Some, None, slice_get}
 use Rattle.otp_core.specs.Acceptance.{Acceptance}
 use Rattle.admit_core.specs.Throttle.{Result}
@@ -8,44 +9,45 @@ use Rattle.cluster_sim.specs.Justified.{IsGround}
 use Rattle.cluster_sim.specs.Results.{results_in}
 use Rattle.cluster_law.specs.Lives.{Deed, Takes, StopsIn, Input, Line, Setting, accepted_in, floor_in, scene_of}
 
--- the moment at which a process took a client's line in a deed, also where it ended inside the step
+-- the moment at which a process took a client's line in an action, also if it ended inside the step
 abbrev pub moment_in_deed : Option Deed → Option ℕ
 moment_in_deed (Some (Takes node (Line client moment text))) = Some moment
 moment_in_deed (Some (StopsIn node kept (Line client moment text))) = Some moment
 moment_in_deed _ = None
 
--- the drift that an acceptance keeps for its token, by the moment at which its line was taken
+-- the drift of an acceptance, by the moment at which its line was taken
 abbrev pub drift_of_pass : Setting → List Deed → Acceptance → ℤ
 drift_of_pass setting history pass =
     let moment = moment_in_deed (slice_get history pass.began) in
     drift_by setting.config.limits (slice_get setting.config.book pass.token) moment pass.hi
 
--- the drift of a token at a node after these acceptances, the oldest first, which was this one before: what the last
--- of the token at the node keeps
+-- The drift of a token at a node after the acceptances, the oldest first, from the given drift on. The last acceptance
+-- of the token at the node decides.
 abbrev pub drift_with : Setting → List Deed → ℕ → ℕ → ℤ → List Acceptance → ℤ
 drift_with setting history node token drift [] = drift
 drift_with setting history node token drift (pass ∷ passes) =
     let is_own = (pass.node == node) && (pass.token == token) in
     drift_with setting history node token (if is_own then drift_of_pass setting history pass else drift) passes
 
--- the drift of the token at the node before the deed of that number: what the last acceptance of the token that its
--- store wrote before that keeps, and 0 where there is none since the store was made
+-- The drift of the token at the node before the action of the given number. It is the drift of the token's last
+-- acceptance in the node's store before, and 0 if there is none since the store was created.
 abbrev pub drift_in : Setting → List Deed → ℕ → ℕ → ℕ → ℤ
 drift_in setting history node token event =
     let notes = (scene_of setting (take event history)).notes in
     drift_with setting history node token (pos 0) (passes_since node notes)
 
--- the results of the token at the node before the deed of that number, by the steps whose changes its store kept
+-- the results of the token at the node before the action of the given number, from the steps whose changes its store
+-- kept
 abbrev pub results_held : Setting → List Deed → ℕ → ℕ → ℕ → List Result
 results_held setting history node token event = results_in (scene_of setting (take event history)).notes node token
 
--- the input at a node is a client's line at the node of the acceptance, and its ground
+-- the input at a node is a client's line that justifies the acceptance
 abbrev pub IsGroundOfInput : Config → ℕ → ℤ → List Result → Acceptance → ℕ → Input → Type 0
 IsGroundOfInput config next drift results accepted node (Line client moment text) =
     (node ≡ accepted.node) × IsGround config moment text accepted.token next drift results accepted.lo accepted.hi
 IsGroundOfInput config next drift results accepted node _ = ⊥
 
--- the deed took such an input; or a process ended inside that step, and the change was kept
+-- the action takes an input that justifies the acceptance, or a process ended inside that step and the change was kept
 abbrev pub IsGroundInDeed : Config → ℕ → ℤ → List Result → Acceptance → Option Deed → Type 0
 IsGroundInDeed config next drift results accepted (Some (Takes node input)) =
     IsGroundOfInput config next drift results accepted node input
@@ -53,8 +55,7 @@ IsGroundInDeed config next drift results accepted (Some (StopsIn node true input
     IsGroundOfInput config next drift results accepted node input
 IsGroundInDeed config next drift results accepted _ = ⊥
 
--- The deed in which it began is its ground, by the first free factor that the store of its node held, and by the drift
--- and the results there before it.
+-- The action in which the acceptance began justifies it, by the floor, the drift and the results there before it.
 abbrev pub IsJustifiedInDeed : Setting → List Deed → Acceptance → Type 0
 IsJustifiedInDeed setting history accepted =
     let next = floor_in setting history accepted.node accepted.token accepted.began in

@@ -1,7 +1,9 @@
--- The lives of the nodes of a cluster: processes that open a store, take what comes, offer what they send and reply,
--- and end at any moment; and one history of all that they do. A store can be lost, and one can be made in its place
--- between two lives. It knows no world: what it says of a node is what the contracts of `Node::open` and of the calls
--- by which a node takes events say of a process over any store.
+-- The incarnations of a cluster's nodes, in one history. An incarnation is a process that opens a store, takes inputs,
+-- offers datagrams and replies, and ends at any moment. A store can be lost and replaced between two incarnations.
+-- Floor: the first free factor of a token at a node.
+--
+-- The definitions don't use the world. They state what the contracts of `Node::open`, and of the calls that take
+-- events, state of a process over any store.
 use Rattle.std.specs.Prelude.{◌≡◌, ℕ, suc, ◌+◌, ◌-◌, ◌==◌, nat_le, nat_lt, Bool, true, false, not, ◌&&◌, if◌then◌else◌, List, [], ◌∷◌, ◌++◌, length, map, take, Some, None, slice_get, slice_index_or}
 use Rattle.otp_core.specs.Acceptance.{Acceptance, majority_of, size}
 use Rattle.floor_store.specs.Content.{Content, with_next_boot}
@@ -12,18 +14,18 @@ use Rattle.oath_node.specs.Hosted.{envelope_at}
 use Rattle.oath_node.specs.Machine.{Config, Made, NodeEvent, NodeState, Client, Peer, Tick, made_by_event, opened_node}
 use Rattle.cluster_sim.specs.World.{MayStart, Note, Start, Told, floor_at, floor_in as listed_floor, note_anew, note_of, passes_in, told_reply}
 
--- what is the same at all members: the book and the limits, and the key; what the stores of the nodes 1, 2 .. were made
--- with; and what former lives of these nodes sent under the key, and what may still come
+-- The setting of a cluster. It has the book, the limits and the key of all members. It has the contents of the first
+-- stores of the nodes 1, 2 .. in the history. It also has the datagrams of former incarnations that may still arrive.
 pub record Setting : Type 0 where
   pub config : Config
   pub key : List ℕ
-  -- their first free factors
+  -- the floors of the first stores
   pub floors : List (List ℕ)
-  -- their boots, 0 where the list has none
+  -- the boots of the first stores, 0 for a missing one
   pub boots : List ℕ
   pub old : List Envelope
 
--- that of a cluster that never was: its stores are made at boot 0, and nothing was sent
+-- the setting of a new cluster: its stores are at boot 0, and nothing was sent
 abbrev pub first_setting : Config → List ℕ → List (List ℕ) → Setting
 first_setting config key floors = record { config = config; key = key; floors = floors; boots = []; old = [] }
 
@@ -31,11 +33,11 @@ first_setting config key floors = record { config = config; key = key; floors = 
 abbrev pub nodes_of : Setting → ℕ
 nodes_of setting = length setting.floors
 
--- the boot that a node's store was made with
+-- the boot of a node's first store
 abbrev pub made_boot : Setting → ℕ → ℕ
 made_boot setting node = slice_index_or setting.boots (node - 1) 0
 
--- how the written world starts: each node is open in the boot after the one that its store was made with
+-- the start of the world: each node is open in the boot after its first store's boot
 abbrev pub start_of : Setting → Start
 start_of setting = record {
   n = nodes_of setting;
@@ -50,60 +52,60 @@ start_of setting = record {
 abbrev pub place_in : Setting → ℕ → PlaceRecord
 place_in setting node = record { me = node; n = nodes_of setting }
 
--- ---- What comes to a process, and what it hands out
+-- ---- The inputs and outputs of a process
 
--- a client's datagram, at the moment that the clock tells; a datagram from a member's address; or some time passes
+-- an input: a client's datagram with the clock's moment, a datagram from a member's address, or the passage of time
 pub data Input : Type 0 where
   Line : (client moment : ℕ) (bytes : List ℕ) → Input
   Datagram : (from : ℕ) (bytes : List ℕ) → Input
   Time : Input
 
--- the event of the node's machine
+-- the event of the node's machine for an input
 abbrev pub event_of : List ℕ → Input → NodeEvent
 event_of key (Line client moment bytes) = Client client moment bytes
 event_of key (Datagram from bytes) = Peer from (envelope_at key bytes)
 event_of key Time = Tick
 
--- what a process hands to its port: an envelope, under the key, or an answer to a client, made in that event
+-- an output of a process to its port: an envelope under the key, or an answer to a client with its event
 pub data Handout : Type 0 where
   Post : (envelope : Envelope) → Handout
   Answer : (told : Told) → Handout
 
--- what a step of the node makes it hand out, in order
+-- the outputs of the node's step, in order
 abbrev pub handouts_of : ℕ → ℕ → Made → List Handout
 handouts_of event node made =
     map (λ (send : Envelope). Post send) (map (envelope_from node) made.sends)
     ++ map (λ (told : Told). Answer told) (map (told_reply event node) made.replies)
 
--- ---- The nodes, at one moment
+-- ---- The scene: the nodes at one moment
 
--- A node that has no process, with what its store holds; or its process: the machine, whose content is what its store
--- holds, and what it has yet to offer.
+-- A node without a process, with its store's content; or a node with its process. The machine of the process has the
+-- store's content. The process still has to offer the outputs `waiting`.
 pub data Site : Type 0 where
   Down : (content : Content) → Site
   Up : (state : NodeState) (waiting : List Handout) → Site
 
--- all nodes; all that was ever offered to a port, oldest first; and a note on each step of a node whose change its
--- store kept, and on each store that was made anew, newest first
+-- All nodes, and everything that a process ever offered to its port, oldest first. There is a note on each step whose
+-- change the store kept, and on each replacement of a store, newest first.
 pub record Scene : Type 0 where
   pub sites : ℕ → Site
-  -- the nodes whose stores are gone
+  -- the nodes that have lost their stores
   pub lost : ℕ → Bool
-  -- of each token the first free factor that a store made in the place of a lost one has at least
+  -- by the token, the least floor that a replacement store needs
   pub least : ℕ → ℕ
   pub offered : List Handout
   pub notes : List Note
 
--- what the store of a node holds; of a node whose store is gone, what it held, and a boot that no process there opened
+-- the content of a node's store; for a lost node, its former content with a boot that no process opened
 abbrev pub content_at : Site → Content
 content_at (Down content) = content
 content_at (Up state waiting) = state.content
 
--- the sites with this one changed
+-- the sites with one of them changed
 abbrev pub with_site : ℕ → Site → (ℕ → Site) → ℕ → Site
 with_site changed site sites node = if node == changed then site else sites node
 
--- what a node's store is made with: its boot, and its first free factors
+-- the content of a node's first store
 abbrev pub made_content : Setting → ℕ → Content
 made_content setting node = record {
   rows = opening_rows (length setting.config.book) (floor_at setting.floors node);
@@ -111,13 +113,12 @@ made_content setting node = record {
   last = None;
 }
 
--- what a store that is made in the place of one which held that holds: as many tokens, with these first free factors,
--- and this boot
+-- the content of a replacement store: the former number of tokens, with the given floors and boot
 abbrev pub remade_content : Content → ℕ → (ℕ → ℕ) → Content
 remade_content content boot floor =
     record { rows = opening_rows (length content.rows) floor; boot = boot; last = None }
 
--- no process has run on these stores yet, and none was lost
+-- the scene before any process and any loss
 abbrev pub first_scene : Setting → Scene
 first_scene setting = record {
   sites = λ node. Down (made_content setting node);
@@ -127,21 +128,23 @@ first_scene setting = record {
   notes = [];
 }
 
--- ---- What happens
+-- ---- Actions
 
--- What happens at a node.
---   Opens: a process opens the store that the node's last process left (or that the node was made with).
---   FailsToOpen: a process ends before it serves; the boot is raised in its store, or not.
---   Takes: its process takes this input: one step of its machine. The deed stands where the change is kept, before
---   anything of it goes out. Where one commit keeps several, they are deeds one after the other, in order.
---   Offers: its process offers the next of what it has to offer. Whether the network takes it is nowhere asked.
---   Stops: its process ends, whatever it has yet to offer: killed, by a fault, or by its own end.
---   StopsIn: its process ends inside the step that takes this input, also by a fault of the store; the change is kept
---   or not, and nothing of the step is offered.
---   Loses: the node's store is gone. Its process ends, whatever it has yet to offer, and no other does anything there.
---   Remakes: a store is made for a node whose store is gone, at this boot and with these first free factors (0 for a
---   token that the list doesn't have), where the rule of the votes allows it; else nothing happens. A process can open
---   it, in the next boot.
+-- An action at a node.
+--   Opens: a process opens the store that the node's last process left, or the first store.
+--   FailsToOpen: a process ends before it serves. It has raised the boot in its store, or not.
+--   Takes: the process takes the input, in one step of its machine. The action is at the commit of the change, before
+-- the
+--   process offers any output of it. Several changes of one commit are consecutive actions, in order.
+--   Offers: the process offers its next waiting output. Nobody asks whether the network takes it.
+--   Stops: the process ends, with any outputs still waiting: it is killed, meets a fault, or ends by itself.
+--   StopsIn: the process ends inside the step that takes the input, possibly by a fault of the store. The change is
+-- kept
+--   or not, and the process offers no output of the step.
+--   Loses: the node has lost its store. Its process ends, with any outputs still waiting, and no other acts there.
+--   Remakes: a lost node gets a replacement store with the given boot and floors, 0 for a missing one. Nothing happens
+-- if
+--   the rule of the votes forbids it. A process can open the store, in the next boot.
 pub data Deed : Type 0 where
   Opens : (node : ℕ) → Deed
   FailsToOpen : (node : ℕ) (raised : Bool) → Deed
@@ -152,7 +155,7 @@ pub data Deed : Type 0 where
   Loses : (node : ℕ) → Deed
   Remakes : (node boot : ℕ) (floors : List ℕ) → Deed
 
--- where it happens
+-- the node of an action
 abbrev pub node_of_deed : Deed → ℕ
 node_of_deed (Opens node) = node
 node_of_deed (FailsToOpen node raised) = node
@@ -163,38 +166,38 @@ node_of_deed (StopsIn node kept input) = node
 node_of_deed (Loses node) = node
 node_of_deed (Remakes node boot floors) = node
 
--- a process that opened a store with this content, in a new boot; the last boot can't be raised, so there none opens
+-- a process that opened a store in a new boot; at the last boot no process opens
 abbrev pub site_opened : Content → Site
 site_opened content = if nat_lt content.boot last_boot then Up (opened_node content) [] else Down content
 
--- a node whose process ended while it opened a store with this content
+-- a node whose process ended while it opened the store
 abbrev pub site_half_opened : Bool → Content → Site
 site_half_opened false content = Down content
 site_half_opened true content = if nat_lt content.boot last_boot then Down (with_next_boot content) else Down content
 
--- what the step of a process makes of its node
+-- the result of a process's step
 abbrev pub made_by_input : Setting → ℕ → Input → NodeState → Made
 made_by_input setting node input state =
     made_by_event setting.config (place_in setting node) (event_of setting.key input) state
 
--- a process that has offered the first of what it had to offer
+-- a process that has offered its first waiting output
 abbrev pub site_offered : NodeState → List Handout → Site
 site_offered state [] = Up state []
 site_offered state (handout ∷ waiting) = Up state waiting
 
--- a process that took an input, in the event of that number
+-- a process that took an input in the action of the given number
 abbrev pub site_taken : Setting → ℕ → ℕ → Input → NodeState → List Handout → Site
 site_taken setting event node input state waiting =
     let made = made_by_input setting node input state in
     Up made.state (waiting ++ handouts_of event node made)
 
--- a node whose process ended inside the step for an input: its store holds what it held, or what the step makes
+-- a node whose process ended inside the step of an input: its store has the former content, or the step's content
 abbrev pub site_cut : Setting → ℕ → Bool → Input → NodeState → Site
 site_cut setting node false input state = Down state.content
 site_cut setting node true input state = Down (made_by_input setting node input state).state.content
 
--- What a deed of that number makes of its node. A node without a process takes and offers nothing: what comes there is
--- lost. Nor does a node with a process open a second one.
+-- The site of a node after the action of the given number. A node without a process takes and offers nothing: inputs
+-- there are lost. A node with a process doesn't open a second one.
 abbrev pub site_after : Setting → ℕ → Deed → Site → Site
 site_after setting event (Opens node) (Down content) = site_opened content
 site_after setting event (Opens node) (Up state waiting) = Up state waiting
@@ -213,12 +216,12 @@ site_after setting event (Remakes node boot floors) (Down content) =
     Down (remade_content content boot (listed_floor floors))
 site_after setting event (Remakes node boot floors) (Up state waiting) = Up state waiting
 
--- the first of these
+-- the first of the outputs, if any
 abbrev pub first_of_these : List Handout → List Handout
 first_of_these [] = []
 first_of_these (handout ∷ waiting) = handout ∷ []
 
--- what a process with this site offers in a deed
+-- the outputs that the site's process offers in an action
 abbrev pub offers_by : Deed → Site → List Handout
 offers_by (Opens node) site = []
 offers_by (FailsToOpen node raised) site = []
@@ -230,7 +233,7 @@ offers_by (StopsIn node kept input) site = []
 offers_by (Loses node) site = []
 offers_by (Remakes node boot floors) site = []
 
--- the note on a step whose change is kept, or on a store that is made anew, in the event of that number
+-- the note on a step whose change is kept, or on a replacement store, in the action of the given number
 abbrev pub notes_by : Setting → ℕ → Deed → Site → List Note
 notes_by setting event (Opens node) site = []
 notes_by setting event (FailsToOpen node raised) site = []
@@ -246,21 +249,20 @@ notes_by setting event (StopsIn node true input) (Up state waiting) =
 notes_by setting event (Loses node) site = []
 notes_by setting event (Remakes node boot floors) site = note_anew event node ∷ []
 
--- the nodes whose stores are gone after a deed
+-- the lost nodes after an action
 abbrev pub lost_after : Deed → (ℕ → Bool) → ℕ → Bool
 lost_after (Loses node) lost = with_node node lost
 lost_after (Remakes node boot floors) lost = without_node node lost
 lost_after _ lost = lost
 
--- what a store that is made anew has at least after a deed: when a store is lost, the first free factors of the others
--- are taken down, and the greatest of them counts
+-- the least floors of a replacement store after an action: a loss records the greatest floors of the remaining nodes
 abbrev pub least_after : Setting → Deed → Scene → ℕ → ℕ
 least_after setting (Loses node) scene = λ token.
     greatest (nodes_of setting) (with_node node scene.lost)
     (λ other. (row (content_at (scene.sites other)) token).next)
 least_after setting _ scene = scene.least
 
--- the scene after the deed of that number at a node where it can be: its own site changes, and no other
+-- the scene after a possible action at a node, which changes only the node's site
 abbrev pub scene_at : Setting → ℕ → Deed → Site → Scene → Scene
 scene_at setting event deed site scene = record {
   sites = with_site (node_of_deed deed) (site_after setting event deed site) scene.sites;
@@ -270,13 +272,12 @@ scene_at setting event deed site scene = record {
   notes = notes_by setting event deed site ++ scene.notes;
 }
 
--- the node is a member whose store is there
+-- the node is a member that has its store
 abbrev pub has_store : Setting → Scene → ℕ → Bool
 has_store setting scene node = not (scene.lost node) && is_member (nodes_of setting) node
 
--- A store may be made anew for a node whose store is gone: fewer are gone than make a majority, no process of the node
--- has used the boot, and no first free factor is below those of the nodes whose stores were there when last one was
--- lost.
+-- The conditions for a replacement of a lost node's store. Fewer than a majority are lost, and no process of the node
+-- used the boot. No floor is below the floors that the remaining nodes had at the latest loss.
 abbrev pub may_be_remade : Setting → Scene → ℕ → ℕ → (ℕ → ℕ) → Bool
 may_be_remade setting scene node boot floor =
     let content = content_at (scene.sites node) in
@@ -286,20 +287,20 @@ may_be_remade setting scene node boot floor =
     && (nat_lt boot last_boot
     && all_most (length content.rows) scene.least floor)))
 
--- the deed can be at its node
+-- the action is possible at its node
 abbrev pub can_be : Setting → Scene → Deed → Bool
 can_be setting scene (Remakes node boot floors) = may_be_remade setting scene node boot (listed_floor floors)
 can_be setting scene deed = has_store setting scene (node_of_deed deed)
 
--- The scene after the deed of that number. What names no member, or one whose store is gone, changes nothing, but that
--- a store is made for it.
+-- The scene after the action of the given number. An action at no member changes nothing. At a lost node only a
+-- replacement of its store changes anything.
 unfoldable pub scene_after_deed : Setting → ℕ → Deed → Scene → Scene
 scene_after_deed setting event deed scene =
     if can_be setting scene deed
     then scene_at setting event deed (scene.sites (node_of_deed deed)) scene
     else scene
 
--- the scene after these deeds, the first of which has this number
+-- the scene after the actions, the first of which has the given number
 unfoldable pub scene_after : Setting → ℕ → List Deed → Scene → Scene
 scene_after setting first [] scene = scene
 scene_after setting first (deed ∷ deeds) scene =
@@ -309,23 +310,23 @@ scene_after setting first (deed ∷ deeds) scene =
 abbrev pub scene_of : Setting → List Deed → Scene
 scene_of setting history = scene_after setting 0 history (first_scene setting)
 
--- ---- What the network may do
+-- ---- The network
 
 -- the envelope was offered before
 pub record WasOffered (offered : List Handout) (envelope : Envelope) : Type 0 where
   pub place : ℕ
   pub is_there : slice_get offered place ≡ Some (Post envelope)
 
--- A datagram that says under the key an envelope of the node from whose address it comes says one that this node
--- offered before: in this life or an earlier one, on this store or a former one, to whom ever, any number of times,
--- however long ago. Of all other bytes, from any address, nothing is asked.
+-- A datagram is genuine if its sender offered it before, in this or an earlier incarnation, on this or a former store.
+-- The receiver and the number of times are free. This concerns only an envelope under the key from its sender's own
+-- address. All other bytes are allowed, from any address.
 abbrev pub IsGenuine : List ℕ → List Handout → Input → Type 0
 IsGenuine key offered (Line client moment bytes) = Unit {0}
 IsGenuine key offered Time = Unit {0}
 IsGenuine key offered (Datagram from bytes) =
     (envelope : Envelope) → envelope_at key bytes ≡ Some envelope → envelope.sender ≡ from → WasOffered offered envelope
 
--- the deed takes, or begins to take, what the network may bring
+-- the action's input, if any, is genuine, also inside a stop
 abbrev pub IsGenuineDeed : Setting → Scene → Deed → Type 0
 IsGenuineDeed setting scene (Opens node) = Unit {0}
 IsGenuineDeed setting scene (FailsToOpen node raised) = Unit {0}
@@ -336,63 +337,63 @@ IsGenuineDeed setting scene (StopsIn node kept input) = IsGenuine setting.key sc
 IsGenuineDeed setting scene (Loses node) = Unit {0}
 IsGenuineDeed setting scene (Remakes node boot floors) = Unit {0}
 
--- each of these deeds does, the first of which has this number
+-- each of the actions has a genuine input, if any; the first of them has the given number
 unfoldable pub AreGenuine : Setting → ℕ → List Deed → Scene → Type 0
 AreGenuine setting first [] scene = Unit {0}
 AreGenuine setting first (deed ∷ deeds) scene =
     IsGenuineDeed setting scene deed
     × AreGenuine setting (suc first) deeds (scene_after_deed setting first deed scene)
 
--- A history of a cluster: deeds of its nodes, whose stores were made at boots of which nothing old speaks, and in which
--- nobody forges a datagram under the key.
+-- A history of a cluster: actions of its nodes without a datagram forged under the key. Datagrams from before fit, and
+-- name no boot of a node after that of its first store.
 pub record IsHistory (setting : Setting) (history : List Deed) : Type 0 where
   pub starts : MayStart setting.config (start_of setting)
   pub genuine : AreGenuine setting 0 history (first_scene setting)
 
--- ---- What is to be seen of a history
+-- ---- The observations of a history
 
--- what the stores wrote as accepted: for each pass that a node wrote, with the numbers of the deed in which the node
--- took its line and of the deed in which it wrote the pass
+-- The acceptances that stores wrote. Each has the number of the action in which the node took its line, and of the
+-- action in which the node wrote the pass.
 abbrev pub accepted_in : Setting → List Deed → List Acceptance
 accepted_in setting history = passes_in (scene_of setting history).notes
 
--- the answers among these, in order
+-- the answers among the outputs, in order
 abbrev pub answers_among : List Handout → List Told
 answers_among [] = []
 answers_among (Post envelope ∷ handouts) = answers_among handouts
 answers_among (Answer told ∷ handouts) = told ∷ answers_among handouts
 
--- the answers that were offered to clients, each with the number of the deed in which it was made
+-- the answers offered to clients, each with the number of the action that made it
 abbrev pub answered_in : Setting → List Deed → List Told
 answered_in setting history = answers_among (scene_of setting history).offered
 
--- the first free factor that the store of a node holds for a token before the deed of that number
+-- the floor of a token in the node's store before the action of the given number
 abbrev pub floor_in : Setting → List Deed → ℕ → ℕ → ℕ → ℕ
 floor_in setting history node token event =
     (row (content_at ((scene_of setting (take event history)).sites node)) token).next
 
--- ---- A node by itself
+-- ---- A single node of a history
 
--- the deed doesn't take the store of the node away, and makes none for it
+-- the action neither loses nor replaces the node's store
 abbrev pub LeavesStore : ℕ → Deed → Type 0
 LeavesStore node (Loses at) = node ≡ at → ⊥
 LeavesStore node (Remakes at boot floors) = node ≡ at → ⊥
 LeavesStore node _ = Unit {0}
 
--- none of these deeds does
+-- none of the actions loses or replaces the node's store
 abbrev pub LeaveStore : ℕ → List Deed → Type 0
 LeaveStore node [] = Unit {0}
 LeaveStore node (deed ∷ deeds) = LeavesStore node deed × LeaveStore node deeds
 
--- What these deeds, the first of which has this number, make of a member whose store is there all the time: those of
--- others make nothing.
+-- The site of a member whose store stays, after the actions, the first of which has the given number. Only the member's
+-- own actions change it.
 unfoldable pub own_site : Setting → ℕ → ℕ → List Deed → Site → Site
 own_site setting node first [] site = site
 own_site setting node first (deed ∷ deeds) site =
     own_site setting node (suc first) deeds
     (if node == node_of_deed deed then site_after setting first deed site else site)
 
--- what a member offers in these deeds
+-- the outputs that a member offers in the actions
 unfoldable pub own_offers : Setting → ℕ → ℕ → List Deed → Site → List Handout
 own_offers setting node first [] site = []
 own_offers setting node first (deed ∷ deeds) site =

@@ -1,4 +1,4 @@
--- What a process of a node is in a history: a node over a store, opened by `Node::open` and served by `run_turns`.
+-- The process of a node in a history: a node over a store, opened by `Node::open` and served by `run_turns`.
 use Rattle.std.specs.Prelude.{◌≡◌, ℕ, ◌==◌, ◌≤◌, Bool, if◌then◌else◌, List, [], ◌∷◌, ◌++◌, length, map, take, Result, Err}
 use Rattle.floor_store.specs.Content.{Content}
 use Rattle.vote_wire.specs.Datagram.{datagram_bytes}
@@ -15,35 +15,35 @@ use Rattle.cluster_law.specs.Lives.{Deed, Opens, FailsToOpen, Takes, Offers, Sto
 
 -- ---- The node
 
--- what the node puts out for a handout, encoded under the key
+-- the item of an output, encoded under the key
 abbrev pub item_of : List ℕ → Handout → Item
 item_of key (Post envelope) =
     let bytes = datagram_bytes key envelope.sender envelope.receiver envelope.message in
     DatagramItem envelope.receiver (record { items = bytes })
 item_of key (Answer told) = Reply told.client (record { items = told.bytes })
 
--- what its port's record has of that
+-- the entry of an output in the port's record
 abbrev pub offer_of_handout : List ℕ → Handout → PortEvent
 offer_of_handout key handout = offer_of (item_of key handout)
 
--- the member that a node of the setting is
+-- the member at a node of the setting
 abbrev pub member_in : Setting → ℕ → Member
 member_in setting node = record { config = setting.config; key = setting.key; place = place_in setting node }
 
--- a process has the book, the limits, the key and the place of this node
+-- a process with the configuration, the key and the place of the node
 pub record IsMemberIn {S : Type 0} (setting : Setting) (node : ℕ) (process : Hosted S) : Type 0 where
   pub config : config_of process ≡ setting.config
   pub key : process.key ≡ setting.key
   pub place : process.voter.place ≡ place_in setting node
 
--- The store of a process that ended while it opened holds this, so that its node is one that failed to open.
+-- The store of a process that ended while it opened. Its node is one that failed to open.
 pub record IsHalfOpened (before after : Content) : Type 0 where
   pub raised : Bool
   pub site : site_half_opened raised before ≡ Down after
 
--- ---- Its turns
+-- ---- The turns of a process
 
--- a deed of the node is one of a process that goes on
+-- the action, if it is the node's, is one of a process that continues
 abbrev pub IsServing : ℕ → Deed → Type 0
 IsServing node (Opens at) = node ≡ at → ⊥
 IsServing node (FailsToOpen at raised) = node ≡ at → ⊥
@@ -54,12 +54,12 @@ IsServing node (StopsIn at kept input) = node ≡ at → ⊥
 IsServing node (Loses at) = node ≡ at → ⊥
 IsServing node (Remakes at boot floors) = node ≡ at → ⊥
 
--- all its deeds are, in these
+-- all of the node's actions are ones of a process that continues
 abbrev pub AreServing : ℕ → List Deed → Type 0
 AreServing node [] = Unit {0}
 AreServing node (deed ∷ deeds) = IsServing node deed × AreServing node deeds
 
--- what a deed takes
+-- the input of an action
 abbrev pub input_of : Deed → List Input
 input_of (Opens at) = []
 input_of (FailsToOpen at raised) = []
@@ -70,14 +70,13 @@ input_of (StopsIn at kept input) = []
 input_of (Loses at) = []
 input_of (Remakes at boot floors) = []
 
--- what the node takes in these deeds, in order
+-- the inputs that the node takes in the actions, in order
 abbrev pub inputs_at : ℕ → List Deed → List Input
 inputs_at node [] = []
 inputs_at node (deed ∷ deeds) = (if node == node_of_deed deed then input_of deed else []) ++ inputs_at node deeds
 
--- Among all that happens, in which its own deeds are those of a process that goes on, a process that was in this state
--- with nothing left to offer comes to this node; and what it has offered, with what is left to offer, is this, in
--- order.
+-- From `state`, without a waiting output, the actions take the process of the node to `new`. `offers` are the outputs
+-- that it has offered, followed by those still waiting.
 pub record IsServed (setting : Setting) (node first : ℕ) (deeds : List Deed) (state new : NodeState)
     (offers : List PortEvent) : Type 0 where
   pub left : List Handout
@@ -86,33 +85,33 @@ pub record IsServed (setting : Setting) (node first : ℕ) (deeds : List Deed) (
       ≡ map (offer_of_handout setting.key) (own_offers setting node first deeds (Up state []))
       ++ map (offer_of_handout setting.key) left
 
--- the run of a node over what it takes in these deeds
+-- the run of a node over the inputs that it takes in the actions
 abbrev pub run_over : Setting → ℕ → List Deed → NodeState → Run
 run_over setting node deeds state =
     run_with_events (member_in setting node) (map (event_of setting.key) (inputs_at node deeds)) (run_at state)
 
--- batches that go on come to the run over their events: the same node, and the same offers in the same order
+-- The batches give the same result as their events: the same node, and the same offers in the same order.
 pub record AreEvents (member : Member) (batches : List (List Receipt)) (state : NodeState) : Type 0 where
   pub node : (run_with_batches member batches (run_at state)).node
       ≡ (run_with_events member (events_of_turns member.key 0 (receipts_in batches)) (run_at state)).node
   pub offers : offers_in (run_with_batches member batches (run_at state)).entries
       ≡ (run_with_events member (events_of_turns member.key 0 (receipts_in batches)) (run_at state)).entries
 
--- what the node takes in these deeds is what turns with these receipts hand in
+-- the inputs that the node takes in the actions are the events of turns with the receipts
 abbrev pub TakesTurns : Setting → ℕ → List Deed → List Receipt → Type 0
 TakesTurns setting node deeds receipts =
     map (event_of setting.key) (inputs_at node deeds) ≡ events_of_turns setting.key 0 receipts
 
--- there are deeds of a process that goes on and takes such turns
+-- actions of a process that continues and takes the turns
 pub record CanTakeTurns (setting : Setting) (node : ℕ) (receipts : List Receipt) : Type 0 where
   pub deeds : List Deed
   pub serving : AreServing node deeds
   pub takes : TakesTurns setting node deeds receipts
 
--- ---- A call that serves it, over a port whose record was empty before
+-- ---- A call that serves a process, over a port with an empty record
 
--- It ended by Ok: there were some receives; and whatever the deeds are, where those of its node are of a process that
--- goes on and takes turns with these, its state and what it offered, with what is left to offer, is the history's.
+-- The call returned Ok, after some receives. The node's actions may be any of a process that continues and takes these
+-- turns. The call has then the history's state, and the history's outputs, offered or waiting.
 pub record IsServedNode (setting : Setting) (node : ℕ) (state new : NodeState) (entries : List PortEvent) : Type 0 where
   pub batches : List (List Receipt)
   pub received : map entry_of (receipts_in batches) ≡ receives_in entries
@@ -120,7 +119,8 @@ pub record IsServedNode (setting : Setting) (node : ℕ) (state new : NodeState)
       → TakesTurns setting node deeds (receipts_in batches)
       → IsServed setting node first deeds state new (offers_in entries)
 
--- It ended by a fault of the port or the clock: the same, with the batches up to the one that had that fault.
+-- The call ended by a fault of the port or the clock. The same holds for a prefix of the batches, up to the one with
+-- the fault.
 pub record IsEndedNode (setting : Setting) (node : ℕ) (state new : NodeState) (entries : List PortEvent) : Type 0 where
   pub batches : List (List Receipt)
   pub received : map entry_of (receipts_in batches) ≡ receives_in entries
@@ -131,25 +131,25 @@ pub record IsEndedNode (setting : Setting) (node : ℕ) (state new : NodeState) 
       → TakesTurns setting node deeds (receipts_in gone)
       → IsServed setting node first deeds state new (offers_in entries)
 
--- the events of a batch with these receipts, which comes after those
+-- the events of a batch after the earlier receipts
 abbrev pub events_after : List ℕ → List Receipt → List Receipt → List NodeEvent
 events_after key before batch = events_of_turns key (received_after before 0) batch
 
--- What the node takes in these deeds is what turns with these receipts hand in, and the first so many events of a batch
--- after them.
+-- The inputs that the node takes in the actions are the events of turns with the receipts, followed by a batch's first
+-- `count` events.
 abbrev pub TakesSome : Setting → ℕ → List Deed → List Receipt → List Receipt → ℕ → Type 0
 TakesSome setting node deeds before batch count =
     map (event_of setting.key) (inputs_at node deeds)
     ≡ events_of_turns setting.key 0 before ++ take count (events_after setting.key before batch)
 
--- there are deeds of a process that goes on and takes so
+-- actions of a process that continues and takes these inputs
 pub record CanTakeSome (setting : Setting) (node : ℕ) (before batch : List Receipt) (count : ℕ) : Type 0 where
   pub deeds : List Deed
   pub serving : AreServing node deeds
   pub takes : TakesSome setting node deeds before batch count
 
--- Among all that happens, in which its own deeds are those of a process that goes on and then stops, a process that was
--- in this state leaves this content. Of what it has offered, with what was left to offer, this is a beginning.
+-- From `state`, the actions and a stop after them leave the content in the node's store. `offers` is a prefix of the
+-- process's outputs, offered or waiting.
 pub record IsStopped (setting : Setting) (node first : ℕ) (deeds : List Deed) (state : NodeState)
     (offers : List PortEvent) (content : Content) : Type 0 where
   pub new : NodeState
@@ -157,9 +157,9 @@ pub record IsStopped (setting : Setting) (node first : ℕ) (deeds : List Deed) 
   pub served : IsServed setting node first deeds state new (offers ++ rest)
   pub stops : own_site setting node first (deeds ++ Stops node ∷ []) (Up state []) ≡ Down content
 
--- It ended by a fault of the node, and a stop leaves this content: the batches before the last are served. Where the
--- process takes turns with those, and then the first so many events of the last, and stops, it leaves that content; and
--- nothing was offered for those events.
+-- The call ended by a fault of the node, and a stop leaves the content. The batches before the last are served. The
+-- process takes their turns and a prefix of the last batch's events, and stops. It then leaves the content, and has
+-- offered nothing of the last batch.
 pub record IsFailedNode (setting : Setting) (node : ℕ) (state : NodeState) (entries : List PortEvent)
     (content : Content) : Type 0 where
   pub before : List (List Receipt)
@@ -171,7 +171,7 @@ pub record IsFailedNode (setting : Setting) (node : ℕ) (state : NodeState) (en
       → TakesSome setting node deeds (receipts_in before) last count
       → IsStopped setting node first deeds state (offers_in entries) content
 
--- it didn't end by a fault of the node
+-- the call didn't end by a fault of the node
 abbrev pub IsNoFaultOfNode : Result Served ServeFault → Type 0
 IsNoFaultOfNode (Err (Node fault)) = ⊥
 IsNoFaultOfNode _ = Unit {0}

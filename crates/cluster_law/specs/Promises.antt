@@ -1,4 +1,4 @@
--- What is so of every history of a cluster: it is a run of the written world, deed by deed.
+-- The promise of every history of a cluster: it is a run of the world, action by action.
 use Rattle.std.specs.Prelude.{◌≡◌, ◌⊎◌, ℕ, ◌+◌, ◌<◌, ◌≤◌, true, false, List, length, take, Option, Some, slice_get}
 use Rattle.otp_core.specs.Acceptance.{Acceptance}
 use Rattle.oath_node.specs.Hosted.{envelope_at}
@@ -8,11 +8,11 @@ use Rattle.cluster_sim.specs.Justified.{AreJustified}
 use Rattle.cluster_sim.specs.World.{Act, Says, Deliver, Ticks, Noise, Told, WorldEvent, Happens, Cut, Restart, Lost, Anew, floor_before, passes_of, world_before, world_of}
 use Rattle.cluster_law.specs.Lives.{Deed, Opens, FailsToOpen, Takes, Offers, Stops, StopsIn, Loses, Remakes, Input, Line, Datagram, Time, Setting, accepted_in, answered_in, floor_in, scene_of, start_of}
 
--- the event in which nothing happens: there is no node 0
+-- the event without effect: there is no node 0
 abbrev pub nothing : WorldEvent
 nothing = Restart 0
 
--- the act of the world that an input at a node is: a line is said there; a datagram is one that was sent, or noise
+-- the act of the world for an input at a node: a client's line; a datagram that was sent, or noise; or a tick
 abbrev pub IsActOf : List ℕ → ℕ → Input → Act → Type 0
 IsActOf key node (Line client moment bytes) act = act ≡ Says node client moment bytes
 IsActOf key node Time act = act ≡ Ticks node
@@ -26,8 +26,8 @@ pub record HasAct (key : List ℕ) (node : ℕ) (input : Input) (made : Act → 
   pub event_is : event ≡ made act
   pub is_act : IsActOf key node input act
 
--- The event of the world that a deed is. What an input does to a node that has no process is nothing. A store that is
--- made anew is opened in the next boot, and the world knows that boot alone.
+-- The event of the world for an action. An input to a node without a process has no effect. A replacement store is
+-- opened in the next boot, which is the boot that the world has.
 abbrev pub IsEventOf : List ℕ → Deed → WorldEvent → Type 0
 IsEventOf key (Opens node) event = (event ≡ nothing) ⊎ (event ≡ Restart node)
 IsEventOf key (FailsToOpen node raised) event = (event ≡ nothing) ⊎ (event ≡ Restart node)
@@ -41,19 +41,19 @@ IsEventOf key (StopsIn node true input) event =
 IsEventOf key (Loses node) event = (event ≡ nothing) ⊎ (event ≡ Lost node)
 IsEventOf key (Remakes node boot floors) event = (event ≡ nothing) ⊎ (event ≡ Anew node (boot + 1) floors)
 
--- the event of a deed, at its place
+-- the event of an action, at its place
 pub record HasEvent (key : List ℕ) (deed : Deed) (place : ℕ) (events : List WorldEvent) : Type 0 where
   pub event : WorldEvent
   pub is_there : slice_get events place ≡ Some event
   pub is_event : IsEventOf key deed event
 
--- the answer is among these
+-- the answer is in the list
 pub record IsToldAmong (told : Told) (answers : List Told) : Type 0 where
   pub place : ℕ
   pub is_there : slice_get answers place ≡ Some told
 
--- A history is a run of the world, event by event: what its stores wrote as accepted and what they hold is the run's,
--- and what its processes answered the run tells.
+-- A history is a run of the world, event by event. Its acceptances and its stores' contents are the run's, and the run
+-- tells its processes' answers.
 pub record IsRunOf (setting : Setting) (history : List Deed) (events : List WorldEvent) : Type 0 where
   pub number : length events ≡ length history
   pub each : (place : ℕ) (deed : Deed) → slice_get history place ≡ Some deed → HasEvent setting.key deed place events
@@ -66,8 +66,8 @@ pub record IsRunOf (setting : Setting) (history : List Deed) (events : List Worl
   pub answered : (place : ℕ) (told : Told) → slice_get (answered_in setting history) place ≡ Some told
       → IsToldAmong told (world_of setting.config (start_of setting) events).told
 
--- There is such a run. By it each acceptance of the history is justified by the client's line with which it began; each
--- `OK` that was offered belongs to an acceptance, and no other answer that was offered begins as one.
+-- The history is such a run. In it, the client's line with which it began justifies each acceptance. Each offered `OK`
+-- belongs to an acceptance, and no other offered answer begins like one.
 pub record IsExplained (setting : Setting) (history : List Deed) : Type 0 where
   pub events : List WorldEvent
   pub is_run : IsRunOf setting history events
@@ -75,9 +75,9 @@ pub record IsExplained (setting : Setting) (history : List Deed) : Type 0 where
   pub told : NamePasses events (accepted_in setting history) (answered_in setting history)
   pub no_other : TellTruth events (accepted_in setting history) (answered_in setting history)
 
--- ---- Answers, in the words of the history alone
+-- ---- Answers, in terms of the history
 
--- the deed takes this line of the client at the node, with this nonce, or ends inside its step and keeps its change
+-- the action takes the client's line with the nonce at the node, or ends inside its step and keeps its change
 abbrev pub IsAskedInDeed : ℕ → ℕ → List ℕ → List ℕ → Option Deed → Type 0
 IsAskedInDeed node client line nonce (Some (Takes at (Line by moment text))) =
     (at ≡ node) × (by ≡ client) × IsTextOf line nonce text
@@ -85,14 +85,14 @@ IsAskedInDeed node client line nonce (Some (StopsIn at true (Line by moment text
     (at ≡ node) × (by ≡ client) × IsTextOf line nonce text
 IsAskedInDeed node client line nonce _ = ⊥
 
--- the deed takes this line of the client at the node, an LF at its end aside
+-- the action takes the client's line at the node, except for an LF at its end
 abbrev pub IsSaidInDeed : ℕ → ℕ → List ℕ → Option Deed → Type 0
 IsSaidInDeed node client line (Some (Takes at (Line by moment text))) =
     (at ≡ node) × (by ≡ client) × (without_lf text ≡ line)
 IsSaidInDeed node client line _ = ⊥
 
--- What was answered is the OK of an acceptance of its node: the line with which that began its process took from the
--- same client, with its nonce. If the acceptance ended in an earlier deed, the client sent that line again.
+-- The answer is the OK of an acceptance of its node. The process took the acceptance's line from the same client, with
+-- the same nonce. If the acceptance ended in an earlier action, the client sent the line again.
 pub record BelongsToAcceptance (setting : Setting) (history : List Deed) (told : Told) : Type 0 where
   pub place : ℕ
   pub pass : Acceptance
@@ -105,7 +105,7 @@ pub record BelongsToAcceptance (setting : Setting) (history : List Deed) (told :
   pub bytes : told.bytes ≡ ok_bytes nonce pass.hi
   pub again : pass.ended < told.event → IsSaidInDeed told.node told.client line (slice_get history told.event)
 
--- each answer that was offered and begins as an OK does
+-- each offered answer that begins as an OK belongs to an acceptance
 abbrev pub AnswerTruly : Setting → List Deed → Type 0
 AnswerTruly setting history =
     (i : ℕ) (told : Told) → slice_get (answered_in setting history) i ≡ Some told → IsOk told.bytes

@@ -1,4 +1,5 @@
--- After faults: a stretch of a history in which live members tick and hear each other, and nothing else comes to them.
+-- The recovery after faults: a part of a history in which live members tick and take each other's floors, and take
+-- nothing else. Floor: the first free factor of a token at a node.
 use Rattle.std.specs.Prelude.{◌≡◌, ℕ, zero, suc, ◌+◌, ◌&&◌, ◌<◌, max, not, Bool, true, false, List, [], ◌∷◌, ◌++◌, length, map, Some}
 use Rattle.std.specs.List.{filter}
 use Rattle.vote_core.specs.Rows.{row}
@@ -10,7 +11,7 @@ use Rattle.cluster_law.specs.Lives.{Deed, Takes, Offers, Handout, Datagram, Time
 
 -- ---- Live members
 
--- a node is a member, and has a process that isn't stopped
+-- a member with a running process
 pub record IsLive (setting : Setting) (scene : Scene) (node : ℕ) : Type 0 where
   pub member : is_member (nodes_of setting) node ≡ true
   pub state : NodeState
@@ -18,56 +19,56 @@ pub record IsLive (setting : Setting) (scene : Scene) (node : ℕ) : Type 0 wher
   pub is_up : scene.sites node ≡ Up state waiting
   pub running : state.running ≡ true
 
--- each of these nodes is
+-- each of the nodes is a member with a running process
 abbrev pub AreLive : Setting → List ℕ → Scene → Type 0
 AreLive setting live scene = (node : ℕ) → is_live live node ≡ true → IsLive setting scene node
 
--- the first free factor that the store of a node holds of a token
+-- the floor of a token in the node's store
 abbrev pub next_in : Scene → ℕ → ℕ → ℕ
 next_in scene node token = (row (content_at (scene.sites node)) token).next
 
--- the greatest first free factor that the store of one of these nodes holds of a token
+-- the greatest floor of a token in the stores of the nodes
 abbrev pub greatest_in : List ℕ → Scene → ℕ → ℕ
 greatest_in [] scene token = 0
 greatest_in (node ∷ nodes) scene token = max (next_in scene node token) (greatest_in nodes scene token)
 
 -- ---- A sweep
 
--- the deed offers
+-- the action is an offer
 abbrev pub is_offer : Deed → Bool
 is_offer (Offers node) = true
 is_offer _ = false
 
--- the deed is one of a live member, and no offer
+-- the action is a live member's, and not an offer
 abbrev pub is_step_of : List ℕ → Deed → Bool
 is_step_of live deed = is_live live (node_of_deed deed) && not (is_offer deed)
 
--- the envelopes that a process with this site sends in a tick
+-- the envelopes that the site's process sends in a tick
 abbrev pub sent_by_tick : Setting → ℕ → Site → List Envelope
 sent_by_tick setting node (Down content) = []
 sent_by_tick setting node (Up state waiting) = map (envelope_from node) (made_by_input setting node Time state).sends
 
--- these deeds are that the receiver of each of these envelopes takes it, from the address of this node, in turn
+-- the actions are the receivers of the envelopes taking them, in turn, from the node's address
 abbrev pub AreTaken : List ℕ → ℕ → List Envelope → List Deed → Type 0
 AreTaken key node [] deeds = deeds ≡ []
 AreTaken key node (envelope ∷ envelopes) deeds =
     (bytes : List ℕ) × (rest : List Deed) × (envelope_at key bytes ≡ Some envelope)
     × (deeds ≡ Takes envelope.receiver (Datagram node bytes) ∷ rest) × AreTaken key node envelopes rest
 
--- these deeds are a tick of the node, and that live members take what it tells them of its first free factors
+-- the actions are a tick of the node, and live members taking the floors that it tells them
 abbrev pub IsTick : Setting → List ℕ → Scene → ℕ → List Deed → Type 0
 IsTick setting live scene node deeds =
     (taken : List Deed) × (deeds ≡ Takes node Time ∷ taken)
     × AreTaken setting.key node (filter (is_floor_to live) (sent_by_tick setting node (scene.sites node))) taken
 
--- these deeds, the first of which has this number, are so many such ticks of the node
+-- `deeds`, numbered from `first`, are the given number of ticks of `node`
 abbrev pub IsTurn : Setting → List ℕ → ℕ → ℕ → Scene → ℕ → List Deed → Type 0
 IsTurn setting live zero first scene node deeds = deeds ≡ []
 IsTurn setting live (suc ticks) first scene node deeds =
     (one : List Deed) × (rest : List Deed) × (deeds ≡ one ++ rest) × IsTick setting live scene node one
     × IsTurn setting live ticks (length one + first) (scene_after setting first one scene) node rest
 
--- these deeds are a turn of each of these nodes: as many ticks as there are tokens, and at least 8
+-- the actions are a turn of each of the nodes: one tick for each token, and at least 8 ticks
 abbrev pub AreTurns : Setting → List ℕ → ℕ → Scene → List ℕ → List Deed → Type 0
 AreTurns setting live first scene [] deeds = deeds ≡ []
 AreTurns setting live first scene (node ∷ nodes) deeds =
@@ -75,21 +76,21 @@ AreTurns setting live first scene (node ∷ nodes) deeds =
     × IsTurn setting live (max (length setting.config.book) 8) first scene node one
     × AreTurns setting live (length one + first) (scene_after setting first one scene) nodes rest
 
--- A sweep: what live members do in this stretch, offers aside, is a turn of each of them. What other nodes do is free.
+-- A sweep: without offers, the actions of live members are a turn of each of them. Other nodes may do anything.
 abbrev pub IsSweep : Setting → List ℕ → Scene → List Deed → Type 0
 IsSweep setting live scene stretch = AreTurns setting live 0 scene live (filter (is_step_of live) stretch)
 
--- ---- What it leaves
+-- ---- The effect of a sweep
 
--- The node is live; neither a proposal nor a line waits there; and of each token its store holds the greatest first
--- free factor that the store of a live member held.
+-- The node is live, and neither a proposal nor a line waits there. For each token its store has the greatest floor that
+-- a live member had.
 pub record IsSwept (setting : Setting) (live : List ℕ) (old new : Scene) (node : ℕ) : Type 0 where
   pub is_live : IsLive setting new node
   pub pending : is_live.state.voter.pending ≡ []
   pub owners : is_live.state.owners ≡ []
   pub next : (token : ℕ) → token < length setting.config.book → next_in new node token ≡ greatest_in live old token
 
--- whatever was before, a sweep leaves each live member so
+-- after any history, a sweep leaves each live member swept
 abbrev pub SweepsLevel : Type 0
 SweepsLevel =
     (setting : Setting) (before stretch : List Deed) (live : List ℕ) → IsHistory setting before

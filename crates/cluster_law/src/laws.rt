@@ -1,4 +1,4 @@
-//! What is so of every history of a cluster.
+//! The laws about every history of a cluster. Floor: the first free factor of a token at a node.
 
 ghost use Rattle.std.specs.Prelude.{pos, negsuc, ◌≡◌, ◌⊎◌, ◌+◌, ◌<◌, ◌^◌, ℕ, List, [], ◌∷◌, ◌++◌, length, Option, Some, Result, Ok, Err, None, true, false, map, replicate, take, codes};
 ghost use Rattle.admit_core.specs.Throttle.{Accepted as Passed, Failed, SpacesFailures};
@@ -41,11 +41,12 @@ use floor_store::FloorStore;
 use oath_node::{one_node_answers_as_the_server, rulings_have_grounds};
 use vote_wire::one_spelling;
 
-/// Whatever processes the nodes of a cluster have, one after another, over what the one before left in the store, and
-/// whatever the network, the clocks and the clients do, but for datagrams that are forged under the key: what is
-/// accepted is safe, and what is answered is true.
+/// Safety of processes: in every history of a cluster, acceptances are safe and offered answers are true.
+///
+/// A history contains any sequence of processes over the stores that earlier processes left. The network, the clocks
+/// and the clients may do anything except forge datagrams under the key.
 pub fn lives_are_worlds()
-    // A history is a run of the written world, event by event.
+    // Every history is a run of the world, event by event.
     ensures world { (setting : Setting) (history : List Deed) → IsHistory setting history
         → (events : List WorldEvent) × IsRunOf setting history events }
     ensures single_use { (setting : Setting) (history : List Deed) → IsHistory setting history
@@ -59,14 +60,15 @@ pub fn lives_are_worlds()
     // The failures of a token at a node are far apart.
     ensures spaced { (setting : Setting) (history : List Deed) (node token : ℕ) → IsHistory setting history
         → SpacesFailures (results_in (scene_of setting history).notes node token) }
-    // Each answer that a process offered and that begins as an `OK` belongs to an acceptance of its node, whose line
-    // its client sent there.
+    // Each offered answer that begins as an `OK` belongs to an acceptance of its node. The answer's client sent the
+    // line of the acceptance there.
     ensures told { (setting : Setting) (history : List Deed) → IsHistory setting history
         → AnswerTruly setting history }
-    // Each acceptance is justified by the line with which it began, by what its store held and had accepted before.
+    // The line with which it began justifies each acceptance, by the content and the acceptances of its store before.
     ensures justified { (setting : Setting) (history : List Deed) → IsHistory setting history
         → JustifiesAll setting history }
-    // Each acceptance that a process lived to take has its `OK`, which was offered, unless that process ended first.
+    // Each acceptance in a step that its process finished has its `OK`. The process offered the `OK` or still has to,
+    // unless it ended first.
     ensures answered { (setting : Setting) (history : List Deed) → IsHistory setting history
         → AnswersAll setting history }
 {
@@ -74,8 +76,9 @@ pub fn lives_are_worlds()
     answers_belong_to_passes();
 }
 
-/// What the processes of a cluster of one node answered is a part, in order, of what the reference server answers to
-/// the lines that they took and whose changes their store kept.
+/// Equivalence: the answers of a single node's processes are a subsequence of the reference server's answers.
+///
+/// The reference server answers the lines that the processes took and whose changes the store kept.
 pub fn one_node_answers_as_the_reference()
     ensures { (config : Config) (key floors : List ℕ) (history : List Deed) → 1 + length history < 2 ^ 62
         → IsHistory (setting_of_one config key floors) history
@@ -84,16 +87,20 @@ pub fn one_node_answers_as_the_reference()
     one_node_answers_as_the_server();
 }
 
-/// Whatever was before: where live members tick and hear each other, and nothing else comes to them, nothing is left
-/// waiting there, and their stores hold the same first free factors: the greatest that one of them held.
+/// Sweeps: after any history, a sweep gives all live members the same floors, and leaves nothing waiting.
+///
+/// In a sweep live members tick and receive each other's floors, and take nothing else. Each floor is then the greatest
+/// that a live member had.
 pub fn sweeps_level_stores()
     ensures { SweepsLevel }
 {
     sweep_levels();
 }
 
-/// Where each datagram with a right tag that comes from the address of the node that it names was offered before, byte
-/// for byte, each says what was offered: so the laws of histories hold.
+/// Unforged bytes: if no datagram is forged, byte for byte, the laws of histories hold.
+///
+/// Only a datagram with a valid tag, from the address of the sender that it names, can be forged. It is unforged if a
+/// node offered exactly its bytes before.
 pub fn unforged_bytes_are_genuine()
     ensures { (setting : Setting) (history : List Deed) → IsSized setting → IsUnforgedHistory setting history
         → IsHistory setting history }
@@ -102,18 +109,18 @@ pub fn unforged_bytes_are_genuine()
     rulings_have_grounds();
 }
 
-/// Over any store, the calls of a node are the deeds of a history.
+/// Calls: over any store, the calls of a node are the actions of a history.
 pub fn calls_are_deeds<S: FloorStore>()
     // A node that `Node::open` opened is the site that its process opened.
     ensures opens { (store : S) (node : Hosted S) → IsOpened S.held store node → (S.held node.store).is_clean
         → IsCount (S.held node.store).content.boot
         → site_opened (S.held store).content ≡ Up (state_of S.held node) [] }
-    // What a stop leaves of a store whose boot was being raised is what a process that failed to open leaves.
+    // The store that a stop leaves while its boot is raised is the store of a process that failed to open.
     ensures half_opens { (store left : S) (result : Result S StoreFault) (content : Content)
         → RaisesBoot S.held store left result → IsSettled (S.held store) → (S.held left).leaves content
         → IsCount content.boot → IsHalfOpened (S.held store).content content }
-    // A node that took an event is the site that took it, and hands out the same; after the commit it is so still, and
-    // a stop leaves its content and nothing else.
+    // A node that took an event is the site that took it, and its outputs are the site's. The commit keeps the node
+    // unchanged. After it a stop leaves only the node's content.
     ensures takes { (setting : Setting) (place : ℕ) (input : Input) (old new : Hosted S) (outputs : OutputsRecord)
         → IsMemberIn setting place old → TakesEvent S.held old new (event_of setting.key input) (Ok outputs)
         → (S.held new.store).is_clean
@@ -127,16 +134,16 @@ pub fn calls_are_deeds<S: FloorStore>()
     ensures commits { (old new : Hosted S) (done : Unit {0}) → CommitsNode S.held old new (Ok done)
         → (S.held new.store).is_clean
         → (state_of S.held new ≡ state_of S.held old) × IsSettled (S.held new.store) }
-    // What a stop before the commit leaves of its store, however the call ends, is what one before the event could
-    // leave, or what the step makes.
+    // A stop before the commit leaves a content that a stop before the event could leave, or the step's content. It
+    // does so for every result of the call.
     ensures stops_before { (setting : Setting) (place : ℕ) (input : Input) (old new : Hosted S)
         (result : Result OutputsRecord NodeFault) (content : Content)
         → IsMemberIn setting place old → TakesEvent S.held old new (event_of setting.key input) result
         → (S.held old.store).is_clean → (S.held new.store).leaves content
         → (S.held old.store).leaves content
         ⊎ (site_cut setting place true input (state_of S.held old) ≡ Down content) }
-    // The same of a node that `Node::handle` took through an event and committed: it is one that took it; and what a
-    // stop leaves of its store in that call is what a process leaves that ended inside the step.
+    // The same holds of a node that `Node::handle` took through an event and committed. A stop in that call leaves the
+    // content that a process leaves if it ends inside the step.
     ensures handles { (setting : Setting) (event place : ℕ) (input : Input) (old new : Hosted S)
         (outputs : OutputsRecord)
         → IsMemberIn setting place old → Handles S.held old new (event_of setting.key input) (Ok outputs)
@@ -150,7 +157,7 @@ pub fn calls_are_deeds<S: FloorStore>()
         → (S.held new.store).is_clean → IsSettled (S.held old.store) → (S.held new.store).leaves content
         → (site_cut setting place false input (state_of S.held old) ≡ Down content)
         ⊎ (site_cut setting place true input (state_of S.held old) ≡ Down content) }
-    // After each call that is answered by Ok a stop leaves what the node's content is, and nothing else.
+    // After each call that returned Ok, a stop leaves only the node's content.
     ensures opens_settled { (store : S) (node : Hosted S) → IsOpened S.held store node
         → (S.held node.store).is_clean → IsSettled (S.held node.store) }
     ensures handles_settled { (setting : Setting) (input : Input) (old new : Hosted S) (outputs : OutputsRecord)
@@ -158,9 +165,10 @@ pub fn calls_are_deeds<S: FloorStore>()
         → (S.held new.store).is_clean → IsSettled (S.held old.store) → IsSettled (S.held new.store) }
 {}
 
-/// Among all that happens in a history, a node whose store is there all the time is what its own deeds make of it; and
-/// where these are those of a process that goes on, it is the run of its turns, and offers what that offers, however
-/// these came in batches.
+/// Turns: in a history, only its own actions change a node whose store stays. The actions of a serving process are the
+/// run of its turns.
+///
+/// The process offers what the run offers, in any division into batches.
 pub fn turns_are_deeds()
     ensures own { (setting : Setting) (node first : ℕ) (deeds : List Deed) (scene : Scene)
         → has_store setting scene node ≡ true → LeaveStore node deeds
@@ -174,13 +182,13 @@ pub fn turns_are_deeds()
         (batches : List (List Receipt)) → AreServing node deeds → TakesTurns setting node deeds (receipts_in batches)
         → let run = run_with_batches (member_in setting node) batches (run_at state) in
         run.end ≡ None → IsServed setting node first deeds state run.node (offers_in run.entries) }
-    // There are such deeds for any turns, and for any part of a batch after them.
+    // Such actions exist for any turns, and for any prefix of a batch after them.
     ensures can_take { (setting : Setting) (node : ℕ) (receipts : List Receipt) → CanTakeTurns setting node receipts }
     ensures can_take_some { (setting : Setting) (node : ℕ) (before batch : List Receipt) (count : ℕ)
         → CanTakeSome setting node before batch count }
 {}
 
-/// What `run_turns` promises of a call over any store and a port that keeps a record, is what a history says of such a
+/// Serving: the promises of `run_turns`, over any store and a recording port, are the history's statements about a
 /// process.
 pub fn served_nodes_are_deeds<S: FloorStore>()
     ensures ok { (setting : Setting) (place : ℕ) (old new : Hosted S) (entries : List PortEvent)
@@ -196,15 +204,15 @@ pub fn served_nodes_are_deeds<S: FloorStore>()
         (asked told : Option (List (Option ℕ))) (turns : ℕ) → IsMemberIn setting place old
         → Serves S.held old new (Some []) (Some entries) asked told turns (Err Clock) → (S.held new.store).is_clean
         → IsEndedNode setting place (state_of S.held old) (state_of S.held new) entries }
-    // A fault of the node: whatever a stop leaves then is what a process leaves that took the first so many events of
-    // the last batch, and stopped before it offered anything of it.
+    // After a fault of the node, a stop leaves the content of a process that took some prefix of the last batch. The
+    // process stopped before it offered anything of that batch.
     ensures node { (setting : Setting) (place : ℕ) (old new : Hosted S) (entries : List PortEvent)
         (asked told : Option (List (Option ℕ))) (turns : ℕ) (fault : NodeFault)
         (content : Content) → IsMemberIn setting place old
         → Serves S.held old new (Some []) (Some entries) asked told turns (Err (Node fault))
         → (S.held new.store).is_clean → IsSettled (S.held old.store) → (S.held new.store).leaves content
         → IsFailedNode setting place (state_of S.held old) entries content }
-    // After all other ends a stop leaves the content of the node that the call left, and nothing else.
+    // After every other end, a stop leaves only the content of the node after the call.
     ensures stops { (old new : Hosted S) (entries : List PortEvent) (asked told : Option (List (Option ℕ)))
         (turns : ℕ) (result : Result Served ServeFault) (content : Content)
         → Serves S.held old new (Some []) (Some entries) asked told turns result
@@ -212,8 +220,7 @@ pub fn served_nodes_are_deeds<S: FloorStore>()
         → IsNoFaultOfNode result → content ≡ (state_of S.held new).content }
 {}
 
-/// Some histories, worked through: a line is accepted once, whatever ends when; what is not offered is not answered;
-/// and what comes where there is no process is lost.
+/// Worked cases.
 pub fn histories_are_worked()
     ensures accepted { accepted_in one_node answers_once ≡ acceptance 1 1 1 0 0 ∷ [] }
     ensures answered { answered_in one_node answers_once ≡ told_outcome 1 1 7 (codes "1") (Accepted 0) ∷ [] }
@@ -229,19 +236,19 @@ pub fn histories_are_worked()
     ensures boots { (content_at ((scene_of one_node (ends_in_the_step true)).sites 1)).boot ≡ 3 }
     ensures nobody { scene_of one_node comes_to_nobody
         ≡ record (first_scene one_node) { sites = (scene_of one_node comes_to_nobody).sites } }
-    // One process a node: where one is, none opens, and none fails to.
+    // A node has one process: while it has one, no other opens or fails to open.
     ensures one_process { answered_in one_node opens_twice ≡ told_outcome 1 1 7 (codes "1") (Accepted 0) ∷ [] }
-    // What is no member does nothing.
+    // A node that is no member does nothing.
     ensures strangers { scene_of one_node strangers ≡ first_scene one_node }
     ensures is_history { IsHistory one_node answers_once }
 {}
 
-/// A history of three nodes, worked through: what two of them do is accepted, whatever became of the third.
+/// Worked cases.
 pub fn history_of_three_is_worked()
     ensures accepted { accepted_in three_nodes granted_by_two ≡ acceptance 2 6 1 0 0 ∷ [] }
     ensures answered { answered_in three_nodes granted_by_two
         ≡ told_outcome 6 1 7 (codes "1") (Accepted 0) ∷ [] }
-    // The answer is offered after what was made before it.
+    // The node offers the answer after the datagrams that it made before.
     ensures answered_last { answered_in three_nodes (take 8 granted_by_two) ≡ [] }
     ensures floor_before { floor_in three_nodes granted_by_two 2 0 4 ≡ 0 }
     ensures floor_after { floor_in three_nodes granted_by_two 2 0 5 ≡ 1 }
@@ -249,18 +256,17 @@ pub fn history_of_three_is_worked()
     ensures is_history { IsHistory three_nodes granted_by_two }
 {}
 
-/// Stores that are lost, and made anew, worked through: one is made at a boot that no process used and with the first
-/// free factors of the others, or not at all; and nothing of the node's former life is there.
+/// Worked cases.
 pub fn losses_are_worked()
     ensures gone { (scene_of uneven_nodes loses_one).sites 1
         ≡ Down (record (made_content uneven_nodes 1) { boot = 2 }) }
     ensures least { (scene_of uneven_nodes loses_one).least 0 ≡ 1 }
     ensures least_of_the_others { (scene_of uneven_nodes (Loses 2 ∷ [])).least 0 ≡ 0 }
-    // Where no store is, nothing happens.
+    // A lost node does nothing.
     ensures nothing_there { scene_of uneven_nodes comes_to_no_store ≡ scene_of uneven_nodes loses_one }
     ensures too_low { scene_of uneven_nodes (made_anew 2 0) ≡ scene_of uneven_nodes loses_one }
     ensures used_boot { scene_of uneven_nodes (made_anew 1 1) ≡ scene_of uneven_nodes loses_one }
-    // The last boot is 2^62 - 1, and none is opened after it.
+    // The last boot is 2^62 - 1, and no process opens after it.
     ensures last_boot { scene_of uneven_nodes (made_anew 4611686018427387903 1) ≡ scene_of uneven_nodes loses_one }
     ensures late_boot { (content_at ((scene_of uneven_nodes (made_anew 4611686018427387902 1)).sites 1)).boot
         ≡ 4611686018427387902 }
@@ -271,7 +277,7 @@ pub fn losses_are_worked()
     ensures made { (scene_of uneven_nodes (made_anew 2 1)).sites 1
         ≡ Down (record (made_content uneven_nodes 2) { boot = 2 }) }
     ensures there_again { (scene_of uneven_nodes (made_anew 2 1)).lost 1 ≡ false }
-    // A process opens it in the next boot, and accepts the next factor.
+    // A process opens the replacement store in the next boot, and accepts the next factor.
     ensures accepted { accepted_in uneven_nodes accepts_anew ≡ acceptance 5 9 1 1 1 ∷ [] }
     ensures result { results_held uneven_nodes fails_and_loses 1 0 2 ≡ Failed 100 ∷ [] }
     ensures result_is_gone { results_held uneven_nodes fails_and_loses 1 0 4 ≡ [] }
@@ -279,9 +285,7 @@ pub fn losses_are_worked()
     ensures drift_is_gone { drift_in clock_nodes drifts_and_loses 1 0 9 ≡ pos 0 }
 {}
 
-/// Stores that were made anew after former lives, worked through: a Grant of a former life counts for nothing at a
-/// store that was made at a boot as late as that life's, and would count at one that was made before, which is no
-/// history; a first free factor that was told in a former life counts.
+/// Worked cases.
 pub fn former_lives_are_worked()
     ensures made { (first_scene (nodes_after (4 ∷ []) grant)).sites 1
         ≡ Down (record (made_content three_nodes 1) { boot = 4 }) }
@@ -298,7 +302,8 @@ pub fn former_lives_are_worked()
     ensures never_sent { IsHistory (nodes_after (1 ∷ []) old_floor) old_grant_comes → ⊥ }
 {}
 
-/// What makes no history: a datagram under the key that its sender has not offered yet, or never. Noise makes one.
+/// Counterexamples: a datagram under the key that its sender never offered, or offers later, makes no history. Noise
+/// makes one.
 pub fn promises_can_be_broken()
     ensures forged { IsHistory three_nodes (grant_from 2) → ⊥ }
     ensures forged_in_a_stop { IsHistory three_nodes stop_in_a_forged_grant → ⊥ }
@@ -306,8 +311,7 @@ pub fn promises_can_be_broken()
     ensures noise { IsHistory three_nodes (grant_from 3) }
 {}
 
-/// The drifts and the results by which an acceptance is justified, worked through; and what justifies none: a deed that
-/// took no line, a line at another node, or in a stop that lost it, or one while the token was closed.
+/// Worked cases.
 pub fn grounds_are_worked()
     ensures line { moment_in_deed (Some (Takes 1 right_line)) ≡ Some 100 }
     ensures line_in_a_stop { moment_in_deed (Some (StopsIn 1 true right_line)) ≡ Some 100 }
@@ -332,7 +336,7 @@ pub fn grounds_are_worked()
     ensures closed { IsJustifiedInDeed one_node hurries (acceptance 2 2 1 0 0) → ⊥ }
 {}
 
-/// What becomes of an answer, worked through: it waits, is offered, or is lost with its process.
+/// Worked cases.
 pub fn answers_are_worked()
     ensures waits { HasYetToOffer first_ok ((scene_of one_node (take 2 answers_once)).sites 1) }
     ensures waits_no_more { HasYetToOffer first_ok ((scene_of one_node answers_once).sites 1) → ⊥ }
@@ -348,7 +352,7 @@ pub fn answers_are_worked()
     ensures loss { EndsProcess 1 (Some (Loses 1)) }
     ensures loss_elsewhere { EndsProcess 1 (Some (Loses 2)) → ⊥ }
     ensures making { EndsProcess 1 (Some (Remakes 1 2 [])) → ⊥ }
-    // What a stop inside a step wrote has no answer, and what was written has one otherwise.
+    // An acceptance written in a stop inside a step has no answer. Every other acceptance has one.
     ensures of_a_stop { IsAnsweredInDeed one_node (ends_in_the_step true) first_pass
         (Some (StopsIn 1 true right_line)) }
     ensures of_a_lost_stop { IsAnsweredInDeed one_node (ends_in_the_step false) first_pass
@@ -367,8 +371,7 @@ pub fn answers_are_worked()
         (Some (Takes 1 right_line)) → ⊥ }
 {}
 
-/// What the reference server tells in a history of one node, worked through: each line that was taken and kept is
-/// answered, a process that opens has forgotten the answers, and no other node is heard.
+/// Worked cases.
 pub fn reference_is_worked()
     ensures once { told_by_reference answers_once ≡ first_ok ∷ [] }
     ensures twice { told_by_reference takes_twice ≡ first_ok ∷ record first_ok { event = 2 } ∷ [] }
@@ -378,7 +381,7 @@ pub fn reference_is_worked()
     ensures lost { told_by_reference (ends_in_the_step false) ≡ told_outcome 5 1 7 (codes "1") (Accepted 0) ∷ [] }
     ensures nobody { told_by_reference comes_to_nobody ≡ [] }
     ensures strangers { told_by_reference among_strangers ≡ record first_ok { event = 3 } ∷ [] }
-    // No store is made for it while its own is there, nor after that.
+    // The node gets no replacement store, neither while it has its store nor after the loss.
     ensures loss { told_by_reference (Opens 1 ∷ Takes 1 right_line ∷ Loses 1 ∷ Opens 1 ∷ Takes 1 right_line ∷ [])
         ≡ first_ok ∷ [] }
     ensures loss_elsewhere { told_by_reference (Loses 2 ∷ Opens 1 ∷ Takes 1 right_line ∷ [])
@@ -391,8 +394,7 @@ pub fn reference_is_worked()
     ensures number { IsPartOf (first_ok ∷ first_ok ∷ []) (first_ok ∷ []) → ⊥ }
 {}
 
-/// What a node takes, worked through: turns come to it as lines, datagrams and ticks, in order, with as many events of
-/// a last batch as it kept; what other nodes take is none of it, and neither is what a process ended in.
+/// Worked cases.
 pub fn takes_are_worked()
     ensures turns { TakesTurns one_node 1 (Takes 1 right_line ∷ Offers 1 ∷ Takes 2 Time ∷ Takes 1 Time ∷ [])
         (right_receipt ∷ Nothing ∷ []) }
@@ -408,14 +410,13 @@ pub fn takes_are_worked()
     ensures opens { AreServing 1 (Opens 1 ∷ []) → ⊥ }
     ensures loses { AreServing 1 (Loses 1 ∷ []) → ⊥ }
     ensures makes { AreServing 1 (Remakes 1 2 [] ∷ []) → ⊥ }
-    // A store stays where nothing takes it away or makes it anew.
+    // A store stays if no action loses or replaces it.
     ensures leaves { LeaveStore 1 (Opens 1 ∷ StopsIn 1 true right_line ∷ Loses 2 ∷ Remakes 2 2 [] ∷ []) }
     ensures loses_the_store { LeaveStore 1 (Loses 1 ∷ []) → ⊥ }
     ensures makes_the_store { LeaveStore 1 (Remakes 1 2 [] ∷ []) → ⊥ }
 {}
 
-/// Parts of a sweep, worked through: a tick whose first free factor the other live member takes is one, and one that it
-/// doesn't take is none; offers and other nodes count for nothing; and a turn has as many ticks as are asked for.
+/// Worked cases.
 pub fn sweeps_are_worked()
     ensures tick { IsTick three_nodes (1 ∷ 2 ∷ []) two_open 1 (Takes 1 Time ∷ Takes 2 floor_comes ∷ []) }
     ensures not_taken { IsTick three_nodes (1 ∷ 2 ∷ []) two_open 1 (Takes 1 Time ∷ []) → ⊥ }
@@ -429,8 +430,7 @@ pub fn sweeps_are_worked()
     ensures greatest_of_the_first { greatest_in (2 ∷ 3 ∷ []) (scene_of three_nodes (take 5 granted_by_two)) 0 ≡ 1 }
 {}
 
-/// What breaks what is said of a process: of one that failed to open, of one that goes on, of what a stop leaves, and
-/// of a call that serves it, for which no choice of batches will do.
+/// Counterexamples: each promise of a process fails for a minimal one, with every choice of batches.
 pub fn promises_of_processes_can_be_broken()
     ensures half_open { IsHalfOpened (content_of_boot 3) (content_of_boot 4) }
     ensures half_open_at_a_later_boot { IsHalfOpened (content_of_boot 3) (content_of_boot 5) → ⊥ }
@@ -441,19 +441,18 @@ pub fn promises_of_processes_can_be_broken()
     ensures stopped { IsStopped one_node 1 0 [] quiet_node [] (content_of_boot 1) }
     ensures stopped_with_an_entry_more { IsStopped one_node 1 0 [] quiet_node (Quiet ∷ []) (content_of_boot 1) → ⊥ }
     ensures stopped_at_a_later_boot { IsStopped one_node 1 0 [] quiet_node [] (content_of_boot 5) → ⊥ }
-    // A tick was made, and nothing was received.
+    // A tick without a receive.
     ensures ticked_unasked { IsServedNode three_nodes 1 (just_opened three_nodes) tick_made.state told_by_tick → ⊥ }
     ensures ended_after_it_ticked_unasked { IsEndedNode three_nodes 1 (just_opened three_nodes) tick_made.state
         told_by_tick → ⊥ }
-    // A quiet turn was received, and no tick was made.
+    // A quiet turn without a tick.
     ensures never_ticked { IsServedNode three_nodes 1 (just_opened three_nodes) (just_opened three_nodes)
         (Quiet ∷ []) → ⊥ }
-    // A line was taken, and nothing was received.
+    // A line without a receive.
     ensures failed_with_a_line_unasked { IsFailedNode one_node 1 (just_opened one_node) [] content_with_pass → ⊥ }
 {}
 
-/// What breaks what is said of an answer: another node, client or nonce of its line, a line that was lost, and another
-/// acceptance, or none.
+/// Counterexamples: each promise of an answer fails for a minimal one.
 pub fn answers_can_be_broken()
     ensures asked { IsAskedInDeed 1 7 right_text (codes "1") (Some (Takes 1 right_line)) }
     ensures asked_at_another_node { IsAskedInDeed 2 7 right_text (codes "1") (Some (Takes 1 right_line)) → ⊥ }
@@ -478,8 +477,7 @@ pub fn answers_can_be_broken()
     ensures told_again_unasked { BelongsToAcceptance one_node answers_once (record first_ok { event = 2 }) → ⊥ }
 {}
 
-/// What breaks what a sweep leaves: a node that is no member or has no process, what waits there, and a first free
-/// factor that differs.
+/// Counterexamples: each promise of a sweep fails for a minimal one.
 pub fn sweeps_can_be_broken()
     ensures stranger { IsLive one_node (with_process quiet_node) 2 → ⊥ }
     ensures swept { IsSwept one_node (1 ∷ []) one_open one_open 1 }
@@ -489,8 +487,7 @@ pub fn sweeps_can_be_broken()
     ensures factor_ahead { IsSwept one_node (1 ∷ []) one_open (scene_of one_node answers_once) 1 → ⊥ }
 {}
 
-/// What breaks that a history is a run of the written world: another act for an input, another event for a deed, an
-/// event without a deed, another first free factor, an answer that the run doesn't tell, and an acceptance of no run.
+/// Counterexamples: histories that are not runs of the world.
 pub fn runs_can_be_broken()
     ensures tick_for_a_line { IsActOf [] 1 right_line (Ticks 1) → ⊥ }
     ensures tick_at_another_node { IsActOf [] 1 Time (Ticks 2) → ⊥ }
@@ -510,14 +507,14 @@ pub fn runs_can_be_broken()
     ensures another_event { HasEvent [] (Stops 1) 0 (Restart 1 ∷ []) → ⊥ }
     ensures run_with_an_event_more { IsRunOf one_node [] (nothing ∷ []) → ⊥ }
     ensures run_with_another_event { IsRunOf one_node (Stops 1 ∷ []) (Restart 1 ∷ []) → ⊥ }
-    // The acts are those of its inputs, and what they make of the nodes is not the same.
+    // The acts are those of its inputs, but their effects on the nodes differ.
     ensures run_with_another_floor { IsRunOf two_floors old_floor_comes second_floor_comes → ⊥ }
     ensures run_without_the_answer { IsRunOf late_node answers_late stops_late → ⊥ }
-    // The Grant that is accepted was never sent.
+    // No node ever sent the accepted Grant.
     ensures explained_by_no_run { IsExplained three_nodes old_grant_comes → ⊥ }
 {}
 
-/// Parts of deeds, worked through: boots, and what is handed out in which order.
+/// Worked cases.
 pub fn deeds_are_worked()
     // The last boot is 2^62 - 1.
     ensures opens_before_the_last { site_opened (content_of_boot 4611686018427387902)
@@ -529,7 +526,7 @@ pub fn deeds_are_worked()
     ensures half_opens_no_more { site_half_opened true (content_of_boot 4611686018427387903)
         ≡ Down (content_of_boot 4611686018427387903) }
     ensures opens_in_vain { site_half_opened false (content_of_boot 3) ≡ Down (content_of_boot 3) }
-    // Datagrams are handed out before answers, and one at a time.
+    // A node hands out datagrams before answers, one at a time.
     ensures handed_out { handouts_of 5 1 tells_both ≡ floor_out ∷ answer_out ∷ [] }
     ensures first_offered { offers_by (Offers 1) (Up quiet_node (floor_out ∷ answer_out ∷ [])) ≡ floor_out ∷ [] }
     ensures rest_waits { site_offered quiet_node (floor_out ∷ answer_out ∷ []) ≡ Up quiet_node (answer_out ∷ []) }

@@ -1,5 +1,7 @@
-//! The lives of the nodes of a cluster: every history of processes that open stores, serve and end at any moment is a
-//! run of the written world, so that what is promised of its runs holds of what these processes accepted and answered.
+//! The histories of a cluster, and the laws about all of them.
+//!
+//! In a history processes open the stores of nodes, serve, and end at any moment. Every history is a run of the world.
+//! So the promises about runs hold for everything that the processes accepted and answered.
 #![tactic(auto)]
 
 mod laws;

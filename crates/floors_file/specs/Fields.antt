@@ -1,4 +1,4 @@
--- The fields of a line, between single spaces, and the numbers that they are.
+-- The fields of a line, divided by single spaces, and their numbers.
 use Rattle.std.specs.Prelude.{ℕ, ◌==◌, ◌-◌, ◌^◌, ◌&&◌, nat_lt, Bool, false, List, [], ◌∷◌, length, Option, Some, None, Result, Ok, Err, if◌then◌else◌}
 use Rattle.std.specs.Borrow.{Bor}
 use Rattle.std.specs.Char.{is_ascii_digit}
@@ -7,27 +7,27 @@ use Rattle.field_text.specs.Number.{number_of}
 use Rattle.floors_file.specs.declared.fault.LineFault.{LineFault}
 use Rattle.floors_file.specs.declared.fault.LineFault.TheVariants.{MissingField, SurplusField, Number}
 
--- what comes next, where there is no fault before it
+-- the result of the next step, or the first fault
 infixl 10 ◌>>=◌
 abbrev pub ◌>>=◌ : {A B E : Type 0} → Result A E → (A → Result B E) → Result B E
 Ok x >>= next = next x
 Err fault >>= next = Err fault
 
--- the fields of a line: what stands before, between and behind its spaces
+-- the fields of a line: the parts before, between and after its spaces
 abbrev pub fields_of : List ℕ → List (List ℕ)
 fields_of line = slice_split (λ byte. byte == 32) line
 
--- the fields of what stands behind a space; behind the last field there are none
+-- the fields of the rest after a space; after the last field there are no fields
 abbrev pub fields_left : Option (Bor (List ℕ)) → List (List ℕ)
 fields_left None = []
 fields_left (Some rest) = fields_of rest.now
 
--- the first field, and those behind it
+-- the first field, and the fields after it
 abbrev pub next_field : List (List ℕ) → Result (List ℕ × List (List ℕ)) LineFault
 next_field [] = Err MissingField
 next_field (field ∷ fields) = Ok (field, fields)
 
--- whether a number is written with a zero before it
+-- whether a number has a leading zero
 abbrev pub has_leading_zero : List ℕ → Bool
 has_leading_zero [] = false
 has_leading_zero (digit ∷ []) = false
@@ -37,30 +37,30 @@ has_leading_zero (digit ∷ next ∷ digits) = digit == 48
 abbrev pub is_digits : List ℕ → Bool
 is_digits text = list_all is_ascii_digit text && nat_lt 0 (length text)
 
--- a number below 2^64, or 2^64 - 1 in the place of any other, which is above the range of each field too
+-- a number below 2^64, or 2^64 - 1 for any other, which is above the range of each field too
 abbrev pub or_most : Option ℕ → ℕ
 or_most None = 2 ^ 64 - 1
 or_most (Some number) = number
 
--- the number that decimal digits are, without leading zeros
+-- the number of decimal digits without leading zeros, or None
 abbrev pub plain_number : List ℕ → Option ℕ
 plain_number text =
     if has_leading_zero text then None
     else if is_digits text then Some (or_most (number_of text))
     else None
 
--- a number that was read, with the fields behind it
+-- a number that was read, with the fields after it
 abbrev pub with_fields : Option ℕ → List (List ℕ) → Result (ℕ × List (List ℕ)) LineFault
 with_fields None fields = Err Number
 with_fields (Some number) fields = Ok (number, fields)
 
--- the number of the first field, and the fields behind it
+-- the number of the first field, and the fields after it
 abbrev pub number_field : List (List ℕ) → Result (ℕ × List (List ℕ)) LineFault
 number_field fields = do
   field ← next_field fields
   with_fields (plain_number field.0) field.1
 
--- a number behind which nothing stands
+-- the number, if no field follows it
 abbrev pub with_none : ℕ → List (List ℕ) → Result ℕ LineFault
 with_none number [] = Ok number
 with_none number (field ∷ fields) = Err SurplusField
@@ -71,13 +71,13 @@ last_number fields = do
   number ← number_field fields
   with_none number.0 number.1
 
--- a field that the code read, with what is behind it
+-- the value of a field with the rest after it, or the fault
 abbrev pub field_value :
     Result (Bor (List ℕ) × Option (Bor (List ℕ))) LineFault → Result (List ℕ × List (List ℕ)) LineFault
 field_value (Ok field) = Ok (field.0.now, fields_left field.1)
 field_value (Err fault) = Err fault
 
--- a number that the code read, with what is behind it
+-- the value of a number with the rest after it, or the fault
 abbrev pub number_value : Result (ℕ × Option (Bor (List ℕ))) LineFault → Result (ℕ × List (List ℕ)) LineFault
 number_value (Ok number) = Ok (number.0, fields_left number.1)
 number_value (Err fault) = Err fault

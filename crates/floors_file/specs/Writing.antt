@@ -18,7 +18,7 @@ head_text head tokens =
 unfoldable pub row_text : FloorRecord → List ℕ
 row_text row = row.user ++ 32 ∷ decimal row.next ++ 10 ∷ []
 
--- the line of a row of the code
+-- the line of a row's value
 abbrev pub floor_text : Floor → List ℕ
 floor_text floor = row_text (floor_value floor)
 
@@ -26,14 +26,14 @@ floor_text floor = row_text (floor_value floor)
 abbrev pub floors_text : FloorsRecord → List ℕ
 floors_text floors = head_text floors.head (length floors.rows) ++ flat_map row_text floors.rows
 
--- rows of users, of which none stands among the rows before it
+-- rows of users, each of whom is in no row before
 abbrev pub AreRows : List FloorRecord → List FloorRecord → Type 0
 AreRows before [] = Unit {0}
 AreRows before (row ∷ rows) =
     (is_word row.user ≡ true) × (row.next ≤ 2 ^ 62) × (has_user row.user before ≡ false)
     × AreRows (before ++ row ∷ []) rows
 
--- what a floors file can say: numbers in their ranges, at most 10,000 rows, each of another user
+-- the ranges of a floors file: numbers in their ranges, at most 10,000 rows, distinct users
 pub record AreFloors (floors : FloorsRecord) : Type 0 where
   pub head : is_head (record { head = floors.head; tokens = length floors.rows }) ≡ true
   pub rows : AreRows [] floors.rows

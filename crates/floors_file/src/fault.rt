@@ -1,22 +1,22 @@
 use thiserror::Error;
 
-/// Why no floors are read from a floors file, and the line that was being read.
+/// The fault of a floors file, with the line that was read.
 #[derive(Clone, Copy, Debug, PartialEq, Eq, Error)]
 #[error("line {line}: {kind}")]
 pub struct FloorsFault {
     /// The number of the line, from 1.
     pub line: u64,
-    /// What is wrong there.
+    /// The fault of the line.
     pub kind: LineFault,
 }
 
-/// What is wrong at a line of a floors file.
+/// A fault at a line of a floors file.
 #[derive(Clone, Copy, Debug, PartialEq, Eq, Error)]
 pub enum LineFault {
     /// The first line doesn't begin with the word `floors`.
     #[error("NotFloors")]
     NotFloors,
-    /// The first line is of another version than 1.
+    /// The version of the first line is not 1.
     #[error("Version")]
     Version,
     /// The line has too few fields.
@@ -25,28 +25,28 @@ pub enum LineFault {
     /// The line has too many fields.
     #[error("SurplusField")]
     SurplusField,
-    /// A field is no number in decimal digits without leading zeros.
+    /// A field is not a number in decimal digits without leading zeros.
     #[error("Number")]
     Number,
-    /// A number is out of its range, as any from 2^64 on is.
+    /// A number is out of its range. Every number from 2^64 on is.
     #[error("Range")]
     Range,
-    /// The user is no name of 1 to 64 bytes without blanks.
+    /// The user is not a name of 1 to 64 bytes without blanks.
     #[error("UserName")]
     UserName,
-    /// A line before is the user's.
+    /// An earlier line has the same user.
     #[error("Twice")]
     Twice,
-    /// The file ends before the last row that its first line tells of.
+    /// The file ends before the last row that its first line announces.
     #[error("TooFew")]
     TooFew,
-    /// The file has more rows than its first line tells of.
+    /// The file has more rows than its first line announces.
     #[error("TooMany")]
     TooMany,
     /// No LF ends the line.
     #[error("NoEnd")]
     NoEnd,
-    /// No memory was left for a row.
+    /// The allocator refused the memory for a row.
     #[error("out of memory")]
     Memory,
 }

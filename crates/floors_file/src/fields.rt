@@ -6,7 +6,7 @@ ghost use Rattle.floors_file.specs.Fields.{field_value, fields_left, has_leading
 use crate::fault::LineFault;
 use field_text::{cut_at, read_number};
 
-/// The first field, and what stands behind its space. What is behind the last field is none.
+/// Returns the first field, and the rest after its space. The rest after the last field is None.
 pub(crate) fn next_field(rest: Option<&[u8]>) -> Result<(&[u8], Option<&[u8]>), LineFault>
     ensures { field_value result ≡ next_field (fields_left rest.entry) }
 {
@@ -19,7 +19,7 @@ pub(crate) fn next_field(rest: Option<&[u8]>) -> Result<(&[u8], Option<&[u8]>), 
     }
 }
 
-/// Whether a number is written with a zero before it.
+/// Returns whether a number has a leading zero.
 fn has_leading_zero(text: &[u8]) -> bool
     ensures { result ≡ has_leading_zero text.now }
 {
@@ -43,8 +43,9 @@ fn is_digits(text: &[u8]) -> bool
     has_only_digits(text) && text.len() > 0
 }
 
-/// Returns the number that decimal digits are, or None if the text is not digits alone or has a leading zero. A number
-/// from 2^64 on is 2^64 - 1, which is above the range of each field too.
+/// Returns the number of decimal digits, or None if the text is not digits alone or has a leading zero.
+///
+/// Returns 2^64 - 1 for a number from 2^64 on, which is above the range of each field too.
 fn read_plain(text: &[u8]) -> Option<u64>
     ensures { result ≡ plain_number text.now }
 {
@@ -57,7 +58,7 @@ fn read_plain(text: &[u8]) -> Option<u64>
     }
 }
 
-/// The number of the first field, and what stands behind it.
+/// Returns the number of the first field, and the rest after it.
 pub(crate) fn number_field(rest: Option<&[u8]>) -> Result<(u64, Option<&[u8]>), LineFault>
     ensures { number_value result ≡ number_field (fields_left rest.entry) }
 {
@@ -68,7 +69,7 @@ pub(crate) fn number_field(rest: Option<&[u8]>) -> Result<(u64, Option<&[u8]>), 
     }
 }
 
-/// The number of the last field.
+/// Returns the number of the last field.
 pub(crate) fn last_number(rest: Option<&[u8]>) -> Result<u64, LineFault>
     ensures { result ≡ last_number (fields_left rest.entry) }
 {

@@ -13,97 +13,97 @@ use std::alloc::{AllocError, Global};
 use thiserror::Error;
 use token_file::{Book, Token, TokenId};
 
-/// What is asked of each floors file.
+/// The conditions on each floors file.
 #[derive(Clone, Copy, Debug)]
 pub struct Asked {
-    /// The moment from which on it was read, in seconds since 1970-01-01 00:00:00 UTC.
+    /// The moment from which on the file must have been read, in seconds since 1970-01-01 00:00:00 UTC.
     pub since: u64,
-    /// The boot of the new store, which is above its own.
+    /// The boot of the new store, which must be above the boot of each file.
     pub boot: u64,
 }
 
-/// What is wrong with one of several floors files.
+/// The fault of one of several floors files.
 #[derive(Clone, Copy, Debug, PartialEq, Eq, Error)]
 pub enum FileFault {
-    /// Its node is one of the lost ones.
+    /// The file's node is one of the lost ones.
     #[error("IsLost")]
     IsLost,
     /// A later file is of the same node.
     #[error("SameNode")]
     SameNode,
-    /// It tells of another number of members than the first file.
+    /// The file's number of members differs from the first file's.
     #[error("Members")]
     Members,
-    /// It was read before the moment asked.
+    /// The file was read before the required moment.
     #[error("Older")]
     Older,
-    /// The new boot is not above its node's. The clock is behind.
+    /// The new boot is not above the boot of the file's node. The clock is behind.
     #[error("Boot")]
     Boot,
-    /// It lacks the user of this token of the users file, from 1.
+    /// The file lacks the user of the token with the number, from 1, of the users file.
     #[error("NoFloor {0}")]
     NoFloor(usize),
-    /// The user of this line, from 1, is not in the users file.
+    /// The user of the file's line with the number, from 1, is not in the users file.
     #[error("line {0}: NoUser")]
     NoUser(usize),
 }
 
-/// Why floors files, together, don't tell enough to make a store.
+/// The reason why floors files are insufficient to create a store.
 #[derive(Clone, Copy, Debug, PartialEq, Eq, Error)]
 pub enum FilesFault {
     /// The file with this number, from 1, has a fault.
     #[error("floors {0}: {1}")]
     File(usize, FileFault),
-    /// The node whose store is to be made is not one of the lost ones.
+    /// The node whose store is replaced is not one of the lost ones.
     #[error("floors: NotLost")]
     NotLost,
-    /// This node is neither lost nor has a file.
+    /// The node is neither lost nor has a file.
     #[error("floors: Missing {0}")]
     Missing(u8),
-    /// A lost node is named twice, or is no member.
+    /// A lost node is named twice, or is not a member.
     #[error("floors: Surplus")]
     Surplus,
-    /// Those without a file make a majority.
+    /// The nodes without a file are a majority.
     #[error("floors: TooManyLost")]
     TooManyLost,
 }
 
-/// Whether a node is one of some.
+/// Returns whether `node` is one of `nodes`.
 fn is_among(node: u8, nodes: &[u8]) -> bool
     ensures { result ≡ is_among node nodes.now }
 {
     nodes.iter().any(|other| *other == node)
 }
 
-/// Whether one of some files is a node's, file by file.
+/// Returns whether one of the files is a node's, file by file.
 fn has_node(node: u8, files: &[Floors<'_>]) -> bool
     ensures { result ≡ list_any (λ file. file.head.node == node) files.now }
 {
     files.iter().any(|file| file.head.node == node)
 }
 
-/// Whether one of some files is a node's.
+/// Returns whether one of the files is a node's.
 fn is_of_files(node: u8, files: &[Floors<'_>]) -> bool
     ensures { result ≡ is_of_files node (map floors_value files.now) }
 {
     has_node(node, files)
 }
 
-/// Whether one of some files has a user, file by file.
+/// Returns whether one of the files has a user, file by file.
 fn has_file(user: &[u8], files: &[Floors<'_>]) -> bool
     ensures { result ≡ list_any (λ file. has_user user.now (map floor_value file.rows.items)) files.now }
 {
     files.iter().any(|file| has_user(user, &file.rows))
 }
 
-/// Whether one of some files has a user.
+/// Returns whether one of the files has a user.
 fn is_in_files(user: &[u8], files: &[Floors<'_>]) -> bool
     ensures { result ≡ is_in_files user.now (map floors_value files.now) }
 {
     has_file(user, files)
 }
 
-/// What is wrong with the head of a file.
+/// Returns the fault of a file's head, or None.
 fn head_fault(
     asked: Asked,
     lost: &[u8],
@@ -131,14 +131,14 @@ fn head_fault(
     None
 }
 
-/// Whether rows lack a user that they must have.
+/// Returns whether rows lack a user that they must have.
 fn lacks(is_same: bool, files: &[Floors<'_>], rows: &[Floor<'_>], token: &Token) -> bool
     ensures { result ≡ lacks is_same (map floors_value files.now) (map floor_value rows.now) token.now }
 {
     !has_user(token.name(), rows) && (is_same || is_in_files(token.name(), files))
 }
 
-/// The token with a number, from 0.
+/// Returns the token with the number `number`, from 0.
 fn token_at(book: &Book, number: usize) -> &Token
     requires within { number < length book.now }
     requires few { length book.now ≤ 10000 }
@@ -147,7 +147,7 @@ fn token_at(book: &Book, number: usize) -> &Token
     book.token(TokenId::new(number as u32).unwrap())
 }
 
-/// The first token of a book whose user rows lack and must have.
+/// Returns the first token of a book whose user the rows must have and lack, or None.
 fn first_lacking(
     is_same: bool,
     book: &Book,
@@ -167,14 +167,14 @@ fn first_lacking(
     None
 }
 
-/// Whether a row's user is not in the users file.
+/// Returns whether a row's user is not in the users file.
 fn is_stranger(book: &Book, row: &Floor<'_>) -> bool
     ensures { result ≡ is_stranger book.now (floor_value row.now) }
 {
     book.find(row.user).is_none()
 }
 
-/// The first row whose user is not in the users file.
+/// Returns the first row whose user is not in the users file, or None.
 fn first_stranger(book: &Book, rows: &[Floor<'_>]) -> Option<usize>
     ensures within { IfSome result (λ row. row < length rows.now) }
     ensures place { result ≡ position_from (λ row. is_stranger book.now (floor_value row)) 0 rows.now }
@@ -182,7 +182,7 @@ fn first_stranger(book: &Book, rows: &[Floor<'_>]) -> Option<usize>
     rows.iter().position(|row| is_stranger(book, row))
 }
 
-/// The line of the first row whose user is not in the users file.
+/// Returns the line of the first row whose user is not in the users file, or None.
 fn stranger_line(book: &Book, rows: &[Floor<'_>]) -> Option<usize>
     ensures { result
         ≡ option_map (λ row. row + 2) (position_from (is_stranger book.now) 0 (map floor_value rows.now)) }
@@ -193,7 +193,7 @@ fn stranger_line(book: &Book, rows: &[Floor<'_>]) -> Option<usize>
     }
 }
 
-/// What is wrong with the rows of a file.
+/// Returns the fault of a file's rows, or None.
 fn rows_fault(
     is_same: bool,
     book: &Book,
@@ -215,7 +215,7 @@ fn rows_fault(
     }
 }
 
-/// What is wrong with a file.
+/// Returns the fault of a file, or None.
 fn file_fault(
     asked: Asked,
     lost: &[u8],
@@ -239,7 +239,7 @@ fn file_fault(
     rows_fault(is_same, book, files, &file.rows)
 }
 
-/// How many members there are, by the first file.
+/// Returns the number of members, by the first file.
 fn members_of(files: &[Floors<'_>]) -> u8
     ensures { result ≡ members_of (map floors_value files.now) }
 {
@@ -249,7 +249,7 @@ fn members_of(files: &[Floors<'_>]) -> u8
     }
 }
 
-/// The first file with a fault.
+/// Returns the first file with a fault, or None.
 fn files_fault(
     asked: Asked,
     lost: &[u8],
@@ -271,14 +271,14 @@ fn files_fault(
     None
 }
 
-/// Whether a node is lost or has a file.
+/// Returns whether a node is lost or has a file.
 fn is_there(node: u8, lost: &[u8], files: &[Floors<'_>]) -> bool
     ensures { result ≡ (is_among node lost.now || is_of_files node (map floors_value files.now)) }
 {
     is_among(node, lost) || is_of_files(node, files)
 }
 
-/// The first member that is neither lost nor has a file.
+/// Returns the first member that is neither lost nor has a file, or None.
 fn first_missing(lost: &[u8], files: &[Floors<'_>], members: u8) -> Option<FilesFault>
     ensures { result ≡ missing_from lost.now (map floors_value files.now) 1 members }
 {
@@ -291,7 +291,7 @@ fn first_missing(lost: &[u8], files: &[Floors<'_>], members: u8) -> Option<Files
     None
 }
 
-/// Whether each majority of so many members has one of so many nodes.
+/// Returns whether each majority of `members` members has one of `count` nodes.
 fn is_enough(members: u8, count: usize) -> bool
     ensures { result ≡ is_enough members count }
 {
@@ -299,7 +299,9 @@ fn is_enough(members: u8, count: usize) -> bool
     (count > members || members < count + (members / 2 + 1)) && 1 <= count
 }
 
-/// Whether lost nodes and files are as many as members, and fewer than a majority are lost.
+/// Returns the fault of the numbers of lost nodes and files, or None.
+///
+/// Together they must be the members, and fewer than a majority may be lost.
 fn count_fault(members: u8, lost: usize, count: usize) -> Option<FilesFault>
     ensures { result ≡ count_fault members lost count }
 {
@@ -314,12 +316,14 @@ fn count_fault(members: u8, lost: usize, count: usize) -> Option<FilesFault>
     }
 }
 
-/// Whether these files tell enough to make the store of a node anew while others go on: whose nodes and the lost ones,
-/// among which the node is, are the members, each once, fewer lost than a majority; and which have a row for each user
-/// of the users file and for no other. What is asked of each file is met.
+/// Checks that the files are sufficient to replace the store of the node `node` while others serve.
+///
+/// The nodes of the files and the lost nodes must be the members, each once. `node` must be lost, and fewer than a
+/// majority may be lost. Each file must have a row for each user of the users file and for no other, and meet `asked`.
 ///
 /// # Errors
-/// The first fault, in the order of `lost_fault`.
+///
+/// - Returns the first fault, in the order of `lost_fault`.
 pub fn check_lost(
     asked: Asked,
     node: u8,
@@ -346,12 +350,14 @@ pub fn check_lost(
     }
 }
 
-/// Whether these files tell enough to make the stores of a whole cluster anew: of nodes of which each majority of the
-/// former members has one, each once; and each with a row for each user of the users file that one of them has. What is
-/// asked of each file is met.
+/// Checks that the files are sufficient to replace the stores of a whole cluster.
+///
+/// Each majority of the former members must have a node with a file, and each node at most one file. Each file must
+/// have a row for each user of the users file that one of the files has, and meet `asked`.
 ///
 /// # Errors
-/// The first fault, in the order of `anew_fault`.
+///
+/// - Returns the first fault, in the order of `anew_fault`.
 pub fn check_anew(asked: Asked, book: &Book, files: &[Floors<'_>]) -> Result<(), FilesFault>
     requires { length book.now ≤ 10000 }
     ensures { fault_of result ≡ anew_fault asked book.now (map floors_value files.now) }
@@ -366,14 +372,14 @@ pub fn check_anew(asked: Asked, book: &Book, files: &[Floors<'_>]) -> Result<(),
     }
 }
 
-/// The row of a user.
+/// Returns the row of a user, or None.
 fn row_of<'a, 'b>(user: &[u8], rows: &'a [Floor<'b>]) -> Option<&'a Floor<'b>>
     ensures { option_copied result ≡ find (λ row. bytes_eq row.user.now user.now) rows.now }
 {
     rows.iter().find(|row| is_same(row.user, user))
 }
 
-/// The first free factor that rows have for a user.
+/// Returns the floor (the first free factor) in the rows for a user, or None.
 fn floor_in(user: &[u8], rows: &[Floor<'_>]) -> Option<Next>
     ensures { result ≡ floor_in user.now (map floor_value rows.now) }
 {
@@ -383,7 +389,7 @@ fn floor_in(user: &[u8], rows: &[Floor<'_>]) -> Option<Next>
     }
 }
 
-/// The greater of two, of which one may lack.
+/// Returns the greater of two floors, one of which may be missing.
 fn greater_of(one: Option<Next>, other: Option<Next>) -> Option<Next>
     ensures { result ≡ greater_of one other }
 {
@@ -400,7 +406,7 @@ fn greater_of(one: Option<Next>, other: Option<Next>) -> Option<Next>
     }
 }
 
-/// The greatest first free factor that files have for a user, or `None` where no file has the user.
+/// Returns the greatest floor (the first free factor) in the files for a user, or None if no file has the user.
 pub fn greatest(user: &[u8], files: &[Floors<'_>]) -> Option<Next>
     ensures { result ≡ greatest_of user.now (map floors_value files.now) }
 {
@@ -413,7 +419,7 @@ pub fn greatest(user: &[u8], files: &[Floors<'_>]) -> Option<Next>
     found
 }
 
-/// The first free factor at a place.
+/// Returns the floor at a place.
 fn floor_at(floors: &[Next], place: usize) -> Next
     requires { place < length floors.now }
     ensures { slice_get floors.now place ≡ Some result }
@@ -421,11 +427,12 @@ fn floor_at(floors: &[Next], place: usize) -> Next
     floors[place]
 }
 
-/// The first free factor of each token of a book: the greatest that files have for its user, and where no file has the
-/// user its own.
+/// Returns the floor of each token of a book: the greatest in the files for its user, or its own if no file has the
+/// user.
 ///
 /// # Errors
-/// Want of memory alone.
+///
+/// - Returns `AllocError` if the allocator refuses the memory.
 pub fn gather(
     alloc: Global,
     files: &[Floors<'_>],

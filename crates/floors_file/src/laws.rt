@@ -12,17 +12,17 @@ ghost use Rattle.floors_file.specs.declared.gathered.FilesFault.{FilesFault};
 
 use crate::floors::MAX_FLOORS_LEN;
 
-/// Floors that were written are read back, with nothing added or left out.
+/// Round trip: floors that were written are read back, with nothing added or left out.
 pub fn floors_read_back()
     ensures { (floors : FloorsRecord) → AreFloors floors → floors_of (floors_text floors) ≡ Ok floors }
 {}
 
-/// A text of floors has so many bytes at most.
+/// Length: a text of floors has at most 850,053 bytes.
 pub fn floors_fit()
     ensures { (floors : FloorsRecord) → AreFloors floors → length (floors_text floors) ≤ MAX_FLOORS_LEN }
 {}
 
-/// Floors files, worked through.
+/// Worked cases. Floors files.
 pub fn files_are_worked()
     ensures numbers { map plain_number (codes "0" ∷ codes "10" ∷ codes "00" ∷ codes "01" ∷ codes "+1" ∷ []
         ∷ codes "1x" ∷ codes "018446744073709551616" ∷ codes "18446744073709551616x" ∷ [])
@@ -82,7 +82,7 @@ pub fn files_are_worked()
     ensures memory { map is_memory (LineFault.Memory ∷ LineFault.Twice ∷ []) ≡ true ∷ false ∷ [] }
 {}
 
-/// Floors of several nodes, worked through: what is wrong with them, and what is made of them.
+/// Worked cases. Floors of several nodes: their faults, and the result.
 pub fn gathered_are_worked()
     ensures two_of_three { lost_fault asked 3 (3 ∷ []) two_users (first_floors ∷ second_floors ∷ []) ≡ None }
     ensures floors { gathered_floors (first_floors ∷ second_floors ∷ []) two_users (9 ∷ 9 ∷ []) ≡ 5 ∷ 3 ∷ [] }

@@ -1,4 +1,4 @@
-//! The floors file: the first free factors that a stopped node has, from which the store of a lost node is made anew.
+//! The floors file: the floors of a stopped node, from which a lost node's store is replaced.
 //!
 //! [`read_floors`] reads the file, and [`write_floors`] writes it.
 #![tactic(auto)]

@@ -13,26 +13,26 @@ use field_text::{cut_at, is_word};
 use otp_core::Next;
 use std::alloc::Global;
 
-/// The most members of a cluster.
+/// The maximum number of members of a cluster.
 const MAX_MEMBERS: u64 = 9;
 
-/// The most tokens of a node.
+/// The maximum number of tokens of a node.
 const MAX_TOKENS: u64 = 10_000;
 
-/// One more than the last boot.
+/// The end of the boots.
 const BOOTS_END: u64 = 1 << 62;
 
-/// One more than the last moment.
+/// The end of the moments.
 const MOMENTS_END: u64 = 1 << 40;
 
-/// What the first line says.
+/// The numbers of the first line.
 #[derive(Clone, Copy)]
 pub(crate) struct HeadLine {
     head: Head,
     tokens: u64,
 }
 
-/// A first line of these numbers.
+/// Returns a first line of the given numbers.
 fn ranged(
     node: u64,
     members: u64,
@@ -63,7 +63,7 @@ fn ranged(
     Ok(HeadLine { head, tokens })
 }
 
-/// The numbers of a first line.
+/// Returns the numbers of a first line.
 fn head_numbers(rest: Option<&[u8]>) -> Result<HeadLine, LineFault>
     ensures { result ≡ head_numbers (fields_left rest.entry) }
 {
@@ -75,14 +75,14 @@ fn head_numbers(rest: Option<&[u8]>) -> Result<HeadLine, LineFault>
     ranged(node, members, boot, moment, tokens)
 }
 
-/// Whether two texts are the same.
+/// Returns whether two texts are equal.
 pub(crate) fn is_same(text: &[u8], other: &[u8]) -> bool
     ensures { result ≡ bytes_eq text.now other.now }
 {
     text == other
 }
 
-/// What the first line says.
+/// Returns the numbers of the first line.
 fn read_head(line: &[u8]) -> Result<HeadLine, LineFault>
     ensures { result ≡ head_of (fields_of line.now) }
 {
@@ -97,21 +97,21 @@ fn read_head(line: &[u8]) -> Result<HeadLine, LineFault>
     head_numbers(rest)
 }
 
-/// Whether one of some rows is a user's, row by row.
+/// Returns whether one of the rows is a user's, row by row.
 fn has_row(user: &[u8], rows: &[Floor<'_>]) -> bool
     ensures { result ≡ list_any (λ row. bytes_eq row.user.now user.now) rows.now }
 {
     rows.iter().any(|row| is_same(row.user, user))
 }
 
-/// Whether one of some rows is a user's.
+/// Returns whether one of the rows is a user's.
 pub(crate) fn has_user(user: &[u8], rows: &[Floor<'_>]) -> bool
     ensures { result ≡ has_user user.now (map floor_value rows.now) }
 {
     has_row(user, rows)
 }
 
-/// The row of a user, after other rows.
+/// Returns the row of a user, after other rows.
 fn new_row<'a>(rows: &[Floor<'_>], user: &'a [u8], next: u64) -> Result<Floor<'a>, LineFault>
     ensures { row_value result ≡ new_row (map floor_value rows.now) user.now next }
 {
@@ -124,7 +124,7 @@ fn new_row<'a>(rows: &[Floor<'_>], user: &'a [u8], next: u64) -> Result<Floor<'a
     Ok(Floor { user, next })
 }
 
-/// What a line says after other rows.
+/// Returns the row of a line, after other rows.
 fn read_row<'a>(rows: &[Floor<'_>], line: &'a [u8]) -> Result<Floor<'a>, LineFault>
     ensures { row_value result ≡ row_of (map floor_value rows.now) (fields_of line.now) }
 {
@@ -136,7 +136,7 @@ fn read_row<'a>(rows: &[Floor<'_>], line: &'a [u8]) -> Result<Floor<'a>, LineFau
     new_row(rows, user, next)
 }
 
-/// One row more, where there are not so many yet.
+/// Returns one more row, if there are fewer than `tokens`.
 fn next_row<'a>(tokens: u64, rows: &[Floor<'_>], line: &'a [u8]) -> Result<Floor<'a>, LineFault>
     ensures { row_value result ≡ next_row tokens (map floor_value rows.now) line.now }
 {
@@ -146,7 +146,7 @@ fn next_row<'a>(tokens: u64, rows: &[Floor<'_>], line: &'a [u8]) -> Result<Floor
     read_row(rows, line)
 }
 
-/// Looks at what stands behind the last LF, after all rows.
+/// Checks the part after the last LF, after all rows.
 fn check_end(tokens: u64, rows: &[Floor<'_>], line: &[u8]) -> Result<(), LineFault>
     ensures ok { OnOk result (end_of tokens (map floor_value rows.now) line.now ≡ Ok (map floor_value rows.now)) }
     ensures fault { IfErr result (λ fault. end_of tokens (map floor_value rows.now) line.now ≡ Err fault) }
@@ -160,7 +160,7 @@ fn check_end(tokens: u64, rows: &[Floor<'_>], line: &[u8]) -> Result<(), LineFau
     Ok(())
 }
 
-/// A fault at the line behind these rows.
+/// Returns a fault at the line after the rows.
 fn at_row(rows: &[Floor<'_>], kind: LineFault) -> FloorsFault
     ensures line { result.line ≡ length rows.now + 2 }
     ensures kind { result.kind ≡ kind }
@@ -171,7 +171,7 @@ fn at_row(rows: &[Floor<'_>], kind: LineFault) -> FloorsFault
     }
 }
 
-/// The rows of a text, so many.
+/// Returns the `tokens` rows of a text.
 fn read_rows(alloc: Global, tokens: u64, text: &[u8]) -> Result<Vec<Floor<'_>>, FloorsFault>
     ensures rows { IfOk result (λ rows. rows_from tokens [] (lines_of text.now) ≡ Ok (map floor_value rows.items)) }
     ensures fault { IfErr result (λ fault. is_memory fault.kind ≡ false →
@@ -195,14 +195,14 @@ fn read_rows(alloc: Global, tokens: u64, text: &[u8]) -> Result<Vec<Floor<'_>>, 
     }
 }
 
-/// A fault at the first line.
+/// Returns a fault at the first line.
 fn at_first(kind: LineFault) -> FloorsFault
     ensures { result ≡ record { line = 1; kind = kind } }
 {
     FloorsFault { line: 1, kind }
 }
 
-/// Why a first line that no LF ends is refused.
+/// Returns the fault of a first line that no LF ends.
 fn unended(line: &[u8]) -> LineFault
     ensures { Err result ≡ first_line [] line.now }
 {
@@ -212,11 +212,13 @@ fn unended(line: &[u8]) -> LineFault
     }
 }
 
-/// What the text of a floors file says, which it borrows.
+/// Reads the text of a floors file. The result borrows the text.
 ///
 /// # Errors
-/// The first fault of the first faulty line; `NoEnd`, `TooFew` and `TooMany` at the line where they show. `Memory`
-/// comes at any row.
+///
+/// - Returns the first fault of the first faulty line.
+/// - Returns `NoEnd`, `TooFew` and `TooMany` with the line that shows them.
+/// - Returns `Memory` if the allocator refuses the memory for a row. It can come at any row.
 pub fn read_floors(alloc: Global, text: &[u8]) -> Result<Floors<'_>, FloorsFault>
     ensures floors { IfOk result (λ floors. floors_of text.now ≡ Ok (floors_value floors)) }
     ensures fault { IfErr result (λ fault. is_memory fault.kind ≡ false →

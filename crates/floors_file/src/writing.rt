@@ -46,7 +46,8 @@ fn write_rows<W: Write>(writer: &mut W, rows: &[Floor<'_>]) -> io::Result<()>
 /// Writes the text of floors, which [`read_floors`](crate::read_floors) reads back (`floors_read_back`).
 ///
 /// # Errors
-/// Those of the writer. A front of the text may have been written then.
+///
+/// - Returns the writer's error. A prefix of the text may have been written.
 pub fn write_floors<W: Write>(writer: &mut W, floors: &Floors<'_>) -> io::Result<()>
     ensures { OnOk result (Appends (W.contents writer.old) (W.contents writer.new)
         (floors_text (floors_value floors.now))) }

@@ -1,4 +1,4 @@
--- Worked lines and members.
+-- Worked cases: lines and members.
 use Rattle.std.specs.Prelude.{ℕ, Bool, List, [], ◌∷◌, codes}
 use Rattle.node_log.specs.Asked.{AskedLine}
 use Rattle.node_log.specs.declared.members.Member.{Member}
@@ -7,7 +7,7 @@ use Rattle.node_log.specs.declared.members.Member.{Member}
 abbrev pub ann : AskedLine
 ann = record { client = 7; nonce = codes "k1"; user = codes "ann" }
 
--- a line of the same client with the nonce k2 for the user bob
+-- a line of client 7 with the nonce k2 for the user bob
 abbrev pub bob : AskedLine
 bob = record { client = 7; nonce = codes "k2"; user = codes "bob" }
 
@@ -15,6 +15,6 @@ bob = record { client = 7; nonce = codes "k2"; user = codes "bob" }
 abbrev pub two_lines : List AskedLine
 two_lines = ann ∷ bob ∷ []
 
--- a member by its number, whether it is heard, and its quiet turns
+-- a member by its number, whether it is heard, and its number of consecutive quiet turns
 abbrev pub member : ℕ → Bool → ℕ → Member
 member number heard quiets = record { number = number; is_heard = heard; quiets = quiets }

@@ -1,4 +1,4 @@
--- What a log says of what a port received and offered.
+-- The text of a log, by the datagrams that its port received and was offered.
 use Rattle.std.specs.Prelude.{◌≡◌, ℕ, Bool, false, true, List, [], ◌∷◌, map, Option, Some}
 use Rattle.std.specs.Io.KnownBytes.{Appends}
 use Rattle.datagram_port.specs.Port.{PortEvent, Received, Quiet, Faulted, Offered}
@@ -8,7 +8,7 @@ use Rattle.node_log.specs.Members.{after_datagram, after_quiet, heard_texts, sil
 use Rattle.node_log.specs.Text.{answered_line}
 use Rattle.node_log.specs.declared.members.Member.{Member}
 
--- which lines are remembered after an entry of a port's record
+-- the remembered lines after an entry of a port's record
 abbrev pub asked_after : PortEvent → List AskedLine → List AskedLine
 asked_after (Received (Client client) bytes) asked = with_line client bytes asked
 asked_after (Received (Peer number) bytes) asked = asked
@@ -17,7 +17,7 @@ asked_after Faulted asked = asked
 asked_after (Offered (Client client) bytes) asked = without (place_of client bytes asked) asked
 asked_after (Offered (Peer number) bytes) asked = asked
 
--- which members are heard after it
+-- the members after an entry of a port's record
 abbrev pub members_after : PortEvent → List Member → List Member
 members_after (Received (Client client) bytes) members = members
 members_after (Received (Peer number) bytes) members = map (after_datagram number) members
@@ -25,8 +25,7 @@ members_after Quiet members = map after_quiet members
 members_after Faulted members = members
 members_after (Offered to bytes) members = members
 
--- What the log says of it: a line of each answer that is offered to a client, and of each member that is heard or
--- silent and was not so before.
+-- The text of an entry: a line for each answer offered to a client, and for each member that becomes heard or silent.
 abbrev pub told_of : PortEvent → List AskedLine → List Member → List ℕ
 told_of (Received (Client client) bytes) asked members = []
 told_of (Received (Peer number) bytes) asked members = heard_texts number members
@@ -36,16 +35,16 @@ told_of (Offered (Client client) bytes) asked members =
     answered_line client (user_at (place_of client bytes asked) asked) bytes
 told_of (Offered (Peer number) bytes) asked members = []
 
--- which lines are remembered after entries
+-- the remembered lines after some entries
 abbrev pub asked_after_all : List PortEvent → List AskedLine → List AskedLine
 asked_after_all [] asked = asked
 asked_after_all (entry ∷ entries) asked = asked_after_all entries (asked_after entry asked)
 
--- The lines that are remembered are those of a port's record from its beginning, where there is one.
+-- The remembered lines follow from the port's record from its beginning, if the port keeps one.
 pub record Remembers (entries : Option (List PortEvent)) (asked : List AskedLine) : Type 0 where
   pub remembered : (all : List PortEvent) → entries ≡ Some all → asked ≡ asked_after_all all []
 
--- A log's text is longer by this, and it goes on, unless the log is over. One that is over writes nothing more.
+-- The call appends `text` to the log, unless the log is over. A log that is over writes nothing more.
 pub record Tells (old_over new_over : Bool) (old new : Option (List ℕ)) (text : List ℕ) : Type 0 where
   pub told : new_over ≡ false → (old_over ≡ false) × Appends old new text
   pub over : old_over ≡ true → (new_over ≡ true) × (new ≡ old)

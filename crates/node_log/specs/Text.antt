@@ -6,15 +6,15 @@ use Rattle.std.specs.List.{flat_map, starts_with}
 use Rattle.hex.specs.Hex.{encode_lower}
 use Rattle.node_log.specs.declared.text.Start.{Start}
 
--- a byte that is shown as it is: a visible ASCII character, but neither a quotation mark nor a backslash
+-- a byte that the log shows unchanged: a visible ASCII character except a quotation mark and a backslash
 abbrev pub is_plain : ℕ → Bool
 is_plain byte = is_ascii_graphic byte && (not (byte == 34) && not (byte == 92))
 
--- a byte of a name as it is shown, so that no name ends its quotation or its line
+-- the shown form of a byte of a name, so that no name ends its quotation or its line
 unfoldable pub shown_byte : ℕ → List ℕ
 shown_byte byte = if is_plain byte then byte ∷ [] else codes "\\x" ++ encode_lower (byte ∷ [])
 
--- a user's name in quotation marks, where it is known
+-- a user's name in quotation marks, if it is known
 unfoldable pub shown_user : Option (List ℕ) → List ℕ
 shown_user None = []
 shown_user (Some name) = codes " user=\"" ++ flat_map shown_byte name ++ codes "\""
@@ -26,12 +26,12 @@ client_text client =
     ++ (decimal (client / 16777216 % 256) ++ codes ".") ++ (decimal (client / 65536 % 256) ++ codes ":")
     ++ decimal (client % 65536) ++ []
 
--- what became of a line, by its answer
+-- the outcome of a line, by its answer
 abbrev pub event_of : List ℕ → List ℕ
 event_of answer =
     if starts_with nat_eq answer (codes "OK ") then codes "accepted from=" else codes "refused from="
 
--- the line of an answer to a client, about a user where that is known
+-- the line of an answer to a client, with the user if the user is known
 unfoldable pub answered_line : ℕ → Option (List ℕ) → List ℕ → List ℕ
 answered_line client user answer =
     event_of answer ++ client_text client ++ codes " " ++ answer ++ shown_user user ++ codes "\n"
@@ -40,7 +40,7 @@ answered_line client user answer =
 abbrev pub valued : List ℕ → ℕ → List ℕ
 valued word number = word ++ decimal number
 
--- which member a node is, and of how many
+-- the number of a node, and the number of members
 unfoldable pub place_text : Start → List ℕ
 place_text start = valued (codes " node=") start.node ++ valued (codes " of=") start.members
 
@@ -48,7 +48,7 @@ place_text start = valued (codes " node=") start.node ++ valued (codes " of=") s
 unfoldable pub at_text : ℕ → List ℕ
 at_text address = codes " at=" ++ client_text address
 
--- the number of its boot, and how many tokens it has
+-- the number of a node's boot, and its number of tokens
 unfoldable pub counts_text : Start → List ℕ
 counts_text start = valued (codes " boot=") start.boot ++ valued (codes " tokens=") start.tokens
 
@@ -62,7 +62,7 @@ start_line start =
     codes "start" ++ place_text start ++ at_text start.address ++ counts_text start ++ print_text start.fingerprint
     ++ codes "\n"
 
--- the line of a node that has served: the datagrams that were handed to it, and the replies that it offered
+-- the line of a node that ends serving: the number of datagrams that it received, and of replies that it offered
 unfoldable pub end_line : ℕ → ℕ → List ℕ
 end_line received replied =
     valued (codes "end received=") received ++ valued (codes " replied=") replied ++ codes "\n"

@@ -1,4 +1,4 @@
-//! Who asks, and by which nonce: what is remembered of the lines that are not answered yet.
+//! The remembered clients, nonces and users of the lines without an answer.
 
 ghost use Rattle.std.specs.Prelude.{◌≡◌, ◌<◌, ◌∷◌, [], ◌++◌, ◌==◌, ◌&&◌, drop, length, position, nat_lt, if◌then◌else◌, IfSome, option_map};
 ghost use Rattle.std.specs.Str.{bytes_eq};
@@ -10,13 +10,13 @@ use client_lines::{Line, Nonce, read_line};
 use field_text::cut_at;
 use std::marker::Model;
 
-/// How many lines are remembered at most: those of a batch, and those that wait for votes.
+/// The maximum number of remembered lines: the lines of a batch, and the lines that wait for votes.
 pub const MAX_ASKED: usize = 96;
 
-/// The most bytes of a user's name.
+/// The maximum length of a user's name, in bytes.
 const MAX_NAME_LEN: usize = 64;
 
-/// A client's line that isn't answered yet. There is no room in it for a code or a password.
+/// A client's line without an answer. It has no room for a code or a password.
 #[derive(Drop, Default)]
 pub struct Asked {
     client: u64,
@@ -33,7 +33,7 @@ impl Model for Asked {
 }
 
 impl Asked {
-    /// Whether it came from this client with this nonce.
+    /// Returns whether the line came from `client` and has the nonce `nonce`.
     fn is_of(&self, client: u64, nonce: &[u8]) -> bool
         ensures { result ≡ is_of client nonce.now self.now }
     {
@@ -41,7 +41,7 @@ impl Asked {
     }
 }
 
-/// The lines of clients that aren't answered yet, the oldest first; of more than 96 the newest.
+/// The lines of clients without an answer, the oldest first. Of more than 96 it keeps the newest.
 #[derive(Drop)]
 pub struct AskedLines {
     lines: ArrayVec<Asked, MAX_ASKED>,
@@ -56,7 +56,7 @@ impl Model for AskedLines {
     ghost view = { λ asked. asked.lines.items };
 }
 
-/// The second of the fields of an answer, which have single spaces between them: the nonce of its line.
+/// Returns the nonce of an answer: the second of its fields, which single spaces divide.
 fn nonce_of(answer: &[u8]) -> &[u8]
     ensures { result.now ≡ nonce_of answer.now }
 {
@@ -70,7 +70,7 @@ fn nonce_of(answer: &[u8]) -> &[u8]
 }
 
 impl AskedLines {
-    /// None.
+    /// Returns no lines.
     pub fn new() -> Self
         ensures { result ≡ [] }
     {
@@ -79,7 +79,7 @@ impl AskedLines {
         }
     }
 
-    /// Adds one, in place of the oldest where there is no room.
+    /// Adds a line. It replaces the oldest line if there is no room.
     fn push(&mut self, asked: Asked)
         ensures { self.new ≡ with_one self.old asked }
     {
@@ -89,7 +89,7 @@ impl AskedLines {
         self.lines.push(asked);
     }
 
-    /// Remembers a line of a client that is in the line grammar.
+    /// Remembers a client's line if it is in the line grammar.
     pub fn add(&mut self, client: u64, bytes: &[u8])
         ensures { self.new ≡ with_line client bytes.now self.old }
     {
@@ -106,7 +106,7 @@ impl AskedLines {
         });
     }
 
-    /// Where the oldest line is that this answers.
+    /// Returns the place of the oldest line that `answer` answers, or None.
     fn place_of(&self, client: u64, answer: &[u8]) -> Option<usize>
         ensures place { result ≡ place_of client answer.now self.now }
         ensures within { IfSome result (λ place. place < length self.now) }
@@ -117,7 +117,8 @@ impl AskedLines {
             .position(|asked| asked.is_of(client, nonce))
     }
 
-    /// Forgets the oldest line of a client that this answers, and gives its user.
+    /// Removes the oldest line that `answer` to `client` answers, and returns its user, or None if there is no such
+    /// line.
     pub fn take(&mut self, client: u64, answer: &[u8]) -> Option<ArrayVec<u8, MAX_NAME_LEN>>
         ensures user { option_map (λ user. user.items) result ≡ user_at (place_of client answer.now self.old) self.old }
         ensures others { self.new ≡ without (place_of client answer.now self.old) self.old }

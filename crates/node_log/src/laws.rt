@@ -7,8 +7,8 @@ ghost use Rattle.node_log.specs.Examples.{ann, bob, member, two_lines};
 ghost use Rattle.node_log.specs.Log.{Remembers, Tells, asked_after, asked_after_all, members_after, told_of};
 ghost use Rattle.node_log.specs.Text.{answered_line, client_text, end_line, shown_user, start_line};
 
-/// Lines of a log, byte by byte: an acceptance, a refusal of a line that nobody asked, and names that would end their
-/// quotation or their line.
+/// Worked cases. The lines of a log byte by byte: an acceptance, a refusal without a remembered line, and names that
+/// would end their quotation or their line.
 pub fn texts_are_worked()
     ensures accepted { answered_line 139637976793089 (Some (codes "ann")) (codes "OK k1 37")
         ≡ codes "accepted from=127.0.0.1:1 OK k1 37 user=\"ann\"\n" }
@@ -29,7 +29,7 @@ pub fn texts_are_worked()
     ensures end { end_line 12 8 ≡ codes "end received=12 replied=8\n" }
 {}
 
-/// What is remembered of lines, and which of them an answer answers.
+/// Worked cases. The remembered lines, and the line that an answer answers.
 pub fn lines_are_worked()
     ensures remembered { with_line 7 (codes "CHECK k1 ann 755224 -") [] ≡ ann ∷ [] }
     ensures both { with_line 7 (codes "RESYNC k2 bob 287082 359152 pin\n") (ann ∷ []) ≡ two_lines }
@@ -40,14 +40,16 @@ pub fn lines_are_worked()
     ensures stranger { place_of 8 (codes "OK k2 1") two_lines ≡ None }
     ensures user { user_at (Some 1) two_lines ≡ Some (codes "bob") }
     ensures others { without (Some 0) two_lines ≡ bob ∷ [] }
-    // the 96th has room, and the 97th takes the place of the first
+    // the 96th has room, and the 97th replaces the first
     ensures room { with_one (ann ∷ replicate 94 bob) bob ≡ ann ∷ replicate 95 bob }
     ensures full { with_one (ann ∷ replicate 95 bob) bob ≡ replicate 96 bob }
 {}
 
-/// What a log says of a record, entry by entry: a datagram of a client is a line that is remembered, and one of a
-/// member says once that it is heard; an answer has its line, and a datagram for a member none. The 25th quiet turn in
-/// a row makes a member silent, and no other does.
+/// Worked cases. The text of a record, entry by entry.
+///
+/// A client's datagram is a remembered line. A member's datagram makes one line that the member is heard. An answer has
+/// its line, and a datagram to a member has none. The 25th consecutive quiet turn makes a member silent, and no other
+/// one does.
 pub fn records_are_worked()
     ensures asked { asked_after (Received (Client 7) (codes "CHECK k1 ann 755224 -")) [] ≡ ann ∷ [] }
     ensures received { told_of (Received (Client 7) (codes "CHECK k1 ann 755224 -")) [] (member 2 false 0 ∷ []) ≡ [] }
@@ -71,16 +73,14 @@ pub fn records_are_worked()
         ∷ Offered (Client 7) (codes "OK k1 0") ∷ []) [] ≡ bob ∷ [] }
 {}
 
-/// What is remembered of a client's line, and so what is ever written of it, is the same whatever its codes and its
-/// password are: two lines with one nonce and one user are remembered alike.
+/// No secrets: the log remembers and writes the same for two lines that differ only in codes and passwords.
 pub fn codes_are_not_told()
     ensures { (line other : List ℕ) (request changed : Request) → request_at line ≡ Some request
         → request_at other ≡ Some changed → request.nonce ≡ changed.nonce → request.user ≡ changed.user
         → (client : ℕ) (asked : List AskedLine) → with_line client line asked ≡ with_line client other asked }
 {}
 
-/// What is promised of a log's text, and of the lines that it remembers, holds of the least that keeps it, and each
-/// field is broken by the least that keeps all others.
+/// Counterexamples: each promise of a log's text and of its remembered lines fails for a minimal one.
 pub fn promises_can_be_broken()
     ensures tells { Tells false false (Some (98 ∷ [])) (Some (98 ∷ 97 ∷ [])) (97 ∷ []) }
     ensures tells_until_it_fails { Tells false true (Some []) (Some (98 ∷ [])) (97 ∷ []) }

@@ -1,9 +1,8 @@
-//! What a node tells of itself in its log: a line for each answer that it gives a client.
+//! The log of a node: a line for each answer to a client, and for each member that becomes heard or silent.
 //!
-//! A [`LogPort`] is a node's port over another one. It remembers of each client's line who asks and by which nonce. It
-//! writes a line for each answer once that is offered, and for each member that is heard or silent and was not so
-//! before. Nothing that it keeps or writes has room for a code, a password or a secret (`codes_are_not_told`). A log
-//! that can't be written ends, and the node goes on.
+//! A [`LogPort`] is a node's port over another one. It remembers the client, the nonce and the user of each client's
+//! line. It writes the line of an answer after the node offered it. Nothing that it keeps or writes has room for a
+//! code, a password or a secret (`codes_are_not_told`). If a write fails, the log ends and the node continues.
 #![tactic(auto)]
 
 mod asked;

@@ -12,10 +12,10 @@ use crate::text::{write_answered, write_end};
 use arrayvec::ArrayVec;
 use std::io::Write;
 
-/// The most other members of a node's cluster.
+/// The maximum number of other members of a node's cluster.
 pub const MAX_OTHERS: usize = 8;
 
-/// A log over a writer. At the writer's first failure it is over: nothing more is written.
+/// A log over a writer. It is over at the writer's first failure, and writes nothing more.
 #[derive(Drop)]
 pub struct Log<W: Write + Drop> {
     writer: W,
@@ -25,7 +25,7 @@ pub struct Log<W: Write + Drop> {
 }
 
 impl<W: Write + Drop> Log<W> {
-    /// A log over this writer, of which nothing is asked yet, with the node's other members.
+    /// Returns a log over `writer` with the node's other members, without remembered lines.
     pub fn new(writer: W, members: ArrayVec<Member, MAX_OTHERS>) -> Self
         ensures writer { result.writer ≡ writer }
         ensures asked { result.asked ≡ [] }
@@ -40,14 +40,14 @@ impl<W: Write + Drop> Log<W> {
         }
     }
 
-    /// Whether a line could not be written.
+    /// Returns whether a line could not be written.
     pub fn is_over(&self) -> bool
         ensures { result ≡ self.now.is_over }
     {
         self.is_over
     }
 
-    /// Remembers who asks by a client's line, and nothing else of it.
+    /// Remembers the client, the nonce and the user of a client's line, and nothing else of it.
     pub fn received(&mut self, client: u64, bytes: &[u8])
         ensures asked { self.new.asked ≡ asked_after (Received (Client client) bytes.now) self.old.asked }
         ensures same { self.new ≡ record self.old { asked = self.new.asked } }
@@ -55,7 +55,7 @@ impl<W: Write + Drop> Log<W> {
         self.asked.add(client, bytes);
     }
 
-    /// Writes the line of an answer that was offered to a client. Its line is then no longer remembered.
+    /// Writes the line of an answer that was offered to a client, and forgets the client's line.
     pub fn answered(&mut self, client: u64, answer: &[u8])
         ensures asked { self.new.asked ≡ asked_after (Offered (Client client) answer.now) self.old.asked }
         ensures members { self.new.members.items ≡ self.old.members.items }
@@ -75,7 +75,7 @@ impl<W: Write + Drop> Log<W> {
         }
     }
 
-    /// A datagram came from the address of a member: writes that it is heard, where it was not.
+    /// Notes that the member `number` was heard. Writes a `heard` line if it was not heard already.
     pub fn heard(&mut self, number: u8)
         ensures asked { self.new.asked ≡ self.old.asked }
         ensures members { self.new.members.items
@@ -91,7 +91,7 @@ impl<W: Write + Drop> Log<W> {
         hear(self.members.as_mut_slice(), number);
     }
 
-    /// Nothing came in a while: writes which members are silent from now on.
+    /// Notes a quiet turn. Writes a `silent` line for each member that becomes silent by it.
     pub fn quiet(&mut self)
         ensures asked { self.new.asked ≡ self.old.asked }
         ensures members { self.new.members.items ≡ members_after Quiet self.old.members.items }
@@ -104,7 +104,7 @@ impl<W: Write + Drop> Log<W> {
         rest(self.members.as_mut_slice());
     }
 
-    /// Writes the line of a node that has served, and hands it on.
+    /// Writes the line of a node that ends serving, and flushes the writer.
     pub fn end(&mut self, received: u64, replied: u64)
         ensures asked { self.new.asked ≡ self.old.asked }
         ensures members { self.new.members.items ≡ self.old.members.items }
@@ -119,7 +119,7 @@ impl<W: Write + Drop> Log<W> {
         }
     }
 
-    /// Hands on what the writer holds back.
+    /// Flushes the writer.
     pub fn flush(&mut self)
         ensures asked { self.new.asked ≡ self.old.asked }
         ensures members { self.new.members.items ≡ self.old.members.items }

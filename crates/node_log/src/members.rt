@@ -1,4 +1,4 @@
-//! Which members are heard.
+//! The heard and silent members of a cluster.
 
 ghost use Rattle.std.specs.Prelude.{◌≡◌, OnOk, false, map};
 ghost use Rattle.std.specs.Io.KnownBytes.{Appends};
@@ -6,7 +6,7 @@ ghost use Rattle.node_log.specs.Members.{after_datagram, after_quiet, heard_text
 
 use std::io::{self, Write};
 
-/// After so many quiet turns in a row with nothing from its address a member is silent: some five seconds.
+/// The number of consecutive quiet turns without a datagram that makes a member silent: some five seconds.
 const QUIETS_OF_SILENCE: u8 = 25;
 
 /// Another member of the node's cluster, and whether it is heard.
@@ -18,7 +18,7 @@ pub struct Member {
 }
 
 impl Member {
-    /// The member of this number, of which nothing is known yet.
+    /// Returns the member with the number `number`, which is neither heard nor silent yet.
     pub fn new(number: u8) -> Self
         ensures { result ≡ record { number = number; is_heard = false; quiets = 0 } }
     {
@@ -29,7 +29,7 @@ impl Member {
         }
     }
 
-    /// It after a datagram from the address of a member.
+    /// Returns the member after a datagram from the address of the member `number`.
     fn after_datagram(self, number: u8) -> Self
         ensures { result ≡ after_datagram number self }
     {
@@ -43,7 +43,7 @@ impl Member {
         self
     }
 
-    /// It after a quiet turn.
+    /// Returns the member after a quiet turn.
     fn after_quiet(self) -> Self
         ensures { result ≡ after_quiet self }
     {
@@ -62,7 +62,7 @@ impl Member {
     }
 }
 
-/// A datagram came from the address of a member.
+/// Notes a datagram from the address of the member `number`.
 pub(crate) fn hear(members: &mut [Member], number: u8)
     ensures { members.new ≡ map (after_datagram number) members.old }
 {
@@ -71,7 +71,7 @@ pub(crate) fn hear(members: &mut [Member], number: u8)
     }
 }
 
-/// There was a quiet turn.
+/// Notes a quiet turn.
 pub(crate) fn rest(members: &mut [Member])
     ensures { members.new ≡ map after_quiet members.old }
 {
@@ -91,7 +91,7 @@ fn write_member<W: Write>(writer: &mut W, word: &[u8], number: u8) -> io::Result
     writer.write_all(b"\n")
 }
 
-/// Writes that a member is heard, where a datagram came from its address and it was not.
+/// Writes a `heard` line if `member` has the number `number` and was not heard already.
 fn write_if_heard<W: Write>(writer: &mut W, number: u8, member: Member) -> io::Result<()>
     ensures { OnOk result (Appends (W.contents writer.old) (W.contents writer.new) (heard_text number member)) }
 {
@@ -101,7 +101,7 @@ fn write_if_heard<W: Write>(writer: &mut W, number: u8, member: Member) -> io::R
     Ok(())
 }
 
-/// Writes that a member is silent, where the next quiet turn makes it so.
+/// Writes a `silent` line if the next quiet turn makes the member silent.
 fn write_if_silent<W: Write>(writer: &mut W, member: Member) -> io::Result<()>
     ensures { OnOk result (Appends (W.contents writer.old) (W.contents writer.new) (silent_text member)) }
 {
@@ -111,7 +111,7 @@ fn write_if_silent<W: Write>(writer: &mut W, member: Member) -> io::Result<()>
     Ok(())
 }
 
-/// Writes who of these is heard by a datagram from the address of a member, and was not.
+/// Writes a `heard` line for each member that a datagram from the address of the member `number` makes heard.
 pub(crate) fn write_heard<W: Write>(
     writer: &mut W,
     number: u8,
@@ -125,7 +125,7 @@ pub(crate) fn write_heard<W: Write>(
     Ok(())
 }
 
-/// Writes who of these is silent by a quiet turn.
+/// Writes a `silent` line for each member that a quiet turn makes silent.
 pub(crate) fn write_silent<W: Write>(writer: &mut W, members: &[Member]) -> io::Result<()>
     ensures { OnOk result (Appends (W.contents writer.old) (W.contents writer.new) (silent_texts members.now)) }
 {

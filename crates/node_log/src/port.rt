@@ -12,8 +12,10 @@ use arrayvec::ArrayVec;
 use datagram_port::{Port, Received, Sender};
 use std::io::Write;
 
-/// A node's port over another one, with a log of the answers that are offered to clients, and of the members that are
-/// heard or silent. A line is written once its answer is offered, and handed on before the next wait.
+/// A node's port over another one, with a log of the answers to clients, and of the members that become heard or
+/// silent.
+///
+/// It writes a line after the node offered the answer, and flushes the log before the next wait.
 #[derive(Drop)]
 pub struct LogPort<P: Port + Drop, W: Write + Drop> {
     port: P,
@@ -22,7 +24,7 @@ pub struct LogPort<P: Port + Drop, W: Write + Drop> {
 }
 
 impl<P: Port + Drop, W: Write + Drop> LogPort<P, W> {
-    /// A port over one that has received and offered nothing yet, with the node's other members.
+    /// Returns a port over `port`, which has received and offered nothing yet, with the node's other members.
     pub fn new(port: P, writer: W, members: ArrayVec<Member, MAX_OTHERS>) -> Self
         requires { IfSome (P.events port) (λ entries. entries ≡ []) }
         ensures port { result.port ≡ port }
@@ -35,8 +37,8 @@ impl<P: Port + Drop, W: Write + Drop> LogPort<P, W> {
         }
     }
 
-    /// Writes the line of a node that has served: how many datagrams were handed to it, and how many replies it
-    /// offered.
+    /// Writes the line of a node that ends serving, with the number of datagrams that it received and of replies that
+    /// it offered.
     pub fn end(&mut self, received: u64, replied: u64)
         ensures port { self.new.port ≡ self.old.port }
         ensures told { Tells self.old.log.is_over self.new.log.is_over (W.contents self.old.log.writer)
@@ -45,7 +47,7 @@ impl<P: Port + Drop, W: Write + Drop> LogPort<P, W> {
         self.log.end(received, replied);
     }
 
-    /// Whether a line of the log could not be written; nothing was written after it.
+    /// Returns whether a line of the log could not be written. Nothing was written after it.
     pub fn is_over(&self) -> bool
         ensures { result ≡ self.now.log.is_over }
     {
@@ -53,7 +55,7 @@ impl<P: Port + Drop, W: Write + Drop> LogPort<P, W> {
     }
 }
 
-/// Takes note of what was received.
+/// Notes the result of a receive in the log.
 fn note<W: Write + Drop>(log: &mut Log<W>, received: Received, buffer: &[u8; 512])
     requires { IsWithin received }
     ensures asked { log.new.asked ≡ asked_after (event_of_receive received buffer.now) log.old.asked }
@@ -72,7 +74,7 @@ fn note<W: Write + Drop>(log: &mut Log<W>, received: Received, buffer: &[u8; 512
     }
 }
 
-/// Takes note of what was offered.
+/// Notes an offered datagram in the log.
 fn note_offer<W: Write + Drop>(log: &mut Log<W>, to: Sender, bytes: &[u8])
     ensures asked { log.new.asked ≡ asked_after (Offered to bytes.now) log.old.asked }
     ensures members { log.new.members.items ≡ log.old.members.items }

@@ -10,14 +10,14 @@ ghost use Rattle.node_log.specs.Text.{place_text, print_text, shown_byte, shown_
 
 use std::io::{self, Write};
 
-/// Whether a byte is shown as it is: a visible ASCII character, but neither a quotation mark nor a backslash.
+/// Returns whether the log shows a byte unchanged: a visible ASCII character except a quotation mark and a backslash.
 fn is_plain(byte: u8) -> bool
     ensures { result ≡ is_plain byte }
 {
     byte.is_ascii_graphic() && byte != b'"' && byte != b'\\'
 }
 
-/// Writes a byte of a name: as it is, or as `\x` and two hexadecimal digits.
+/// Writes a byte of a name: unchanged, or as `\x` and two hexadecimal digits.
 #[tactic(auto, unfolding(crate::specs::Text::shown_byte))]
 fn write_byte<W: Write>(writer: &mut W, byte: u8) -> io::Result<()>
     ensures { OnOk result (Appends (W.contents writer.old) (W.contents writer.new) (shown_byte byte)) }
@@ -41,7 +41,7 @@ fn write_name<W: Write>(writer: &mut W, name: &[u8]) -> io::Result<()>
     Ok(())
 }
 
-/// Writes a user's name in quotation marks, where it is known.
+/// Writes a user's name in quotation marks, if it is known.
 #[tactic(auto, unfolding(crate::specs::Text::shown_user))]
 fn write_user<W: Write>(writer: &mut W, user: Option<&[u8]>) -> io::Result<()>
     ensures { OnOk result (Appends (W.contents writer.old) (W.contents writer.new)
@@ -55,7 +55,7 @@ fn write_user<W: Write>(writer: &mut W, user: Option<&[u8]>) -> io::Result<()>
     writer.write_all(b"\"")
 }
 
-/// Writes a number and what stands behind it.
+/// Writes a number followed by `behind`.
 fn write_number<W: Write>(writer: &mut W, number: u64, behind: &[u8]) -> io::Result<()>
     ensures { OnOk result (Appends (W.contents writer.old) (W.contents writer.new) (decimal number ++ behind.now)) }
 {
@@ -75,7 +75,7 @@ fn write_client<W: Write>(writer: &mut W, client: u64) -> io::Result<()>
     write_number(writer, client % 65_536, b"")
 }
 
-/// Writes what became of a line, by its answer.
+/// Writes the outcome of a line, by its answer.
 fn write_event<W: Write>(writer: &mut W, answer: &[u8]) -> io::Result<()>
     ensures { OnOk result (Appends (W.contents writer.old) (W.contents writer.new) (event_of answer.now)) }
 {
@@ -86,7 +86,7 @@ fn write_event<W: Write>(writer: &mut W, answer: &[u8]) -> io::Result<()>
     }
 }
 
-/// Writes the line of an answer to a client, with the user whom it is about where that is known.
+/// Writes the line of an answer to a client, with the user if the user is known.
 #[tactic(auto, unfolding(crate::specs::Text::answered_line))]
 pub fn write_answered<W: Write>(
     writer: &mut W,
@@ -105,17 +105,17 @@ pub fn write_answered<W: Write>(
     writer.write_all(b"\n")
 }
 
-/// What a node is served as.
+/// The values of a node that begins to serve.
 #[derive(Clone, Copy, Debug, PartialEq, Eq)]
 pub struct Start {
-    /// Its number, and how many members there are.
+    /// The number of the node, and the number of members.
     pub node: u8,
     pub members: u8,
-    /// The number of its address, as that of a client there.
+    /// The number of the node's address, as of a client's address.
     pub address: u64,
-    /// The number of its boot.
+    /// The number of the node's boot.
     pub boot: u64,
-    /// How many tokens it has.
+    /// The number of the node's tokens.
     pub tokens: usize,
     /// The fingerprint of the key under which it tags its datagrams: 16 hexadecimal digits.
     pub fingerprint: [u8; 16],
@@ -137,7 +137,7 @@ fn write_small<W: Write>(writer: &mut W, word: &[u8], number: u8) -> io::Result<
     write!(writer, "{number}")
 }
 
-/// Writes which member a node is, and of how many.
+/// Writes the number of a node, and the number of members.
 #[tactic(auto, unfolding(crate::specs::Text::place_text))]
 fn write_place<W: Write>(writer: &mut W, start: Start) -> io::Result<()>
     ensures { OnOk result (Appends (W.contents writer.old) (W.contents writer.new) (place_text start)) }
@@ -155,7 +155,7 @@ fn write_at<W: Write>(writer: &mut W, address: u64) -> io::Result<()>
     write_client(writer, address)
 }
 
-/// Writes the number of a boot, and how many tokens there are.
+/// Writes the number of a boot, and the number of tokens.
 #[tactic(auto, unfolding(crate::specs::Text::counts_text))]
 fn write_counts<W: Write>(writer: &mut W, start: Start) -> io::Result<()>
     ensures { OnOk result (Appends (W.contents writer.old) (W.contents writer.new) (counts_text start)) }
@@ -186,7 +186,8 @@ pub fn write_start<W: Write>(writer: &mut W, start: Start) -> io::Result<()>
     writer.write_all(b"\n")
 }
 
-/// Writes the line of a node that has served: how many datagrams were handed to it, and how many replies it offered.
+/// Writes the line of a node that ends serving: the number of datagrams that it received, and of replies that it
+/// offered.
 #[tactic(auto, unfolding(crate::specs::Text::end_line))]
 pub fn write_end<W: Write>(writer: &mut W, received: u64, replied: u64) -> io::Result<()>
     ensures { OnOk result (Appends (W.contents writer.old) (W.contents writer.new) (end_line received replied)) }

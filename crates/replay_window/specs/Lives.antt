@@ -1,14 +1,14 @@
--- What a window admits of the moments that come to it, over the lives of a process.
+-- The moments that windows admit over the incarnations of a process. `Life` is one incarnation.
 use Rattle.std.specs.Prelude.{ℕ, ◌≤◌, if◌then◌else◌, List, [], ◌∷◌, ◌++◌}
 use Rattle.std.specs.List.{AllByRecursion}
 use Rattle.replay_window.specs.Window.{WindowRecord, is_fresh, window_from, with_seen}
 
--- a moment that came, and what second the clock told
+-- a received moment, with the second of the clock
 pub record Arrival : Type 0 where
   pub now : ℕ
   pub moment : ℕ
 
--- the moments that a window admits of these arrivals, in order
+-- the moments of the arrivals that a window admits, in order
 abbrev pub admitted : WindowRecord → List Arrival → List ℕ
 admitted window [] = []
 admitted window (arrival ∷ arrivals) =
@@ -16,22 +16,22 @@ admitted window (arrival ∷ arrivals) =
     then arrival.moment ∷ admitted (with_seen window arrival.moment) arrivals
     else admitted window arrivals
 
--- a life of a process: the second at its start, and what came
+-- an incarnation of a process: the second at its start, and the arrivals
 pub record Life : Type 0 where
   pub start : ℕ
   pub arrivals : List Arrival
 
--- what the lives admit, in order
+-- the moments that the incarnations admit, in order
 abbrev pub admitted_in : List Life → List ℕ
 admitted_in [] = []
 admitted_in (life ∷ lives) = admitted (window_from life.start) life.arrivals ++ admitted_in lives
 
--- the clock at the start of each later life is not behind what it told in this one
+-- the clock at the start of each later incarnation is at or after its seconds in the first one
 abbrev pub IsBefore : Life → List Life → Type 0
 IsBefore life lives =
     AllByRecursion (λ later. AllByRecursion (λ arrival. arrival.now ≤ later.start) life.arrivals) lives
 
--- so it is for each life
+-- every incarnation is before the later ones
 abbrev pub AreInOrder : List Life → Type 0
 AreInOrder [] = Unit {0}
 AreInOrder (life ∷ lives) = IsBefore life lives × AreInOrder lives

@@ -3,20 +3,21 @@ ghost use Rattle.std.specs.List.{AllByRecursion, IsDistinct};
 ghost use Rattle.replay_window.specs.Lives.{AreInOrder, Arrival, Life, admitted, admitted_in};
 ghost use Rattle.replay_window.specs.Window.{WindowRecord, is_fresh, is_timely, kept_of, with_moment, with_seen};
 
-/// Whatever comes, a window admits no moment twice, and none up to its mark.
+/// No replay: a window admits no moment twice, and none up to its mark, in every schedule.
 pub fn once_is_enough()
     ensures once { (window : WindowRecord) (arrivals : List Arrival) → IsDistinct eqb (admitted window arrivals) }
     ensures above { (window : WindowRecord) (arrivals : List Arrival) →
         AllByRecursion (λ moment. window.low < moment) (admitted window arrivals) }
 {}
 
-/// Nor is a moment admitted twice over the lives of a process, as long as the clock at the start of each is not behind
-/// what it told in an earlier one.
+/// No replay over incarnations: no moment is admitted twice over the incarnations of a process.
+///
+/// It holds if the clock at the start of each incarnation is at or after its seconds in earlier ones.
 pub fn lives_are_one()
     ensures { (lives : List Life) → AreInOrder lives → IsDistinct eqb (admitted_in lives) }
 {}
 
-/// What windows admit, and what they keep.
+/// Worked cases. Admitted and kept moments.
 pub fn windows_are_worked()
     ensures near { map (λ moment. is_timely 100 moment) (39999999 ∷ 40000000 ∷ 100000000 ∷ 105000000 ∷ 105000001 ∷ [])
         ≡ false ∷ true ∷ true ∷ true ∷ false ∷ [] }

@@ -1,10 +1,12 @@
-//! An anti-replay window: which moments of one client were admitted.
+//! An anti-replay window: the admitted moments of one client.
 //!
 //! A client names a moment in microseconds in each datagram. A [`Window`] admits each moment at most once, in bounded
-//! memory: it keeps the 64 latest that it admitted, and a mark up to which it admits none, which rises to each that
-//! leaves (the law [`once_is_enough`]). Its mark begins ahead of the clock at the start of the process by as much as
-//! any moment may be ahead of the clock. So no moment is admitted twice over the lives of a process either, as long as
-//! the clock is not set back between them (the law [`lives_are_one`]). Nothing here takes memory.
+//! memory. It keeps the 64 latest admitted moments, and a mark up to which it admits none. A moment that leaves raises
+//! the mark (the law [`once_is_enough`]).
+//!
+//! The mark begins ahead of the clock at the start of the process, by the maximum lead of a moment. So no moment is
+//! admitted twice over several incarnations of a process, if the clock is not set back between them (the law
+//! [`lives_are_one`]). No function allocates.
 #![tactic(auto)]
 
 mod laws;

@@ -7,23 +7,23 @@ ghost use Rattle.replay_window.specs.Window.{is_fresh, is_new, is_timely, kept_o
 use arrayvec::ArrayVec;
 use std::marker::Model;
 
-/// How many microseconds a moment may be ahead of the clock.
+/// The maximum lead of a moment over the clock, in microseconds.
 pub const AHEAD_MICROS: u64 = 5_000_000;
 
-/// How many microseconds a moment may be behind the clock.
+/// The maximum lag of a moment behind the clock, in microseconds.
 pub const BEHIND_MICROS: u64 = 60_000_000;
 
-/// The clock tells seconds below this.
+/// The end of the clock's seconds.
 const SECONDS_END: u64 = 1 << 40;
 
-/// How many moments are kept.
+/// The number of kept moments.
 const SIZE: usize = 64;
 
-/// The moments of one client that were admitted.
+/// The admitted moments of one client.
 #[derive(Drop)]
 pub struct Window {
     low: u64,
-    /// One place more than are kept, for the one that comes in before another one leaves.
+    /// The kept moments, with one more place for a moment that enters before another one leaves.
     seen: ArrayVec<u64, 65>,
 }
 
@@ -38,7 +38,7 @@ impl Model for Window {
     ghost invariant = { λ w. length w.seen.items ≤ 64 };
 }
 
-/// The last microsecond that may be named at this second of the clock.
+/// Returns the last microsecond that may be named at the second `now` of the clock.
 fn last_at(now: u64) -> u64
     requires { now < 2 ^ 40 }
     ensures { result ≡ last_at now }
@@ -46,7 +46,7 @@ fn last_at(now: u64) -> u64
     now * 1_000_000 + AHEAD_MICROS
 }
 
-/// Whether a moment is near the clock.
+/// Returns whether a moment is near the clock.
 fn is_timely(now: u64, moment: u64) -> bool
     ensures { result ≡ is_timely now moment }
 {
@@ -56,21 +56,21 @@ fn is_timely(now: u64, moment: u64) -> bool
     now * 1_000_000 <= moment + BEHIND_MICROS
 }
 
-/// Whether a moment is among these.
+/// Returns whether `seen` has `moment`.
 fn has(seen: &[u64], moment: u64) -> bool
     ensures { result ≡ list_any (eqb moment) seen.now }
 {
     seen.iter().any(|other| moment == *other)
 }
 
-/// The place of the first of these that is later than a moment.
+/// Returns the place of the first moment later than `moment`, or None.
 fn first_later(seen: &[u64], moment: u64) -> Option<usize>
     ensures { result ≡ position (nat_lt moment) seen.now }
 {
     seen.iter().position(|other| moment < *other)
 }
 
-/// The place of the first of these that is later than a moment, or their number where none is.
+/// Returns the place of the first moment later than `moment`, or the length of `seen`.
 fn place_of(seen: &[u64], moment: u64) -> usize
     ensures place { result ≡ place_of moment seen.now }
     ensures within { result ≤ length seen.now }
@@ -79,7 +79,7 @@ fn place_of(seen: &[u64], moment: u64) -> usize
 }
 
 impl Window {
-    /// The window of a process that begins at this second of the clock.
+    /// Returns the window of a process that begins at the second `start` of the clock.
     pub fn new(start: u64) -> Self
         requires { start < 2 ^ 40 }
         ensures { result ≡ window_from start }
@@ -90,21 +90,21 @@ impl Window {
         }
     }
 
-    /// Whether a moment is above the mark and was not seen.
+    /// Returns whether a moment is above the mark and was not seen.
     fn is_new(&self, moment: u64) -> bool
         ensures { result ≡ is_new self.now moment }
     {
         self.low < moment && !has(&self.seen, moment)
     }
 
-    /// Whether a moment is admitted at this second of the clock.
+    /// Returns whether the window admits a moment at the second `now` of the clock.
     pub fn is_fresh(&self, now: u64, moment: u64) -> bool
         ensures { result ≡ is_fresh self.now now moment }
     {
         is_timely(now, moment) && self.is_new(moment)
     }
 
-    /// Keeps one moment more, and lets the first one go where there are too many.
+    /// Keeps one more moment. Removes the first one, which raises the mark, if there are too many.
     pub fn keep(&mut self, moment: u64)
         ensures { self.new ≡ with_seen self.old moment }
     {
@@ -116,7 +116,7 @@ impl Window {
         }
     }
 
-    /// Whether a moment is admitted at this second of the clock. It is not, if it comes again.
+    /// Admits a moment at the second `now` of the clock. Returns whether it did; it admits no moment twice.
     pub fn admit(&mut self, now: u64, moment: u64) -> bool
         ensures admitted { result ≡ is_fresh self.old now moment }
         ensures window { self.new ≡ window_after self.old now moment }

@@ -1,4 +1,4 @@
--- What a sealed datagram says before its tag. All numbers stand with their high-order byte first.
+-- The bytes of a sealed datagram before its tag. Every number has its high-order byte first.
 use Rattle.std.specs.Prelude.{ℕ, ◌^◌, ◌<◌, ◌==◌, ◌&&◌, ◌||◌, Bool, not, nat_lt, if◌then◌else◌, List, ◌∷◌, ◌++◌, length, drop, Option, Some, None}
 use Rattle.std.specs.Option.{option_map}
 use Rattle.std.specs.Int.{w16, w64, to_be_bytes}
@@ -38,22 +38,22 @@ head_bytes head =
 abbrev pub body_bytes : Head → List ℕ → List ℕ
 body_bytes head text = head_bytes head ++ text
 
--- whether the mark and the version stand first
+-- whether the body begins with the mark, and the version follows
 abbrev pub has_mark : List ℕ → Bool
 has_mark body = (byte_at body 0 == 0x4f) && ((byte_at body 1 == 0x53) && (byte_at body 2 == 1))
 
--- the head of a body whose kind is this
+-- the head of a body of a kind
 abbrev pub head_of : List ℕ → Kind → Head
 head_of body kind =
     record { kind = kind; client = half_at body 4; node = byte_at body 6; moment = number_at body 7 }
 
--- the head of a body, which has a text of at most 256 bytes behind it
+-- the head of a body, if a text of at most 256 bytes follows it
 unfoldable pub head_at : List ℕ → Option Head
 head_at body =
     if nat_lt (length body) 15 || nat_lt 271 (length body) then None
     else if not (has_mark body) then None
     else option_map (head_of body) (kind_of (byte_at body 3))
 
--- the text behind the head
+-- the text after the head
 abbrev pub text_of : List ℕ → List ℕ
 text_of body = drop 15 body

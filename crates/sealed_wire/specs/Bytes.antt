@@ -2,7 +2,7 @@
 use Rattle.std.specs.Prelude.{ℕ, ◌<◌, List, drop, slice_index}
 use Rattle.std.specs.Int.{w16, w64, from_be_bytes}
 
--- each is a byte
+-- all elements are bytes
 abbrev pub AreBytes : List ℕ → Type 0
 AreBytes bytes = (i : ℕ) → slice_index bytes i < 256
 

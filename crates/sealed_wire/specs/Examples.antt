@@ -1,13 +1,13 @@
--- Datagrams that the laws work through.
+-- Worked cases: sealed datagrams.
 use Rattle.std.specs.Prelude.{ℕ, List, [], ◌∷◌, ◌++◌, codes}
 use Rattle.sealed_wire.specs.declared.head.Head.{Head}
 use Rattle.sealed_wire.specs.declared.head.Kind.TheVariants.{Line, Answer}
 
--- client 258 for node 2, at 1,000,000 microseconds
+-- client 258's line for node 2, at 1,000,000 microseconds
 abbrev pub line_head : Head
 line_head = record { kind = Line; client = 258; node = 2; moment = 1000000 }
 
--- node 2 for client 258, to a line of that moment
+-- node 2's answer for client 258, to a line of the same moment
 abbrev pub answer_head : Head
 answer_head = record { kind = Answer; client = 258; node = 2; moment = 1000000 }
 
@@ -27,7 +27,7 @@ line_tag =
     0x18 ∷ 0x26 ∷ 0x52 ∷ 0x7d ∷ 0x09 ∷ 0x2e ∷ 0x82 ∷ 0x7b ∷ 0x43 ∷ 0xda ∷ 0x65 ∷ 0x1c ∷ 0xe4 ∷ 0x35 ∷ 0xff ∷ 0xb7 ∷
     0xe2 ∷ 0x83 ∷ 0xa8 ∷ 0x10 ∷ 0xee ∷ 0x64 ∷ 0xa5 ∷ 0xcd ∷ 0x92 ∷ 0x75 ∷ 0x55 ∷ 0xf3 ∷ 0xb8 ∷ 0xc2 ∷ 0xd8 ∷ 0x44 ∷ []
 
--- the tag of the answer `OK k1 0` to it
+-- the tag of the answer `OK k1 0` to the line
 abbrev pub answer_tag : List ℕ
 answer_tag =
     0xfa ∷ 0xf2 ∷ 0x4c ∷ 0x16 ∷ 0x82 ∷ 0xc6 ∷ 0xa2 ∷ 0x96 ∷ 0x99 ∷ 0x6f ∷ 0x2e ∷ 0x74 ∷ 0x63 ∷ 0xfd ∷ 0x93 ∷ 0x93 ∷

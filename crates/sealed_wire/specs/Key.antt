@@ -1,4 +1,4 @@
--- The key that a client shares with the nodes, and the tags that are made with it.
+-- The key that a client shares with the nodes, and the tags under it.
 use Rattle.std.specs.Prelude.{ℕ, ◌≤◌, nat_lt, if◌then◌else◌, List, length, Option, Some, None, Result, Ok, Err}
 use Rattle.std.specs.Option.{option_or}
 use Rattle.hex.specs.Hex.{decode_of}
@@ -17,7 +17,7 @@ IsClientKey key = (16 ≤ length key) × (length key ≤ 64)
 unfoldable pub tag_of : List ℕ → List ℕ → List ℕ
 tag_of key bytes = mac_of Sha256 key bytes
 
--- why bytes are refused as a key
+-- the reason why bytes are not a key, or None
 abbrev pub length_refusal_of : Result (List ℕ) FromHexError → Option SecretFault
 length_refusal_of (Err error) = None
 length_refusal_of (Ok key) =
@@ -25,6 +25,6 @@ length_refusal_of (Ok key) =
     else if nat_lt 64 (length key) then Some TooLong
     else None
 
--- why a text in hexadecimal is refused as a key: what no secret can be written so, and then its length
+-- the reason why a text in hexadecimal is not a key: the faults of a secret first, and then the length
 abbrev pub key_refusal_of : List ℕ → Option SecretFault
 key_refusal_of text = option_or (hex_refusal_of text) (length_refusal_of (decode_of text))

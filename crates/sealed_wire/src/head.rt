@@ -1,9 +1,9 @@
-//! What stands at the head of a sealed datagram.
+//! The head of a sealed datagram.
 
 ghost use Rattle.std.specs.Prelude.{◌≡◌};
 ghost use Rattle.sealed_wire.specs.Body as spec;
 
-/// What a sealed datagram is.
+/// The kind of a sealed datagram.
 #[derive(Clone, Copy, Debug, PartialEq, Eq)]
 pub enum Kind {
     /// A client's line for a node.
@@ -17,7 +17,7 @@ pub enum Kind {
 }
 
 impl Kind {
-    /// The byte of the kind.
+    /// Returns the byte of the kind.
     pub(crate) fn byte(self) -> u8
         ensures { result ≡ spec.kind_byte self }
     {
@@ -29,7 +29,7 @@ impl Kind {
         }
     }
 
-    /// The kind with this byte.
+    /// Returns the kind of a byte, or None.
     pub(crate) fn of(byte: u8) -> Option<Kind>
         ensures { result ≡ spec.kind_of byte }
     {
@@ -46,12 +46,13 @@ impl Kind {
 /// The head of a sealed datagram.
 #[derive(Clone, Copy, Debug, PartialEq, Eq)]
 pub struct Head {
-    /// What it is.
+    /// The kind of the datagram.
     pub kind: Kind,
-    /// The client that it is from or for.
+    /// The client that sends or receives it.
     pub client: u16,
-    /// The node that it is for or from.
+    /// The node that receives or sends it.
     pub node: u8,
-    /// When the client sealed the line, in microseconds since 1970-01-01 00:00:00 UTC. An answer has its line's.
+    /// The time at which the client sealed the line, in microseconds since 1970-01-01 00:00:00 UTC. An answer has the
+    /// moment of its line.
     pub moment: u64,
 }

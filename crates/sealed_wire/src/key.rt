@@ -9,13 +9,13 @@ use secret_text::{SecretFault, read_hex};
 use std::fmt;
 use std::marker::Model;
 
-/// The fewest bytes of a key.
+/// The minimum length of a key, in bytes.
 const MIN_KEY_LEN: usize = 16;
 
-/// The most bytes of a key.
+/// The maximum length of a key, in bytes.
 const MAX_KEY_LEN: usize = 64;
 
-/// The bytes of a tag.
+/// The length of a tag, in bytes.
 pub const TAG_LEN: usize = 32;
 
 /// The key that a client shares with the nodes, of 16 to 64 bytes, set up for the tags of datagrams.
@@ -39,7 +39,7 @@ impl Model for ClientKey {
 }
 
 impl ClientKey {
-    /// The key of these bytes, or `None` where there are fewer than 16 or more than 64.
+    /// Returns the key of `bytes`, or None if they are fewer than 16 or more than 64.
     pub fn new(bytes: &[u8]) -> Option<Self>
         ensures valid { IsSome result ↔ IsClientKey bytes.now }
         ensures value { IfSome result (λ key. key ≡ bytes.now) }
@@ -55,8 +55,10 @@ impl ClientKey {
     /// Reads a key in hexadecimal: two digits a byte, in either case, and nothing else.
     ///
     /// # Errors
-    /// Those of [`read_hex`], in its order; then `BadLength` where the key has fewer than 16 bytes, and
-    /// `TooLong` where it has more than 64.
+    ///
+    /// - Returns the errors of [`read_hex`], in their order.
+    /// - Returns `BadLength` if the key has fewer than 16 bytes.
+    /// - Returns `TooLong` if the key has more than 64 bytes.
     pub fn read(text: &[u8]) -> Result<Self, SecretFault>
         ensures fault { result_err result ≡ key_refusal_of text.now }
         ensures value { IfOk result (λ key. decode_of text.now ≡ Ok key) }
@@ -69,7 +71,7 @@ impl ClientKey {
         ClientKey::new(bytes).ok_or(SecretFault::TooLong)
     }
 
-    /// The bytes of the key.
+    /// Returns the bytes of the key.
     pub fn as_slice(&self) -> &[u8]
         ensures value { result.now ≡ self.now }
         ensures len { IsClientKey result.now }
@@ -78,14 +80,14 @@ impl ClientKey {
     }
 }
 
-/// It shows no byte of the key.
+/// Shows no byte of the key.
 impl fmt::Debug for ClientKey {
     fn fmt<W: fmt::Write>(&self, f: &mut fmt::Formatter<W>) -> fmt::Result {
         f.write_str("ClientKey(..)")
     }
 }
 
-/// The tag of bytes under a key: their HMAC-SHA-256 (RFC 2104).
+/// Returns the tag of `bytes` under a key: their HMAC-SHA-256 (RFC 2104).
 #[tactic(auto, unfolding(crate::specs::Key::tag_of))]
 pub fn tag(key: &ClientKey, bytes: &[u8]) -> [u8; TAG_LEN]
     ensures { result ≡ tag_of key.now bytes.now }
@@ -96,7 +98,7 @@ pub fn tag(key: &ClientKey, bytes: &[u8]) -> [u8; TAG_LEN]
     tag
 }
 
-/// Whether two tags are equal. All their bytes are looked at, wherever the first difference is.
+/// Returns whether two tags are equal. Compares all bytes, wherever the first difference is.
 pub(crate) fn are_equal(left: &[u8; TAG_LEN], right: &[u8; TAG_LEN]) -> bool
     ensures { IsTrue result ↔ (left.now ≡ right.now) }
 {

@@ -7,7 +7,7 @@ ghost use Rattle.sealed_wire.specs.Sealed.{IsSealedOf, client_of, sealed_at, sea
 ghost use Rattle.sealed_wire.specs.declared.head.Head.{Head};
 ghost use Rattle.sealed_wire.specs.declared.head.Kind.TheVariants.{Answer, Report, Request};
 
-/// Under each key a head and a text have one spelling, and a datagram one reading.
+/// One spelling: under each key a head and a text have one spelling, and a datagram one reading.
 pub fn one_spelling()
     ensures reading { (key bound bytes text : List ℕ) (head : Head) → AreBytes bytes → IsHead head →
         IsSealedOf key bound head text bytes ↔ (sealed_at key bound bytes ≡ Some (head, text)) }
@@ -18,8 +18,10 @@ pub fn one_spelling()
         client_of bytes ≡ Some head.client }
 {}
 
-/// What is read under a key was made by a holder of the key, bound so: where nobody forges a tag. A line was made for
-/// the node and the moment that it names, whatever address it comes from.
+/// Authenticity: a holder of the key made every datagram that is read under it, with the same bound bytes, unless a tag
+/// was forged.
+///
+/// A line was made for the node and the moment that it names, whatever address it comes from.
 pub fn what_is_read_was_made()
     ensures { (key bytes bound text : List ℕ) (head : Head) (made : List Making) → AreBytes bytes →
         AreMakings key made → length bound ≡ bound_len head.kind → IsUnforged key made bound bytes →
@@ -27,8 +29,9 @@ pub fn what_is_read_was_made()
         IsMade made (record { bound = bound; head = head; text = text }) }
 {}
 
-/// An answer that a client reads of a datagram, under its key and bound to its line's tag, was made by a holder of the
-/// key for that very line: where nobody forges a tag, and no two texts that were sealed have one tag.
+/// Answers: a holder of the key made an answer, which a client reads with its line's tag, for exactly the line.
+///
+/// It holds if no tag was forged, and if no two sealed texts have the same tag.
 pub fn answers_are_for_their_lines()
     ensures { (key bytes answer : List ℕ) (head : Head) (made : List Making) (line : Making) → AreBytes bytes →
         AreMakings key made → IsMade made line → IsUnforged key made (making_tag key line) bytes →
@@ -36,8 +39,8 @@ pub fn answers_are_for_their_lines()
         IsAnswerTo key made line head answer }
 {}
 
-/// A line and its answer under a key of 32 zeros, and what is read of them under that key and another, bound to
-/// nothing and to the line's tag, with another tag and with another byte of the head.
+/// Worked cases. A line and its answer under a key of 32 zeros, and their readings under another key, with and without
+/// the line's tag, with another tag, and with another byte of the head.
 pub fn sealed_are_worked()
     ensures line { sealed_bytes (replicate 32 0) [] line_head (codes "CHECK k1 ann 755224 -") ≡ sealed_line }
     ensures answer { sealed_bytes (replicate 32 0) line_tag answer_head (codes "OK k1 0") ≡ sealed_answer }
@@ -54,7 +57,7 @@ pub fn sealed_are_worked()
     ensures short { client_of (replicate 46 0) ≡ None }
 {}
 
-/// Heads, and what is read where a byte is another.
+/// Worked cases. Heads, and their readings with one other byte.
 pub fn heads_are_worked()
     ensures line { head_bytes line_head ≡ line_head_bytes }
     ensures answer { head_bytes answer_head ≡ answer_head_bytes }

@@ -1,9 +1,8 @@
 //! Sealed datagrams between clients and nodes, as bytes.
 //!
-//! A client's line and a node's answer each stand between a head and a tag, which is HMAC-SHA-256 under the key that
-//! the client shares with the nodes. An answer's tag is over the line's tag as well, so that it answers that line and
-//! no other. [`open`] takes exactly what [`seal`] writes, and nothing else (the law [`one_spelling`]). Nothing here
-//! takes memory.
+//! A client's line and a node's answer each stand between a head and a tag. The tag is HMAC-SHA-256 under the key that
+//! the client shares with the nodes. An answer's tag also covers the line's tag, so that it answers only its line.
+//! [`open`] accepts what [`seal`] writes and nothing else (the law [`one_spelling`]). No function allocates.
 #![tactic(auto)]
 
 mod bytes;

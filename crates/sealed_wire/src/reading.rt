@@ -1,4 +1,4 @@
-//! Sealed datagrams, read.
+//! Reading of sealed datagrams.
 
 ghost use Rattle.std.specs.Option.{option_map};
 ghost use Rattle.std.specs.Prelude.{◌≡◌, ◌≤◌, length, IfNone, IfSome, ℕ, List};
@@ -10,13 +10,13 @@ use crate::head::{Head, Kind};
 use crate::key::{ClientKey, TAG_LEN, are_equal};
 use crate::writing::{MARK, MAX_SEALED_LEN, VERSION, bound_tag};
 
-/// The bytes of a head.
+/// The length of a head, in bytes.
 const HEAD_LEN: usize = 15;
 
-/// The most bytes before a tag.
+/// The maximum number of bytes before a tag.
 const MAX_BODY_LEN: usize = 271;
 
-/// Whether the mark and the version stand first.
+/// Returns whether `body` begins with the mark, and the version follows.
 fn has_mark(body: &[u8]) -> bool
     requires { 3 ≤ length body.now }
     ensures { result ≡ spec.has_mark body.now }
@@ -24,7 +24,7 @@ fn has_mark(body: &[u8]) -> bool
     body[0] == MARK[0] && body[1] == MARK[1] && body[2] == VERSION
 }
 
-/// The head of the bytes before a tag.
+/// Returns the head of the bytes before a tag, or None.
 #[tactic(auto, unfolding(crate::specs::Body::head_at))]
 fn head_at(body: &[u8]) -> Option<Head>
     ensures head { result ≡ spec.head_at body.now }
@@ -42,7 +42,7 @@ fn head_at(body: &[u8]) -> Option<Head>
     })
 }
 
-/// The bytes before the tag, where the tag is theirs.
+/// Returns the bytes before the tag, or None if the tag is not theirs with `bound`.
 fn tagged_body<'a>(key: &ClientKey, bound: &[u8], bytes: &'a [u8]) -> Option<&'a [u8]>
     requires { length bound.now ≤ 32 }
     ensures some { IfSome result (λ body. IsTagged key.now bound.now bytes.now × (body.now ≡ body_of bytes.now)) }
@@ -60,7 +60,7 @@ fn tagged_body<'a>(key: &ClientKey, bound: &[u8], bytes: &'a [u8]) -> Option<&'a
     }
 }
 
-/// The client that a datagram names, under whose key its tag has to be; `None` where it is too short to be sealed.
+/// Returns the client that a datagram names, under whose key its tag must be, or None if the datagram is too short.
 pub fn client_of(bytes: &[u8]) -> Option<u16>
     ensures { result ≡ client_of bytes.now }
 {
@@ -70,8 +70,10 @@ pub fn client_of(bytes: &[u8]) -> Option<u16>
     Some(half_at(bytes, 4))
 }
 
-/// The head and the text of a sealed datagram under a client's key, or `None` where it is outside the format or its tag
-/// is wrong. A line is bound to nothing, and an answer to its line's tag.
+/// Returns the head and the text of a sealed datagram under a client's key, or None if it is not in the format or its
+/// tag is wrong.
+///
+/// `bound` is empty for a line, and the line's tag for an answer.
 pub fn open<'a>(key: &ClientKey, bound: &[u8], bytes: &'a [u8]) -> Option<(Head, &'a [u8])>
     requires { length bound.now ≤ 32 }
     ensures exact { option_map (λ read. (read.0, read.1.now)) result ≡ sealed_at key.now bound.now bytes.now }

@@ -1,4 +1,4 @@
-//! Sealed datagrams, written.
+//! Writing of sealed datagrams.
 
 ghost use Rattle.std.specs.Prelude.{◌≡◌, ◌+◌, ◌≤◌, ◌++◌, length};
 ghost use Rattle.arrayvec.specs.ArrayVec.{array_vec_len};
@@ -10,19 +10,19 @@ use crate::head::Head;
 use crate::key::{ClientKey, TAG_LEN, tag};
 use arrayvec::ArrayVec;
 
-/// The most bytes of the text of a sealed datagram.
+/// The maximum length of the text of a sealed datagram, in bytes.
 pub const MAX_TEXT_LEN: usize = 256;
 
-/// The most bytes of a sealed datagram.
+/// The maximum length of a sealed datagram, in bytes.
 pub const MAX_SEALED_LEN: usize = 303;
 
-/// With what a sealed datagram begins.
+/// The first bytes of a sealed datagram.
 pub(crate) const MARK: [u8; 2] = *b"OS";
 
 /// The version of the format.
 pub(crate) const VERSION: u8 = 1;
 
-/// Appends the bytes.
+/// Appends `bytes`.
 fn push_all(out: &mut ArrayVec<u8, MAX_SEALED_LEN>, bytes: &[u8])
     requires { array_vec_len out.old + length bytes.now ≤ 303 }
     ensures { out.new.items ≡ out.old.items ++ bytes.now }
@@ -30,7 +30,7 @@ fn push_all(out: &mut ArrayVec<u8, MAX_SEALED_LEN>, bytes: &[u8])
     let _ = out.try_extend_from_slice(bytes);
 }
 
-/// The head as bytes.
+/// Returns the head as bytes.
 fn head_bytes(head: Head) -> ArrayVec<u8, MAX_SEALED_LEN>
     ensures bytes { result.items ≡ head_bytes head }
     ensures len { array_vec_len result ≡ 15 }
@@ -44,7 +44,7 @@ fn head_bytes(head: Head) -> ArrayVec<u8, MAX_SEALED_LEN>
     out
 }
 
-/// The tag of some bytes that are bound to others.
+/// Returns the tag of `body` followed by the bytes `bound`.
 pub(crate) fn bound_tag(key: &ClientKey, body: &[u8], bound: &[u8]) -> [u8; TAG_LEN]
     requires body { length body.now ≤ 271 }
     requires bound { length bound.now ≤ 32 }
@@ -56,8 +56,9 @@ pub(crate) fn bound_tag(key: &ClientKey, body: &[u8], bound: &[u8]) -> [u8; TAG_
     tag(key, &tagged)
 }
 
-/// The datagram of a head and a text of at most 256 bytes, under a client's key. A line is bound to nothing, and an
-/// answer to its line's tag.
+/// Returns the datagram of a head and a text of at most 256 bytes, under a client's key.
+///
+/// `bound` is empty for a line, and the line's tag for an answer.
 #[tactic(auto, unfolding(crate::specs::Sealed::sealed_bytes))]
 pub fn seal(key: &ClientKey, bound: &[u8], head: Head, text: &[u8]) -> ArrayVec<u8, MAX_SEALED_LEN>
     requires text { length text.now ≤ 256 }
