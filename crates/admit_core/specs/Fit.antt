@@ -20,7 +20,7 @@ Fits credential (Check code) lo hi = (hi ≡ lo) × (code_at credential lo ≡ c
 Fits credential (Resync first second) lo hi =
     (hi ≡ lo + 1) × (code_at credential lo ≡ first) × (code_at credential hi ≡ second)
 
--- lo to hi fit and lie between two factors, and no smaller fit does
+-- lo to hi fit and lie between two factors, and no fit between them begins lower
 pub record IsLeastBetween (credential : Credential) (first last : ℕ) (submission : Submission)
     (lo hi : ℕ) : Type 0 where
   pub fits : Fits credential submission lo hi
@@ -44,7 +44,7 @@ abbrev pub InWindowOf : Credential → Limits → ℕ → ℤ → ℕ → Submis
 InWindowOf credential limits next drift moment submission =
     InWindow credential.kind (reach_of limits submission) limits next drift moment
 
--- lo to hi fit and lie in a set of factors, and no smaller fit does
+-- lo to hi fit and lie in a set of factors, and no fit in it begins lower
 pub record IsLeastIn (InSet : ℕ → Type 0) (credential : Credential) (submission : Submission) (lo hi : ℕ) : Type 0 where
   pub fits : Fits credential submission lo hi
   pub first : InSet lo

@@ -1,5 +1,6 @@
--- The moments at which a token is open at one node, by the list of its results there: the delay scheme of RFC 4226,
--- section 7.3, with T = 5 seconds. The A-th failure since the last acceptance closes the token for T * A seconds.
+-- The moments at which a token is open at one node, by the list of its results there. They follow the delay scheme of
+-- RFC 4226, section 7.3, with T = 5 seconds. The A-th failure since the last acceptance closes the token for T * A
+-- seconds.
 use Rattle.std.specs.Prelude.{ℕ, ◌+◌, ◌-◌, ◌*◌, ◌≤◌, ◌≡◌, ◌⊎◌, min, List, [], ◌∷◌, ◌++◌, map, length}
 use Rattle.otp_core.specs.Gate.{GateRecord}
 

@@ -33,8 +33,9 @@ pub fn gate_keeps_throttle()
         (gate_after results).until - moment ≡ wait_after results moment }
 {}
 
-/// Throttle: k failures in a row span at least 5k(k - 1)/2 seconds, if each came while the token was open and k is at
-/// most 10,000.
+/// Throttle: k consecutive failures span at least 5k(k - 1)/2 seconds, for k up to 10,000.
+///
+/// Each failure must have come while the token was open.
 pub fn failures_are_spaced()
     ensures { (results : List Result) → AreGated results → SpacesFailures results }
 {}

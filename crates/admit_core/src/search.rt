@@ -27,10 +27,10 @@ pub fn find_check(token: &Token, window: (Factor, Factor), given: &Code) -> Opti
     None
 }
 
-/// Returns the smallest factor of `window` with the code `given`, if the next factor is in the window and has the code
-/// `given_next` (RFC 4226, section 7.4).
+/// Returns the smallest factor of `window` that fits two codes, or None (RFC 4226, section 7.4).
 ///
-/// Returns None if there is no such factor. Computes each code once.
+/// The factor has the code `given`. The next factor is in the window too, and has the code `given_next`. Computes each
+/// code once.
 pub fn find_resync(
     token: &Token,
     window: (Factor, Factor),

@@ -9,8 +9,9 @@ use token_file::{Kind, Token};
 /// The maximum factor.
 const LAST_FACTOR: u64 = FACTORS_END - 1;
 
-/// Returns the first and the last factor that a check may take, or None if there is no such factor (RFC 4226, sections
-/// 7.2 and 7.4; RFC 6238, sections 5.2 and 6).
+/// Returns the first and the last factor that a check may take, or None if there is none.
+///
+/// The sources are RFC 4226, sections 7.2 and 7.4, and RFC 6238, sections 5.2 and 6.
 ///
 /// A time token's window moves with the drift of its clock, which is first brought to the nearest drift that `settings`
 /// allow. `moment` is in seconds since 1970-01-01 00:00:00 UTC.
@@ -37,8 +38,9 @@ pub fn window(
     )
 }
 
-/// Returns the first and the last factor that a resynchronization may take, or None if there is no such factor (RFC
-/// 4226, section 7.4; RFC 6238, sections 5.2 and 6).
+/// Returns the first and the last factor that a resynchronization may take, or None if there is none.
+///
+/// The sources are RFC 4226, section 7.4, and RFC 6238, sections 5.2 and 6.
 ///
 /// A time token has the window of a check.
 pub fn resync_window(

@@ -28,8 +28,8 @@ pub record IsAddress (address : Address) : Type 0 where
 abbrev pub address_with : List ℕ × ℕ → Address
 address_with parts = record { octets = parts.0; port = parts.1 }
 
--- The address of a whole text: four decimal numbers below 256 without leading zeros, divided by dots, a colon, and a
--- decimal number below 65,536; or None.
+-- The address of a whole text, or None. The text is four decimal numbers below 256 without leading zeros, divided by
+-- dots, a colon, and a decimal number below 65,536.
 abbrev pub address_of : List ℕ → Option Address
 address_of text = option_map address_with (whole_value (read_socket_v4 text))
 

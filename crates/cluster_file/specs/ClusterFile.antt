@@ -1,4 +1,4 @@
--- The content of a cluster file. The first fault of the first faulty line decides, and then missing values at the end.
+-- The content of a cluster file. The first fault of the first faulty line decides; without one a missing value does.
 use Rattle.std.specs.Prelude.{ℕ, ◌+◌, ◌==◌, nat_le, Bool, true, false, List, [], ◌∷◌, length, map, take, Option, Some, None, Result, Ok, Err, unwrap_or, if◌then◌else◌}
 use Rattle.otp_core.specs.Limits.{Limits}
 use Rattle.token_file.specs.Fields.{fields_of, lines_of}

@@ -73,8 +73,10 @@ fn write_counts<W: Write>(writer: &mut W, book: &Book) -> io::Result<()>
     write_count(writer, book, Kind::Time60)
 }
 
-/// Writes the text that two sites compare: the life, the members, the settings, the number of tokens of each kind, and
-/// the fingerprint of the shared key, each on a line.
+/// Writes the text that two sites compare.
+///
+/// It has the life, the members, the settings, the number of tokens of each kind, and the fingerprint of the shared
+/// key, each on a line.
 ///
 /// # Errors
 ///

@@ -1,8 +1,8 @@
 //! The surroundings of a datagram server: a port, which receives and sends datagrams, and a clock.
 //!
-//! A [`Port`] returns one datagram for each receive or poll, and sends datagrams. A receive waits for a datagram, a
-//! poll doesn't. A [`Clock`] tells the time. Both may keep a record of their calls. [`ListPort`] and [`ListClock`] are
-//! in memory and keep one.
+//! A [`Port`] returns at most one datagram for each receive or poll, and sends datagrams. A receive waits for a
+//! datagram, a poll doesn't. A [`Clock`] tells the time. Both may keep a record of their calls. [`ListPort`] and
+//! [`ListClock`] are in memory and keep one.
 #![tactic(auto)]
 
 mod clock;

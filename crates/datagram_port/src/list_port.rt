@@ -217,8 +217,8 @@ impl Port for ListPort<'_> {
     }
 }
 
-/// A clock in memory. It tells its moments in order, and then fails. It keeps a record of the moments that it told as
-/// long as the allocator grants the memory.
+/// A clock in memory. It tells its moments in order. After the last one it fails. It keeps a record of the moments that
+/// it told as long as the allocator grants the memory.
 #[derive(Drop)]
 pub struct ListClock<'a> {
     moments: &'a [u64],

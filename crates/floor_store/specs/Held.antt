@@ -15,7 +15,7 @@ pub record Held : Type 1 where
   -- the fault that broke the store, and the number of failures that it has met
   pub fault : Option StoreFault
   pub failures : ℕ
-  -- The layers below have returned what was written. They may stop doing so at any call, and then the contracts say
+  -- The layers below have returned what was written. They may stop doing so at any call. From then on the contracts say
   -- nothing about the content.
   pub is_clean : Type 0
   -- the contents that a stop at this moment may leave

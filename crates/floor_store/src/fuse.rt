@@ -11,7 +11,7 @@ use crate::row::{Pass, Row};
 use crate::store::FloorStore;
 use std::marker::Model;
 
-/// A store that lets some writes pass, and then fails like one whose disk is full or gone.
+/// A store that fails after some writes, like one whose disk is full or gone.
 ///
 /// Each call of `put`, `commit` and `raise_boot` is one write.
 #[derive(Drop)]

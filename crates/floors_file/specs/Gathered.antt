@@ -38,8 +38,8 @@ head_fault asked lost members later head =
     else if nat_le asked.boot head.boot then Some Boot
     else None
 
--- Whether rows lack a user that they must have. They must have each user of the users file, or only those that one of
--- the files has if users may come and go (`is_same` is false).
+-- Whether rows lack a user that they must have. They must have each user of the users file. If users may come and go
+-- (`is_same` is false), they must have only the users that a file has.
 abbrev pub lacks : Bool → List FloorsRecord → List FloorRecord → Credential → Bool
 lacks is_same files rows token =
     not (has_user token.name rows) && (is_same || is_in_files token.name files)

@@ -37,7 +37,7 @@ pub enum FileFault {
     /// The file was read before the required moment.
     #[error("Older")]
     Older,
-    /// The new boot is not above the boot of the file's node. The clock is behind.
+    /// The new boot is not above the boot of the file's node. The clock lags.
     #[error("Boot")]
     Boot,
     /// The file lacks the user of the token with the number, from 1, of the users file.
@@ -353,7 +353,7 @@ pub fn check_lost(
 /// Checks that the files are sufficient to replace the stores of a whole cluster.
 ///
 /// Each majority of the former members must have a node with a file, and each node at most one file. Each file must
-/// have a row for each user of the users file that one of the files has, and meet `asked`.
+/// have a row for each user of the users file whom a file has, and meet `asked`.
 ///
 /// # Errors
 ///
@@ -406,7 +406,7 @@ fn greater_of(one: Option<Next>, other: Option<Next>) -> Option<Next>
     }
 }
 
-/// Returns the greatest floor (the first free factor) in the files for a user, or None if no file has the user.
+/// Returns the greatest floor in the files for a user, or None if no file has the user. A floor is a first free factor.
 pub fn greatest(user: &[u8], files: &[Floors<'_>]) -> Option<Next>
     ensures { result ≡ greatest_of user.now (map floors_value files.now) }
 {
@@ -427,8 +427,7 @@ fn floor_at(floors: &[Next], place: usize) -> Next
     floors[place]
 }
 
-/// Returns the floor of each token of a book: the greatest in the files for its user, or its own if no file has the
-/// user.
+/// Returns the floor of each token of a book: the greatest in the files, or its own if no file has the user.
 ///
 /// # Errors
 ///

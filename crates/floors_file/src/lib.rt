@@ -1,5 +1,7 @@
 //! The floors file: the floors of a stopped node, from which a lost node's store is replaced.
 //!
+//! A floor is the first free factor of a token at a node.
+//!
 //! [`read_floors`] reads the file, and [`write_floors`] writes it.
 #![tactic(auto)]
 

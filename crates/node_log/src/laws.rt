@@ -7,8 +7,9 @@ ghost use Rattle.node_log.specs.Examples.{ann, bob, member, two_lines};
 ghost use Rattle.node_log.specs.Log.{Remembers, Tells, asked_after, asked_after_all, members_after, told_of};
 ghost use Rattle.node_log.specs.Text.{answered_line, client_text, end_line, shown_user, start_line};
 
-/// Worked cases. The lines of a log byte by byte: an acceptance, a refusal without a remembered line, and names that
-/// would end their quotation or their line.
+/// Worked cases. The lines of a log, byte by byte.
+///
+/// They are an acceptance, a refusal without a remembered line, and names that would end their quotation or their line.
 pub fn texts_are_worked()
     ensures accepted { answered_line 139637976793089 (Some (codes "ann")) (codes "OK k1 37")
         ≡ codes "accepted from=127.0.0.1:1 OK k1 37 user=\"ann\"\n" }

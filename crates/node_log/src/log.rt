@@ -55,7 +55,7 @@ impl<W: Write + Drop> Log<W> {
         self.asked.add(client, bytes);
     }
 
-    /// Writes the line of an answer that was offered to a client, and forgets the client's line.
+    /// Writes the line of an answer after the node offered it to a client, and forgets the client's line.
     pub fn answered(&mut self, client: u64, answer: &[u8])
         ensures asked { self.new.asked ≡ asked_after (Offered (Client client) answer.now) self.old.asked }
         ensures members { self.new.members.items ≡ self.old.members.items }

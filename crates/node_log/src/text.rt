@@ -111,7 +111,7 @@ pub struct Start {
     /// The number of the node, and the number of members.
     pub node: u8,
     pub members: u8,
-    /// The number of the node's address, as of a client's address.
+    /// The node's address, as the number of a client at the same address.
     pub address: u64,
     /// The number of the node's boot.
     pub boot: u64,

@@ -254,8 +254,8 @@ fn of_database<'a>(
     }
 }
 
-/// Returns the cause of a fault with which a command over a database has ended, by the text of the cluster file that its
-/// words name; or None if the fault has none.
+/// Returns the cause of a fault with which a command over a database has ended, or None if it has none. `text` is that
+/// of the cluster file that the words name.
 pub(crate) fn cause_of<'a>(
     alloc: Global,
     rt: &HostRuntime,

@@ -171,8 +171,8 @@ fn read_either(text: &[u8]) -> Result<u64, TimeFault>
 /// 00:00:00 UTC. They are below 2^40. The second form has exactly 23 bytes, and names a day of the Gregorian calendar.
 ///
 /// # Errors
-/// Returns `BadTime` if the text has neither form, names no day, or gives a time before 1970 or from 2^40 seconds on. The
-/// calendar's `Memory` is passed on; reading takes no memory.
+/// Returns `BadTime` if the text has neither form, names no day, or gives a time before 1970 or from 2^40 seconds on.
+/// Returns `Memory` if the calendar's library does. Reading takes no memory of its own.
 pub fn read_time(_alloc: Global, text: &[u8]) -> Result<u64, TimeFault>
     ensures some { IfOk result (IsTimeText text.now) }
     ensures bad { (result ≡ Err TimeFault.BadTime) ↔ ((seconds : ℕ) → IsTimeText text.now seconds → ⊥) }

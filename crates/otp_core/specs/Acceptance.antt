@@ -2,8 +2,8 @@
 -- The definitions don't say how a submission is accepted. Floor: the first free factor of a token at a node.
 use Rattle.std.specs.Prelude.{◌≡◌, ◌≢◌, ℕ, zero, suc, ◌+◌, ◌/◌, ◌<◌, ◌≤◌, Bool, true, List, Some, slice_get, if◌then◌else◌}
 
--- an accepted submission: the event in which it began, the event in which it was accepted, the node, the token, and
--- the factors lo to hi that it uses up; an event is its place in the list of all events
+-- An accepted submission. It has the events in which it began and was accepted, the node, the token, and the factors lo
+-- to hi that it uses up. An event is its place in the list of all events.
 pub record Acceptance : Type 0 where
   pub began : ℕ
   pub ended : ℕ

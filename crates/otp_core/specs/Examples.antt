@@ -47,7 +47,7 @@ accepted_of_other event factor =
 abbrev pub witnessed : Acceptance
 witnessed = record { began = 1; ended = 3; node = 1; token = 2; lo = 4; hi = 5 }
 
--- floors: 4 for token 2 up to the event `last`, and then 6; always 4 for other tokens
+-- floors: for token 2 they are 4 up to the event `last`, later 6; for other tokens always 4
 abbrev pub floor_until : ℕ → ℕ → ℕ → ℕ → ℕ
 floor_until last node token event = if nat_le event last || not (token == 2) then 4 else 6
 

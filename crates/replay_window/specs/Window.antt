@@ -17,7 +17,7 @@ size = 64
 abbrev pub ahead : ℕ
 ahead = 5000000
 
--- the maximum lag of a moment behind the clock: 60 seconds
+-- the maximum lag of a moment: 60 seconds
 abbrev pub behind : ℕ
 behind = 60000000
 

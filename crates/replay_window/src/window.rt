@@ -10,7 +10,7 @@ use std::marker::Model;
 /// The maximum lead of a moment over the clock, in microseconds.
 pub const AHEAD_MICROS: u64 = 5_000_000;
 
-/// The maximum lag of a moment behind the clock, in microseconds.
+/// The maximum lag of a moment to the clock, in microseconds.
 pub const BEHIND_MICROS: u64 = 60_000_000;
 
 /// The end of the clock's seconds.

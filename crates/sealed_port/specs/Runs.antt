@@ -1,4 +1,4 @@
--- What a gate opens and answers over a run.
+-- The lines that a gate opens and the answers that it seals in an execution.
 use Rattle.std.specs.Prelude.{◌≡◌, ◌⊎◌, true, ℕ, ◌==◌, ◌&&◌, Bool, List, [], ◌∷◌, ◌++◌, Option, Some, None}
 use Rattle.sealed_wire.specs.Sealed.{sealed_at, sealed_bytes, tag_at}
 use Rattle.sealed_wire.specs.declared.head.Head.{Head}
@@ -7,7 +7,7 @@ use Rattle.sealed_port.specs.Asked.{AskedRecord, nonce_of}
 use Rattle.sealed_port.specs.Gate.{GateRecord, Sealed, SealedLine, answer_head, asked_of, gate_answered, gate_with, is_admitted, named, opened}
 use Rattle.sealed_port.specs.declared.client.Client.{Client}
 
--- A step of a gate: a datagram from an address comes, and the clock tells this; or the node answers a client.
+-- A step of a gate: a datagram comes from an address at a second of the clock, or the node answers a client.
 pub data Step : Type 0 where
   Comes : (now : Option ℕ) (address : ℕ) (bytes : List ℕ) → Step
   Answers : (client : ℕ) (answer : List ℕ) → Step
@@ -17,38 +17,37 @@ abbrev pub gate_step : GateRecord → Step → GateRecord
 gate_step gate (Comes now address bytes) = gate_with gate address (opened gate now bytes)
 gate_step gate (Answers client answer) = gate_answered gate client answer
 
--- the gate after these steps, in order
+-- the gate after the steps, in order
 abbrev pub gate_run : GateRecord → List Step → GateRecord
 gate_run gate [] = gate
 gate_run gate (step ∷ steps) = gate_run (gate_step gate step) steps
 
--- a line that was opened, and where it came from
+-- the opened line with its address, or nothing
 abbrev pub opening_of : ℕ → Option SealedLine → List AskedRecord
 opening_of address None = []
 opening_of address (Some line) = asked_of address line ∷ []
 
--- what a step opens
+-- the lines that a step opens
 abbrev pub opened_by : GateRecord → Step → List AskedRecord
 opened_by gate (Comes now address bytes) = opening_of address (opened gate now bytes)
 opened_by gate (Answers client answer) = []
 
--- what these steps open, in order
+-- the lines that the steps open, in order
 abbrev pub opened_in : GateRecord → List Step → List AskedRecord
 opened_in gate [] = []
 opened_in gate (step ∷ steps) = opened_by gate step ++ opened_in (gate_step gate step) steps
 
--- two of one client and one moment
+-- two lines of the same client and moment
 abbrev pub is_same : AskedRecord → AskedRecord → Bool
 is_same one other = (one.client == other.client) && (one.moment == other.moment)
 
--- it is one of these
+-- the line is in the list
 abbrev pub IsAmong : List AskedRecord → AskedRecord → Type 0
 IsAmong [] one = ⊥
 IsAmong (other ∷ others) one = (other ≡ one) ⊎ IsAmong others one
 
--- What a gate seals of an answer of its node to a client: one of the lines that were opened is this client's and has the
--- nonce that the answer names; the answer is sealed under the client's key, bound to that line's tag, and goes where that
--- line came from.
+-- A gate's seal of its node's answer to a client. A line that the gate opened is the client's and has the answer's
+-- nonce. The answer is sealed under the client's key and bound to the line's tag. It goes to the line's address.
 pub record IsAnswerOf (gate : GateRecord) (openings : List AskedRecord) (client : ℕ) (answer : List ℕ) (sealed : Sealed) : Type 0 where
   pub line : AskedRecord
   pub is_opened : IsAmong openings line
@@ -63,9 +62,9 @@ pub record IsAnswerOf (gate : GateRecord) (openings : List AskedRecord) (client 
 abbrev pub line_head : ℕ → SealedLine → Head
 line_head node line = record { kind = Line; client = line.client; node = node; moment = line.moment }
 
--- What a gate opens of a datagram: the client whom the line names shares a key with it; the datagram is the line, sealed
--- under that key for the gate's node at the line's moment, with its tag; the clock told a second; and the gate admits
--- the line.
+-- A gate's opening of a datagram. The client that the line names shares a key with the gate. The datagram is the line,
+-- sealed under the key for the gate's node at the line's moment, with its tag. The clock told a second, and the gate
+-- admits the line.
 pub record IsOpenedOf (gate : GateRecord) (now : Option ℕ) (bytes : List ℕ) (line : SealedLine) : Type 0 where
   pub owner : Client
   pub is_owner : named line.client gate.clients ≡ Some owner

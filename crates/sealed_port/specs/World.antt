@@ -1,4 +1,4 @@
--- What a client and the gates that have its key make of that key.
+-- The use of a key by a client and by the gates that have it.
 use Rattle.std.specs.Prelude.{◌≡◌, ℕ, List, [], ◌∷◌, Option, Some}
 use Rattle.sealed_wire.specs.Bytes.{AreBytes}
 use Rattle.sealed_wire.specs.Making.{IsMade, IsUnforged, Making}
@@ -12,19 +12,19 @@ use Rattle.sealed_port.specs.declared.client.Client.{Client}
 abbrev pub answered_line : GateRecord → ℕ → List ℕ → Option AskedRecord
 answered_line gate client answer = line_at (answered_place gate client answer) gate.asked
 
--- a client has this key at a gate
+-- the client has the key at a gate, if the gate knows the client
 abbrev pub HasKey : List ℕ → ℕ → GateRecord → Type 0
 HasKey key client gate = (owner : Client) → named client gate.clients ≡ Some owner → owner.key ≡ key
 
--- no line that comes in these steps is forged under the key
+-- no line in the steps is forged under the key
 abbrev pub ComeUnforged : List ℕ → List Making → List Step → Type 0
 ComeUnforged key made [] = Unit {0}
 ComeUnforged key made (Comes now address bytes ∷ steps) =
     AreBytes bytes × IsUnforged key made [] bytes × ComeUnforged key made steps
 ComeUnforged key made (Answers client answer ∷ steps) = ComeUnforged key made steps
 
--- The gate of a node sealed this answer for a client: at its start it remembered nothing; the client has the key there;
--- what came was not forged; and after its steps the answer answers a line that it remembers, whose tag it is bound to.
+-- The gate of a node sealed the answer for a client. At its start it remembered no line. The client has the key at the
+-- gate, and no datagram was forged. After the steps the answer answers a remembered line, and is bound to its tag.
 pub record WasSealed (key : List ℕ) (made : List Making) (client : ℕ) (making : Making) : Type 0 where
   pub gate : GateRecord
   pub steps : List Step
@@ -36,13 +36,13 @@ pub record WasSealed (key : List ℕ) (made : List Making) (client : ℕ) (makin
   pub bound_is : making.bound ≡ line.tag
   pub node_is : making.head.node ≡ gate.node
 
--- all answers that were made under the key were sealed so
+-- gates sealed all answers that were made under the key
 abbrev pub GatesAnswer : List ℕ → List Making → ℕ → Type 0
 GatesAnswer key made client =
     (making : Making) → IsMade made making → making.head.kind ≡ Answer → WasSealed key made client making
 
--- An answer is one to a client's line: the gate of the node that the line is for opened this very line, at its moment,
--- and the node's answer names the line's nonce.
+-- An answer is to a client's line. The gate of the line's node opened exactly the line, at its moment. The node's
+-- answer has the line's nonce.
 pub record AnswersLine (client : ℕ) (line : Making) (node : ℕ) (answer : List ℕ) : Type 0 where
   pub of_client : line.head.client ≡ client
   pub for_node : line.head.node ≡ node

@@ -1,4 +1,4 @@
-//! The lines that were opened and aren't answered yet.
+//! The opened lines without an answer.
 
 ghost use Rattle.std.specs.Prelude.{◌≡◌, ◌<◌, ◌≤◌, ◌∷◌, [], ◌++◌, ◌==◌, ◌&&◌, drop, length, position, nat_lt, if◌then◌else◌, IfSome, option_map};
 ghost use Rattle.std.specs.List.{list_any};
@@ -10,16 +10,16 @@ use client_lines::read_line;
 use field_text::cut_at;
 use std::marker::Model;
 
-/// How many lines are remembered at most: those of a batch, and those that wait for votes.
+/// The maximum number of remembered lines: the lines of a batch, and the lines that wait for votes.
 pub const MAX_ASKED: usize = 96;
 
-/// The most bytes of a nonce.
+/// The maximum length of a nonce, in bytes.
 const MAX_NONCE_LEN: usize = 20;
 
-/// The most bytes of a line.
+/// The maximum length of a line, in bytes.
 const MAX_LINE_LEN: usize = 256;
 
-/// A line that was opened and isn't answered yet.
+/// An opened line without an answer.
 #[derive(Drop, Default)]
 pub struct Asked {
     pub(crate) client: u16,
@@ -45,7 +45,7 @@ impl Model for Asked {
     } };
 }
 
-/// The nonce that an answer to a line names.
+/// Returns the nonce of the answer to a line.
 fn nonce_in(line: &[u8]) -> ArrayVec<u8, MAX_NONCE_LEN>
     ensures { result.items ≡ nonce_in line.now }
 {
@@ -55,7 +55,7 @@ fn nonce_in(line: &[u8]) -> ArrayVec<u8, MAX_NONCE_LEN>
     }
 }
 
-/// The second of the fields of an answer, which have single spaces between them: the nonce of its line.
+/// Returns the nonce of an answer: the second of its fields, which single spaces divide.
 fn nonce_of(answer: &[u8]) -> &[u8]
     ensures { result.now ≡ nonce_of answer.now }
 {
@@ -69,7 +69,7 @@ fn nonce_of(answer: &[u8]) -> &[u8]
 }
 
 impl Asked {
-    /// A line of a client that came from an address, with its moment and tag.
+    /// Returns a line of a client from an address, with its moment and tag.
     pub fn new(client: u16, line: &[u8], address: u64, moment: u64, tag: [u8; 32]) -> Self
         requires { length line.now ≤ 256 }
         ensures { result ≡ record {
@@ -91,14 +91,14 @@ impl Asked {
         }
     }
 
-    /// Whether it came from this client with this nonce.
+    /// Returns whether the line is from `client` and has the nonce `nonce`.
     fn is_of(&self, client: u16, nonce: &[u8]) -> bool
         ensures { result ≡ is_of client nonce.now self.now }
     {
         self.client == client && self.nonce.as_slice() == nonce
     }
 
-    /// Whether it is another line of this client with this nonce.
+    /// Returns whether the line is another line of `client` with the nonce `nonce`.
     fn is_another(&self, client: u16, nonce: &[u8], line: &[u8]) -> bool
         ensures { result ≡ is_another client nonce.now line.now self.now }
     {
@@ -106,7 +106,7 @@ impl Asked {
     }
 }
 
-/// The lines that aren't answered yet, the oldest first; of more than 96 the newest.
+/// The lines without an answer, the oldest first. Of more than 96 it keeps the newest.
 #[derive(Drop)]
 pub struct AskedLines {
     lines: ArrayVec<Asked, MAX_ASKED>,
@@ -122,7 +122,7 @@ impl Model for AskedLines {
 }
 
 impl AskedLines {
-    /// None.
+    /// Returns no lines.
     pub fn new() -> Self
         ensures { result ≡ [] }
     {
@@ -131,7 +131,7 @@ impl AskedLines {
         }
     }
 
-    /// Whether another line of a client with the nonce of this one waits for its answer.
+    /// Returns whether another line of `client` with the nonce of `line` waits for its answer.
     pub fn clashes(&self, client: u16, line: &[u8]) -> bool
         ensures { result ≡ clashes client line.now self.now }
     {
@@ -139,7 +139,7 @@ impl AskedLines {
         self.has_another(client, &nonce, line)
     }
 
-    /// Whether one is another line of this client with this nonce.
+    /// Returns whether one of the lines is another line of `client` with the nonce `nonce`.
     fn has_another(&self, client: u16, nonce: &[u8], line: &[u8]) -> bool
         ensures { result ≡ list_any (is_another client nonce.now line.now) self.now }
     {
@@ -148,7 +148,7 @@ impl AskedLines {
             .any(|asked| asked.is_another(client, nonce, line))
     }
 
-    /// Where the oldest line of a client with a nonce is.
+    /// Returns the place of the oldest line of a client with a nonce, or None.
     fn place_of(&self, client: u16, nonce: &[u8]) -> Option<usize>
         ensures place { result ≡ place_of client nonce.now self.now }
         ensures within { IfSome result (λ place. place < length self.now) }
@@ -158,7 +158,7 @@ impl AskedLines {
             .position(|asked| asked.is_of(client, nonce))
     }
 
-    /// Takes out the oldest line of a client with a nonce.
+    /// Removes and returns the oldest line of a client with a nonce, or returns None.
     fn take_of(&mut self, client: u16, nonce: &[u8]) -> Option<Asked>
         ensures line { result ≡ line_at (place_of client nonce.now self.old) self.old }
         ensures others { self.new ≡ without (place_of client nonce.now self.old) self.old }
@@ -167,7 +167,7 @@ impl AskedLines {
         Some(self.lines.remove(place))
     }
 
-    /// Adds one, in place of the oldest where there is no room.
+    /// Adds a line. It replaces the oldest line if there is no room.
     fn push(&mut self, asked: Asked)
         ensures { self.new ≡ with_one self.old asked }
     {
@@ -177,7 +177,7 @@ impl AskedLines {
         self.lines.push(asked);
     }
 
-    /// Remembers a line, in place of the one of its client with its nonce.
+    /// Remembers a line. It replaces a line of its client with its nonce.
     pub fn add(&mut self, asked: Asked)
         ensures { self.new ≡ remembered self.old asked }
     {
@@ -185,7 +185,7 @@ impl AskedLines {
         self.push(asked);
     }
 
-    /// Takes out the line of a client that an answer answers.
+    /// Removes and returns the line of a client that `answer` answers, or returns None.
     pub fn take(&mut self, client: u16, answer: &[u8]) -> Option<Asked>
         ensures line { result ≡ line_at (place_of client (nonce_of answer.now) self.old) self.old }
         ensures others { self.new ≡ without (place_of client (nonce_of answer.now) self.old) self.old }

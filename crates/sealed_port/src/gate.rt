@@ -1,4 +1,4 @@
-//! Which datagrams are opened, and what answers are sealed.
+//! A gate, which opens datagrams and seals answers.
 
 ghost use Rattle.std.specs.Option.{option_map};
 ghost use Rattle.std.specs.Prelude.{◌≡◌, ◌≤◌, ◌==◌, ◌/◌, [], length, map, find, nat_le, if◌then◌else◌, IfSome, Some, None};
@@ -12,23 +12,23 @@ use arrayvec::ArrayVec;
 use sealed_wire::{Head, Kind, MAX_SEALED_LEN, MAX_TEXT_LEN, TAG_LEN, client_of, open, seal};
 use std::marker::Model;
 
-/// The most clients that share keys with the nodes.
+/// The maximum number of clients that share keys with the nodes.
 pub const MAX_CLIENTS: usize = 64;
 
-/// A client's line as it was sealed.
+/// A client's line with the values of its seal.
 #[derive(Clone, Copy)]
 pub struct SealedLine<'a> {
-    /// Whose it is.
+    /// The client.
     pub client: u16,
-    /// When it was sealed.
+    /// The moment at which the client sealed the line.
     pub moment: u64,
-    /// Its tag.
+    /// The tag.
     pub tag: [u8; TAG_LEN],
     /// The line.
     pub line: &'a [u8],
 }
 
-/// A datagram with a sealed answer, and where it goes.
+/// A datagram with a sealed answer, and its address.
 #[derive(Drop)]
 pub(crate) struct Sealed {
     pub(crate) address: u64,
@@ -57,14 +57,14 @@ impl Model for Gate {
     } };
 }
 
-/// The client with a number.
+/// Returns the client with the number `number`, or None.
 fn named(clients: &[Client], number: u16) -> Option<&Client>
     ensures { option_map (λ client. client.now) result ≡ named number clients.now }
 {
     clients.iter().find(|client| client.is_named(number))
 }
 
-/// The window of the client with a number has seen a moment.
+/// Adds a moment to the window of the client with the number `number`.
 fn see(clients: &mut [Client], number: u16, moment: u64)
     ensures { clients.new ≡ map (with_moment number moment) clients.old }
 {
@@ -73,7 +73,7 @@ fn see(clients: &mut [Client], number: u16, moment: u64)
     }
 }
 
-/// Whether a datagram is a client's line.
+/// Returns whether a datagram is a client's line.
 fn is_line(kind: Kind) -> bool
     ensures { result ≡ is_line kind }
 {
@@ -83,7 +83,7 @@ fn is_line(kind: Kind) -> bool
     }
 }
 
-/// The last bytes of a datagram, which are its tag.
+/// Returns the tag of a datagram: its last bytes.
 fn tag_at(bytes: &[u8]) -> [u8; TAG_LEN]
     requires { 32 ≤ length bytes.now }
     ensures { result ≡ tag_at bytes.now }
@@ -94,8 +94,8 @@ fn tag_at(bytes: &[u8]) -> [u8; TAG_LEN]
 }
 
 impl Gate {
-    /// A gate before the node with this number, with these clients that share keys with it and these IPv4 addresses of
-    /// clients that may speak plainly.
+    /// Returns a gate before the node `node`. `clients` share keys with it, and clients at the IPv4 addresses `plain`
+    /// may speak plainly.
     pub fn new(node: u8, clients: Vec<Client>, plain: Vec<u32>) -> Self
         ensures { result ≡ record { node = node; clients = clients.items; plain = plain.items; asked = [] } }
     {
@@ -107,7 +107,7 @@ impl Gate {
         }
     }
 
-    /// Whether a client at this address may speak plainly.
+    /// Returns whether a client at `address` may speak plainly.
     pub(crate) fn is_plain(&self, address: u64) -> bool
         ensures { result ≡ is_plain self.now address }
     {
@@ -115,7 +115,7 @@ impl Gate {
         self.plain.iter().any(|plain| u64::from(*plain) == ip)
     }
 
-    /// The line that a datagram says to the node under the key of the client that it names.
+    /// Returns the line for the node in a datagram, under the key of the client that the datagram names, or None.
     fn sealed_line<'a>(&self, bytes: &'a [u8]) -> Option<SealedLine<'a>>
         ensures len { IfSome result (λ line. length line.line.now ≤ 256) }
         ensures line { option_map
@@ -135,7 +135,7 @@ impl Gate {
         })
     }
 
-    /// Whether a line is admitted at this second of the clock.
+    /// Returns whether the gate admits a line at the second `now` of the clock.
     fn is_admitted(&self, now: u64, line: &SealedLine<'_>) -> bool
         ensures { result ≡ is_admitted self.now now (record {
           client = line.now.client;
@@ -152,7 +152,8 @@ impl Gate {
         }
     }
 
-    /// Opens a datagram that came from an address, where the clock tells a second.
+    /// Opens a datagram from an address, if the clock tells a second. Returns its line, or None if the gate doesn't
+    /// admit it.
     pub fn open<'a>(
         &mut self,
         now: Option<u64>,
@@ -175,7 +176,10 @@ impl Gate {
         Some(line)
     }
 
-    /// Seals an answer of the node to a client. Its line is then no longer remembered.
+    /// Seals an answer of the node to a client, and forgets the client's line.
+    ///
+    /// Returns None if the gate remembers no line for the answer, or knows no client with the number. Returns None too
+    /// if the answer has more than 256 bytes.
     pub(crate) fn seal(&mut self, client: u16, answer: &[u8]) -> Option<Sealed>
         ensures sealed { option_map (λ sealed. record { address = sealed.address; bytes = sealed.bytes.items }) result
             ≡ answered self.old client answer.now }

@@ -9,30 +9,35 @@ ghost use Rattle.sealed_port.specs.World.{AnswersLine, GatesAnswer};
 ghost use Rattle.sealed_port.specs.Gate.{GateRecord, Sealed, SealedLine, answered, opened};
 ghost use Rattle.sealed_port.specs.Runs.{IsAnswerOf, IsOpenedOf, Step, gate_run, is_same, opened_in};
 
-/// Whatever comes from wherever, and whatever the node answers meanwhile, a gate opens no moment of a client twice.
+/// No replay: a gate opens no moment of a client twice, in every schedule of datagrams and answers.
 pub fn nothing_is_opened_twice()
     ensures { (gate : GateRecord) (steps : List Step) → IsDistinct is_same (opened_in gate steps) }
 {}
 
-/// Whatever comes and is answered, an answer that a gate seals is for a line that it opened: of that client, with the
-/// nonce that the answer names, bound to its tag and sent where it came from.
+/// Sealed answers: a gate seals an answer only for a line that it opened.
+///
+/// The line is the client's and has the answer's nonce. The answer is bound to the line's tag and goes to the line's
+/// address.
 pub fn answers_have_lines()
     ensures { (gate : GateRecord) (steps : List Step) (client : ℕ) (answer : List ℕ) (sealed : Sealed) →
         gate.asked ≡ [] → answered (gate_run gate steps) client answer ≡ Some sealed →
         IsAnswerOf (gate_run gate steps) (opened_in gate steps) client answer sealed }
 {}
 
-/// What a gate opens of a datagram is the line that the datagram says: sealed under the key of the client that it names,
-/// for the gate's node, at a moment that the client's window admits at the second that the clock told.
+/// Opened lines: a gate opens only a line that is sealed under the key of the client that it names, for the gate's
+/// node.
+///
+/// The client's window admits its moment at the clock's second.
 pub fn what_is_opened_is_sealed()
     ensures { (gate : GateRecord) (now : Option ℕ) (bytes : List ℕ) (line : SealedLine) →
         opened gate now bytes ≡ Some line → IsOpenedOf gate now bytes line }
 {}
 
-/// In the words of a client: an answer that it reads of any datagram, under its key and bound to the tag of its line, is
-/// the answer of the node that the line is for, whose gate opened this very line, and it names the line's nonce. So it
-/// is where nobody forges a tag, no two texts that were sealed have one tag, and all answers under the key were sealed
-/// by gates.
+/// Answers at a client: an answer that the client reads with its line's tag is the node's answer to exactly the line.
+///
+/// The client reads it under its key, and the node is the line's. The node's gate opened the line, and the answer has
+/// the line's nonce. It holds if no tag was forged, if no two sealed texts have the same tag, and if gates sealed all
+/// answers under the key.
 pub fn answers_are_for_their_lines()
     ensures { (key bytes answer : List ℕ) (head : Head) (made : List Making) (line : Making) (client : ℕ) →
         AreBytes bytes → AreMakings key made → IsMade made line → GatesAnswer key made client →

@@ -1,9 +1,9 @@
-//! A gate before a node: it opens the sealed lines of clients, and seals the node's answers.
+//! A gate before a node, which opens the sealed lines of clients and seals the node's answers.
 //!
-//! A [`SealedPort`] is a node's port over another one. Of a client's datagram it hands in the line, where that is sealed
-//! under the key of the client that it names, is for this node and comes for the first time; what isn't opened gets no
-//! answer. Of an answer it offers what is sealed under the same key and bound to the line. Members' datagrams go through
-//! as they are.
+//! A [`SealedPort`] is a node's port over another one. It passes on the line of a client's datagram if the line is for
+//! the node and comes for the first time. The line must be sealed under the key of the client that it names. Any other
+//! datagram of a client gets no answer. It seals an answer under the same key and binds it to the line. Members'
+//! datagrams pass unchanged.
 #![tactic(auto)]
 
 mod asked;

@@ -1,4 +1,4 @@
-//! A node's port that opens and seals.
+//! A node's port that opens lines and seals answers.
 
 ghost use Rattle.std.specs.Option.{option_map};
 ghost use Rattle.std.specs.Prelude.{◌≡◌, ◌≤◌, ◌∷◌, [], ◌≢◌, ℕ, Option, Some, None, IfSome, IfNone, length, take};
@@ -10,10 +10,10 @@ ghost use Rattle.sealed_port.specs.Port.{Opens, TakesIn, gate_offered, handed_li
 use crate::gate::{Gate, SealedLine};
 use datagram_port::{Clock, Port, Received, Sender};
 
-/// The numbers by which the node knows clients that share keys with it begin here.
+/// The first number that the node uses for clients that share keys with it.
 const SEALED_CLIENTS: u64 = 1 << 48;
 
-/// What is handed in of what isn't opened: an empty datagram of a member that no cluster has.
+/// The result for a datagram that the gate doesn't open: an empty datagram of a member that no cluster has.
 const NOTHING: Received = Received::Datagram {
     sender: Sender::Peer(0),
     len: 0,
@@ -27,7 +27,7 @@ pub struct SealedPort<P: Port + Drop, C: Clock + Drop> {
     gate: Gate,
 }
 
-/// Puts a line at the beginning of the buffer.
+/// Copies an opened line to the beginning of the buffer, and returns the result of the receive.
 fn hand_in(opened: Option<SealedLine<'_>>, buffer: &mut [u8; 512]) -> Received
     requires { IfSome opened (λ line. length line.line.now ≤ 256) }
     ensures within { IsWithin result }
@@ -46,7 +46,7 @@ fn hand_in(opened: Option<SealedLine<'_>>, buffer: &mut [u8; 512]) -> Received
     }
 }
 
-/// The address and the length of a datagram that is from the address of a client who doesn't speak plainly.
+/// Returns the address and the length of a datagram from a client that must not speak plainly, or None.
 fn sealed_from(gate: &Gate, received: Received) -> Option<(u64, usize)>
     requires { IsWithin received }
     ensures from { result ≡ sealed_from gate.now received }
@@ -67,14 +67,14 @@ fn sealed_from(gate: &Gate, received: Received) -> Option<(u64, usize)>
 }
 
 impl<P: Port + Drop, C: Clock + Drop> SealedPort<P, C> {
-    /// A port over one with a gate, which asks a clock.
+    /// Returns a port over `port` with a gate, which asks `clock`.
     pub fn new(port: P, clock: C, gate: Gate) -> Self
         ensures { result ≡ record { port = port; clock = clock; gate = gate } }
     {
         SealedPort { port, clock, gate }
     }
 
-    /// What is handed in of a datagram from the address of a client that doesn't speak plainly.
+    /// Opens a datagram from a client that must not speak plainly, and returns the result of the receive.
     fn open(&mut self, address: u64, len: usize, buffer: &mut [u8; 512]) -> Received
         requires { len ≤ 512 }
         ensures within { IsWithin result }
@@ -89,7 +89,7 @@ impl<P: Port + Drop, C: Clock + Drop> SealedPort<P, C> {
         hand_in(self.gate.open(now, address, &datagram[..len]), buffer)
     }
 
-    /// What is handed in of what was received.
+    /// Handles a receive, and returns its result for the node.
     #[tactic(auto, using(crate::proofs::PortLemmas::kept, crate::proofs::PortLemmas::taken))]
     fn take(&mut self, received: Received, buffer: &mut [u8; 512]) -> Received
         requires { IsWithin received }

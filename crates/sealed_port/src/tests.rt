@@ -33,7 +33,7 @@ fn gate(alloc: Global) -> Result<Gate, Fail> {
     Ok(Gate::new(2, clients, plain))
 }
 
-/// What comes from a client at an address.
+/// A client's datagram from an address.
 fn from<'a>(address: u64, bytes: &'a [u8]) -> Coming<'a> {
     Coming::Datagram {
         sender: Sender::Client(address),
@@ -41,7 +41,7 @@ fn from<'a>(address: u64, bytes: &'a [u8]) -> Coming<'a> {
     }
 }
 
-/// What was handed in is nothing that the node takes: an empty datagram of member 0.
+/// Returns whether the port returned a datagram that the node drops: an empty one of member 0.
 fn is_nothing(received: Option<Received>) -> bool {
     received
         == Some(Received::Datagram {
@@ -50,7 +50,7 @@ fn is_nothing(received: Option<Received>) -> bool {
         })
 }
 
-/// The line is handed in once, and a copy isn't; a member's datagram and a plain line go through as they are.
+/// The port returns a line once, and not a copy of it; a member's datagram and a plain line pass unchanged.
 #[test]
 fn opens_a_line_once(rt: HostRuntime) -> Result<(), Fail> {
     let alloc = rt.alloc();
@@ -103,7 +103,7 @@ fn opens_a_line_once(rt: HostRuntime) -> Result<(), Fail> {
     Ok(())
 }
 
-/// What was offered on the port below, last.
+/// Returns whether the last offer at the port below is `bytes` to `to`.
 fn offers(port: &ListPort<'_>, to: Sender, bytes: &[u8]) -> bool {
     let Some(entries) = port.record() else {
         return false;
@@ -119,7 +119,7 @@ fn offers(port: &ListPort<'_>, to: Sender, bytes: &[u8]) -> bool {
     }
 }
 
-/// The answer is sealed and goes where the line came from, once; a member's and a plain client's go as they are.
+/// The port seals an answer once, for the line's address; answers to a member and to a plain client pass unchanged.
 #[test]
 fn seals_an_answer_once(rt: HostRuntime) -> Result<(), Fail> {
     let alloc = rt.alloc();

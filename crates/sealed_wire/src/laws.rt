@@ -39,8 +39,10 @@ pub fn answers_are_for_their_lines()
         IsAnswerTo key made line head answer }
 {}
 
-/// Worked cases. A line and its answer under a key of 32 zeros, and their readings under another key, with and without
-/// the line's tag, with another tag, and with another byte of the head.
+/// Worked cases. A line and its answer under a key of 32 zeros, and their readings.
+///
+/// The readings are under another key, with and without the line's tag, with another tag, and with another byte of the
+/// head.
 pub fn sealed_are_worked()
     ensures line { sealed_bytes (replicate 32 0) [] line_head (codes "CHECK k1 ann 755224 -") ≡ sealed_line }
     ensures answer { sealed_bytes (replicate 32 0) line_tag answer_head (codes "OK k1 0") ≡ sealed_answer }

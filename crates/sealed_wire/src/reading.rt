@@ -70,10 +70,10 @@ pub fn client_of(bytes: &[u8]) -> Option<u16>
     Some(half_at(bytes, 4))
 }
 
-/// Returns the head and the text of a sealed datagram under a client's key, or None if it is not in the format or its
-/// tag is wrong.
+/// Returns the head and the text of a sealed datagram under a client's key, or None.
 ///
-/// `bound` is empty for a line, and the line's tag for an answer.
+/// None says that the datagram is not in the format, or that its tag is wrong. `bound` is empty for a line, and the
+/// line's tag for an answer.
 pub fn open<'a>(key: &ClientKey, bound: &[u8], bytes: &'a [u8]) -> Option<(Head, &'a [u8])>
     requires { length bound.now ≤ 32 }
     ensures exact { option_map (λ read. (read.0, read.1.now)) result ≡ sealed_at key.now bound.now bytes.now }

@@ -60,7 +60,7 @@ refusal_at None count = count_refusal count
 abbrev pub refusal_of : List ℕ → Option SecretFault
 refusal_of text = refusal_at (position_from is_bad 0 (text_before_padding text)) (length (values_of text))
 
--- The text spells the secret: the bits of its characters, five each, are the bits of the secret's bytes, eight each,
+-- The text spells the secret. The bits of its characters, five each, are the bits of the secret's bytes, eight each,
 -- and fewer than five more.
 pub record Spells (text secret : List ℕ) : Type 0 where
   pub are_bytes : IsBytes secret

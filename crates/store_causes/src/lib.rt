@@ -1,4 +1,4 @@
-//! What is told behind a fault of a store: what is found at the path of its database.
+//! The cause of a fault of a store: what is found at the path of its database.
 //!
 //! As `fault_causes`, it looks after a command has failed, and what it finds may be another thing than what made the
 //! command fail. Looking opens the database as the command did, and writes no row: so it holds the file for that while.

@@ -4,8 +4,8 @@ use Rattle.std.specs.Io.KnownBytes.{Consumes, IsAtEnd}
 use Rattle.token_file.specs.declared.source.Pulled.{Pulled}
 use Rattle.token_file.specs.declared.source.Pulled.TheVariants.{Bytes, Failed}
 
--- a pull moves the first bytes left to the front of the buffer, and moves none only at the end. A pull that fails may
--- lose some.
+-- a pull moves the first bytes left to the buffer's first places, and moves none only at the end; a pull that fails may
+-- lose some
 abbrev pub Pulls : Option (List ℕ) → Option (List ℕ) → Pulled → List ℕ → Type 0
 Pulls old new (Bytes count) buffer =
     (count ≤ length buffer) × Consumes old new (take count buffer) × (count ≡ 0 → IsAtEnd new)

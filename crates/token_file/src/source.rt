@@ -9,7 +9,7 @@ const MAX_TRIES: u32 = 64;
 /// The result of a pull.
 #[derive(Clone, Copy, Debug, PartialEq, Eq)]
 pub enum Pulled {
-    /// The number of bytes at the front of the buffer. It is 0 only at the end.
+    /// The number of pulled bytes, which are the buffer's first ones. It is 0 only at the end.
     Bytes(usize),
     /// The pull failed.
     Failed,

@@ -100,8 +100,8 @@ impl Model for Token {
 impl Token {
     /// Returns the token of these parts, or None if they don't fit together.
     ///
-    /// They don't fit if the name or the password is empty or has a blank or an LF, or if the password is one of the
-    /// marks `-` and `+`. The hash of an event token must be SHA-1.
+    /// The name and the password must not be empty, and must have no blank and no LF. The password must not be one of
+    /// the marks `-` and `+`. The hash of an event token must be SHA-1.
     pub fn new(
         name: ArrayVec<u8, MAX_NAME_LEN>,
         password: Password,

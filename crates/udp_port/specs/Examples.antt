@@ -13,7 +13,7 @@ at_host host port = record { ip = record { octets = host ∷ 0 ∷ 0 ∷ 1 ∷ [
 abbrev pub at_local : ℕ → SocketAddrV4
 at_local port = at_host 127 port
 
--- the receipt of the first `len` bytes of `buffer` from an address at a port whose one member is 127.0.0.1 with port 1;
--- `skips` says whether the port skips answers
+-- The receipt of the first `len` bytes of `buffer` from an address, at a port whose one member is 127.0.0.1 with port
+-- 1. `skips` says whether the port skips answers.
 abbrev pub received_by_one : Bool → ℕ → SocketAddrV4 → List ℕ → Option Received
 received_by_one skips len address buffer = receipt_of skips (at_local 1 ∷ []) (Ok (len, V4 address)) buffer

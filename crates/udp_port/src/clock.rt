@@ -10,8 +10,8 @@ use std::time::{Clock as TimeSource, Duration, SystemTime, UNIX_EPOCH};
 
 /// The system's clock, which tells whole seconds. It keeps no record.
 ///
-/// It fails if the system has no clock, or if the clock is set before 1970-01-01 00:00:00 UTC or 2^40 seconds or more
-/// after it.
+/// It fails if the system has no clock. It also fails if the clock is set before 1970-01-01 00:00:00 UTC, or 2^40
+/// seconds or more after it.
 #[derive(Drop)]
 pub struct SystemClock<'a, R: TimeSource> {
     source: &'a R,

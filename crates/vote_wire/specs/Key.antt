@@ -25,6 +25,6 @@ length_refusal_of (Ok key) =
     else if nat_lt 64 (length key) then Some TooLong
     else None
 
--- the reason why a text in hexadecimal is not a key: the faults of a secret first, and then the length
+-- the reason why a text in hexadecimal is not a key: the faults of a secret before the length
 abbrev pub key_refusal_of : List ℕ → Option SecretFault
 key_refusal_of text = option_or (hex_refusal_of text) (length_refusal_of (decode_of text))

@@ -20,8 +20,9 @@ pub fn one_spelling()
         datagram_at key (datagram_bytes key from to message) ≡ Some (from, to, message) }
 {}
 
-/// Worked cases. A datagram under a key of 32 zeros, and its reading under another key, with another tag and with
-/// another body; the tag of a test case of RFC 4231.
+/// Worked cases. A datagram under a key of 32 zeros, and its reading with another key, another tag and another body.
+///
+/// The tag of a test case of RFC 4231.
 pub fn datagrams_are_worked()
     ensures tag { tag_of (replicate 20 0x0b) (codes "Hi There") ≡ tag_of_the_standard }
     ensures bytes { datagram_bytes (replicate 32 0) 1 2 ask ≡ ask_body ++ ask_tag }

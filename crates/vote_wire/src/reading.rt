@@ -170,8 +170,9 @@ fn tagged_body<'a>(key: &ClusterKey, bytes: &'a [u8]) -> Option<&'a [u8]>
     }
 }
 
-/// Returns the sender, the receiver and the message of a datagram, or None if `bytes` are not in the format or
-/// their tag is wrong under `key`.
+/// Returns the sender, the receiver and the message of a datagram, or None.
+///
+/// None says that `bytes` are not in the format, or that their tag is wrong under `key`.
 pub fn read_message(key: &ClusterKey, bytes: &[u8]) -> Option<(u8, u8, Message)>
     // Every datagram that is read is in the format.
     ensures some { IfSome result (λ read. IsDatagramOf key.now bytes.now read.0 read.1 read.2) }

@@ -12,8 +12,7 @@ use floor_store::{Proposal, Span};
 use otp_core::Next;
 use vote_core::Message;
 
-/// The maximum length of a datagram that a node sends, in bytes: to a peer at most 59 are used, by an answer at most
-/// 54.
+/// The capacity for a datagram that a node sends, in bytes. A datagram to a peer has at most 59, an answer at most 54.
 pub const MAX_SENT_LEN: usize = 64;
 
 /// The first bytes of a datagram.
