@@ -208,8 +208,9 @@ fn few_turns(turns: Option<u64>) -> Option<u64>
     }
 }
 
-/// Returns the number of receives: the greatest with `--forever`, else the value of `--turns`. Returns `None` if that is
-/// missing, not below 2^32, or has anything but digits.
+/// Returns the number of receives: the greatest with `--forever`, else the value of `--turns`.
+///
+/// Returns `None` if the value is missing, not below 2^32, or has anything but digits.
 fn turns_of(matches: &ArgMatches<'_>) -> Option<u64>
     ensures { result ≡ turns_given (found_of matches.now) }
 {
