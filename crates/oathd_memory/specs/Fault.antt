@@ -1,4 +1,4 @@
--- What ends a command that keeps nothing before its time.
+-- The faults that end a command without a database.
 use Rattle.std.specs.Prelude.{ℕ}
 use Rattle.oathd_lines.specs.Fault as lines
 use Rattle.oathd_cluster.specs.Fault as cluster
