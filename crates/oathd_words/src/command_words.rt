@@ -368,17 +368,17 @@ fn since_error(usage: &mut Command<'_>) -> Result<Error, AllocError> {
     )
 }
 
-/// Returns whether `--lost` or `--anew` is given.
+/// Returns whether an option says which databases are replaced.
 fn is_said_for_whom(matches: &ArgMatches<'_>) -> bool {
     matches.contains_id("lost") || is_given(matches, "anew")
 }
 
-/// Returns whether `--floors` is given without `--lost` and `--anew`.
+/// Returns whether `--floors` is given, and no option says which databases are replaced.
 fn are_floors_alone(matches: &ArgMatches<'_>) -> bool {
     matches.contains_id("floors") && !is_said_for_whom(matches)
 }
 
-/// Returns whether `--since` is given without `--lost` and `--anew`.
+/// Returns whether `--since` is given, and no option says which databases are replaced.
 fn is_since_alone(matches: &ArgMatches<'_>) -> bool {
     matches.contains_id("since") && !is_said_for_whom(matches)
 }

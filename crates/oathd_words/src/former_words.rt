@@ -163,7 +163,7 @@ pub(crate) fn former_words<'a>(
     }
 }
 
-/// Returns where the number of members comes from, or `None` if it is missing or `node` is not one of them.
+/// Returns the source of the number of members, or `None` if it is missing or `node` is not one of them.
 pub(crate) fn count_words<'a>(matches: &ArgMatches<'a>, node: u8) -> Option<CountWords<'a>>
     ensures some { IfSome result (AsksForCount (found_of matches.now) node) }
     ensures none { IfNone result ((count : AnyCount) → AsksForCount (found_of matches.now) node count → ⊥) }

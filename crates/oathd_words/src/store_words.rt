@@ -174,7 +174,7 @@ fn import_settings(matches: &ArgMatches<'_>) -> Option<Settings>
     Settings::new(10, skew, 100)?.with_drift(drift)
 }
 
-/// Returns where the settings of an import come from, or `None` if one is missing or wrong.
+/// Returns the source of an import's settings, or `None` if a setting is missing or wrong.
 fn import_words<'a>(matches: &ArgMatches<'a>) -> Option<ImportWords<'a>>
     ensures some { IfSome result (AsksForImport (found_of matches.now)) }
     ensures none { IfNone result ((import : AnyImport) → AsksForImport (found_of matches.now) import → ⊥) }
