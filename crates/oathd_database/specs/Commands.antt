@@ -55,7 +55,7 @@ module _ {S : Type 0} (g : Ghosts S) where
     pub old : sql.Held S
     pub migrated : IsMigrated g node (length import.book) old new
 
-  -- The tokens of the users file are written in order with their floors in the store. The store is that of the node
+  -- The tokens of the users file are written in order with their floors in the store. The store belongs to the node
   -- which some database names.
   pub record HasExported (limits : Limits) (moment longest : ℕ) (old new : Option (List ℕ))
       (text : List ℕ) : Type 0 where
@@ -100,7 +100,7 @@ IsRefused limits moment longest (Users fault) text = IsUnread limits moment long
 IsRefused limits moment longest (Store fault) text = HasImport limits moment longest text
 IsRefused limits moment longest Socket text = ⊥
 
--- A command that prints a store's content ends with the fault: the users file is not imported, or the store or the
+-- A command that prints a store's content ends with the fault. The users file is not imported, or the store or the
 -- output fails after the import.
 abbrev pub EndsOutput : Limits → ℕ → ℕ → Fault → List ℕ → Type 0
 EndsOutput limits moment longest Memory text = Unit {0}
@@ -110,7 +110,7 @@ EndsOutput limits moment longest (Users fault) text = IsUnread limits moment lon
 EndsOutput limits moment longest (Store fault) text = HasImport limits moment longest text
 EndsOutput limits moment longest Socket text = ⊥
 
--- A command that serves a node ends with the fault: the users file is not imported, or the store, the socket or the
+-- A command that serves a node ends with the fault. The users file is not imported, or the store, the socket or the
 -- clock fails after the import.
 abbrev pub EndsServing : Limits → ℕ → ℕ → Fault → List ℕ → Type 0
 EndsServing limits moment longest Memory text = Unit {0}

@@ -28,8 +28,8 @@ boot_at moment = moment * 2 ^ 20
 abbrev pub asked_at : ℕ → ℕ → Asked
 asked_at since moment = record { since = since; boot = boot_at moment }
 
--- The reason why files are insufficient to replace the store of a lost node, or, without lost nodes, of a node of a
--- cluster that is replaced as a whole.
+-- The reason why files are insufficient to replace the store of a node. Without lost nodes, the whole cluster is
+-- replaced.
 abbrev pub gather_fault :
     Asked → ℕ → Option (Bor (List ℕ)) → List Credential → List FloorsRecord → Option FilesFault
 gather_fault asked node None book files = anew_fault asked book files
@@ -64,7 +64,7 @@ pub record IsUngatheredFor (limits : Limits) (moment longest : ℕ) (lost : Lost
   pub import : HasImport limits moment longest text
   pub cause : IsUngathered (asked_at lost.since moment) lost.node lost.lost import.book texts fault
 
--- No store is replaced: the reasons are those of a creation, or a fault of the texts.
+-- No store is replaced: it could not be created, or the texts have a fault.
 abbrev pub IsNotRemade : Limits → ℕ → ℕ → LostNode → List (List ℕ) → GatherFault → List ℕ → Type 0
 IsNotRemade limits moment longest lost texts (Command fault) text = IsRefused limits moment longest fault text
 IsNotRemade limits moment longest lost texts (Floors number fault) text =

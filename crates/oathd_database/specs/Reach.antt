@@ -1,7 +1,7 @@
 -- Floors files that were read after the last loss are sufficient for a replacement store.
 --
--- The events are those of vote_core: they include losses and replacements of members' stores. Floor: the first free
--- factor of a token at a node.
+-- The events are the events of vote_core: they include losses and replacements of members' stores. Floor: the first
+-- free factor of a token at a node.
 use Rattle.std.specs.Prelude.{◌≡◌, ℕ, ◌<◌, true, List, length, Some, IfSome, slice_get}
 use Rattle.token_file.specs.Credential.{Credential, place_of}
 use Rattle.vote_core.specs.Safety.{KeepsStore}

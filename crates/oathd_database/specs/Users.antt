@@ -12,8 +12,8 @@ abbrev pub IsImported : Limits → ℕ → ℕ → List Credential → List ℕ 
 IsImported limits moment longest book floors text =
     book_of longest (instant_of limits moment) text ≡ Ok (import_of book floors)
 
--- A users file of at most `longest` bytes is not imported: a line has the fault, or reading failed in that line and no
--- earlier line has a fault.
+-- A users file of at most `longest` bytes is not imported. Either a line has the fault, or reading failed in that line
+-- and no earlier line has a fault.
 abbrev pub IsUnread : Limits → ℕ → ℕ → Fault → List ℕ → Type 0
 IsUnread limits moment longest Memory text = Unit {0}
 IsUnread limits moment longest CannotWrite text = ⊥

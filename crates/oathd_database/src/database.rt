@@ -73,12 +73,12 @@ fn open_named<S: Alter + Drop>(
 
 /// Reads a users file, and opens the store of its tokens.
 ///
-/// The store is that of the given node, or, without one, that of the node that the tables name. The floors are the
-/// store's. The settings are the server's.
+/// The store belongs to the given node, or, without one, to the node that the tables name. The floors are the store's.
+/// The settings are the server's.
 ///
 /// # Errors
 /// - Returns `Users` if the users file has a fault or cannot be read. The database is not opened.
-/// - Returns `Store(Unusable)` if the tables are not those of such a store.
+/// - Returns `Store(Unusable)` if the tables hold no such store.
 /// - Returns `Store(Disk)` or `Store(Memory)` if the store meets one of these failures.
 /// - Returns `Memory` if the allocator refuses the memory.
 pub fn open_store<R: Read + Drop, S: Alter + Drop, D: Database<S>>(

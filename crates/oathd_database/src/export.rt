@@ -60,7 +60,7 @@ pub fn write_rows<S: FloorStore, W: Write>(
     writer.flush().map_err(|_| Fault::CannotWrite)
 }
 
-/// Writes each token of the users file with its floor in the store. The store is that of the node that the database
+/// Writes each token of the users file with its floor in the store. The store belongs to the node that the database
 /// names.
 ///
 /// # Errors

@@ -109,8 +109,8 @@ fn write_told<S: FloorStore, W: Write>(
 
 /// Writes the floors file of a stopped node. Its store does not change.
 ///
-/// The file has the node's number, the number of members, the store's boot, the moment in seconds since 1970-01-01
-/// 00:00:00 UTC, and the floor of each token of the users file.
+/// The file has the node's number, the number of members, the store's boot, and the moment in seconds since 1970-01-01
+/// 00:00:00 UTC. A row follows for each token of the users file, with its floor.
 ///
 /// # Errors
 /// - Returns the errors of [`open_store`].

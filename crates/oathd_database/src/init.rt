@@ -18,8 +18,8 @@ use std::io::Read;
 /// Creates the store of node `node`, 1 to 9, in a database without a table.
 ///
 /// The tokens of the users file are imported at the given moment, in seconds since 1970-01-01 00:00:00 UTC, 0 to
-/// 1099511627775. Only the skew and the drift of the settings are used: the factors of a time token that a node with
-/// these may have accepted up to the moment are not free.
+/// 1099511627775. Only the skew and the drift of the settings are used. A time token's factors that such a node may
+/// have accepted up to the moment are not free.
 ///
 /// # Errors
 /// - Returns `Users` if the users file has a fault or cannot be read. The database is not opened.

@@ -88,8 +88,8 @@ const BOOTS: u64 = 1 << 20;
 ///
 /// The new boot is the moment times 2^20. Each floor is the greatest in the files. If `lost.lost` is a list, it and the
 /// nodes of the files are all members, and fewer than a majority are lost. If it is `None`, the whole cluster is
-/// replaced: each majority of the former members has a file, and a user of no file begins as at an import. Only the
-/// skew and the drift of the settings are used.
+/// replaced. Then each majority of the former members has a file, and a user of no file begins as at an import. Only
+/// the skew and the drift of the settings are used.
 ///
 /// # Errors
 /// - Returns `Command` as [`init_store`](crate::init_store) does.

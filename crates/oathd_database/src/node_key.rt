@@ -34,9 +34,10 @@ pub(crate) fn tag_key(alloc: Global, key: NodeKey<'_>, book: &Book) -> Result<Cl
     }
 }
 
-/// Agreement: two nodes with cluster files and one cluster key tag under different keys if what they share differs.
+/// Shows that nodes with one cluster key, but different shared content, tag under different keys.
 ///
-/// The exception is a collision of their shared texts. A node without a cluster file tags under the cluster's own key.
+/// It holds for nodes with cluster files, unless their shared texts collide. A node without a cluster file tags under
+/// the cluster's own key.
 pub fn node_keys_tell()
     ensures own { (a : AnyKey) (book : List Credential) → shared_by a book ≡ None → tag_key a book ≡ own_key a }
     ensures shared { (a : AnyKey) (book : List Credential) (s : AllShared) → shared_by a book ≡ Some s →
