@@ -49,7 +49,7 @@ module _ {S : Type 0} (g : Ghosts S) where
     pub writes : MayWrite {A = Unit {0}} {E = StoreFault} (sql_held g) old new (unlocked_content old.mirror known.token)
         (Ok tt)
 
--- No token is unlocked: the reason is that of any command over a store, or no token is called `user`.
+-- No token is unlocked: the command fails as any command over a store does, or no token is called `user`.
 abbrev pub IsNotUnlocked : Limits → ℕ → List ℕ → UnlockFault → List ℕ → Type 0
 IsNotUnlocked limits longest user (Command fault) text = IsRefused limits 0 longest fault text
 IsNotUnlocked limits longest user (NoUser name) text = (name.now ≡ user) × LacksUser limits longest user text
