@@ -39,8 +39,8 @@ time_line code =
 abbrev pub run_at_step_5 : ℕ → List ℕ → Run
 run_at_step_5 skew code = run_of (record { limits = limits_of 10 skew 100; moment = 150 }) 199 299 (time_line code)
 
--- The fault names where the input was cut off. `read` was read of it, its users file has at most `longest` bytes, and
--- the users are imported at the moment.
+-- The fault names the line in which the input was cut off. `read` was read of it, its users file has at most `longest`
+-- bytes, and the users are imported at the moment.
 abbrev pub IsCutAt : ℕ → ℕ → ℕ → List ℕ → Fault → Type 0
 IsCutAt moment longest limit read fault =
     IsCutSo (record { limits = default_limits; moment = moment }) longest limit read fault

@@ -38,7 +38,7 @@ fn write_answer<B: HoldsLine, W: Write>(
     writer.flush().map_err(|_| Fault::CannotWrite)
 }
 
-/// Answers the remaining lines of an input, numbered from `number`, up to the first bad line. Each is answered before
+/// Answers the remaining lines of an input, numbered from `first`, up to the first bad line. Each is answered before
 /// the next one is read.
 fn answer_lines<B: BufRead + HoldsLine + Drop, W: Write>(
     alloc: Global,
