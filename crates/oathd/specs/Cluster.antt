@@ -5,7 +5,7 @@ use Rattle.cluster_file.specs.ClusterFile.{ClusterRecord, cluster_of}
 use Rattle.oathd_words.specs.declared.store_words.ImportWords.{ImportWords}
 use Rattle.oathd_words.specs.declared.store_words.ImportWords.TheVariants.{Given, Named}
 
--- the settings of an import: those of the words, or those of the cluster that the text of a cluster file describes
+-- the settings of an import, from the words or from the text of a cluster file
 abbrev pub IsImportOf : ImportWords → List ℕ → Limits → Type 0
 IsImportOf (Given settings) text limits = limits ≡ settings
 IsImportOf (Named path) text limits =

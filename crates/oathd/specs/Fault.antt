@@ -7,7 +7,7 @@ use Rattle.oathd.specs.declared.fault.Fault.{Fault}
 use Rattle.oathd.specs.declared.fault.ToldFault.{ToldFault}
 use Rattle.oathd.specs.declared.fault.Fault.TheVariants.{Database, Floors, Memory, Unlock}
 
--- the exit status: that of the command's fault, and 1 for a fault of floors files
+-- the exit status: the status of the command's fault, or 1 for a fault of floors files
 abbrev pub status_of : Fault → ℕ
 status_of (Memory fault) = memory.status_of fault
 status_of (Database fault) = database.status_of fault

@@ -36,8 +36,8 @@ fn present_moment<'a, T: TimeSource>(source: &T) -> Result<u64, Fault<'a>>
     }
 }
 
-/// Returns the settings of a node's import: those of the words, or those of the cluster file with this text. The file
-/// must have the node as a member.
+/// Returns the settings of a node's import, from the words or from the text of the cluster file. The file must have the
+/// node as a member.
 fn import_settings<'a>(
     alloc: Global,
     import: ImportWords<'a>,
@@ -209,8 +209,8 @@ fn level<'a>(
     }
 }
 
-/// Returns the number of members: the given one, or that of the cluster file with this text. The file must have the
-/// node as a member.
+/// Returns the number of members, from the words or from the text of the cluster file. The file must have the node as a
+/// member.
 fn member_count<'a>(
     alloc: Global,
     count: CountWords<'a>,
@@ -228,9 +228,9 @@ fn member_count<'a>(
     }
 }
 
-/// Carries out an action on the store of a database, with the users file at this path.
+/// Carries out an action on the store of a database, with the users file at the path `users`.
 ///
-/// `text` is the content of the cluster file that the action names. The output must buffer until it is flushed.
+/// `cluster_file` is the text of the cluster file that the action names. The output must buffer until it is flushed.
 pub(crate) fn perform_action<'a, O: Write>(
     alloc: Global,
     rt: &HostRuntime,

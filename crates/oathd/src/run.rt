@@ -37,8 +37,8 @@ fn perform_task<'a, R: Read, O: Write>(
     Ok(0)
 }
 
-/// Returns the exit status for the end of a task. Writes the text of a fault to the errors, after the program's name,
-/// and its cause on the next line if the task names a database.
+/// Returns the exit status for the end of a task. Writes the text of a fault to the errors, after the program's name.
+/// Its cause follows on the next line if the task names a database.
 fn told_status<'a, E: Write>(
     alloc: Global,
     rt: &HostRuntime,

@@ -1,4 +1,4 @@
-//! Reads the users file of a command over floors files, whose faults come before those of floors files.
+//! Reads the users file of a command over floors files. Its faults are reported before the floors files' faults.
 
 ghost use Rattle.otp_core.specs.Range.{IsMoment};
 
