@@ -19,7 +19,7 @@ use Rattle.oathd_memory.specs.declared.fault.Fault.{Fault}
 use Rattle.oathd_memory.specs.declared.fault.Fault.TheVariants.{Run, Sim, Cluster, CannotReadFile, NoDatabases, KeyPath}
 use Rattle.oathd_memory.specs.declared.setup.NodesSetup.{NodesSetup}
 
--- The key is that of a key file, which may be any, or 32 zeros without a path.
+-- The key is in a key file, which may have any, or it is 32 zeros without a path.
 abbrev pub IsKeyOf : {A : Type 0} → Option A → List ℕ → Type 0
 IsKeyOf path key = IfNone path (key ≡ replicate 32 0)
 
@@ -42,8 +42,8 @@ setup_value setup =
 abbrev pub IsSetupInRange : Setup → Type 0
 IsSetupInRange setup = (1 ≤ setup.nodes) × (setup.nodes ≤ 9) × IsMoment setup.moment
 
--- The setup of nodes whose users are imported at a moment: that of the words, with the key of the key file or 32 zeros,
--- or that of a cluster file's text, with its key.
+-- The setup of nodes whose users are imported at a moment. From the words, its key is in the key file or is 32 zeros.
+-- From the text of a cluster file, its key is the cluster's.
 abbrev pub IsSetup : NodesWords → ℕ → List ℕ → Setup → Type 0
 IsSetup (Given count settings path) moment text setup =
     (key : List ℕ) × IsKeyOf path key
@@ -66,7 +66,7 @@ EndsWithSetup nodes moment text EndsWith result old new =
 
 -- ---- The commands
 
--- The end of the command `lines`, if its input is known: that of the run over the input.
+-- The end of the command `lines`, if its input is known: it ends as the run over the input does.
 abbrev pub LinesEndSo : Setup → Option (List ℕ) → Result Unit Fault → Option (List ℕ) → Option (List ℕ) → Type 0
 LinesEndSo setup input (Ok done) old new =
     IfSome input (λ text. EndsSo (run_of_input setup.limits setup.moment text) (Ok tt) old new)
@@ -74,7 +74,7 @@ LinesEndSo setup input (Err (Run fault)) old new =
     IfSome input (λ text. EndsSo (run_of_input setup.limits setup.moment text) (Err fault) old new)
 LinesEndSo setup input (Err fault) old new = ⊥
 
--- The end of the command `sim`, if its input is known: that of the simulation.
+-- The end of the command `sim`, if its input is known: it ends as the simulation does.
 abbrev pub SimEndsSo : Setup → Option (List ℕ) → Result Unit Fault → Option (List ℕ) → Option (List ℕ) → Type 0
 SimEndsSo setup input (Ok done) old new =
     IfSome input (λ text. sim.EndsSo (sim.sim_of setup 16777216 16777216 text) (Ok tt) old new)

@@ -82,8 +82,8 @@ fn simulate<'a, R: Read, O: Write>(
     }
 }
 
-/// Runs a cluster of nodes with this setup over the users file at `path`, and sends it the lines of the input. The
-/// output must buffer until it is flushed.
+/// Runs a cluster of nodes with this setup over the users file at the path `users`, and sends it the lines of the
+/// input. The output must buffer until it is flushed.
 fn run_nodes<'a, F: Files + Net, R: Read, O: Write>(
     alloc: Global,
     files: &F,

@@ -48,7 +48,7 @@ pub fn keys_can_be_broken()
         × (IsOfSetup named_nodes [] NoDatabases → ⊥) }
 {}
 
-/// Counterexamples: the setup of nodes is that of the words or of the cluster file. Any other number in it is wrong.
+/// Counterexamples: the words or the cluster file determine the setup of nodes. Any other number in it is wrong.
 pub fn setups_can_be_broken()
     ensures given { IsSetup (given_nodes 2) 5 [] usual_setup × IsSetup nodes_with_key 5 [] (keyed [] usual_setup) }
     ensures given_nodes { IsSetup (given_nodes 2) 5 [] (setup_of 3 default_limits 5) → ⊥ }

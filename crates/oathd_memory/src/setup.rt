@@ -27,7 +27,7 @@ pub(crate) struct NodesSetup {
 
 /// Returns the setup of nodes whose users are imported at `moment`, from the words or from the cluster file.
 ///
-/// With the words, the key is that of the key file, or 32 zeros. With the text of a cluster file, the key is the
+/// With the words, the key is in the key file, or is 32 zeros. With the text of a cluster file, the key is the
 /// cluster's.
 ///
 /// # Errors
