@@ -8,17 +8,16 @@ use Rattle.cluster_sim.specs.declared.script.WorldEvent.{WorldEvent}
 use Rattle.cluster_sim.specs.declared.script.WorldEvent.TheVariants as event
 use Rattle.sim_script.specs.declared.script.Script.{Script}
 
--- An action at a node: a client's line arrives at a moment; the datagram that was sent as number k arrives; some time
--- passes; bytes arrive from an address.
+-- An action at a node. A client's line arrives at a moment. The datagram that was sent as number k arrives. Some time
+-- passes. Bytes arrive from an address.
 pub data Act : Type 0 where
   Says : (node client moment : ℕ) (line : List ℕ) → Act
   Deliver : (node k : ℕ) → Act
   Ticks : (node : ℕ) → Act
   Noise : (node from : ℕ) (bytes : List ℕ) → Act
 
--- An event: an action at a node; a stop of a node during an action, which keeps or loses its change; a restart of a
--- node; the loss of a node's store; its replacement, at a boot and with floors (floor: the first free factor of a
--- token).
+-- An event. A node acts. A node stops during an action, which keeps or loses its change. A node restarts. A node's
+-- store is lost. It is replaced, at a boot and with floors (floor: the first free factor of a token).
 pub data Event : Type 0 where
   Happens : (act : Act) → Event
   Cut : (kept : Bool) (act : Act) → Event
