@@ -24,7 +24,7 @@ one_node key = record { nodes = 1; limits = default_limits; moment = 0; key = ke
 abbrev pub line_of_15 : List ℕ
 line_of_15 = codes "%%\nclient 1 7 9 ab"
 
--- The fault names where the input was cut off. `read` was read of it, its users file has at most `longest` bytes, and
--- the users are imported at the moment.
+-- The fault names the line in which the input was cut off. `read` was read of it, its users file has at most `longest`
+-- bytes, and the users are imported at the moment.
 abbrev pub IsCutAt : ℕ → ℕ → ℕ → List ℕ → Fault → Type 0
 IsCutAt moment longest limit read fault = IsCutSo default_limits moment longest limit read fault

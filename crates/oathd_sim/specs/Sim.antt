@@ -49,8 +49,8 @@ event_under key (Restart node) = world.Restart node
 event_under key (Lost node) = world.Lost node
 event_under key (Anew node boot floors) = world.Anew node boot floors
 
--- All events of a script over nodes with a configuration and floors (floor: the first free factor): its own events, and
--- then a round for each further line among its live members.
+-- All events of a script over nodes with a configuration and floors (floor: the first free factor). Its own events come
+-- first; a round among its live members follows for each further line.
 abbrev pub script_events : Config → List (List ℕ) → List ℕ → ScriptRecord → List world.WorldEvent
 script_events config floors key script =
     events_with_rounds config (first_start floors) (map (event_under key) script.events) script.live script.rounds
