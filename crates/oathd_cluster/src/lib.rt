@@ -1,7 +1,7 @@
 //! The command `cluster` of `oathd`, over any reader and writer.
 //!
-//! It runs the nodes of a cluster in one process, each over its own UDP socket on this machine, and sends them the
-//! lines of the input, one after the other.
+//! It runs the nodes of a cluster in one process, each over its own UDP socket on this machine. It sends them the lines
+//! of the input, one after the other.
 //!
 //! ```rust
 //! use oathd_cluster::run_cluster;

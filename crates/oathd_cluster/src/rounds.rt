@@ -98,9 +98,10 @@ fn receive_reply<P: Port + Drop>(
     }
 }
 
-/// Sends a line to its node, and plays at most 64 rounds until the reply arrives. Returns its length, or None without it.
+/// Sends a line to its node, and plays at most 64 rounds until the reply arrives.
 ///
-/// The reply is at the start of the buffer. Of a longer line only 512 bytes are sent, which are as bad as the whole.
+/// Returns the length of the reply, or None without one. The reply is at the start of the buffer. Of a longer line only
+/// 512 bytes are sent, which are as bad as the whole.
 pub(crate) fn ask<P: Port + Drop>(
     cluster: &mut Cluster<'_, P>,
     line: &NodeLine<'_>,

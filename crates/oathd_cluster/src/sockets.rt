@@ -38,7 +38,7 @@ fn bind<N: Net>(net: &N) -> Result<(UdpSocket, SocketAddrV4), Fault>
     }
 }
 
-/// Binds `count` sockets, 1 to 9, each to a free address on this machine. Returns the sockets and the addresses.
+/// Binds `nodes` sockets, 1 to 9, each to a free address on this machine. Returns the sockets and the addresses.
 fn bind_all<N: Net>(
     alloc: Global,
     net: &N,

@@ -15,7 +15,7 @@ use vote_wire::ClusterKey;
 /// A users file of the token of RFC 4226, Appendix D.
 const SILVER: &[u8] = b"HOTP silver - 3132333435363738393031323334353637383930\n";
 
-/// Returns the reply to a line for node 1 if these datagrams arrive at the client, or None if none is the node's.
+/// Returns the reply to a line for node 1 if these datagrams arrive at the client, or None without a reply of the node.
 fn told<'b>(
     alloc: Global,
     comings: &[Coming<'_>],
