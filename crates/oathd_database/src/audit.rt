@@ -87,9 +87,9 @@ pub fn audit_store<R: Read + Drop, S: Alter + Drop, D: Database<S>, W: Write>(
 /// Writes the passes of the store in the file at `path`, as [`audit_store`] does.
 ///
 /// # Errors
+/// - Returns the errors of [`audit_store`].
 /// - Returns `Store(Disk)` if the file is missing.
 /// - Returns `Store(Unusable)` if the file is empty.
-/// - Returns the errors of [`audit_store`].
 pub fn audit_file<R: Read + Drop, W: Write>(
     alloc: Global,
     rt: &HostRuntime,

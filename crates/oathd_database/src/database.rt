@@ -15,7 +15,7 @@ use sqlite::{Alter, Connection};
 use std::alloc::Global;
 use std::io::Read;
 
-/// A database that can be opened once. Opening a missing file creates it, with no table.
+/// A database that can be opened once. Opening it may create a missing file, with no table.
 pub trait Database<S: Alter>: Drop {
     /// Opens the database. The connection is outside a transaction and has no limit on its steps.
     ///

@@ -83,9 +83,9 @@ pub fn export_store<R: Read + Drop, S: Alter + Drop, D: Database<S>, W: Write>(
 /// Writes the users file of the store in the file at `path`, as [`export_store`] does.
 ///
 /// # Errors
+/// - Returns the errors of [`export_store`].
 /// - Returns `Store(Disk)` if the file is missing.
 /// - Returns `Store(Unusable)` if the file is empty.
-/// - Returns the errors of [`export_store`].
 pub fn export_file<R: Read + Drop, W: Write>(
     alloc: Global,
     rt: &HostRuntime,

@@ -135,9 +135,9 @@ pub fn floors_store<R: Read + Drop, S: Alter + Drop, D: Database<S>, W: Write>(
 /// Writes the floors file of the store in the file at `path`, as [`floors_store`] does.
 ///
 /// # Errors
+/// - Returns the errors of [`floors_store`].
 /// - Returns `Store(Disk)` if the file is missing.
 /// - Returns `Store(Unusable)` if the file is empty.
-/// - Returns the errors of [`floors_store`].
 pub fn floors_file<R: Read + Drop, W: Write>(
     alloc: Global,
     rt: &HostRuntime,

@@ -121,9 +121,9 @@ pub fn level_store<R: Read + Drop, S: Alter + Drop, D: Database<S>>(
 /// Raises the floors of the store in the file at `path`, as [`level_store`] does.
 ///
 /// # Errors
+/// - Returns the errors of [`level_store`].
 /// - Returns `Command(Store(Disk))` if the file is missing.
 /// - Returns `Command(Store(Unusable))` if the file is empty.
-/// - Returns the errors of [`level_store`].
 pub fn level_file<R: Read + Drop>(
     alloc: Global,
     rt: &HostRuntime,

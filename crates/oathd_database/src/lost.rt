@@ -81,7 +81,7 @@ fn lost_floors(
     }
 }
 
-/// The number of boots for one second. A node that starts more often uses boots of the next second.
+/// One more than the number of boots for one second. A node that starts more often uses boots of the next second.
 const BOOTS: u64 = 1 << 20;
 
 /// Creates a store in place of a lost one, from the texts of floors files, in a database without a table.

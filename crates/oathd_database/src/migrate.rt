@@ -60,9 +60,9 @@ pub fn migrate_store<R: Read + Drop, S: Alter + Drop, D: Database<S>>(
 /// Upgrades the store in the file at `path`, as [`migrate_store`] does.
 ///
 /// # Errors
+/// - Returns the errors of [`migrate_store`].
 /// - Returns `Store(Disk)` if the file is missing.
 /// - Returns `Store(Unusable)` if the file is empty.
-/// - Returns the errors of [`migrate_store`].
 pub fn migrate_file<R: Read + Drop>(
     alloc: Global,
     rt: &HostRuntime,

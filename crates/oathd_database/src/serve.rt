@@ -232,9 +232,9 @@ pub fn serve_store<R: Read + Drop, S: Alter + Drop, D: Database<S>, N: Net + Tim
 /// Serves a node over the store in the file at `path`, as [`serve_store`] does.
 ///
 /// # Errors
+/// - Returns the errors of [`serve_store`].
 /// - Returns `Store(Disk)` if the file is missing.
 /// - Returns `Store(Unusable)` if the file is empty.
-/// - Returns the errors of [`serve_store`].
 pub fn serve_file<R: Read + Drop, W: Write>(
     alloc: Global,
     rt: &HostRuntime,
