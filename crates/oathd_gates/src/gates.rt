@@ -104,9 +104,9 @@ pub fn gates_store<R: Read + Drop, S: Alter + Drop, D: Database<S>, W: Write>(
 /// Writes the gates of the store in the file at `path`, as [`gates_store`] does.
 ///
 /// # Errors
+/// - Returns the errors of [`gates_store`].
 /// - Returns `Store(Disk)` if the file is missing.
 /// - Returns `Store(Unusable)` if the file is empty.
-/// - Returns the errors of [`gates_store`].
 pub fn gates_file<R: Read + Drop, W: Write>(
     alloc: Global,
     rt: &HostRuntime,

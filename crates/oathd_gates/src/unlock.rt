@@ -84,9 +84,9 @@ pub fn unlock_store<'a, R: Read + Drop, S: Alter + Drop, D: Database<S>>(
 /// Clears the gate of a user's token in the store in the file at `path`, as [`unlock_store`] does.
 ///
 /// # Errors
+/// - Returns the errors of [`unlock_store`].
 /// - Returns `Command(Store(Disk))` if the file is missing.
 /// - Returns `Command(Store(Unusable))` if the file is empty.
-/// - Returns the errors of [`unlock_store`].
 pub fn unlock_file<'a, R: Read + Drop>(
     alloc: Global,
     rt: &HostRuntime,
