@@ -106,8 +106,8 @@ fn serve_input<B: BufRead + HoldsLine + Drop, W: Write>(
 ///
 /// A client's line has its number, a moment and its request, separated by single spaces. Each line is answered, on a
 /// line of its own, before the next one is read. The writer is flushed before the run waits for more of the input, and
-/// else not. The node keeps its last 1,024 answers, except those to bad lines. It repeats an answer to the same client
-/// and line. It has no members, so it hears nobody under `key`.
+/// at no other time. The node keeps its last 1,024 answers, except those to bad lines. It repeats an answer to the same
+/// client and line. It has no members, so it hears nobody under `key`.
 ///
 /// At most `limit` bytes and one more are read: a line that continues past the limit is bad. The users are imported at
 /// the given moment, in seconds since 1970-01-01 00:00:00 UTC, 0 to 1099511627775. At most 8,192 bytes of the input and
