@@ -230,7 +230,7 @@ fn member_count<'a>(
 
 /// Carries out an action on the store of a database, with the users file at the path `users`.
 ///
-/// `cluster_file` is the text of the cluster file that the action names. The output must buffer until it is flushed.
+/// `cluster_file` is the text of the cluster file that the action names. `held` buffers the output until it is flushed.
 pub(crate) fn perform_action<'a, O: Write>(
     alloc: Global,
     rt: &HostRuntime,
