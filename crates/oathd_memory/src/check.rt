@@ -28,8 +28,8 @@ fn tokens_of<R: Read + Drop>(alloc: Global, users: R, settings: Settings) -> Res
     }
 }
 
-/// Writes what two sites of a cluster compare, with the fingerprint of the shared key. The output must buffer until it
-/// is flushed.
+/// Writes what two sites of a cluster compare, with the fingerprint of the shared key. `held` buffers the output until
+/// it is flushed.
 fn write_checked<O: Write>(
     alloc: Global,
     key: &ClusterKey,
@@ -72,7 +72,8 @@ fn check_users<'a, R: Read + Drop, O: Write>(
 }
 
 /// Reads a cluster from the text of its file, its key and the users file, and writes what the members have to share.
-/// The output must buffer until it is flushed.
+///
+/// `held` buffers the output until it is flushed.
 pub(crate) fn check<'a, F: Files, O: Write>(
     alloc: Global,
     files: &F,

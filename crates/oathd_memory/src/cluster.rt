@@ -16,8 +16,7 @@ use std::str;
 use vote_core::Place;
 use vote_wire::ClusterKey;
 
-/// Returns the text of the cluster file at `path`, up to the first byte that is not allowed. Returns no text without a
-/// path.
+/// Returns the text of the cluster file at `path`, up to the first byte past 65,536. Returns no text without a path.
 ///
 /// # Errors
 /// - Returns `CannotReadFile` if the file cannot be opened or read.

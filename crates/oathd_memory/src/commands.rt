@@ -19,8 +19,9 @@ use std::net::Net;
 use std::rt::Files;
 use token_file::MAX_FILE_LEN;
 
-/// Answers the lines of the input by a node with this setup. The output must buffer until it is flushed. It is flushed
-/// before the command waits for more input, and at every end.
+/// Answers the lines of the input by a node with this setup.
+///
+/// `held` buffers the output. It is flushed before the command waits for more input, and at every end.
 fn answer_lines<'a, R: Read, O: Write>(
     alloc: Global,
     setup: &NodesSetup,
@@ -46,7 +47,7 @@ fn answer_lines<'a, R: Read, O: Write>(
     }
 }
 
-/// Prints a secret in base32. The output must buffer until it is flushed. It is flushed at every end.
+/// Prints a secret in base32. `held` buffers the output. It is flushed at every end.
 fn print<O: Write>(hex: &str, held: &mut O) -> Result<(), oathd_lines::Fault>
     ensures ends { (result ≡ Err CannotWrite)
         ⊎ EndsWithText hex.now result (O.contents held.old) (O.contents held.new) }
@@ -55,7 +56,7 @@ fn print<O: Write>(hex: &str, held: &mut O) -> Result<(), oathd_lines::Fault>
     flushed(held, end)
 }
 
-/// Runs the script of the input over nodes with this setup. The output must buffer until it is flushed.
+/// Runs the script of the input over nodes with this setup. `held` buffers the output until it is flushed.
 fn simulate<'a, R: Read, O: Write>(
     alloc: Global,
     setup: &NodesSetup,
@@ -83,7 +84,9 @@ fn simulate<'a, R: Read, O: Write>(
 }
 
 /// Runs a cluster of nodes with this setup over the users file at the path `users`, and sends it the lines of the
-/// input. The output must buffer until it is flushed.
+/// input.
+///
+/// `held` buffers the output until it is flushed.
 fn run_nodes<'a, F: Files + Net, R: Read, O: Write>(
     alloc: Global,
     files: &F,
@@ -119,7 +122,7 @@ fn run_nodes<'a, F: Files + Net, R: Read, O: Write>(
 
 /// Carries out a task that needs no database, with the text of the cluster file that it names.
 ///
-/// The output must buffer until it is flushed.
+/// `held` buffers the output until it is flushed.
 ///
 /// # Errors
 /// - Returns `NoDatabases` for a command over a database.
