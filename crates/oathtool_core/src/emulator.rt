@@ -20,6 +20,7 @@ use std::io::Write;
 /// # Errors
 /// - Returns `BadTime` if a time is wrong, also for codes based on a counter.
 /// - Returns `BadStepSize` if the step size is wrong, also for codes based on a counter.
+/// - Returns `Memory` if the calendar does, which the reading of a time uses.
 /// - Returns `BadKey` if the key is wrong.
 /// - Returns `NoClock` if the clock is used, and is missing or is 2^40 or above.
 /// - Returns `BeforeStart` if the time is before the start.

@@ -11,7 +11,7 @@ use otp_core::Factor;
 use program_edge::write_line;
 use std::io::Write;
 
-/// Returns the least offset in the window at which the code is the OTP, or an error if there is none.
+/// Returns the least offset in the window at which the code is the OTP, or None.
 pub(crate) fn find_offset_hotp(
     generator: Generator<'_>,
     first: Factor,
@@ -39,8 +39,8 @@ fn factor_before(step: Factor, distance: u64) -> Option<Factor>
     Factor::new(step.value().checked_sub(distance)?)
 }
 
-/// Returns the offset of the nearest step in the window, before or after, whose code is the OTP; of two, the one
-/// before.
+/// Returns the offset of the nearest step in the window, before or after, whose code is the OTP, or None. Of two, it is
+/// the one before.
 pub(crate) fn find_offset_totp(
     generator: Generator<'_>,
     step: Factor,
