@@ -24,7 +24,7 @@ pub struct Expected {
     pub is_new: bool,
 }
 
-/// Returns the reason why a file cannot be read and written now, or None.
+/// Returns the reason why a file cannot be read and written now, or None without a known reason.
 fn access_cause(rt: &HostRuntime, path: &str) -> Option<FileCause> {
     match OpenOptions::new().read(true).write(true).open(rt, path) {
         Ok(_file) => None,
@@ -41,7 +41,7 @@ fn is_database(rt: &HostRuntime, path: &str) -> bool {
     file.read_exact(&mut first).is_ok() && &first == MAGIC
 }
 
-/// Returns the reason why the database at `path` cannot be opened now, or None.
+/// Returns the reason why the database at `path` cannot be opened now, or None without a known reason.
 fn open_cause(rt: &HostRuntime, path: &str, is_new: bool) -> Option<StoreCause> {
     match access_cause(rt, path) {
         Some(FileCause::Missing) if is_new => return Some(StoreCause::NotMade),
@@ -55,7 +55,7 @@ fn open_cause(rt: &HostRuntime, path: &str, is_new: bool) -> Option<StoreCause> 
     }
 }
 
-/// Returns the number in a column of a row, or None if it is below 0.
+/// Returns the number in a column of a row, or None if it is not an integer of at least 0.
 fn number_at(row: &Row, column: usize) -> Option<u64> {
     let number: i64 = row.get(column).ok()?;
     u64::try_from(number).ok()
@@ -76,7 +76,7 @@ fn named_in(rt: &HostRuntime, path: &str) -> Option<Named> {
     })
 }
 
-/// Returns the reason why the store in the file at `path` cannot be used now, or `None` without one.
+/// Returns the reason why the store in the file at `path` cannot be used now, or `None` without a known reason.
 ///
 /// Called after the fault of a store has ended a command.
 pub fn store_cause(
