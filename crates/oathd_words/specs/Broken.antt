@@ -87,7 +87,7 @@ floors_of node = Floors node (counts.Given 9)
 abbrev pub floors_by_file : Action
 floors_by_file = Floors 1 (counts.Named file)
 
--- floors raised by floors files
+-- floors (first free factors) raised by floors files
 abbrev pub level_by : Vec (Bor (List ℕ)) → ℕ → Action
 level_by floors node = Level node floors
 

@@ -1,4 +1,6 @@
 //! The arguments and options of the commands of `oathd`, in the form that clap takes.
+//!
+//! Floor: the first free factor of a token at a node.
 
 use clap::{Arg, ArgAction};
 use command_line::NumberOption;

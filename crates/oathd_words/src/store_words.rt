@@ -1,4 +1,6 @@
 //! The arguments and options of the commands over a database.
+//!
+//! Floor: the first free factor of a token at a node.
 
 ghost use Rattle.std.specs.Prelude.{◌≡◌, ◌≤◌, ℕ, false, true, None, Some, Option, codes, IfNone, IfOk, IfSome};
 ghost use Rattle.std.specs.Option.{option_map};
