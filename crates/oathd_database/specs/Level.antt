@@ -71,7 +71,7 @@ module _ {S : Type 0} (g : Ghosts S) where
     pub opened : HasOpened g (Some node) (length import.book) found
     pub levels : Levels {A = Unit {0}} {E = StoreFault} (sql_held g) found store (told_by files import.book) (Ok tt)
 
--- Not all floors are raised: the command fails as any command over a store does, or `number` is the first text that is
+-- Not all floors are raised. The command fails as any command over a store does, or `number` is the first text that is
 -- not a floors file.
 abbrev pub IsNotLevelled : Limits → ℕ → List (List ℕ) → GatherFault → List ℕ → Type 0
 IsNotLevelled limits longest texts (Command fault) text = IsRefused limits 0 longest fault text

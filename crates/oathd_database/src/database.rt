@@ -1,4 +1,6 @@
 //! The trait of a database that holds a store, and the opening of its store.
+//!
+//! Floor: the first free factor of a token at a node.
 
 ghost use Rattle.std.specs.Prelude.{◌≡◌, false, length, IfErr, IfOk, IfSome};
 ghost use Rattle.floor_sql.specs.Calls.{IsOpened};

@@ -1,4 +1,6 @@
 //! Laws about floors files that were read at the right time, counterexamples, and worked cases.
+//!
+//! Floor: the first free factor of a token at a node.
 
 ghost use Rattle.std.specs.Prelude.{◌≡◌, ◌≤◌, ℕ, ◌+◌, List, [], ◌∷◌, ◌++◌, None, Ok, Some, codes, length, map, slice_index, true};
 ghost use Rattle.std.specs.declared.fs.attrs.Metadata.{Metadata};
