@@ -49,7 +49,7 @@ pub fn runs_are_worked()
     ensures again { run_at_most 199 299 (codes "HOTP silver pw 3132333435363738393031323334353637383930\n%%\n"
         ++ codes "7 100 CHECK 1 silver 755224 -\n7 101 CHECK 1 silver 755224 -\n8 102 CHECK 1 silver 755224 -\n")
         ≡ Answered (codes "NO 1 PASSWORD" ∷ codes "NO 1 PASSWORD" ∷ codes "NO 1 THROTTLED 3" ∷ []) None }
-    // no step from the import's up to the skew beyond it is free
+    // no step up to the import's step and the skew is free
     ensures moment { run_at_step_5 1 (codes "254676") ≡ Answered (codes "NO 1 INVALID" ∷ []) None }
     ensures skew_of_the_node { run_at_step_5 0 (codes "287922") ≡ Answered (codes "NO 1 INVALID" ∷ []) None }
     ensures skew_of_the_import { run_at_step_5 3 (codes "162583") ≡ Answered (codes "NO 1 INVALID" ∷ []) None }
