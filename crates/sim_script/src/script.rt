@@ -65,8 +65,8 @@ fn is_line_end(byte: &u8) -> bool
 /// Reads a script for a cluster of `nodes` nodes, at most 9: its events, its live members and its rounds.
 ///
 /// Each is on a line of its own; live members and rounds are optional. Empty lines and lines that begin with `#` are
-/// remarks. The result borrows the text; the bytes of noises and floors are allocated in the arena. Time and memory are
-/// proportional to the text.
+/// remarks. The result borrows the text. The bytes of noises and the floors (first free factors) are allocated in the
+/// arena. Time and memory are proportional to the text.
 ///
 /// # Errors
 /// - Returns `Line` with the number, from 1, of the first line that is not in the grammar or out of its place.
