@@ -41,7 +41,7 @@ pub fn scripts_are_worked()
 
 /// Worked cases. Outputs of simulations, and a script's events under a key.
 pub fn simulations_are_worked()
-    // no step from the import's up to the skew beyond it is free
+    // no step up to the import's step and the skew is free
     ensures moment { printed_at_step_5 1 (codes "254676") ≡ codes "answer 0 1 7 NO 1 INVALID\nsent 0\n" }
     ensures skew_of_the_nodes { printed_at_step_5 0 (codes "287922") ≡ codes "answer 0 1 7 NO 1 INVALID\nsent 0\n" }
     ensures skew_of_the_import { printed_at_step_5 3 (codes "162583") ≡ codes "answer 0 1 7 NO 1 INVALID\nsent 0\n" }
