@@ -20,7 +20,6 @@ use std::io::Write;
 /// # Errors
 /// - Returns `BadTime` if a time is wrong, also for codes based on a counter.
 /// - Returns `BadStepSize` if the step size is wrong, also for codes based on a counter.
-/// - Returns `Memory` if the calendar does, which the reading of a time uses.
 /// - Returns `BadKey` if the key is wrong.
 /// - Returns `NoClock` if the clock is used, and is missing or is 2^40 or above.
 /// - Returns `BeforeStart` if the time is before the start.
@@ -28,7 +27,7 @@ use std::io::Write;
 /// - Returns `NoMatch` if the OTP is none of the codes.
 /// - Returns `CannotWrite` if the output fails. It keeps what was written.
 ///
-/// Before any error but the last, nothing is written.
+/// The first of these errors is returned. Only `CannotWrite` can follow a write. `Memory` may replace any of them.
 pub fn run<W: Write>(
     alloc: Global,
     words: &Words<'_>,
