@@ -7,8 +7,7 @@ use crate::fault::Fault;
 use crate::line::NodeLine;
 use datagram_port::{MAX_DATAGRAM_LEN, Port, Received, Sender};
 use floor_store::MemStore;
-use oath_node::offer;
-use oath_node::{Event, Node, Scratch};
+use oath_node::{Event, Node, Scratch, offer};
 
 /// The number of rounds after which a line without a reply has none.
 const MAX_ROUNDS: u8 = 64;
