@@ -6,8 +6,8 @@
 #   make_root                     makes a Debian of its own in $root, over that of CHROOT, else by debootstrap
 #   find_programs                 sets oathd and oathtool to program files
 #   make_cluster                  makes in $work: key, users (u1 to u99, an event token each with the secret of RFC
-#                                 4226; pin with the password hunter2; clock1 and clock2, time tokens), and three
-#                                 databases; and starts the nodes
+#                                 4226; pin with the password hunter2; plus with the password +; clock1 and clock2,
+#                                 time tokens), and three databases; and starts the nodes
 #   start_node I; kill_node I     starts node I and waits until it answers; ends it at once
 #   begin STEP                    names what comes next
 #   same WHAT WANTED GOT          ends the script where both differ
@@ -159,6 +159,7 @@ make_cluster() {
         {
             for user in {1..99}; do echo "HOTP u$user - $secret"; done
             echo "HOTP pin hunter2 $secret"
+            echo "HOTP plus + $secret"
             for user in clock1 clock2; do echo "HOTP/T30 $user - $secret"; done
         } > "$work/users"
         for node in 1 2 3; do
