@@ -1,9 +1,11 @@
 #!/usr/bin/env python3
-"""Sends one Access-Request with attributes of any bytes, and says what it hears: request.py PORT [unsigned] NAME=VALUE..
+"""Sends one Access-Request with attributes of any bytes, and says what it hears.
 
-NAME is User-Name or User-Password, each as often as it is given; VALUE is text in which `\\xHH` is a byte. Prints the kind
-of the reply, and `signed` where a right Message-Authenticator is its first attribute, or `no reply` after six seconds.
-The secret is testing123, and the server is on 127.0.0.1.
+    request.py PORT [unsigned] NAME=VALUE..
+
+NAME is User-Name, User-Password or Calling-Station-Id, each as often as it is given. VALUE is text in which `\\xHH` is
+a byte. Prints the kind of the reply, and `signed` if a right Message-Authenticator is its first attribute, or
+`no reply` after six seconds. The secret is testing123, and the server is on 127.0.0.1.
 """
 import hashlib
 import hmac
@@ -42,13 +44,15 @@ def main():
     port, *words = sys.argv[1:]
     authenticator, pairs = os.urandom(16), b""
     for word in words:
+        if word == "unsigned":
+            continue
         name, _, text = word.partition("=")
         value = re.sub(rb"\\x([0-9a-f]{2})", lambda found: bytes.fromhex(found[1].decode()), os.fsencode(text))
-        if name == "User-Name":
-            pairs += attribute(1, value)
-        elif name == "User-Password":
+        if name == "User-Password":
             pairs += attribute(2, hide(value, authenticator))
-    signed = "unsigned" not in words
+        else:
+            pairs += attribute({"User-Name": 1, "Calling-Station-Id": 31}[name], value)
+    signed = "unsigned" not in words[:1]
     pairs += attribute(80, bytes(16)) if signed else b""
     packet = bytes([1, 7]) + (20 + len(pairs)).to_bytes(2, "big") + authenticator + pairs
     if signed:

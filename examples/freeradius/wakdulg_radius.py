@@ -1,9 +1,9 @@
 """Access-Requests of FreeRADIUS (its module rlm_python3) as submissions to the nodes of a cluster.
 
-User-Password is the code: DIGITS of them, 6 where the environment of the RADIUS server doesn't say so. With PASSWORDS=yes
-there a password may stand before the code, which the node checks: then no row of the users file may have `+`, at which a
-node takes any password. NODES has the nodes, as `127.0.0.1:717,127.0.0.1:718`. The folder of wakdulg.py stands in
-python_path, as that of this file.
+The environment of the RADIUS server has NODES, as `127.0.0.1:717,127.0.0.1:718`. User-Password is the code, of DIGITS
+digits or 6. With PASSWORDS=yes a password may stand before the code, which the node checks: then no row of the users
+file may have `+`, at which a node takes any password. The folder of wakdulg.py stands in python_path, as that of this
+file.
 """
 import os
 import re
