@@ -3,9 +3,9 @@
 
     ask.py LINE|- ADDRESS:PORT..     status 0 for OK, 1 for NO, 2 where no node answered or the words are wrong
 
-LINE is `CHECK nonce user code password` or `RESYNC nonce user code next-code password`. With `-` it is the first line of
-standard input: the words of a command are seen by every user of the machine. A line with a field less has no nonce, and
-a random one is put into it. The line is the same for each node, so that its code is used up once at most. A
+LINE is `CHECK nonce user code password` or `RESYNC nonce user code next-code password`. With `-` it is the first line
+of standard input: the words of a command are seen by every user of the machine. A line with a field less has no nonce,
+and a random one is put into it. The line is the same for each node, so that its code is used up once at most. A
 node is sent it twice, the second time where no answer came within a second, and is left after 2.5 seconds, or at once
 where the system tells that nobody is there or no way leads there. TIMEOUT, BUSY and CLOCK are about the node, so the
 next one is asked; any other answer decides. What is no answer to this very line is passed over.
