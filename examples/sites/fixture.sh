@@ -103,7 +103,7 @@ make_root() {
         begin 'debootstrap'
         logs=("$work/debootstrap.log")
         suite=${SUITE:-$(. /etc/os-release; echo "$VERSION_CODENAME")}
-        debootstrap --include=systemd,dbus,man-db,bash-completion "$suite" "$base" \
+        debootstrap --include=systemd,dbus,man-db,bash-completion,gunicorn,python3-flask "$suite" "$base" \
             "${MIRROR:-http://deb.debian.org/debian}" > "$work/debootstrap.log"
     fi
     step='a Debian of its own'
