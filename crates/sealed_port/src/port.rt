@@ -33,7 +33,8 @@ fn hand_in(opened: Option<SealedLine<'_>>, buffer: &mut [u8; 512]) -> Received
     ensures within { IsWithin result }
     ensures datagram { result ≢ Quiet }
     ensures handed { event_of_receive result buffer.new ≡ handed_line (option_map
-        (λ line. record { client = line.client; moment = line.moment; tag = line.tag; line = line.line.now }) opened.entry) }
+        (λ line. record { client = line.client; moment = line.moment; tag = line.tag; line = line.line.now })
+        opened.entry) }
 {
     let Some(opened) = opened else {
         return NOTHING;

@@ -84,8 +84,8 @@ after_number event envelope None books = books.own
 after_number event envelope (Some number) books =
     let node = envelope.receiver in
     let member = books.own.nodes node in
-    let step = on_message (place_of books.own node) envelope.sender (numbered_message number envelope.message) member.content
-    member.voter in
+    let step = on_message (place_of books.own node) envelope.sender (numbered_message number envelope.message)
+    member.content member.voter in
     if is_running books.own node
     then cluster_after event node (named_step (books.name node) step) books.own
     else books.own

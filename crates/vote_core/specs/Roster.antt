@@ -191,7 +191,8 @@ SparesStore happenings node first later =
 -- Each replacement store gets every token that another member with a store has enrolled at the time.
 abbrev pub AreGivenAll : ℕ → ℕ → Opening → (ℕ → ℕ → Bool) → List Happening → Type 0
 AreGivenAll n tokens opening enrolled happenings =
-    (event node boot : ℕ) (given : ℕ → Bool) (floor : ℕ → ℕ) → slice_get happenings event ≡ Some (Renews node boot given floor)
+    (event node boot : ℕ) (given : ℕ → Bool) (floor : ℕ → ℕ)
+    → slice_get happenings event ≡ Some (Renews node boot given floor)
     → (other token : ℕ) → has_store (served n tokens opening enrolled (take event happenings)).cluster other ≡ true
     → (served n tokens opening enrolled (take event happenings)).enrolled other token ≡ true → given token ≡ true
 
@@ -210,7 +211,8 @@ IsGivenFrom token least happening = Unit {0}
 abbrev pub IsEnrolledFrom : ℕ → ℕ → Opening → (ℕ → ℕ → Bool) → List Happening → Type 0
 IsEnrolledFrom token least opening enrolled happenings =
     ((node : ℕ) → enrolled node token ≡ true → least ≤ opening.floor node token)
-    × ((event : ℕ) (happening : Happening) → slice_get happenings event ≡ Some happening → IsGivenFrom token least happening)
+    × ((event : ℕ) (happening : Happening) → slice_get happenings event ≡ Some happening
+    → IsGivenFrom token least happening)
 
 -- ---- a book that never changes
 

@@ -88,8 +88,8 @@ two_made_anew = taken_by_two ++ Loses 1 ∷ Loses 2 ∷ made_with 2 9 ∷ third_
 -- floor, and so doesn't ask below it.
 abbrev pub floors_told : List Happening
 floors_told =
-    enrols 1 4 ∷ Does (Ticks 1 (0 ∷ [])) ∷ Does (Ticks 1 []) ∷ Does (Tells 3 (0 ∷ [])) ∷ enrols 2 0 ∷ comes 0 ∷ asks_for 2 3
-    ∷ Does (Tells 2 (0 ∷ 0 ∷ [])) ∷ []
+    enrols 1 4 ∷ Does (Ticks 1 (0 ∷ [])) ∷ Does (Ticks 1 []) ∷ Does (Tells 3 (0 ∷ [])) ∷ enrols 2 0 ∷ comes 0
+    ∷ asks_for 2 3 ∷ Does (Tells 2 (0 ∷ 0 ∷ [])) ∷ []
 
 -- a stop inside an enrolment that is kept, and inside one that is dropped
 abbrev pub stopped_enrolments : List Happening

@@ -115,13 +115,16 @@ pub fn own_numbers_are_names()
         → IsNamed name own canonical → IsNamedVoter name (length own.rows) voter named
         → IsNamedStep name (length own.rows)
         (tick place own voter) (tick_telling place (named_turn name own voter) canonical named) }
-    ensures told { (name : ℕ → ℕ) (place : PlaceRecord) (told : List ℕ) (own canonical : Content) (voter named : VoterState)
+    ensures told { (name : ℕ → ℕ) (place : PlaceRecord) (told : List ℕ)
+        (own canonical : Content) (voter named : VoterState)
         → IsNamed name own canonical → IsNamedVoter name (length own.rows) voter named
         → ((i token : ℕ) → slice_get told i ≡ Some token → token < length own.rows)
         → IsNamedStep name (length own.rows) (tell place told own voter) (tell place (map name told) canonical named) }
     ensures enrolled { (name : ℕ → ℕ) (floor : ℕ) (own canonical new : Content)
-        → IsNamed name own canonical → HasNewRow name floor own canonical new → IsNamed name (with_new_row floor own) new }
-    ensures others_proposed { (place : PlaceRecord) (content : Content) (voter : VoterState) (token lo hi : ℕ) (drift : ℤ)
+        → IsNamed name own canonical → HasNewRow name floor own canonical new
+        → IsNamed name (with_new_row floor own) new }
+    ensures others_proposed { (place : PlaceRecord) (content : Content) (voter : VoterState)
+        (token lo hi : ℕ) (drift : ℤ)
         → (other : ℕ) → (other ≡ token → ⊥)
         → row (propose place token lo hi drift content voter).content other ≡ row content other }
     ensures others_heard { (place : PlaceRecord) (content : Content) (voter : VoterState) (from : ℕ) (message : Message)
@@ -139,7 +142,8 @@ pub fn rosters_are_worked()
         ≡ record { accepted = acceptance 2 4 1 0 ∷ acceptance 7 9 3 1 ∷ []; sent = 6 } }
     ensures anew_too_low { outcome_over (made_anew_with 0) ≡ record { accepted = acceptance 2 4 1 0 ∷ []; sent = 5 } }
     ensures anew { outcome_over (made_anew_with 1) ≡ record { accepted = acceptance 2 4 1 0 ∷ []; sent = 6 } }
-    ensures later_too_low { outcome_over (made_anew_without 0) ≡ record { accepted = acceptance 2 4 1 0 ∷ []; sent = 5 } }
+    ensures later_too_low { outcome_over (made_anew_without 0)
+        ≡ record { accepted = acceptance 2 4 1 0 ∷ []; sent = 5 } }
     ensures later { outcome_over (made_anew_without 1) ≡ record { accepted = acceptance 2 4 1 0 ∷ []; sent = 6 } }
     ensures both_too_low { outcome_over (both_made_anew 0) ≡ record { accepted = acceptance 2 4 1 0 ∷ []; sent = 5 } }
     ensures both { outcome_over (both_made_anew 1) ≡ record { accepted = acceptance 2 4 1 0 ∷ []; sent = 6 } }
@@ -199,12 +203,14 @@ pub fn own_books_are_safe()
 
 /// Worked cases.
 pub fn books_are_worked()
-    ensures crossed { outcome_in crossed_both ≡ record { accepted = accepted 4 7 1 0 0 0 ∷ accepted 8 10 2 1 3 3 ∷ []; sent = 6 } }
+    ensures crossed { outcome_in crossed_both
+        ≡ record { accepted = accepted 4 7 1 0 0 0 ∷ accepted 8 10 2 1 3 3 ∷ []; sent = 6 } }
     ensures again { outcome_in crossed_again ≡ record { accepted = accepted 4 7 1 0 0 0 ∷ []; sent = 3 } }
     ensures twice { outcome_in added_twice ≡ record { accepted = accepted 4 7 1 0 0 0 ∷ []; sent = 3 } }
     ensures turns { outcome_in turns_told ≡ record { accepted = []; sent = 4 } }
     ensures rows { outcome_in rows_told ≡ record { accepted = []; sent = 8 } }
-    ensures remade { outcome_in (remade_with 2 1) ≡ record { accepted = accepted 4 7 1 0 0 0 ∷ accepted 10 12 2 0 1 1 ∷ []; sent = 6 } }
+    ensures remade { outcome_in (remade_with 2 1)
+        ≡ record { accepted = accepted 4 7 1 0 0 0 ∷ accepted 10 12 2 0 1 1 ∷ []; sent = 6 } }
     ensures remade_too_low { outcome_in (remade_with 2 0) ≡ record { accepted = accepted 4 7 1 0 0 0 ∷ []; sent = 3 } }
     ensures remade_without { outcome_in (remade_with 1 9) ≡ record { accepted = accepted 4 7 1 0 0 0 ∷ []; sent = 3 } }
 {}
