@@ -1,4 +1,5 @@
-//! The fields of a line as bytes: a text cut in two at a mark, a number in decimal digits alone, and a word without blanks.
+//! Reads the fields of a line of bytes: a text cut in two at a mark, a number in decimal digits, and a word without
+//! blanks.
 #![tactic(auto)]
 
 mod cut;

@@ -72,7 +72,8 @@ abbrev pub Asks : List (Option ℕ) → Option ℕ → Type 0
 Asks told now = (told ≡ now ∷ []) ⊎ ((told ≡ []) × (now ≡ None))
 
 -- A gate's handling of a receive: it asks the clock at most once, and passes on what `handed_in` defines.
-pub record TakesIn (old_clock new_clock : Option (List (Option ℕ))) (old new : GateRecord) (received handed : PortEvent) : Type 0 where
+pub record TakesIn (old_clock new_clock : Option (List (Option ℕ))) (old new : GateRecord)
+    (received handed : PortEvent) : Type 0 where
   pub told : List (Option ℕ)
   pub now : Option ℕ
   pub asks : Asks told now

@@ -48,7 +48,8 @@ IsAmong (other ∷ others) one = (other ≡ one) ⊎ IsAmong others one
 
 -- A gate's seal of its node's answer to a client. A line that the gate opened is the client's and has the answer's
 -- nonce. The answer is sealed under the client's key and bound to the line's tag. It goes to the line's address.
-pub record IsAnswerOf (gate : GateRecord) (openings : List AskedRecord) (client : ℕ) (answer : List ℕ) (sealed : Sealed) : Type 0 where
+pub record IsAnswerOf (gate : GateRecord) (openings : List AskedRecord) (client : ℕ) (answer : List ℕ)
+    (sealed : Sealed) : Type 0 where
   pub line : AskedRecord
   pub is_opened : IsAmong openings line
   pub of_client : line.client ≡ client
