@@ -1,4 +1,4 @@
-"""The scripts of examples/schedules: each says in its comments with which words `oathd sim` runs it, and what that prints."""
+"""The scripts of examples/schedules. Their comments say with which words `oathd sim` runs each and what it prints."""
 from itertools import takewhile
 from pathlib import Path
 
