@@ -57,7 +57,7 @@ halved size left some few half le =
           (omega arith, omega (arith, twice)))
     ]
 
--- so it is empty after as many comparisons as it can be halved
+-- the range is empty after at most `most` comparisons, each of which halves it
 pub halved_again : (most size count next : ℕ) → next ≡ count + 1 → 0 < size → size < 2 ^ (most - count) → (half : ℕ) → half ≤ size / 2
     → (next ≤ most) × (half < 2 ^ (most - next))
 halved_again most size count next is_next some few half le =

@@ -40,7 +40,7 @@ module _ (kept : List KeptAnswer) (places : List ℕ) (index : IsIndex kept plac
   length_left : length left ≡ length rest
   length_left = length-map rest (λ (p : ℕ). p - 1)
 
-  -- no other place is that of the oldest
+  -- the oldest answer has exactly one place
   above_zero : (i : ℕ) → i < length places → i ≢ at → 0 < get_or places i 0
   above_zero i lt other =
       elim (cases_lt 0 (get_or places i 0)) [
