@@ -94,7 +94,7 @@ same_drift setting history events node token drift (p ∷ ps) h =
     ap (λ m. drift_after setting.config events node token (cond own (drift_by setting.config.limits (slice_get setting.config.book p.token) m p.hi) drift) ps) h.0
     ∙ same_drift setting history events node token (cond own (drift_of_pass setting history p) drift) ps h.1
 
--- the acceptances since a store was made anew are of those of the whole history
+-- the acceptances since a replacement of the store are among the acceptances of the whole history
 since_each : (P : Acceptance → Type 0) (node : ℕ) (notes : List Note) → Each P (passes_in notes) → Each P (passes_since node notes)
 since_each P node [] h = tt
 since_each P node (x ∷ notes) h =

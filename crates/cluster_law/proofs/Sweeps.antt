@@ -81,7 +81,7 @@ offer_same setting e (Remakes i boot floors) a b is h = absurd (false≢true is)
 abbrev Stored : Setting → List ℕ → Scene → Type 0
 Stored setting live x = (j : ℕ) → is_live live j ≡ true → has_store setting x j ≡ true
 
--- a deed that takes something leaves the stores there
+-- an action that takes an input; it keeps the stores
 abbrev IsTake : Deed → Type 0
 IsTake d = (i : ℕ) × (input : Input) × (d ≡ Takes i input)
 

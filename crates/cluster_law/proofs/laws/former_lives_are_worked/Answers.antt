@@ -42,7 +42,7 @@ of_one P one h (suc i) envelope at = absurd (none-some envelope at)
 from_second : IsOther (record { me = 1; n = 3 }) 2
 from_second = record { first = omega arith; last = omega arith; other = λ e. absurd (omega (arith, e)) }
 
--- the old Grant was offered before all
+-- the old Grant was offered before all actions
 grant_came : (envelope : Envelope) → envelope_at three_nodes.key (bytes_of grant) ≡ Some envelope → WasOffered (Post grant ∷ []) envelope
 grant_came envelope reads =
     let there : WasOffered (Post grant ∷ []) grant = record { place = 0; is_there = refl } in
