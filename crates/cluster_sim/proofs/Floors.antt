@@ -1,4 +1,4 @@
--- First free factors that are in range, list by list.
+-- Floors in range, list by list.
 use Rattle.std.proofs.Common.{◌≡◌, ℕ, zero, suc, ◌+◌, ◌-◌, ◌<◌, ◌≤◌, ⊎_elim, List, [], ◌∷◌, ◌++◌, length, get_or, map, take, Bor, refl, sym, ap, ◌∙◌, subst, arith}
 use Rattle.std.specs.Global.{Vec}
 use Rattle.std.proofs.lemmas.Bool.{cases_lt}
@@ -82,7 +82,7 @@ next_events key xs k x h is new old =
     map_snoc f [] y = refl
     map_snoc f (u ∷ ys) y = ap (λ l. f u ∷ l) (map_snoc f ys y)
 
--- an event that makes no store anew
+-- an event that creates no replacement store
 pub not_anew : (key : List ℕ) (x : WorldEvent) → ((node boot : ℕ) (floors : Bor (List ℕ)) → x ≡ AnewEvent node boot floors → ⊥) → HasFloorsInRange (event_of key x)
 not_anew key (HappensEvent act) h = tt
 not_anew key (CutEvent kept act) h = tt

@@ -53,7 +53,7 @@ member_outputs config key n i nodes e m = cond-true (is_member n i) _ no_outputs
 pub outside_outputs : (config : Config) (key : List ℕ) (n i : ℕ) (nodes : ℕ → NodeState) (e : NodeEvent) → is_member n i ≡ false → outputs_at config key n nodes i e ≡ no_outputs
 outside_outputs config key n i nodes e m = cond-false (is_member n i) _ no_outputs m
 
--- a member was handed an event
+-- a member took an event
 pub asked_in : (config : Config) (key : List ℕ) (n k : ℕ) (lost : ℕ → Bool) (nodes : ℕ → NodeState) (e : NodeEvent) (hosts : List (Hosted Content)) (h : Hosted Content) (o : Option OutputsRecord)
     → is_member n (suc k) ≡ true → AreHosts config key n lost nodes hosts → IsHanded config key (record { me = suc k; n = n }) (nodes (suc k)) e h o
     → IsAsked config key n lost nodes (suc k) e (set hosts k h) o

@@ -1,4 +1,4 @@
--- Stores that are lost and made anew, as the functions of a simulation see them.
+-- Lost and replaced stores, in the functions of a simulation.
 use Rattle.std.proofs.Common.{◌≡◌, ◌≢◌, ℕ, zero, suc, ◌+◌, ◌-◌, ◌<◌, ◌≤◌, Bool, true, false, true≢false, not, cond, ◌&&◌, ◌||◌, ⊎_elim, List, [], ◌∷◌, ◌++◌, length, get_or, take, map, Option, Some, None, refl, sym, ap, ◌∙◌, subst, arith, eqb, leb, ltb, set, Equal, Greater}
 use Rattle.std.specs.Prelude.{Result, Ok, Err, is_some}
 use Rattle.std.proofs.Math.Seq.{take-suc, take-length}
@@ -236,7 +236,7 @@ same_most : (tokens : ℕ) (a b f : ℕ → ℕ) → ((t : ℕ) → t < tokens �
 same_most zero a b f h = refl
 same_most (suc t) a b f h = ap (λ n. leb n (f t) && all_most t a f) (h t (omega arith)) ∙ ap (λ c. leb (b t) (f t) && c) (same_most t a b f (λ u lt. h u (omega (arith, lt))))
 
--- ---- a store made anew
+-- ---- a replacement store
 
 -- what a node's store says that is gone
 pub record IsGone (config : Config) (w : World) (i used : ℕ) : Type 0 where

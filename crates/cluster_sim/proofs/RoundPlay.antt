@@ -139,7 +139,7 @@ between_handed config key live k w s d at inside h to is =
 
 -- ---- all datagrams from a number on
 
--- those below number k were handed on, of what was sent in this world
+-- the envelopes below number `k` were delivered, of the envelopes sent in the world `w`
 pub record AreHandedTo (config : Config) (key : List ℕ) (live : List ℕ) (first n : ℕ) (w : World) (k next : ℕ) (s : SimulationRecord) : Type 0 where
   pub now : World
   pub run : IsRun config key now s

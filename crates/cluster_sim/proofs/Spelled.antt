@@ -379,7 +379,7 @@ restart_fine (Some i) w h =
     record { few = h.few; nodes = set_fine i x w.lost w.nodes f h.nodes; tokens = set_tokens i x w.nodes f.tokens h.tokens; sent = h.sent }))
     (λ _. h)
 
--- ---- stores that are lost and made anew
+-- ---- lost and replaced stores
 
 loss_fine : (i : ℕ) (w : World) → IsFineWorld w → IsFineWorld (world_after_loss i w)
 unfolding world_after_loss
@@ -489,7 +489,7 @@ pub record IsFineStart (config : Config) (start : Start) : Type 0 where
   pub floors : (i t : ℕ) → start.opening.floor i t ≤ 2 ^ 62
   pub old : Each IsSpelled start.opening.old
 
--- that of nodes that open for the first time
+-- the start of nodes that open for the first time
 pub first_fine : (config : Config) (floors : List (List ℕ)) → length config.book ≤ 10000 → length floors ≤ 9 → ((i t : ℕ) → floor_at floors i t ≤ 2 ^ 62) → IsFineStart config (first_start floors)
 first_fine config floors few n h = record { tokens = few; nodes = n; boots = λ i. omega arith; floors = h; old = tt }
 
@@ -507,7 +507,7 @@ spelled_in_range grounds config start events h range k =
 pub all_spelled : GroundLaw → (config : Config) (start : Start) (events : List WorldEvent) → IsFineStart config start → HaveFloorsInRange events → AreSpelledAlong config events (opening_world config start)
 all_spelled grounds config start events h range = spelled_in_range grounds config start events h (in_range events range)
 
--- and so are all that come after, if no store is made anew in them
+-- after further events in range the world stays spelled
 pub then_spelled : GroundLaw → (config : Config) (start : Start) (events more : List WorldEvent) → IsFineStart config start
     → HaveFloorsInRange events → AreInRange more → AreSpelledAlong config (events ++ more) (opening_world config start)
 then_spelled grounds config start events more h range later =

@@ -1,4 +1,4 @@
--- What is told and what was accepted are computed, and differ.
+-- The replies and the acceptances are computed, and differ.
 use Rattle.std.proofs.Common.{◌≡◌, ℕ, zero, suc, ◌<◌, ◌≤◌, true, false, List, [], ◌∷◌, Some, None, refl, arith, ap, sym, ◌∙◌, subst}
 use Rattle.std.specs.Prelude.{codes, slice_get, slice_index}
 use Rattle.std.specs.Fmt.{digits}
