@@ -63,7 +63,7 @@ token_holds = record {
   last = refl;
 }
 
--- those of no token hold what they are made of
+-- the tables without a token hold the content that they are made of
 pub none_holds : (boot : ℕ) → Holds (tables_at boot []) (small_content boot) []
 unfolding value_cmp lib.Ieee.is_nan lib.Ieee.lt
 none_holds boot = record {

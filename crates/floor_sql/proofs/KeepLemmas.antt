@@ -238,7 +238,7 @@ module _ {S : Type 0} (g : Ghosts S) (old new : Held S) (base mirror : Content) 
         let plain = subst (λ (c : Content). IsKept g new c (count + length (passes_in staged)) None) (after_is ∙ sym made) kept_after in
         idle_staged g new now left_staged total None (subst (λ (n : ℕ). IsKept g new now n None) (sym counted) plain) none
 
-    -- the passes that waited are behind the others
+    -- the passes that waited follow the others
     pub done_audit : (now : Content) (left_staged : List Put) (total : ℕ) (was : Option StoreFault) → now ≡ with_boot boot mirror → left_staged ≡ [] → HasCleanDisk (state g new)
         → (all : List PassRecord) → HasAudit g (stored old mirror staged count was) all → HasAudit g (stored new now left_staged total was) all
     done_audit now left_staged total was made none clean all had =

@@ -50,11 +50,11 @@ number_of row = number_in (column row 0)
 abbrev hit : ℕ → Row → ℕ
 hit m row = if nat_eq (number_of row) m then 1 else 0
 
--- the row is that of one of these passes, of which the first has this number
+-- the row is of one of the passes, of which the first has number `n`
 abbrev IsAmong : ℕ → List PassRecord → Row → Type 0
 IsAmong n passes row = (i : ℕ) × (p : PassRecord) × (slice_get passes i ≡ Some p) × (row ≡ pass_values (i + n) p)
 
--- the numbers rise from this one on
+-- the numbers rise from `low` on
 abbrev Rises : ℕ → List Row → Type 0
 Rises low [] = ⊤
 Rises low (row ∷ rows) = (low ≤ number_of row) × Rises (number_of row) rows
@@ -238,7 +238,7 @@ in_order trees passes rows a held =
 
 -- ---- the rows that were given so far
 
--- the row that comes next is that of the next pass
+-- the row that follows is the row of the next pass
 next_row : (n : ℕ) (so_far audit : List PassRecord) (given tail : List Row) (row : Row) → map pass_shown given ≡ pass_rows n so_far
     → map pass_shown ((given ++ row ∷ []) ++ tail) ≡ pass_rows n audit
     → (p : PassRecord) × (slice_get audit (length so_far) ≡ Some p) × (pass_shown row ≡ pass_values (length so_far + n) p)

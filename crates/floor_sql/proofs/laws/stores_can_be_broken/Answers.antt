@@ -21,7 +21,7 @@ use Rattle.floor_sql.proofs.laws.stores_can_be_broken.Goals as goal
 pub returns-clause-mirrors : goal.returns-clause-mirrors
 returns-clause-mirrors g c = record { schema = refl; passes = []; holds = none_holds 4; counted = refl; settled = refl }
 
--- the boot of tables of no token is that of the content that they hold
+-- the boot of tables without a token is the boot of the content that they hold
 boot_held : (now : ℕ) (content : Content) (passes : List PassRecord) → Holds (tables_at now []) content passes → now ≡ content.boot
 boot_held now content passes h = (own_row_is 2 1 0 now 2 h.node (length content.rows) content.boot h.self).3
 
@@ -39,7 +39,7 @@ returns-clause-mirrors_count g c = λ boot h.
     let counted : length h.passes ≡ 1 = h.counted in
     omega (arith, none, counted)
 
--- databases of no token are told apart by their boots
+-- the boots of databases without a token distinguish them
 same_boot : (a b : ℕ) → db_at a [] ≡ db_at b [] → a ≡ b
 same_boot a b e = let rows : self_row 1 0 a ∷ [] ≡ self_row 1 0 b ∷ [] = ap (λ (db : Database). db.trees 0) e in cc
 
