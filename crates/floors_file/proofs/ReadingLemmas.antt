@@ -25,7 +25,7 @@ pub row_then : (tokens : ℕ) (rows : List FloorRecord) (line : List ℕ) (lines
 row_then tokens rows line [] count e = absurd (omega (arith, e))
 row_then tokens rows line (next ∷ lines) count e = refl
 
--- so many rows are read of a text, and this is left of it
+-- the rows `rows` of a text are read, and `rest` is left of it
 pub record HasRead (tokens : ℕ) (text : List ℕ) (rows : List FloorRecord) (rest : List ℕ) : Type 0 where
   pub so_far : rows_from tokens [] (lines_of text) ≡ rows_from tokens rows (lines_of rest)
 
@@ -75,7 +75,7 @@ ended : (lines : List (List ℕ)) (line : HeadLine) (count : ℕ) → length lin
 ended [] line count e = absurd (omega (arith, e))
 ended (next ∷ lines) line count e = refl
 
--- the rows behind a first line that was read
+-- the rows after a first line that was read
 floors_then : (text first rest : List ℕ) (line : HeadLine) → lines_of text ≡ first ∷ lines_of rest → Ok line ≡ head_of (fields_of first)
     → floors_of text ≡ (rows_from line.tokens [] (lines_of rest) >>= λ rows. Ok (record { head = line.head; rows = rows }))
 floors_then text first rest line is e =
