@@ -63,7 +63,7 @@ returns-clause-first_of_two c = record {
 pub returns-clause-first_in_part : goal.returns-clause-first_in_part
 returns-clause-first_in_part c h = one_byte h.writes.replies 50 h.writes.written
 
--- the first reply is that of the first line
+-- the first reply is for the first line
 not_the_second : (count : ℕ) (replies : List Reply)
     → nodes_of replies ≡ map (λ (line : NodeLine). line.node) (take count two_lines) → codes "1 -\n" ≡ printed replies → ⊥
 not_the_second zero replies e p = has_none replies 49 (codes " -\n") e p
