@@ -104,7 +104,7 @@ imported_is limits moment longest book floors text is import =
     let same : import_of book floors ≡ import_of import.book import.floors = cc in
     (sym (ap (λ (i : Import). i.book) same), sym (ap (λ (i : Import). i.floors) same))
 
--- that of one token has one
+-- the import of a users file of one token has one token
 pub one_token : (moment longest : ℕ) (users : List ℕ) → IsOfOne moment longest users → (import : HasImport default_limits moment longest users)
     → length import.book ≡ 1
 one_token moment longest users is import = ap (length {A = Credential}) (imported_is default_limits moment longest one_book (0 ∷ []) users is import).0
