@@ -13,7 +13,7 @@ use Rattle.oathd_words.specs.declared.nodes_words.NodesWords.TheVariants.{Given,
 use Rattle.oathd_memory.specs.Check.{IsKeyIn}
 use Rattle.oathd_memory.specs.Nodes.{IsSetup}
 
--- so many nodes that are run with this
+-- the setup of `nodes` nodes
 abbrev setup_with : Limits → ℕ → List ℕ → ℕ → Setup
 setup_with limits moment key nodes = record { nodes = nodes; limits = limits; moment = moment; key = key }
 
