@@ -16,13 +16,13 @@ use Rattle.oathd_words.specs.declared.store_words.ClusterWords.TheVariants.{Give
 use Rattle.oathd_words.proofs.MembersLemmas.{says_unique}
 use Rattle.oathd_words.proofs.WordsLemmas.{apart}
 
--- a text that is there
+-- the text of an option that has one
 abbrev text_in : Option (List ℕ) → List ℕ
 text_in None = []
 text_in (Some text) = text
 
 module _ (found : Found) where
-  -- where a cluster file is named, the words alone say no cluster, and where none is, no file does
+  -- the words alone name no cluster if they name a cluster file, and no file does if they don't
   pub no_place : (text : List ℕ) (members : List SocketAddrV4) (n : ℕ) → first_value found (codes "cluster") ≡ None
       → Some text ≡ first_value found (codes "members") → AreMembers text members
       → ((place : PlaceRecord) → GivesPlace found place → place.n ≡ n → ⊥) → length members ≡ n
