@@ -33,7 +33,7 @@ pub short_is_untagged : (key bound bytes : List ℕ) → (32 ≤ length bytes �
 short_is_untagged key bound bytes short tagged =
     short (omega (arith, ap length tagged, length-tag_of key (body_of bytes ++ bound), length-drop (length bytes - 32) bytes))
 
--- ---- a body with its tag behind it
+-- ---- a body followed by its tag
 
 body_of-tagged : (body tag : List ℕ) → length tag ≡ 32 → body_of (body ++ tag) ≡ body
 body_of-tagged body tag len =
