@@ -1,4 +1,4 @@
--- The first line of a text, and the lines behind it.
+-- The first line of a text, and the lines after it.
 use Rattle.std.proofs.Common.{◌≡◌, ℕ, zero, suc, ◌+◌, ◌-◌, ◌<◌, ◌≤◌, Bool, true, false, cond, nat_lt, List, [], ◌∷◌, ◌++◌, length, take, Some, None, IfSome, Option, refl, sym, ap, subst, ◌∙◌, arith, inl, inr}
 use Rattle.std.specs.Prelude.{◌==◌, ◌⊎◌, slice_index_or}
 use Rattle.std.specs.Io.BufRead.{DropsThrough, take_through, drop_through}
@@ -134,7 +134,7 @@ lines_none room =
     ap (λ (t : List ℕ). lines_between (nat_lt room 0) (pieces_of t)) (take_all room [] (omega arith))
     ∙ ap (λ (c : Bool). lines_between c ([] ∷ [])) (le-ltb room 0 (omega arith))
 
--- behind the limit a text is a line that goes on past it
+-- a text beyond the limit is a line that passes it
 pub lines_past : (b : ℕ) (text : List ℕ) → lines_of 0 (b ∷ text) ≡ None ∷ []
 lines_past b text = lines_cut 0 (b ∷ text) tt (omega arith)
 
