@@ -1,4 +1,4 @@
--- A store that is lost, and one that is made anew, keep what is kept.
+-- A loss and a replacement of a store keep the invariant.
 use Rattle.std.proofs.Common.{◌≡◌, ◌≢◌, ℕ, suc, ◌+◌, ◌<◌, ◌≤◌, ◌⊎◌, inl, inr, ⊎_elim, true, false, not, ◌&&◌, length, Some, refl, sym, ap, ◌∙◌, subst, arith, eqb, leb, ltb}
 use Rattle.std.proofs.lemmas.Bool.{cond_both, cond-true, eqb-true, eqb-false, eq-eqb, ltb-true, leb-true, and_parts, or_cases, not-true, cases_Bool, false≢true}
 use Rattle.std.proofs.lemmas.Option.{none-some}
@@ -176,9 +176,9 @@ loss_keeps R e tokens k w there now then born others =
     (λ q _. absurd (false≢true (sym q ∙ there)))
     then
 
--- ---- a store that is made anew
+-- ---- a replacement store
 
--- the cluster after a store is made anew
+-- the cluster after a store is replaced
 renewed : ℕ → ℕ → (ℕ → ℕ) → Cluster → Cluster
 renewed k boot floor w = record w {
   nodes = set_node k (opening_member boot (length (w.nodes k).content.rows) floor) w.nodes;
