@@ -136,7 +136,7 @@ no_position p xs none i lt =
       | inr after ↦ absurd (none-some (position_or_len p xs) (sym none ∙ sym (cond_below (position_or_len p xs) (length xs) (Some (position_or_len p xs)) None (omega arith))))
     ]
 
--- the oldest place goes where it is found
+-- the oldest place is removed at its position
 pub loses_found : (places : List ℕ) (at : ℕ) → Some at ≡ position (λ (p : ℕ). eqb p 0) places
     → IsIndexOfRest places (map (λ (p : ℕ). p - 1) (remove places at))
 loses_found places at found kept index some =
