@@ -60,7 +60,7 @@ append_member members place member old middle new number within is next h k =
     ∙ ap (λ n. members_text 1 front ++ member_line n (address_value member)) counted in
     subst (Appends old new) (sym texts) (append_more old middle new (members_text 1 front) (member_line number (address_value member)) h k)
 
--- the same, where the member was read by its place
+-- the same, if the member was read by its place
 pub append_member_at : (members : List SocketAddrV4) (place : ℕ) (default : SocketAddrV4) (old middle new : Option (List ℕ)) (number : ℕ)
     → place < length members → number ≡ place + 1
     → Appends old middle (members_text 1 (map address_value (take place members)))
