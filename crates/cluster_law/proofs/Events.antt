@@ -170,7 +170,7 @@ batches_end m (x ∷ xs) k a b h = end_step m x xs k a b h (λ k2 a2 b2 h2. batc
 pub all_end : (m : Member) (xs : List (List Receipt)) (s : NodeState) → Ends m xs 0 (run_at s) (run_at s)
 all_end m xs s = batches_end m xs 0 (run_at s) (run_at s) (record { does = record { node = refl; offers = refl }; count = refl })
 
--- where all of them are served
+-- the claim if all batches are served
 pub all_done : (m : Member) (xs : List (List Receipt)) (s : NodeState) → (run_with_batches m xs (run_at s)).end ≡ None
     → DoesAfter (received_after (receipts_in xs) 0) (run_with_batches m xs (run_at s)) (run_with_events m (events_of_turns m.key 0 (receipts_in xs)) (run_at s))
 all_done m xs s end =

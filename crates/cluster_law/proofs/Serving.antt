@@ -43,7 +43,7 @@ deed_at setting e node d scene can =
     (λ _. sym (cond-false (eqb node i) (site_after setting e d (scene.sites node)) (scene.sites node) q)))
     (cases_Bool (eqb node i))
 
--- where a store is there, what leaves it there can be
+-- while a node has its store, an action that keeps the store is possible
 pub can_there : (setting : Setting) (scene : Scene) (node : ℕ) (d : Deed) → has_store setting scene node ≡ true → LeavesStore node d → node ≡ node_of_deed d → can_be setting scene d ≡ true
 can_there setting scene node (Opens i) store leaves own = subst (λ m. has_store setting scene m ≡ true) own store
 can_there setting scene node (FailsToOpen i raised) store leaves own = subst (λ m. has_store setting scene m ≡ true) own store

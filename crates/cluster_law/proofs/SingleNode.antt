@@ -122,7 +122,7 @@ cut_step setting e i (Datagram from bytes) act s waiting sw sh own is same =
     (record { answers = refl; same = ap (λ z. restarted_server z) (restart_here i sw own) ∙ ap (λ z. restarted_server z) same }))
     is
 
--- what takes an input where no process is
+-- an action that takes an input while no process runs
 lost : (setting : Setting) (e i : ℕ) (input : Input) (c : Content) (sw sh : Server) → SameServer (Down c) sw sh → Step setting e (Takes i input) (Down c) nothing sw sh
 lost setting e i (Line client moment text) c sw sh same = record { answers = refl; same = same }
 lost setting e i Time c sw sh same = record { answers = refl; same = same }
@@ -215,7 +215,7 @@ deed_none : (setting : Setting) (e : ℕ) (d : Deed) (scene : Scene) → can_be 
 unfolding scene_after_deed
 deed_none setting e d scene out = cond-false (can_be setting scene d) (scene_at setting e d (scene.sites (node_of_deed d)) scene) scene out
 
--- where the one store is gone nothing more can be
+-- without the single store no action is possible
 gone_store : (setting : Setting) (scene : Scene) (i : ℕ) → nodes_of setting ≡ 1 → scene.lost 1 ≡ true → has_store setting scene i ≡ false
 gone_store setting scene i one gone =
     ⊎_elim

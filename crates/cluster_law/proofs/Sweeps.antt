@@ -343,7 +343,7 @@ turns_beside setting live (j ∷ js) e e' w scene deeds b are t =
 
 -- ---- a sweep
 
--- a process runs where a store is
+-- a process runs only where a store is
 site_holds : (w : World) (b : Bool) (a : Site) (s : NodeState) (waiting : List Handout) (x : NodeState) → a ≡ Up s waiting → IsSiteAt w b a x → (b ≡ false) × Holds a x
 site_holds w false a s waiting x up h =
     let here : IsSiteAt w false (Up s waiting) x = subst (λ z. IsSiteAt w false z x) up h in

@@ -57,7 +57,7 @@ abbrev grants_in : Handout → ℕ
 grants_in (Post envelope) = grants_of envelope.message
 grants_in (Answer told) = 0
 
--- and where only a Floor was, the Grant wasn't
+-- if only a Floor was offered, the Grant wasn't
 not_there : (k : ℕ) → slice_get (Post old_floor ∷ []) k ≡ Some (Post grant) → ⊥
 not_there zero at = absurd (other (same_Some (Post old_floor) (Post grant) at))
   where
