@@ -105,7 +105,7 @@ next_honest events e w h = record { nodes = λ i. next_event events w.history e 
 
 -- ---- an event at a node
 
--- what is kept where the event is done, and where the node stops inside it
+-- the claims kept by a whole event, and by an event inside which the node stops
 record Halves (events : List WorldEvent) (e : ℕ) (Premise : Type 0) (w new : World) : Type 0 where
   nodes : (i : ℕ) → NodeKept events new.history (suc e) i (new.nodes i)
   old_told : Each (ToldBacked events (passes_in new.history)) w.told

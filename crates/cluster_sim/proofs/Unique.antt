@@ -30,7 +30,7 @@ unsent_run config test (l ∷ ls) k e w h =
     (λ _. ap (λ v. world_after_events config (suc e) rest v) (unsent_one config e k l.receiver w h) ∙ unsent_run config test ls (suc k) (suc e) w (omega (arith, h)))
     (λ _. unsent_run config test ls (suc k) e w (omega (arith, h)))
 
--- letter number k, where it was sent, is the first of those from k on
+-- letter number k, if it was sent, is the first of the letters from k on
 head_is : (xs more : List Envelope) (k : ℕ) (d : Envelope) (ds : List Envelope) → k < length xs → drop k (xs ++ more) ≡ d ∷ ds → slice_get xs k ≡ Some d
 head_is [] more k d ds lt h = absurd (omega (arith, lt))
 head_is (x ∷ xs) more zero d ds lt h = ap first h

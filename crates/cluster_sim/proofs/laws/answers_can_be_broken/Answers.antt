@@ -111,7 +111,7 @@ returns-clause-again c h =
     let said : (2 ≡ 1) × (8 ≡ 7) × _ = b.belongs.again late in
     omega (arith, said.0)
 
--- ---- what follows where one acceptance and one reply are all that there is
+-- ---- one acceptance and one reply alone
 
 -- it is the acceptance to which the reply belongs
 abbrev Belongs : List WorldEvent → Acceptance → Told → Type 0
