@@ -74,7 +74,7 @@ none_holds boot = record {
   last = refl;
 }
 
--- where no row stands there are no passes
+-- without a row there are no passes
 pub count_of_none : (passes : List PassRecord) → IsPermutation (pass_rows 1 passes) [] → length passes ≡ 0
 count_of_none passes h =
     let lengths : 0 ≡ length (pass_rows 1 passes) = length_permutation _ _ h in

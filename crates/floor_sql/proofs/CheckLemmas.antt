@@ -110,7 +110,7 @@ at_place ops i op got =
           let here : get_or ops i d ≡ op = cc in is ∙ here,
     )
 
--- where the root asks whether two sides are equal, they are the key and the number
+-- if the root compares two sides for equality, they are the key and the number
 pub checks_found : (ops : List Op) (roots : List ℕ) (root left right : ℕ) (top : Op) → roots ≡ root ∷ []
     → terms_in ops roots ≡ id_checks → root < length ops → top ≡ get_or ops root top → top ≡ Binary (Compare Eq bytes) left right
     → (left < length ops) × (right < length ops) × ((d : Op) → d ≡ get_or ops left d → d ≡ Column 1 0)

@@ -69,7 +69,7 @@ abbrev pub Alters : (Database → Database → Type 0) → Content → ℕ → C
 Alters IsChange c count after more = (old new : Database) (passes : List PassRecord) → old.schema ≡ floor_schema → Holds old.trees c passes → length passes ≡ count → IsChange old new
     → (new.schema ≡ floor_schema) × Holds new.trees after (passes ++ more)
 
--- a row stays where its table stays
+-- a row stays if its table stays
 pub row_stays : (old new : List Row) (key : ℕ) (columns : Row → Row) (values : Row) → new ≡ old → HasRow old key columns values → HasRow new key columns values
 row_stays old new key columns values same it = subst (λ rows. HasRow rows key columns values) (sym same) it
 

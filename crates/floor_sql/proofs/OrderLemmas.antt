@@ -92,7 +92,7 @@ rows_rise n (p ∷ passes) = (omega arith, above n (suc n) (pass_rows (suc n) pa
     above low high [] le up = tt
     above low high (row ∷ rows) le up = let first = up.0 in (omega arith, up.1)
 
--- where none has the lowest number, they rise from the next
+-- if no row has the lowest number, the numbers rise from the next one
 rises_past : (n : ℕ) (rows : List Row) → Rises n rows → count n rows ≡ 0 → Rises (suc n) rows
 rises_past n [] up none = tt
 rises_past n (row ∷ rows) up none =

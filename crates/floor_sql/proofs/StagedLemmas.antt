@@ -124,7 +124,7 @@ has_self_in count puts old new can made =
     let c = with_puts can.content puts in
     record { schema = now.0; node = now.1.node; tokens = length c.rows; boot = c.boot; held = now.1.self }
 
--- where the rows of the puts are missing or doubled, a row is
+-- if a row of a put is missing or doubled, a row that the write changes is
 pub lacks_row : (trees : Trees) (puts : List Put) (boot : Option ℕ) → ¬ HasRows trees puts → LacksRow trees puts boot
 lacks_row trees puts None lacks = lacks
 lacks_row trees puts (Some boot) lacks = λ rows one. lacks rows

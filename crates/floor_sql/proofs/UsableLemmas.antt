@@ -1,4 +1,4 @@
--- Where a table is just as wanted it is read, and no refusal of the connection is one of a table.
+-- A usable table is read. The connection refuses no query because of the table.
 use Rattle.std.proofs.Common.{◌≡◌, ◌≢◌, inl, inr, ℕ, pos, if◌then◌else◌, Bool, true, false, cond, List, [], ◌∷◌, ◌++◌, map, filter, find, Option, Some, None, refl, sym, ap, subst, ◌∙◌}
 use Rattle.std.specs.List.Sorted.{IsPermutation}
 use Rattle.sqlite_trees.specs.declared.error.StoreError.{StoreError}
