@@ -13,7 +13,7 @@ use Rattle.floors_file.specs.Fields.{◌>>=◌, fields_of}
 use Rattle.floors_file.specs.Floors.{FloorRecord, floor_value}
 use Rattle.floors_file.specs.Reading.{at_line, end_of, ended_head, floors_of, floors_of_lines, head_of, is_memory, next_row, rows_from}
 
--- whether one of others passes, where they are seen as something else
+-- an item of a mapped list passes if the image of an item does
 pub any_of_map : {A B : Type 0} (p : B → Bool) (f : A → B) (xs : List A) → list_any p (map f xs) ≡ list_any (λ x. p (f x)) xs
 any_of_map p f [] = refl
 any_of_map p f (x ∷ xs) = ap (λ b. p (f x) || b) (any_of_map p f xs)

@@ -31,7 +31,7 @@ append_item text_of items place item old middle new within is h k =
     (ap (λ l. flat_map text_of (take place items) ++ l) (append-nil (text_of (get_or items place item)) ∙ ap text_of (sym is))) in
     subst (Appends old new) (sym texts) (append_more old middle new (flat_map text_of (take place items)) (text_of item) h k)
 
--- the same, where the item was read by its place
+-- the same, if the item was read by its place
 pub append_item_at : {X : Type 0} (text_of : X → List ℕ) (items : List X) (place : ℕ) (default : X) (old middle new : Option (List ℕ))
     → place < length items
     → Appends old middle (flat_map text_of (take place items)) → Appends middle new (text_of (get_or items place default))
