@@ -306,7 +306,7 @@ by_clock held old first asked count left turns now new told said below sum h b =
           (served_before held old first asked count now then c.before told c.said h c.goes_on c.steps);
     }
 
--- a batch ends the run, which is by the clock where the fault says so
+-- a batch ends the run, by the clock if the fault says so
 pub ends_by_clock : {S : Type 0} (held : S → Held) (old : Hosted S) (first : Option (List PortEvent))
     (asked : Option (List (Option ℕ))) (count left turns : ℕ) (now new : Scene S) (told said : Option (List (Option ℕ)))
     (fault : ServeFault) → turns < 2 ^ 54 → count + left ≡ turns → IsSoFar held old first asked count now told
