@@ -19,12 +19,12 @@ first_byte (reply ∷ replies) node nodes first rest e p =
     let byte : first ≡ 48 + reply.node = cc in
     omega (arith, same, byte)
 
--- there is one where there is a node
+-- replies of a node print at least one byte
 has_byte : (replies : List Reply) (node : ℕ) (nodes : List ℕ) → nodes_of replies ≡ node ∷ nodes → [] ≡ printed replies → ⊥
 has_byte [] node nodes e p = absurd cc
 has_byte (reply ∷ replies) node nodes e p = absurd cc
 
--- there is none where there is no node
+-- replies of no node print nothing
 has_none : (replies : List Reply) (first : ℕ) (rest : List ℕ) → nodes_of replies ≡ [] → first ∷ rest ≡ printed replies → ⊥
 has_none [] first rest e p = absurd cc
 has_none (reply ∷ replies) first rest e p = absurd cc
