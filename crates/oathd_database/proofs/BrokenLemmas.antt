@@ -128,7 +128,7 @@ has_one : (before : List Receipt) (last : Receipt) (rest : List Receipt) → len
 has_one [] last rest l = omega (arith, l)
 has_one (receipt ∷ before) last rest l = omega (arith, l)
 
--- so there is no batch where there is no receipt
+-- without a receipt there is no batch
 nothing_handed : (batches : List (List Receipt)) → AreBatches 0 batches → length (receipts_in batches) ≤ 0 → batches ≡ []
 nothing_handed [] formed none = refl
 nothing_handed (batch ∷ batches) formed none =
