@@ -1,4 +1,4 @@
--- The secret's text is computed, and what some first answers print, and where some first bytes of a users file end.
+-- The secret's text, the output of some first answers and the ends of some first bytes of a users file are computed.
 use Rattle.std.proofs.Common.{◌≡◌, ℕ, zero, suc, List, [], ◌∷◌, ◌++◌, length, take, Some, Result, Ok, Err, refl, sym, ap, subst, ◌∙◌, arith, take_all}
 use Rattle.std.proofs.Math.Seq.{take-append_seam}
 use Rattle.std.specs.Prelude.{codes, slice_index}
