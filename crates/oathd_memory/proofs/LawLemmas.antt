@@ -16,7 +16,7 @@ pub keyed_says : cluster_of keyed_text ≡ Ok keyed_cluster
 unfolding read_socket_v4 read_ipv4 read_port read_octet read_number is_same address_text decode_pairs
 keyed_says = refl
 
--- the cluster that is read, or another where there is a fault
+-- the cluster that is read, or `other` if there is a fault
 abbrev read_or : ClusterRecord → Result ClusterRecord (ℕ × LineFault) → ClusterRecord
 read_or other (Ok cluster) = cluster
 read_or other (Err fault) = other
