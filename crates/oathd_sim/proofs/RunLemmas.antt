@@ -85,7 +85,7 @@ told setup book floors said script lists report is copied same =
     (script_events (record { book = book; limits = setup.limits }) ls setup.key script))) (sym copied)
     ∙ ap Reports (sym same)
 
--- where there is a report, it is what the script tells
+-- a report is the report of the script
 pub told_by : (setup : Setup) (book : List Credential) (floors : List ℕ) (said : Result ScriptRecord ℕ) (script : ScriptRecord)
     (lists : List (List ℕ)) (result : Result ReportValue Fault) → said ≡ Ok script → lists ≡ replicate setup.nodes floors
     → IfOk result (λ report. report ≡ report_of (record { book = book; limits = setup.limits }) (first_start lists)

@@ -1,4 +1,4 @@
--- The fault of the users file is computed, and where some first bytes of it end.
+-- The fault of the users file and the ends of some first bytes of it are computed.
 use Rattle.std.proofs.Common.{◌≡◌, ℕ, zero, suc, List, [], ◌++◌, length, take, Some, Result, Ok, Err, refl, sym, ap, subst, ◌∙◌, arith}
 use Rattle.std.proofs.Math.Seq.{take-append_seam}
 use Rattle.std.specs.Prelude.{codes}
