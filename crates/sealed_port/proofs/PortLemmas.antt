@@ -13,7 +13,7 @@ pub stays : {A : Type 0} (record_of : Option (List A)) → Grows record_of recor
 stays None = tt
 stays (Some entries) = ap (λ l. Some l) (append-nil entries)
 
--- where the clock isn't asked
+-- the claim if the clock isn't asked
 unasked : (moments : Option (List (Option ℕ))) (gate : GateRecord) (entry : PortEvent) → handed_in gate None entry ≡ entry → gate_after gate None entry ≡ gate
     → TakesIn moments moments gate gate entry entry
 unasked moments gate entry handed same = record {
