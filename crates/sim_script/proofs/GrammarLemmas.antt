@@ -44,7 +44,7 @@ cut_again text rest lacks =
     ∙ ap (λ x. Some (record { before = x; behind = drop (length text + 1) whole })) (take-append_seam text (32 ∷ rest))
     ∙ ap (λ x. Some (record { before = text; behind = x })) behind
 
--- the halves at a place where a space stands
+-- the halves at the place of a space
 halves_join : (text : List ℕ) (place : ℕ) → place < length text → get_or text place 0 ≡ 32
     → text ≡ take place text ++ 32 ∷ drop (place + 1) text
 halves_join text place within space =
