@@ -216,7 +216,7 @@ pub text_map : (left : Option (List ℕ)) (P Q : List ℕ → Type 0) → OfText
 text_map None P Q h f = (h.0, f h.0 h.1)
 text_map (Some text) P Q h f = f text h
 
--- the bytes that are left, or none where they aren't told
+-- the bytes that are left, or none if they are unknown
 abbrev Told : Option (List ℕ) → List ℕ → Type 0
 Told None rest = rest ≡ []
 Told (Some ys) rest = rest ≡ ys
