@@ -11,7 +11,7 @@ use Rattle.vote_core.proofs.Basics.{each_weaker, same_size, one_left, greatest_a
 use Rattle.vote_core.proofs.Kept.{History, Book, Past, Few, Stands, NodeKept, PassKept, At, Kept, Extends, sent_later, pending_later, holds_later, granted_later, granted_stands}
 use Rattle.vote_core.proofs.Worlds.{swap_pass, earlier_boot}
 
--- what a pass keeps, where all that its voters let go stands
+-- a pass stays kept if everything that its voters granted stays granted
 pass_stands : (R : History) (e n : ℕ) (B : Book) (nodes : ℕ → Member) (p : Acceptance) → (k : PassKept R e n B nodes p) → ((g : ℕ) → k.voters g ≡ true → Stands R (suc e) g p.token p.hi) → PassKept R (suc e) n B nodes p
 pass_stands R e n B nodes p k h = record {
   proposal = k.proposal;
