@@ -1,4 +1,4 @@
--- The index when the oldest answer has gone.
+-- The index after the oldest answer was removed.
 use Rattle.std.proofs.Common.{◌≡◌, ◌≢◌, ℕ, ◌+◌, ◌-◌, ◌<◌, ◌≤◌, Bool, false, eqb, eqb-true, eq-eqb, List, ◌++◌, append-nil, length, map, take, take_all, drop, Some, None, inl, inr, sym, ap, ap₂, ◌∙◌, get_or, Less, arith, length-drop}
 use Rattle.std.specs.List.{position, position_or_len, refill, remove}
 use Rattle.std.proofs.lemmas.Bool.{both_ways, cases_lt, cases_order, cond_below}
