@@ -103,7 +103,7 @@ no_end_address address fits =
     no_end_append (ipv4_text address.octets ++ codes ":") (decimal address.port) colon
     (no_end_decimal address.port (let small : address.port < 2 ^ 16 = fits.port in omega arith))
 
--- the line of a member, by what stands before the address
+-- the line of a member, split before the address
 member_parts : (number : ℕ) (member : Address) (rest tail : List ℕ)
     → (member_line number member ++ rest) ++ tail ≡ (codes "member " ++ decimal number ++ 32 ∷ []) ++ (address_text member ++ 10 ∷ (rest ++ tail))
 unfolding member_line
