@@ -20,7 +20,7 @@ use Rattle.cluster_law.specs.Promises.{HasAct, IsActOf, IsEventOf, nothing}
 
 -- ---- What a scene is in a world
 
--- the world has sent it, or told it
+-- the world has sent the datagram, or replied the answer
 abbrev pub IsKnown : World → Handout → Type 0
 IsKnown w (Post envelope) = (k : ℕ) × (slice_get w.sent k ≡ Some envelope)
 IsKnown w (Answer told) = (k : ℕ) × (slice_get w.told k ≡ Some told)
@@ -29,7 +29,7 @@ abbrev pub IsSiteIn : World → Site → NodeState → Type 0
 IsSiteIn w (Down c) x = (x.content ≡ c) ⊎ (x ≡ opened_node c)
 IsSiteIn w (Up s waiting) x = (x ≡ s) × Each (IsKnown w) waiting
 
--- of a node whose store is gone the rows that it had stay, and a boot that it never used
+-- a node that lost its store keeps its rows in the world, with a boot that it never used
 abbrev pub IsGone : Site → NodeState → Type 0
 IsGone (Down c) x = (x.content.rows ≡ c.rows) × (x.content.boot ≤ c.boot + 1)
 IsGone (Up s waiting) x = ⊥
@@ -83,7 +83,7 @@ site_set : (P : ℕ → Site → NodeState → Type 0) (i : ℕ) (a : Site) (sit
 site_set P i a sites nodes here h j =
     cond_both (eqb j i) a (sites j) (λ s. P j s (nodes j)) (λ q. subst (λ m. P m a (nodes m)) (sym (eqb-true j i q)) here) (λ _. h j)
 
--- one store more is gone, or one less
+-- one more or one less store is lost
 lost_set : (w : World) (i : ℕ) (a : Site) (x : NodeState) (lost : ℕ → Bool) (sites : ℕ → Site) (nodes : ℕ → NodeState) → IsGone a x → ((j : ℕ) → IsSiteAt w (lost j) (sites j) (nodes j))
     → (j : ℕ) → IsSiteAt w (with_node i lost j) (with_site i a sites j) (with_state i x nodes j)
 lost_set w i a x lost sites nodes here h j =
@@ -94,7 +94,7 @@ remade_set : (w : World) (i : ℕ) (a : Site) (x : NodeState) (lost : ℕ → Bo
 remade_set w i a x lost sites nodes here h j =
     elim (eqb j i) as (λ b. IsSiteAt w (not b && lost j) (cond b a (sites j)) (cond b x (nodes j))) [ true ↦ here | false ↦ h j ]
 
--- a node whose store is there
+-- a node that has its store
 abbrev pub IsStored : Scene → World → ℕ → Type 0
 IsStored scene w i = (scene.lost i ≡ false) × (has_store w i ≡ true)
 
@@ -125,7 +125,7 @@ state_at i x nodes = cond-true (eqb i i) x (nodes i) (eq-eqb i i refl)
 
 -- ---- the world at a member
 
--- a member whose store isn't gone has it; there is no node 0
+-- a member that did not lose its store has it; there is no node 0
 pub has_it : (w : World) (i : ℕ) → w.lost i ≡ false → is_member w.n i ≡ true → has_store w i ≡ true
 has_it w i kept member = ap (λ b. not b && is_member w.n i) kept ∙ member
 

@@ -51,7 +51,7 @@ ground_deed key config next drift results p moment (Loses i) e is g =
 ground_deed key config next drift results p moment (Remakes i boot floors) e is g =
     ⊎_elim (λ (q : e ≡ nothing). absurd (subst (λ x. Ground config next drift results p moment (Some x)) q g).0) (λ (q : e ≡ Anew i (boot + 1) floors). absurd (subst (λ x. Ground config next drift results p moment (Some x)) q g).0) is
 
--- what stands in a front part stands in the whole
+-- an item of a prefix is an item of the whole list
 taken_there : {A : Type 0} (P : Option A → Type 0) (n : ℕ) (xs : List A) (k : ℕ) → (P None → ⊥) → P (slice_get (take n xs) k) → P (slice_get xs k)
 taken_there P zero xs k empty p = absurd (empty p)
 taken_there P (suc n) [] k empty p = absurd (empty p)
