@@ -12,7 +12,7 @@ use Rattle.vote_core.proofs.Basics.{Each, each_append, each_get}
 use Rattle.std.proofs.Math.Seq.{take-suc, take-length}
 use Rattle.cluster_sim.specs.World.{floor_at}
 
--- what stands at a place of a list doesn't rest on what stands for nothing
+-- the item at a place of a list doesn't depend on the default
 same_item : {A : Type 0} (xs : List A) (k : ℕ) (c d : A) → k < length xs → get_or xs k c ≡ get_or xs k d
 same_item xs k c d h = same_Some (get_or xs k c) (get_or xs k d) (sym (slice_get-get_or xs k c h) ∙ slice_get-get_or xs k d h)
 

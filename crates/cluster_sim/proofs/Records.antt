@@ -278,7 +278,7 @@ unfolding world_after_act
 act_turn config key e x a w b s result is h =
     subst (λ (o : Option NodeEvent). OnOk result (IsRun config key (told_turn b e (acting_node a) o config w) s)) is h
 
--- an act at a node whose store is gone
+-- an act at a node that lost its store
 pub act_gone : (config : Config) (key : List ℕ) (e : ℕ) (a : Act) (w : World) (b : Bool) (s : SimulationRecord) → w.lost (acting_node a) ≡ true → IsRun config key w s → IsRun config key (told_act b e a config w) s
 unfolding world_after_act
 act_gone config key e a w b s gone h = gone_run config key e (acting_node a) (node_event_of w.sent a) w b s gone h

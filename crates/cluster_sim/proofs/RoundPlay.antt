@@ -42,7 +42,7 @@ round_is_acts config live n w l =
     acts_append (deliveries (is_between live) (length w.sent) _) (deliveries (is_between live) _ _)
     (deliveries_are_acts (is_between live) (length w.sent) _) (deliveries_are_acts (is_between live) _ _)
 
--- and whatever has happened
+-- the datagrams stay spelled after any acts
 pub spelled_on : (config : Config) (n m : ℕ) (xs : List WorldEvent) (w : World) → AreActs xs → m ≡ length xs + n → StaySpelled config n w → StaySpelled config m (world_after_events config n xs w)
 spelled_on config n m xs w acts is h =
     subst (λ j. StaySpelled config j (world_after_events config n xs w)) (sym is) (λ ys more. subst AreSpelled (run_append config xs ys n w) (h (xs ++ ys) (acts_append xs ys acts more)))

@@ -1,4 +1,4 @@
--- Whatever happens, each datagram that a node sends is in the peer format.
+-- Each datagram that a node sends is in the peer format, in every history.
 use Rattle.std.proofs.Common.{true≢false, ◌≡◌, ◌≢◌, ℕ, zero, suc, ◌+◌, ◌-◌, ◌^◌, ◌<◌, ◌≤◌, Bool, true, false, ◌&&◌, ◌||◌, cond, not, ⊎_elim, List, [], ◌∷◌, ◌++◌, length, map, Option, Some, None, refl, sym, ap, ◌∙◌, subst, arith, eqb, leb, ltb, take, ℤ}
 use Rattle.std.specs.Prelude.{filter}
 use Rattle.std.specs.List.{slice_get}
@@ -292,7 +292,7 @@ IsSpelled l = HasSpelling l.sender l.receiver l.message
 abbrev pub IsFineNode : NodeState → Type 0
 IsFineNode x = IsFine x.content x.voter
 
--- a node whose store is gone may be past the last boot
+-- a node that lost its store may be past the last boot
 pub record IsFineWorld (w : World) : Type 0 where
   pub few : w.n ≤ 9
   pub nodes : (i : ℕ) → w.lost i ≡ false → IsFineNode (w.nodes i)
@@ -305,7 +305,7 @@ set_fine i x lost nodes hx h j at = cond_both (eqb j i) x (nodes j) IsFineNode (
 set_tokens : (i : ℕ) (x : NodeState) (nodes : ℕ → NodeState) → length x.content.rows ≤ 10000 → ((j : ℕ) → length (nodes j).content.rows ≤ 10000) → (j : ℕ) → length (with_state i x nodes j).content.rows ≤ 10000
 set_tokens i x nodes hx h j = cond_both (eqb j i) x (nodes j) (λ (y : NodeState). length y.content.rows ≤ 10000) (λ _. hx) (λ _. h j)
 
--- a node whose store is there is fine
+-- a node that has its store is fine
 there : (i : ℕ) (w : World) → IsFineWorld w → has_store w i ≡ true → IsFineNode (w.nodes i)
 there i w h b = h.nodes i (not-true (w.lost i) (and_parts (not (w.lost i)) (is_member w.n i) b).0)
 
