@@ -101,7 +101,7 @@ returns-clause-audit_waiting g c = λ store was none h.
     let e : old_pass ∷ [] ≡ [] = all ∙ ap passes_in none in
     absurd cc
 
--- the rows of the one put are there once
+-- the single put's token has each of its rows once
 one_put : (trees : Trees) (put : Put) → HasRowOnce trees put.token → (place : ℕ) (other : Put)
     → slice_get (put ∷ []) place ≡ Some other → HasRowOnce trees other.token
 one_put trees put is zero other e =
@@ -115,7 +115,7 @@ once = record { floor = record { found = _; only = refl }; drift = record { foun
 pub returns-clause-rows : goal.returns-clause-rows
 returns-clause-rows g c = one_put token_db.trees (put_of 0 (free_row 10) None) once
 
--- no row is there once
+-- an empty table has no row with the key
 none_once : (key : ℕ) → HasOneRow [] key → ⊥
 none_once key h = let only = h.only in absurd cc
 
