@@ -107,7 +107,7 @@ floors_unended text fault is e =
     ap floors_of_lines is
     ∙ ap (λ o. at_line 1 o >>= λ (l : HeadLine). rows_from l.tokens [] [] >>= λ rows. Ok (record { head = l.head; rows = rows })) (sym e)
 
--- the fault of the rows, handed on
+-- the fault of the rows, passed on
 pub bad_rows : {A : Type 0} (text : List ℕ) (result : Result A FloorsFault) (fault : FloorsFault) → IsErrAnd result (λ x. x ≡ fault)
     → (is_memory fault.kind ≡ false → floors_of text ≡ Err (fault.line, fault.kind))
     → IfErr result (λ fault. is_memory fault.kind ≡ false → floors_of text ≡ Err (fault.line, fault.kind))
