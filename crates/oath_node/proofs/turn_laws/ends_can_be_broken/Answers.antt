@@ -179,7 +179,7 @@ failure_is (FromClient client bytes moment) e = absurd cc
 failure_is Nothing e = absurd cc
 failure_is Failure e = refl
 
--- a line that the clock told no moment for, and a receive that failed
+-- a line for which the clock had no moment, and a receive that failed
 two_are : (xs : List Receipt) → map entry_of xs ≡ no_line_came ∷ Faulted ∷ [] → moments_in xs ≡ None ∷ []
     → xs ≡ line_without_moment ∷ Failure ∷ []
 two_are [] entries moments = absurd cc
