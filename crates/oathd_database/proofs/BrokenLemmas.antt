@@ -49,7 +49,7 @@ stays is_clean trees conn Commit = record {
   crash = λ clean left may. inl may;
 }
 
--- nothing is said of the tables of a disk that fell
+-- the contract claims nothing of tables on a dishonest disk
 pub fallen_sound : (content : Content) → IsSound fallen (store_of content)
 fallen_sound content = record { works = refl; idle = refl; settled = λ other left. absurd (fallen_is small_conn left.clean) }
 
