@@ -195,7 +195,7 @@ nothing_written (Answered answers bad) out = record { count = 0; written = Appen
 memory_ends : (run : Run) (out : Option (List ℕ)) → EndsSo run (Err fault.Memory) out out
 memory_ends run out = nothing_written run out
 
--- whatever the text is
+-- for any text
 pub memory_ends_any : (a : Option (List ℕ)) (run : List ℕ → Run) (out : Option (List ℕ)) → IfSome a (λ text. EndsSo (run text) (Err fault.Memory) out out)
 memory_ends_any None run out = tt
 memory_ends_any (Some text) run out = memory_ends (run text) out
