@@ -198,7 +198,7 @@ pub given_up_is_no_cut : (limits : Limits) (moment longest room : ℕ) (a : Opti
 given_up_is_no_cut limits moment longest room None s x h = tt
 given_up_is_no_cut limits moment longest room (Some text) s x h = given_up_cut_text limits moment longest room text s x h
 
--- whatever the text is
+-- for any text
 pub memory_ends : (a : Option (List ℕ)) (make : List ℕ → Sim) (out : Option (List ℕ)) → IfSome a (λ text. EndsSo (make text) (Err fault.Memory) out out)
 memory_ends None make out = tt
 memory_ends (Some text) make out = Appends-nil out
