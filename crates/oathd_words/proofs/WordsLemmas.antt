@@ -15,7 +15,7 @@ use Rattle.oathd_words.specs.declared.store_words.Action.{Action}
 use Rattle.oathd_words.specs.declared.store_words.Action.TheVariants.{Init, Remake, Serve, Export, Audit, Migrate, Floors, Level, Gates, Unlock}
 use Rattle.oathd_words.specs.declared.words.Task.TheVariants.{Lines, Sim, Cluster, Store, Check, Secret}
 
--- a number that tells the names of the commands apart
+-- a number that distinguishes the names of the commands
 abbrev mark : List ℕ → ℕ
 mark name = slice_index name 0 * 256 + length name
 
