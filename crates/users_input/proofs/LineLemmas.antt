@@ -138,7 +138,7 @@ lines_none room =
 pub lines_past : (b : ℕ) (text : List ℕ) → lines_of 0 (b ∷ text) ≡ None ∷ []
 lines_past b text = lines_cut 0 (b ∷ text) tt (omega arith)
 
--- ---- what stands next
+-- ---- the next line
 
 abbrev IsEndedLine : List ℕ → List ℕ → Type 0
 IsEndedLine line rest = (line ≡ line_text line ++ 10 ∷ []) ⊎ (rest ≡ [])
@@ -202,7 +202,7 @@ next_cut room left text line is past left_is =
     let same = ap (length {A = ℕ}) is in
     (cut_at_limit room text (first_line text) (omega (arith, same, past)), omega (arith, past, left_is))
 
--- what stands next in known bytes is taken off
+-- the next line of known bytes is taken off
 pub takes_whole : (a b : Option (List ℕ)) (room left : ℕ) (line : List ℕ) → IfSome a (λ text. line ≡ take_through 10 text) → DropsThrough a b 10
     → 0 < length line → length line ≤ room → left ≡ room - length line → IfSome a (λ text. TakesLine Whole line room text left b)
 takes_whole None b room left line is rest some within left_is = tt
