@@ -77,7 +77,7 @@ lost_past {R} {e} {tokens} {k} {w} h p b at lost =
     (λ (q : w.lost p.node ≡ true). still_past h p (h.now.book.gone p b at (h.now.at.lost p.node ∙ q)))
     (or_cases (eqb p.node k) (w.lost p.node) (sym (h.then.lost p.node) ∙ lost))
 
--- a node that is left has told its floor
+-- the least floor includes the floor of a node that has its store
 left_below : {R : History} {e tokens k : ℕ} {w : Cluster} → Loss R e tokens k w → (i t hi : ℕ) → 1 ≤ i → i ≤ R.n → R.lost i (suc e) ≡ false → hi < (R.at i t e).next → hi < R.least t (suc e)
 unfolding lossy
 left_below {R} {e} {tokens} {k} {w} h i t hi low high left above =
@@ -88,7 +88,7 @@ left_below {R} {e} {tokens} {k} {w} h i t hi low high left above =
 loss_above : {R : History} {e tokens k : ℕ} {w : Cluster} → Loss R e tokens k w → (g t hi : ℕ) → Stands R e g t hi → hi < (R.at g t (suc e)).next
 loss_above {R} {e} h g t hi s = subst (λ (r : RowRecord). hi < r.next) (sym (loss_at h g t)) s.above
 
--- a proposal is past, or its own node has told its floor
+-- a proposal is past, or the least floor is above its factors
 covered : {R : History} {e tokens k : ℕ} {w : Cluster} → Loss R e tokens k w → (p : ProposalRecord) (b : Begun) → w.begun p ≡ Some b → Past R (suc e) p ⊎ (b.hi < R.least b.token (suc e))
 covered {R} {e} {tokens} {k} {w} h p b at =
     ⊎_elim (λ (lost : R.lost p.node (suc e) ≡ true). inl (lost_past h p b at lost))
