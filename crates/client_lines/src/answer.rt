@@ -10,8 +10,8 @@ use itoa::Buffer;
 use otp_core::Factor;
 use std::marker::Model;
 
-/// The maximum length of an answer, in bytes. It equals the length of a datagram to a peer, so that a node keeps both
-/// in arrays of one type.
+/// The capacity for an answer, in bytes. It equals the capacity for a datagram to a peer, so that a node keeps both in
+/// arrays of one type.
 pub const MAX_ANSWER_LEN: usize = 64;
 
 /// The maximum length of a nonce, in bytes.

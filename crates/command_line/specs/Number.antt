@@ -1,4 +1,4 @@
--- Numbers among the words of a command line, by the values that clap found.
+-- Numbers of a command line, as values that clap found.
 use Rattle.std.specs.Prelude.{ℕ, nat_le, Bool, false, List, Option, Some, None}
 use Rattle.std.specs.Option.{option_and_then}
 use Rattle.clap.specs.Matches.{first_value}
@@ -6,11 +6,11 @@ use Rattle.clap.specs.declared.parser.matches.Found.{Found}
 use Rattle.field_text.specs.Number.{number_of}
 use Rattle.command_line.specs.declared.number.NumberOption.{NumberOption}
 
--- the number that an option with this name has, in decimal digits alone
+-- the value of the option `name`, in decimal digits alone
 abbrev pub number_at : Found → List ℕ → Option ℕ
 number_at found name = option_and_then number_of (first_value found name)
 
--- whether there is a number, and it is so much at most
+-- whether there is a number, at most `most`
 abbrev pub is_up_to : ℕ → Option ℕ → Bool
 is_up_to most None = false
 is_up_to most (Some number) = nat_le number most

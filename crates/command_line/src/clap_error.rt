@@ -6,8 +6,10 @@ use clap::error::ErrorKind;
 use program_edge::{OutsideFault, USAGE};
 use std::io::Write;
 
-/// Writes what clap has to say of the words, and gives the exit status: the help and the version go to the
-/// output, and the rest to the errors. Whether an error could be written makes no difference to the status.
+/// Writes clap's text and returns the exit status. The help and the version go to `output`, and any other text to
+/// `errors`.
+///
+/// A failure to write an error does not change the status.
 pub fn explain<O: Write, E: Write>(
     output: &mut O,
     errors: &mut E,
@@ -21,7 +23,7 @@ pub fn explain<O: Write, E: Write>(
     ensures usage { (kind_of error.now ≢ ErrorKind.DisplayHelp) → (kind_of error.now ≢ ErrorKind.DisplayVersion)
         → (kind_of error.now ≢ ErrorKind.OutOfMemory) → result ≡ Ok 2 }
 
-    // Each text goes to one of the two.
+    // Each text goes to one of the two writers.
     ensures no_error { (kind_of error.now ≡ ErrorKind.DisplayHelp) ⊎ (kind_of error.now ≡ ErrorKind.DisplayVersion)
         → errors.new ≡ errors.old }
     ensures no_output { (kind_of error.now ≢ ErrorKind.DisplayHelp) → (kind_of error.now ≢ ErrorKind.DisplayVersion)

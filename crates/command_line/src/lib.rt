@@ -1,4 +1,4 @@
-//! What the programs share of their words: what clap says of them, and options that take a number.
+//! The shared part of the programs' command lines: clap's texts, and options with a number.
 #![tactic(auto)]
 
 mod clap_error;

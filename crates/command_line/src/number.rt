@@ -12,10 +12,10 @@ use std::alloc::{AllocError, Global};
 /// An option whose value is a number from 0 to `most`, in decimal digits alone.
 #[derive(Clone, Copy, Debug)]
 pub struct NumberOption {
-    /// Its name without the two dashes, by which clap knows it too.
+    /// Its name, for clap too, without the dashes.
     pub name: &'static str,
     pub short: Option<char>,
-    /// What stands for the value in the help.
+    /// The name of its value in the help.
     pub value_name: &'static str,
     pub most: u64,
     pub default: &'static str,
@@ -23,7 +23,7 @@ pub struct NumberOption {
 }
 
 impl NumberOption {
-    /// The option as clap's. Any text passes it.
+    /// Returns the option for clap, which accepts any text.
     pub fn arg<'a>(&self, alloc: Global) -> Arg<'a> {
         let arg = Arg::new(alloc, self.name)
             .long(self.name)
@@ -37,7 +37,7 @@ impl NumberOption {
         }
     }
 
-    /// Whether its value is a number in its range.
+    /// Returns whether its value is a number in its range.
     pub fn is_in_range(&self, matches: &ArgMatches<'_>) -> bool
         ensures { result ≡ is_in_range (found_of matches.now) self.now }
     {
@@ -48,15 +48,14 @@ impl NumberOption {
     }
 }
 
-/// The number that an option with this name has, or `None` where its value is written with anything but
-/// digits.
+/// Returns the value of the option `name`, or `None` if it has anything but digits.
 pub fn number_of(matches: &ArgMatches<'_>, name: &str) -> Option<u64>
     ensures { result ≡ number_at (found_of matches.now) name.now }
 {
     read_number(matches.get_str(name)?.as_bytes())
 }
 
-/// The first of some options whose value is no number in its range.
+/// Returns the first of `options` whose value is not a number in its range, or None.
 pub fn first_out_of_range<'o>(
     matches: &ArgMatches<'_>,
     options: &'o [NumberOption],
@@ -66,8 +65,9 @@ pub fn first_out_of_range<'o>(
     options.iter().find(|option| !option.is_in_range(matches))
 }
 
-/// The error that names the first of some options whose value is no number in its range, and says that range,
-/// with the usage of the command.
+/// Returns the error that names the first of `options` whose value is not a number in its range, and that range.
+///
+/// The error has the usage of the command.
 pub fn number_error(
     alloc: Global,
     command: &mut Command<'_>,

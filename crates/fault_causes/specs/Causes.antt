@@ -1,4 +1,4 @@
--- Which cause is told of which error, and of which text.
+-- The causes of errors and of wrong texts.
 use Rattle.std.specs.Prelude.{ℕ, ◌==◌, not, Bool, if◌then◌else◌, List, Option, Some, None}
 use Rattle.std.specs.Char.{is_ascii_alphabetic}
 use Rattle.std.specs.List.{list_any}
@@ -15,7 +15,7 @@ use Rattle.fault_causes.specs.declared.key.KeyCause.TheVariants.{Character, Leng
 use Rattle.fault_causes.specs.declared.socket.SocketCause.{SocketCause}
 use Rattle.fault_causes.specs.declared.socket.SocketCause.TheVariants as sockets
 
--- what a kind of error says of a file; where a folder of its path is none, there is no such file
+-- the cause of a kind of error of a file; if a folder in its path is not a folder, the file is missing
 abbrev pub file_cause_of : ErrorKind → Option FileCause
 file_cause_of NotFound = Some Missing
 file_cause_of NotADirectory = Some Missing
@@ -24,21 +24,21 @@ file_cause_of PermissionDenied = Some Denied
 file_cause_of ReadOnlyFilesystem = Some ReadOnly
 file_cause_of kind = None
 
--- what a kind of error says of an address
+-- the cause of a kind of error of an address
 abbrev pub socket_cause_of : ErrorKind → Option SocketCause
 socket_cause_of AddrInUse = Some sockets.InUse
 socket_cause_of AddrNotAvailable = Some sockets.Elsewhere
 socket_cause_of PermissionDenied = Some sockets.Denied
 socket_cause_of kind = None
 
--- why a text is no key: its first byte that is no digit, by its place from 0, or its length
+-- the reason why a text is not a key: its first byte that is not a digit, by its place from 0, or its length
 abbrev pub key_cause : SecretFault → KeyCause
 key_cause (BadCharacter place) = Character place
 key_cause BadLength = Length
 key_cause TooLong = Length
 key_cause Empty = Length
 
--- whether a byte stands in a text
+-- whether a text has a byte
 abbrev pub has_byte : List ℕ → ℕ → Bool
 has_byte text byte = list_any (λ other. other == byte) text
 
@@ -46,7 +46,7 @@ has_byte text byte = list_any (λ other. other == byte) text
 abbrev pub is_letter : ℕ → Bool
 is_letter byte = is_ascii_alphabetic byte
 
--- why a text is no IPv4 address with a port: it has the bracket of an IPv6 address, or a letter, or no port
+-- the reason why a text is not an IPv4 address with a port: the bracket of an IPv6 address, a letter, or no port
 abbrev pub address_cause : List ℕ → AddressCause
 address_cause text =
     if has_byte text 91 then Ipv6

@@ -5,7 +5,7 @@ ghost use Rattle.fault_causes.specs.Causes.{address_cause, has_byte, is_letter};
 use field_text::cut_at;
 use thiserror::Error;
 
-/// Why a text is no address of a member.
+/// The reason why a text is not the address of a member.
 #[derive(Clone, Copy, Debug, PartialEq, Eq, Error)]
 pub enum AddressCause {
     #[error("a host name; give an IPv4 address with a port")]
@@ -18,21 +18,21 @@ pub enum AddressCause {
     Other,
 }
 
-/// Whether a byte is among others.
+/// Returns whether `text` has the byte.
 fn has_byte(text: &[u8], byte: u8) -> bool
     ensures { result ≡ has_byte text.now byte }
 {
     text.iter().any(|other| *other == byte)
 }
 
-/// Whether a letter is among bytes.
+/// Returns whether `text` has a letter.
 fn has_letter(text: &[u8]) -> bool
     ensures { result ≡ list_any is_letter text.now }
 {
     text.iter().any(|byte| byte.is_ascii_alphabetic())
 }
 
-/// Why a text that is no IPv4 address with a port is none.
+/// Returns the reason why a text is not an IPv4 address with a port.
 pub fn address_cause(text: &[u8]) -> AddressCause
     ensures { result ≡ address_cause text.now }
 {
@@ -47,33 +47,33 @@ pub fn address_cause(text: &[u8]) -> AddressCause
     }
 }
 
-/// Whether a byte divides fields.
+/// Returns whether a byte separates fields.
 fn is_blank(byte: u8) -> bool {
     byte == b' ' || byte == b'\t' || byte == b'\r'
 }
 
-/// The place of the first byte that is no blank.
+/// Returns the place of the first byte that is not a blank, or None.
 fn first_visible(line: &[u8]) -> Option<usize>
     ensures { IfSome result (λ place. place ≤ length line.now) }
 {
     line.iter().position(|byte| !is_blank(*byte))
 }
 
-/// The place of the first blank.
+/// Returns the place of the first blank, or None.
 fn first_blank(line: &[u8]) -> Option<usize>
     ensures { IfSome result (λ place. place ≤ length line.now) }
 {
     line.iter().position(|byte| is_blank(*byte))
 }
 
-/// What stands behind the first field of a line, if anything does.
+/// Returns the text after the first field of a line, or None.
 fn behind_field(line: &[u8]) -> Option<&[u8]> {
     let (_, line) = line.split_at(first_visible(line)?);
     let (_, behind) = line.split_at(first_blank(line)?);
     Some(behind)
 }
 
-/// The line of a text with this number, from 1, if there is one.
+/// Returns the line `number`, from 1, of a text, or None.
 fn line_at(text: &[u8], number: u64) -> Option<&[u8]> {
     let mut rest = text;
     for _ in 1..number {
@@ -86,7 +86,7 @@ fn line_at(text: &[u8], number: u64) -> Option<&[u8]> {
     }
 }
 
-/// What stands where the line of a cluster file with this number gives a member its address, if anything does.
+/// Returns the text in the place of a member's address, on the line `number` of a cluster file, or None.
 pub fn address_in(text: &[u8], number: u64) -> Option<&[u8]> {
     behind_field(behind_field(line_at(text, number)?)?)
 }

@@ -6,7 +6,7 @@ use std::io::{ErrorKind, Read};
 use std::rt::Files;
 use thiserror::Error;
 
-/// What keeps a file from being read.
+/// The reason why a file cannot be read.
 #[derive(Clone, Copy, Debug, PartialEq, Eq, Error)]
 pub enum FileCause {
     #[error("no such file")]
@@ -19,7 +19,7 @@ pub enum FileCause {
     ReadOnly,
 }
 
-/// What a kind of error says of a file, if it is one of these.
+/// Returns the reason for a kind of error, or None for other kinds.
 pub fn file_cause_of(kind: ErrorKind) -> Option<FileCause>
     ensures { result ≡ file_cause_of kind }
 {
@@ -32,7 +32,7 @@ pub fn file_cause_of(kind: ErrorKind) -> Option<FileCause>
     }
 }
 
-/// What keeps the file with this path from being read now, if one of these does.
+/// Returns the reason why the file at `path` cannot be read now, or None if it can or has another reason.
 pub fn file_cause<F: Files>(files: &F, path: &str) -> Option<FileCause> {
     let mut first = [0];
     match fs::open(files, path) {

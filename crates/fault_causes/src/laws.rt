@@ -7,7 +7,7 @@ ghost use Rattle.fault_causes.specs.declared.file.FileCause.{FileCause};
 ghost use Rattle.fault_causes.specs.declared.key.KeyCause.{KeyCause};
 ghost use Rattle.fault_causes.specs.declared.socket.SocketCause.{SocketCause};
 
-/// Causes, worked through.
+/// Worked cases. The cause of each error.
 pub fn causes_are_worked()
     ensures files { map file_cause_of (NotFound ∷ NotADirectory ∷ IsADirectory ∷ PermissionDenied ∷ ReadOnlyFilesystem
         ∷ TimedOut ∷ []) ≡ Some FileCause.Missing ∷ Some FileCause.Missing ∷ Some FileCause.Folder

@@ -1,9 +1,9 @@
-//! The cause of a fault: the path or the address that it is of, and what was found there.
+//! The cause of a fault: its path or address, and what was found there.
 //!
-//! A fault of a command says what failed, and no more. What is told here was found when the program looked, after it
-//! had failed. So it may be another thing than what made it fail, where the file or the address changed in between.
-//! Looking changes nothing: a file is opened and its first bytes are read, and a socket is bound and let go. Which kind
-//! of error is which cause is defined (`causes_are_worked`); that a file has what is told of it no clause can say.
+//! A fault of a command says only what failed. A cause is found by looking after the failure. If the file or the
+//! address changed in between, it may not be what made the command fail. Looking changes nothing: a file is opened and
+//! its first bytes are read, or a socket is bound and closed. The causes of the kinds of errors are defined
+//! (`causes_are_worked`); no contract says that a file really has its cause.
 #![tactic(auto)]
 
 mod address;

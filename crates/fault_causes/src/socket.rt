@@ -5,7 +5,7 @@ use std::io::ErrorKind;
 use std::net::{Net, SocketAddr, SocketAddrV4, UdpSocket};
 use thiserror::Error;
 
-/// What keeps a socket from being bound to an address.
+/// The reason why a socket cannot be bound to an address.
 #[derive(Clone, Copy, Debug, PartialEq, Eq, Error)]
 pub enum SocketCause {
     #[error("in use")]
@@ -16,7 +16,7 @@ pub enum SocketCause {
     Denied,
 }
 
-/// What a kind of error says of an address, if it is one of these.
+/// Returns the reason for a kind of error, or None for other kinds.
 fn socket_cause_of(kind: ErrorKind) -> Option<SocketCause>
     ensures { result ≡ socket_cause_of kind }
 {
@@ -28,7 +28,8 @@ fn socket_cause_of(kind: ErrorKind) -> Option<SocketCause>
     }
 }
 
-/// What keeps a UDP socket from being bound to this address now, if one of these does. It is bound, and let go at once.
+/// Returns the reason why a UDP socket cannot be bound to `address` now, or None. Binds a socket, and closes it at
+/// once.
 pub fn socket_cause<N: Net>(net: &N, address: SocketAddrV4) -> Option<SocketCause> {
     match UdpSocket::bind(net, SocketAddr::V4(address)) {
         Ok(_socket) => None,

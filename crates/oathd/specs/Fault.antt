@@ -1,4 +1,4 @@
--- What ends the program before its time.
+-- The faults that end the program.
 use Rattle.std.specs.Prelude.{ℕ}
 use Rattle.oathd_memory.specs.Fault as memory
 use Rattle.oathd_database.specs.Fault as database
@@ -7,13 +7,13 @@ use Rattle.oathd.specs.declared.fault.Fault.{Fault}
 use Rattle.oathd.specs.declared.fault.ToldFault.{ToldFault}
 use Rattle.oathd.specs.declared.fault.Fault.TheVariants.{Database, Floors, Memory, Unlock}
 
--- the exit status: that of a command that keeps nothing, or of one over a database; 1 where floors files have a fault
+-- the exit status: the status of the command's fault, or 1 for a fault of floors files
 abbrev pub status_of : Fault → ℕ
 status_of (Memory fault) = memory.status_of fault
 status_of (Database fault) = database.status_of fault
 status_of (Floors fault) = 1
 status_of (Unlock fault) = unlock_status fault
 
--- the same, whatever the cause is
+-- the exit status, whatever the cause
 abbrev pub told_status : ToldFault → ℕ
 told_status told = status_of told.fault

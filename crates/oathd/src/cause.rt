@@ -1,4 +1,4 @@
-//! The cause of a fault of a command over a database, which is told on a line of its own.
+//! Finds the cause of a fault of a command over a database, which has a line of its own.
 
 use crate::fault::Fault;
 use cluster_file::{ClusterFault, KeySource, LineFault, read_cluster};
@@ -17,7 +17,7 @@ use std::{fs, str};
 use store_causes::{Expected, StoreCause, store_cause};
 use thiserror::Error;
 
-/// The path or the address that a fault is of, and what was found there after it.
+/// The path or the address of a fault, and what was found there afterwards.
 #[derive(Clone, Copy, Debug, PartialEq, Eq, Error)]
 pub(crate) enum Cause<'a> {
     #[error("{0}")]
@@ -36,24 +36,24 @@ pub(crate) enum Cause<'a> {
     Socket(SocketAddrV4, SocketCause),
 }
 
-/// What the words of a command over a database name.
+/// The files, the node and the address in the words of a command over a database.
 #[derive(Clone, Copy)]
 pub(crate) struct Named<'a> {
     database: &'a str,
     users: &'a str,
-    /// The cluster file, if one is named.
+    /// The cluster file, if the words name one.
     cluster: Option<&'a str>,
-    /// The key file, if the words name it.
+    /// The key file, if the words name one.
     key: Option<&'a str>,
-    /// The number of the node, if it is named.
+    /// The number of the node, if the words have one.
     node: Option<u8>,
-    /// The address at which the node is served, if the words say it.
+    /// The node's address, if the words have it.
     address: Option<SocketAddrV4>,
-    /// Whether the store is to be made.
+    /// Whether the command creates the store.
     is_new: bool,
 }
 
-/// The path of the file that has the key, if it is in one of its own.
+/// Returns the path of the key file, or None if the key is given itself.
 fn path_in<'a>(key: &KeySource<'a>) -> Option<&'a str> {
     match key {
         KeySource::File(path) => str::from_utf8(path).ok(),
@@ -61,13 +61,13 @@ fn path_in<'a>(key: &KeySource<'a>) -> Option<&'a str> {
     }
 }
 
-/// The address of the member with this number, from 1.
+/// Returns the address of the member `number`, from 1, or None.
 fn member_at(members: &[SocketAddrV4], number: u8) -> Option<SocketAddrV4> {
     members.get(usize::from(number).checked_sub(1)?).copied()
 }
 
 impl<'a> Named<'a> {
-    /// The paths, of which the words name no more.
+    /// Returns the paths alone.
     fn new(database: &'a str, users: &'a str, cluster: Option<&'a str>) -> Self {
         Named {
             database,
@@ -80,7 +80,7 @@ impl<'a> Named<'a> {
         }
     }
 
-    /// With what an action names.
+    /// Adds the names in `action`.
     fn with_action(self, action: &Action<'a>) -> Self {
         match action {
             Action::Init { node, .. } | Action::Remake { node, .. } => Named {
@@ -102,7 +102,7 @@ impl<'a> Named<'a> {
         }
     }
 
-    /// With what the words say of a cluster.
+    /// Adds the names in the words about a cluster.
     fn with_cluster(self, cluster: &ClusterWords<'a>) -> Self {
         match cluster {
             ClusterWords::Given {
@@ -123,7 +123,7 @@ impl<'a> Named<'a> {
         }
     }
 
-    /// What the words of a task name, where it is over a database.
+    /// Returns the names in the words of `task`, or None if it is not over a database.
     pub(crate) fn of(task: &Task<'a>) -> Option<Self> {
         match task {
             Task::Store {
@@ -138,7 +138,7 @@ impl<'a> Named<'a> {
         }
     }
 
-    /// The path of the key, by the words or the text of the cluster file.
+    /// Returns the path of the key file, from the words or from the text of the cluster file, or None.
     fn key_path(&self, alloc: Global, text: &'a [u8]) -> Option<&'a str> {
         if self.key.is_some() {
             return self.key;
@@ -149,7 +149,7 @@ impl<'a> Named<'a> {
         }
     }
 
-    /// The address at which the node is served, by the words or the text of the cluster file.
+    /// Returns the node's address, from the words or from the text of the cluster file, or None.
     fn own_address(&self, alloc: Global, text: &[u8]) -> Option<SocketAddrV4> {
         if self.address.is_some() {
             return self.address;
@@ -162,14 +162,14 @@ impl<'a> Named<'a> {
     }
 }
 
-/// How many rows the users file with this path has.
+/// Returns the number of rows of the users file at `path`, or None if it cannot be read.
 fn rows_of(alloc: Global, rt: &HostRuntime, path: &str) -> Option<u64> {
     let file = fs::open(rt, path).ok()?;
     let users = read_users(alloc, file, Settings::default(), 0).ok()?;
     Some(users.book.len() as u64)
 }
 
-/// What is told of a database.
+/// Returns the cause of a fault of a store.
 fn of_store<'a>(alloc: Global, rt: &HostRuntime, named: Named<'a>, fault: StoreFault) -> Cause<'a> {
     let rows = match fault {
         StoreFault::Unusable => rows_of(alloc, rt, named.users),
@@ -186,7 +186,7 @@ fn of_store<'a>(alloc: Global, rt: &HostRuntime, named: Named<'a>, fault: StoreF
     }
 }
 
-/// What is told of an address.
+/// Returns the cause of a fault of a socket at `address`.
 fn of_socket<'a>(rt: &HostRuntime, address: SocketAddrV4) -> Cause<'a> {
     match socket_cause(rt, address) {
         Some(cause) => Cause::Socket(address, cause),
@@ -194,7 +194,7 @@ fn of_socket<'a>(rt: &HostRuntime, address: SocketAddrV4) -> Cause<'a> {
     }
 }
 
-/// What is told of a file that could be opened.
+/// Returns the cause of a fault of the file at `path`.
 fn of_file<'a>(rt: &HostRuntime, path: &'a str) -> Cause<'a> {
     match file_cause(rt, path) {
         Some(cause) => Cause::File(path, cause),
@@ -202,7 +202,7 @@ fn of_file<'a>(rt: &HostRuntime, path: &'a str) -> Cause<'a> {
     }
 }
 
-/// What is told of a cluster file with this text.
+/// Returns the cause of a fault of the cluster file with this text.
 fn of_cluster<'a>(path: &'a str, text: &[u8], fault: ClusterFault) -> Cause<'a> {
     match (fault.kind, address_in(text, fault.line)) {
         (LineFault::BadAddress, Some(address)) => Cause::Member(path, address_cause(address)),
@@ -210,7 +210,7 @@ fn of_cluster<'a>(path: &'a str, text: &[u8], fault: ClusterFault) -> Cause<'a> 
     }
 }
 
-/// The cause of a fault of a command that reads files, if it has one.
+/// Returns the cause of a fault of a command that reads files.
 fn of_reading<'a>(
     alloc: Global,
     rt: &HostRuntime,
@@ -235,7 +235,7 @@ fn of_reading<'a>(
     }
 }
 
-/// The cause of a fault of a command over a database, if it has one.
+/// Returns the cause of a fault of a command over a database.
 fn of_database<'a>(
     alloc: Global,
     rt: &HostRuntime,
@@ -254,8 +254,9 @@ fn of_database<'a>(
     }
 }
 
-/// Returns the cause of a fault with which a command over a database has ended, or None if it has none. `text` is that
-/// of the cluster file that the words name.
+/// Returns the cause of the fault that ended a command over a database, or None if the fault has none.
+///
+/// `text` is the content of the cluster file that the words name.
 pub(crate) fn cause_of<'a>(
     alloc: Global,
     rt: &HostRuntime,

@@ -1,4 +1,4 @@
-//! The commands over a database.
+//! Carries out the commands over a database.
 
 ghost use Rattle.std.specs.Prelude.{◌≡◌, ◌<◌, ◌≤◌, ◌^◌, length, IfOk, IfSome};
 ghost use Rattle.floor_sql.specs.Usable.{IsNode};
@@ -26,7 +26,7 @@ use udp_port::SystemClock;
 use vote_core::Place;
 use vote_wire::ClusterKey;
 
-/// The present moment.
+/// Returns the current time.
 fn present_moment<'a, T: TimeSource>(source: &T) -> Result<u64, Fault<'a>>
     ensures { IfOk result IsMoment }
 {
@@ -36,8 +36,8 @@ fn present_moment<'a, T: TimeSource>(source: &T) -> Result<u64, Fault<'a>>
     }
 }
 
-/// The settings of the import of a node: those that the words give, or those of the cluster that the text of a cluster
-/// file says, of which it has to be a member.
+/// Returns the settings of a node's import, from the words or from the text of the cluster file. The file must have the
+/// node as a member.
 fn import_settings<'a>(
     alloc: Global,
     import: ImportWords<'a>,
@@ -57,7 +57,7 @@ fn import_settings<'a>(
     }
 }
 
-/// What a member of the cluster of a cluster file is served with, by this key of the cluster.
+/// Returns the parameters of a node of the cluster, with `key` as the cluster's key.
 fn serving_of<'a>(
     cluster: &'a Cluster<'a>,
     key: ClusterKey,
@@ -78,7 +78,7 @@ fn serving_of<'a>(
     })
 }
 
-/// Serves the member with this number of the cluster that the text of a cluster file says.
+/// Serves a member of the cluster that the text of a cluster file describes.
 fn serve_member<'a, O: Write>(
     alloc: Global,
     rt: &HostRuntime,
@@ -106,7 +106,7 @@ fn serve_member<'a, O: Write>(
     }
 }
 
-/// Serves a node of the cluster that the words say, or the text of the cluster file that they name.
+/// Serves a node of the cluster that the words, or the text of their cluster file, describe.
 fn serve<'a, O: Write>(
     alloc: Global,
     rt: &HostRuntime,
@@ -149,7 +149,7 @@ fn serve<'a, O: Write>(
     }
 }
 
-/// A moment that is given, or the present one.
+/// Returns `moment`, or the current time if None.
 fn moment_of<'a, T: TimeSource>(source: &T, moment: Option<u64>) -> Result<u64, Fault<'a>>
     requires { IfSome moment IsMoment }
     ensures { IfOk result IsMoment }
@@ -160,7 +160,7 @@ fn moment_of<'a, T: TimeSource>(source: &T, moment: Option<u64>) -> Result<u64, 
     }
 }
 
-/// Makes the store of a node anew, by the floors files of former stores.
+/// Creates a replacement store for a node, from the floors files of former stores.
 fn remake<'a>(
     alloc: Global,
     rt: &HostRuntime,
@@ -192,7 +192,7 @@ fn remake<'a>(
     }
 }
 
-/// Raises the first free factors of a node to the greatest of floors files.
+/// Raises the floors of a node (floor: the first free factor) to the greatest in floors files.
 fn level<'a>(
     alloc: Global,
     rt: &HostRuntime,
@@ -209,8 +209,8 @@ fn level<'a>(
     }
 }
 
-/// How many members there are: so many, or those of the cluster that the text of a cluster file says, of which the node
-/// has to be one.
+/// Returns the number of members, from the words or from the text of the cluster file. The file must have the node as a
+/// member.
 fn member_count<'a>(
     alloc: Global,
     count: CountWords<'a>,
@@ -228,8 +228,9 @@ fn member_count<'a>(
     }
 }
 
-/// Does what is asked with the store of a database, whose users file is at this path, with the text of the cluster file
-/// that is named. The output holds back what it is given until it is flushed.
+/// Carries out an action on the store of a database, with the users file at the path `users`.
+///
+/// `cluster_file` is the text of the cluster file that the action names. `held` buffers the output until it is flushed.
 pub(crate) fn perform_action<'a, O: Write>(
     alloc: Global,
     rt: &HostRuntime,

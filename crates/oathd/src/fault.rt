@@ -4,19 +4,19 @@ use oathd_gates::UnlockFault;
 use program_edge::{OutsideFault, ProgramFault};
 use thiserror::Error;
 
-/// What ends the program before its time. The text lacks the program's name.
+/// A fault that ends the program. Its text lacks the program's name.
 #[derive(Clone, Copy, Debug, PartialEq, Eq, Error)]
 pub(crate) enum Fault<'a> {
-    /// A command that keeps nothing ends so, or the words can't be had, or a file that they name.
+    /// A fault of a command without a database, of reading the words, or of reading a file.
     #[error("{0}")]
     Memory(oathd_memory::Fault<'a>),
-    /// A command over a database ends so.
+    /// A fault of a command over a database.
     #[error("{0}")]
     Database(oathd_database::Fault),
-    /// The floors files that are named have a fault, or don't tell enough.
+    /// The floors files have a fault, or are insufficient.
     #[error("{0}")]
     Floors(PathFault<'a>),
-    /// The failures of a user aren't forgotten.
+    /// A fault of the command `unlock`.
     #[error("{0}")]
     Unlock(UnlockFault<'a>),
 }
@@ -36,7 +36,7 @@ impl ProgramFault for Fault<'_> {
     }
 }
 
-/// A fault, and its cause on a line of its own, which begins with two spaces.
+/// A fault, and its cause on the next line, after two spaces.
 #[derive(Clone, Copy, Debug, PartialEq, Eq, Error)]
 #[error("{fault}\n  {cause}")]
 pub(crate) struct ToldFault<'a> {

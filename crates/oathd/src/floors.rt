@@ -1,4 +1,4 @@
-//! The floors files that the words name, and what is wrong with them.
+//! Reads the floors files that the words name, and reports their faults by path.
 
 ghost use Rattle.std.specs.Prelude.{◌≡◌, length, IfOk};
 
@@ -11,7 +11,7 @@ use std::alloc::Global;
 use std::rt::Files;
 use thiserror::Error;
 
-/// What is wrong with floors files, each named by its path.
+/// A fault of floors files, each named by its path.
 #[derive(Clone, Copy, Debug, PartialEq, Eq, Error)]
 pub(crate) enum PathFault<'a> {
     /// The file is longer than any floors file.
@@ -20,13 +20,13 @@ pub(crate) enum PathFault<'a> {
     /// The file has a fault at a line.
     #[error("floors {0} {1}")]
     Line(&'a str, FloorsFault),
-    /// The user of this line of the file is not in the users file.
+    /// The user on a line of the file is not in the users file.
     #[error("floors {0} line {1}: NoUser")]
     NoUser(&'a str, usize),
-    /// The file doesn't fit the others, or what is asked.
+    /// The file does not fit the other files, or the command.
     #[error("floors {0}: {1}")]
     File(&'a str, FileFault),
-    /// Together they don't tell enough.
+    /// Together the files are insufficient.
     #[error("{0}")]
     Files(FilesFault),
 }
@@ -39,7 +39,7 @@ impl ProgramFault for PathFault<'_> {
     }
 }
 
-/// The text of a floors file.
+/// Returns the text of a floors file.
 fn floors_text<'a, F: Files>(
     alloc: Global,
     files: &F,
@@ -52,7 +52,7 @@ fn floors_text<'a, F: Files>(
     Ok(text)
 }
 
-/// The texts of the floors files with these paths, in order.
+/// Returns the texts of the floors files at `paths`, in order.
 pub(crate) fn floors_texts<'a, F: Files>(
     alloc: Global,
     files: &F,
@@ -71,7 +71,7 @@ pub(crate) fn floors_texts<'a, F: Files>(
     Ok(texts)
 }
 
-/// The path of the file with a number, from 1.
+/// Returns the path of the file `number`, from 1.
 fn path_of<'a>(paths: &[&'a str], number: usize) -> &'a str {
     match number {
         0 => "",
@@ -82,7 +82,7 @@ fn path_of<'a>(paths: &[&'a str], number: usize) -> &'a str {
     }
 }
 
-/// A fault of the file with this path.
+/// Returns the fault of the file at `path`.
 fn file_fault<'a>(path: &'a str, fault: FileFault) -> PathFault<'a> {
     match fault {
         FileFault::NoUser(line) => PathFault::NoUser(path, line),
@@ -90,7 +90,7 @@ fn file_fault<'a>(path: &'a str, fault: FileFault) -> PathFault<'a> {
     }
 }
 
-/// A fault of a command over the floors files with these paths, which names them.
+/// Returns the program's fault for a fault of floors files, which it names by their paths.
 pub(crate) fn with_paths<'a>(paths: &[&'a str], fault: GatherFault) -> Fault<'a> {
     match fault {
         GatherFault::Command(fault) => Fault::Database(fault),

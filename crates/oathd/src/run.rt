@@ -12,7 +12,7 @@ use program_edge::{OutsideFault, exit_status};
 use std::alloc::Global;
 use std::io::{BufWriter, Read, Write};
 
-/// Does what a task asks for, with the text of the cluster file that it names. Gives the exit status.
+/// Carries out a task, with the text of the cluster file that it names. Returns the exit status.
 fn perform_task<'a, R: Read, O: Write>(
     alloc: Global,
     rt: &HostRuntime,
@@ -37,8 +37,8 @@ fn perform_task<'a, R: Read, O: Write>(
     Ok(0)
 }
 
-/// Returns the exit status of a task that ended so. The text of a fault goes to the errors, behind the program's name.
-/// Its cause follows on the next line, if the task names a database.
+/// Returns the exit status for the end of a task. Writes the text of a fault to the errors, after the program's name.
+/// Its cause follows on the next line if the task names a database.
 fn told_status<'a, E: Write>(
     alloc: Global,
     rt: &HostRuntime,
@@ -63,7 +63,7 @@ fn told_status<'a, E: Write>(
     }
 }
 
-/// Reads the cluster file that a task names, if it names one, and does what the task asks for. Gives the exit status.
+/// Reads the cluster file that a task names, if any, and carries out the task. Returns the exit status.
 fn follow_task<R: Read, O: Write, E: Write>(
     alloc: Global,
     rt: &HostRuntime,
@@ -87,7 +87,7 @@ fn follow_task<R: Read, O: Write, E: Write>(
     }
 }
 
-/// Does what the words ask for, or writes what clap has to say of them. Gives the exit status.
+/// Carries out what the words ask for, or writes clap's text. Returns the exit status.
 fn follow<R: Read, O: Write, E: Write>(
     alloc: Global,
     rt: &HostRuntime,
@@ -105,8 +105,8 @@ fn follow<R: Read, O: Write, E: Write>(
     }
 }
 
-/// Does what the words of the process ask for, where they could be had. The text of a fault goes to the errors,
-/// behind the program's name. Gives the exit status.
+/// Carries out what the words of the process ask for, if they could be read. Writes the text of a fault to the errors,
+/// after the program's name. Returns the exit status.
 pub(crate) fn run<R: Read, O: Write, E: Write>(
     alloc: Global,
     rt: &HostRuntime,

@@ -1,4 +1,4 @@
-//! The users file of a command over floors files: its faults come before theirs.
+//! Reads the users file of a command over floors files. Its faults are reported before the floors files' faults.
 
 ghost use Rattle.otp_core.specs.Range.{IsMoment};
 
@@ -10,12 +10,12 @@ use std::fs;
 use std::io::{self, Read};
 use std::rt::Files;
 
-/// A reader that keeps a copy of what it gives.
+/// A reader that keeps a copy of what it reads.
 #[derive(Drop)]
 struct Copying<R> {
     reader: R,
     copy: Vec<u8>,
-    /// Whether the allocator refused the memory of a part of the copy.
+    /// Whether the allocator refused memory for the copy.
     is_short: bool,
 }
 

@@ -1,4 +1,4 @@
--- What can end the rounds of a cluster; private contracts alone cite what stands here.
+-- The faults that end the rounds of a cluster. Private contracts alone cite this file.
 use Rattle.oathd_cluster.specs.declared.fault.Fault.{Fault}
 use Rattle.oathd_cluster.specs.declared.fault.Fault.TheVariants.{Memory, CannotRead, CannotWrite, Users, InputLine, Socket, Node}
 
@@ -12,7 +12,7 @@ IsOfRounds (InputLine number) = ⊥
 IsOfRounds Socket = Unit {0}
 IsOfRounds (Node fault) = Unit {0}
 
--- there was no memory, or a socket couldn't be had
+-- the allocator refused the memory, or a socket could not be opened
 abbrev pub IsOfOpening : Fault → Type 0
 IsOfOpening Memory = Unit {0}
 IsOfOpening CannotRead = ⊥

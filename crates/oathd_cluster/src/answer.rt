@@ -1,4 +1,4 @@
-//! The lines of an input, sent one after the other.
+//! Sends the lines of an input one after the other.
 
 ghost use Rattle.std.specs.Prelude.{◌≡◌, ◌≤◌, IfErr, IfSome, OnOk};
 ghost use Rattle.std.specs.Io.KnownBytes.{Appends};
@@ -16,7 +16,7 @@ use std::alloc::Global;
 use std::io::{BufRead, Write};
 use users_input::{Input, NextLine, text_of};
 
-/// Writes a node's reply, or `-` where none came, on a line of its own, and flushes it.
+/// Writes a node's reply, or `-` without one, and an LF. Flushes.
 fn write_reply<W: Write>(writer: &mut W, node: u8, reply: &[u8]) -> Result<(), Fault>
     requires { node ≤ 9 }
     ensures written { OnOk result (Appends (W.contents writer.old) (W.contents writer.new)
@@ -30,8 +30,8 @@ fn write_reply<W: Write>(writer: &mut W, node: u8, reply: &[u8]) -> Result<(), F
     writer.flush().map_err(|_| Fault::CannotWrite)
 }
 
-/// Sends the lines that are left of an input, of which the first has this number, each behind the reply to the one
-/// before, up to the first bad one, and writes the replies.
+/// Sends the remaining lines of an input, numbered from `first`, up to the first bad line, and writes the replies.
+/// Each line is sent after the reply to the one before.
 pub(crate) fn answer_lines<B: BufRead + Drop, W: Write, P: Port + Drop>(
     alloc: Global,
     nodes: u8,
@@ -63,6 +63,6 @@ pub(crate) fn answer_lines<B: BufRead + Drop, W: Write, P: Port + Drop>(
             },
         }
     }
-    // No input has so many lines.
+    // No input has this many lines.
     Err(Fault::Memory)
 }

@@ -8,10 +8,10 @@ use thiserror::Error;
 use token_file::FileFault;
 use users_input::InputFault;
 
-/// What ends a cluster before its time. The text lacks the program's name.
+/// A fault that ends a cluster. Its text lacks the program's name.
 #[derive(Clone, Copy, Debug, PartialEq, Eq, Error)]
 pub enum Fault {
-    /// An allocation was refused.
+    /// The allocator refused the memory.
     #[error("out of memory")]
     Memory,
     /// Standard input failed.
@@ -23,13 +23,13 @@ pub enum Fault {
     /// The users file has a fault.
     #[error("users {0}")]
     Users(FileFault),
-    /// The line of the input with this number, from 1, is none for a node of the cluster.
+    /// The line of the input with this number, from 1, is not a line for a node of the cluster.
     #[error("input line {0}")]
     InputLine(u64),
-    /// A socket can't be had, or it failed.
+    /// A socket cannot be opened, or failed.
     #[error("socket")]
     Socket,
-    /// A node answered a fault.
+    /// A node returned a fault.
     #[error("store: {0}")]
     Node(NodeFault),
 }

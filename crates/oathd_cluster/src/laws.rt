@@ -10,7 +10,7 @@ ghost use Rattle.oathd_cluster.specs.Line.{node_line_of};
 ghost use Rattle.oathd_cluster.specs.Run.{EndsSo, RefusesUsers, WritesFirst, WritesReplies, printed};
 ghost use Rattle.oathd_cluster.specs.declared.fault.Fault.TheVariants.{CannotRead, CannotWrite, InputLine, Memory, Node, Socket};
 
-/// Some lines for a cluster, and what is printed for them.
+/// Worked cases. Lines for a cluster, and their output.
 pub fn cluster_lines_are_worked()
     ensures line { node_line_of 3 (codes "3 100 CHECK 1") ≡ Some (line_for 3 100 (codes "CHECK 1")) }
     ensures nothing_said { node_line_of 1 (codes "1 100 ") ≡ Some (line_for 1 100 []) }
@@ -22,7 +22,7 @@ pub fn cluster_lines_are_worked()
     ensures sign { node_line_of 1 (codes "+1 100 x") ≡ None }
     ensures two_spaces { node_line_of 1 (codes "1  100 x") ≡ None }
     ensures empty { node_line_of 1 [] ≡ None }
-    // the lines before the first bad one, and its number
+    // the lines before the first bad line, and its number
     ensures bad { read_for_two 5 (Some (codes "2 1 x") ∷ Some (codes "3 1 x") ∷ Some (codes "1 1 x") ∷ [])
         ≡ record { good = line_for 2 1 (codes "x") ∷ []; bad = Some 6 } }
     ensures cut { read_for_two 5 (Some (codes "2 1 x") ∷ None ∷ [])
@@ -31,7 +31,7 @@ pub fn cluster_lines_are_worked()
         ≡ codes "2 OK 1 0\n9 -\n" }
 {}
 
-/// The exit status of each fault, and what a fault of the input is.
+/// Worked cases. The exit status of each fault, and a cluster's fault for each fault of the input.
 pub fn faults_are_worked()
     ensures statuses { map status_of (Memory ∷ CannotRead ∷ CannotWrite ∷ users_fault 1 MissingField ∷ InputLine 5
         ∷ Socket ∷ Node Stopped ∷ []) ≡ 1 ∷ 1 ∷ 1 ∷ 1 ∷ 1 ∷ 4 ∷ 3 ∷ [] }
@@ -39,8 +39,7 @@ pub fn faults_are_worked()
     ensures read { input_fault_of input.CannotRead ≡ CannotRead }
 {}
 
-/// What is promised of the replies and of how a cluster ends holds of the least that keeps it, and each part is broken
-/// by the least that keeps all others.
+/// Counterexamples: each promise of the replies and of a cluster's end fails for a minimal one.
 pub fn promises_can_be_broken()
     // a reply for each line, in order, and nothing else
     ensures replies { WritesReplies one_line (Some (33 ∷ [])) (Some (codes "!2 -\n")) }
@@ -53,7 +52,7 @@ pub fn promises_can_be_broken()
     ensures first_in_part { WritesFirst two_lines (Some []) (Some (codes "2")) → ⊥ }
     ensures first_is_the_second { WritesFirst two_lines (Some []) (Some (codes "1 -\n")) → ⊥ }
 
-    // how a cluster ends
+    // the end of a cluster
     ensures ends { EndsSo (read_of [] None) done (Some []) (Some []) }
     ensures ends_at_a_bad_line { EndsSo (read_of [] (Some 6)) done (Some []) (Some []) → ⊥ }
     ensures ends_without_a_reply { EndsSo (read_of one_line None) done (Some []) (Some []) → ⊥ }

@@ -1,6 +1,7 @@
-//! What the command `cluster` of `oathd` does, over any reader and writer: it runs the nodes of a cluster in one
-//! process, each over a UDP socket of its own on this machine, and sends the lines of the input to them, one after the
-//! other.
+//! The command `cluster` of `oathd`, over any reader and writer.
+//!
+//! It runs the nodes of a cluster in one process, each over its own UDP socket on this machine. It sends them the lines
+//! of the input, one after the other.
 //!
 //! ```rust
 //! use oathd_cluster::run_cluster;

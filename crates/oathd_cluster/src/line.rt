@@ -4,7 +4,7 @@ ghost use Rattle.oathd_cluster.specs.Line.{node_line_of};
 use field_text::{cut_at, read_number};
 use std::marker::Model;
 
-/// A client's line for a node, and the moment at which it comes, in seconds since 1970-01-01 00:00:00 UTC.
+/// A client's line for a node, and the moment of its arrival, in seconds since 1970-01-01 00:00:00 UTC.
 #[derive(Drop)]
 pub(crate) struct NodeLine<'a> {
     pub(crate) node: u8,
@@ -20,7 +20,7 @@ impl<'a> Model for NodeLine<'a> {
     ghost view = { λ line. record { node = line.node; moment = line.moment; text = line.text.now } };
 }
 
-/// A node's number, from 1 to `nodes`, a moment and a client's line, with single spaces between.
+/// Reads a node's number, from 1 to `nodes`, a moment and a client's line, separated by single spaces.
 pub(crate) fn read_node_line(nodes: u8, line: &[u8]) -> Option<NodeLine<'_>>
     ensures line { result ≡ node_line_of nodes line.now }
     ensures first { IfSome result (λ line. 1 ≤ line.node) }

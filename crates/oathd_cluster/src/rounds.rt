@@ -1,4 +1,4 @@
-//! Nodes that are given the datagrams at their ports, round after round.
+//! Runs nodes over their ports, round after round.
 
 ghost use Rattle.std.specs.Prelude.{◌≤◌, ◌≢◌, IfErr, IfOk, IfSome};
 ghost use Rattle.oathd_cluster.specs.Rounds.{IsOfRounds};
@@ -7,13 +7,12 @@ use crate::fault::Fault;
 use crate::line::NodeLine;
 use datagram_port::{MAX_DATAGRAM_LEN, Port, Received, Sender};
 use floor_store::MemStore;
-use oath_node::offer;
-use oath_node::{Event, Node, Scratch};
+use oath_node::{Event, Node, Scratch, offer};
 
-/// A line whose reply hasn't come after so many rounds has none.
+/// The number of rounds after which a line without a reply has none.
 const MAX_ROUNDS: u8 = 64;
 
-/// A node with its port, and room for what a tick sends.
+/// A node with its port, and room for the datagrams of a tick.
 #[derive(Drop)]
 pub(crate) struct Member<'b, P: Port + Drop> {
     pub(crate) node: Node<'b, MemStore>,
@@ -21,15 +20,15 @@ pub(crate) struct Member<'b, P: Port + Drop> {
     pub(crate) scratch: Scratch,
 }
 
-/// The nodes of a cluster, of whom the first is 1, and the port of the client who sends them lines, at which the
-/// nodes are the members.
+/// The nodes of a cluster, from 1, and the port of the client who sends them lines. At that port the nodes are the
+/// members.
 #[derive(Drop)]
 pub(crate) struct Cluster<'b, P: Port + Drop> {
     pub(crate) members: Vec<Member<'b, P>>,
     pub(crate) client: P,
 }
 
-/// Hands an event to a node, and offers what that sends and replies.
+/// Gives an event to a node, and offers its datagrams and its reply to the port.
 fn hand_in<P: Port + Drop>(member: &mut Member<'_, P>, event: Event<'_>) -> Result<(), Fault>
     ensures { IfErr result IsOfRounds }
 {
@@ -38,7 +37,7 @@ fn hand_in<P: Port + Drop>(member: &mut Member<'_, P>, event: Event<'_>) -> Resu
     Ok(())
 }
 
-/// One receive of a node, and what it makes of the node at this moment. Whether a datagram came.
+/// Receives once at a node's port, and gives the result to the node. Returns whether a datagram arrived.
 fn take_receive<P: Port + Drop>(member: &mut Member<'_, P>, moment: u64) -> Result<bool, Fault>
     ensures { IfErr result IsOfRounds }
 {
@@ -62,7 +61,7 @@ fn take_receive<P: Port + Drop>(member: &mut Member<'_, P>, moment: u64) -> Resu
     }
 }
 
-/// A round: each node has one receive, in order of number. Where none received, some time has passed for each.
+/// Plays a round: each node receives once, in order of number. If no node received anything, each gets a tick.
 fn play_round<P: Port + Drop>(members: &mut [Member<'_, P>], moment: u64) -> Result<(), Fault>
     ensures { IfErr result IsOfRounds }
 {
@@ -80,8 +79,9 @@ fn play_round<P: Port + Drop>(members: &mut [Member<'_, P>], moment: u64) -> Res
     Ok(())
 }
 
-/// The length of the node's reply, if it came in time, which is then at the front of the buffer. What comes from
-/// elsewhere is passed over.
+/// Receives once at the client's port. Returns the length of the node's reply, or None if the reply did not arrive.
+///
+/// The reply is at the start of the buffer. A datagram of another sender is dropped.
 fn receive_reply<P: Port + Drop>(
     client: &mut P,
     node: u8,
@@ -97,8 +97,10 @@ fn receive_reply<P: Port + Drop>(
     }
 }
 
-/// Sends a line to its node, and plays rounds until the reply is there, 64 at most. The length of the reply, which is
-/// at the front of the buffer. Of a longer line 512 bytes are sent, which are as bad as the line.
+/// Sends a line to its node, and plays at most 64 rounds until the reply arrives.
+///
+/// Returns the length of the reply, or None without one. The reply is at the start of the buffer. Of a longer line only
+/// 512 bytes are sent, which are as bad as the whole.
 pub(crate) fn ask<P: Port + Drop>(
     cluster: &mut Cluster<'_, P>,
     line: &NodeLine<'_>,

@@ -1,4 +1,4 @@
-//! The whole command.
+//! Runs the whole command.
 
 ghost use Rattle.std.specs.Prelude.{◌≡◌, ◌+◌, ◌≤◌, length, take, IfErr, IfOk, IfSome};
 ghost use Rattle.otp_core.specs.Range.{IsMoment};
@@ -19,7 +19,7 @@ use token_file::{Book, FromRead, read_book};
 use users_input::{Input, Retrying};
 use vote_wire::ClusterKey;
 
-/// The tokens of a users file, and the first free factors with which they are imported.
+/// Reads the tokens of a users file, and the floors of their import (floor: the first free factor).
 fn read_users<U: Read + Drop>(
     alloc: Global,
     users: U,
@@ -39,7 +39,7 @@ fn read_users<U: Read + Drop>(
     }
 }
 
-/// Sends the lines of a reader, of which `limit` bytes are read, and one more, to the nodes of a cluster.
+/// Sends the lines of a reader to the nodes of a cluster. Reads at most `limit` bytes and one more.
 fn answer_reader<R: Read, W: Write, P: Port + Drop>(
     alloc: Global,
     nodes: u8,
@@ -61,18 +61,24 @@ fn answer_reader<R: Read, W: Write, P: Port + Drop>(
     answer_lines(alloc, nodes, cluster, Input::new(held, limit), 1, writer)
 }
 
-/// Reads a users file, runs a cluster of so many nodes, 1 to 9, each over a fresh store in memory and a UDP socket of
-/// its own on this machine, and sends each line `NODE MOMENT LINE` of a reader to its node, at that moment for all
-/// nodes. The nodes play rounds until the reply is there, 64 at most: in a round each has one receive, which waits 20
-/// milliseconds, and where none received some time has passed for each. It writes `NODE REPLY`, or `NODE -` where no
-/// reply came, flushes it, and goes on to the next line. Of the reader at most `limit` bytes are read, and one more,
-/// which tells that it goes on: then the line that the limit cuts is bad. The users are imported at the moment given,
-/// in seconds since 1970-01-01 00:00:00 UTC, 0 to 1099511627775.
+/// Reads a users file, runs a cluster of `nodes` nodes, 1 to 9, and sends it the lines of a reader.
+///
+/// Each node has a new store in memory and its own UDP socket on this machine. A line `NODE MOMENT LINE` goes to its
+/// node, at that moment for all nodes. The nodes play at most 64 rounds until the reply arrives. In a round each node
+/// receives once, for at most 20 milliseconds; if no node received anything, each gets a tick. The output for each line
+/// is `NODE REPLY`, or `NODE -` without a reply, and is flushed before the next line is read.
+///
+/// At most `limit` bytes of the reader and one more are read: a line that continues past the limit is bad. The users
+/// are imported at the given moment, in seconds since 1970-01-01 00:00:00 UTC, 0 to 1099511627775.
 ///
 /// # Errors
-/// `Users` where the users file has a fault or can't be read; `Socket` where a socket can't be had or fails;
-/// `InputLine` at the first bad line, and `CannotRead` where the reader fails, after the replies to the lines before;
-/// `Node` where a node has no number left for a vote; `Memory`; `CannotWrite`.
+/// - Returns `Users` if the users file has a fault or cannot be read.
+/// - Returns `Socket` if a socket cannot be opened, or fails.
+/// - Returns `InputLine` at the first bad line, after the replies to the lines before it.
+/// - Returns `CannotRead` if the reader fails, after the replies to the lines before.
+/// - Returns `Node` if a node has no number left for a vote.
+/// - Returns `Memory` if the allocator refuses the memory.
+/// - Returns `CannotWrite` if the output fails.
 pub fn run_cluster<N: Net, U: Read + Drop, R: Read, W: Write>(
     alloc: Global,
     net: &N,

@@ -1,4 +1,4 @@
-//! The sockets of a cluster.
+//! Opens the sockets of a cluster.
 
 ghost use Rattle.std.specs.Prelude.{◌≡◌, ◌≤◌, length, IfErr, IfOk};
 ghost use Rattle.oathd_cluster.specs.Rounds.{IsOfOpening};
@@ -15,10 +15,10 @@ use udp_port::{NoClock, UdpPort};
 use vote_core::Place;
 use vote_wire::ClusterKey;
 
-/// How long a receive waits, in milliseconds.
+/// The number of milliseconds for which a receive waits.
 const WAIT_MILLIS: u64 = 20;
 
-/// A socket at an address of its own on this machine, and that address.
+/// Binds a socket to a free address on this machine. Returns both.
 fn bind<N: Net>(net: &N) -> Result<(UdpSocket, SocketAddrV4), Fault>
     ensures { IfErr result IsOfOpening }
 {
@@ -38,7 +38,7 @@ fn bind<N: Net>(net: &N) -> Result<(UdpSocket, SocketAddrV4), Fault>
     }
 }
 
-/// So many sockets, 1 to 9, each at an address of its own on this machine, and those addresses.
+/// Binds `nodes` sockets, 1 to 9, each to a free address on this machine. Returns the sockets and the addresses.
 fn bind_all<N: Net>(
     alloc: Global,
     net: &N,
@@ -58,7 +58,7 @@ fn bind_all<N: Net>(
     Ok((sockets, addresses))
 }
 
-/// The member of a cluster at this place, over a fresh store in memory, with this socket among these addresses.
+/// Opens the node at a place of a cluster, over a new store in memory, with its socket and all addresses.
 fn open_member<'b>(
     alloc: Global,
     book: &'b Book,
@@ -82,7 +82,7 @@ fn open_member<'b>(
     })
 }
 
-/// A cluster of so many nodes, 1 to 9, each over a fresh store in memory and a socket of its own.
+/// Opens a cluster of `nodes` nodes, 1 to 9, each over a new store in memory and its own socket.
 pub(crate) fn open_cluster<'b, N: Net>(
     alloc: Global,
     net: &N,
@@ -97,7 +97,7 @@ pub(crate) fn open_cluster<'b, N: Net>(
     ensures { IfErr result IsOfOpening }
 {
     let (mut sockets, addresses) = bind_all(alloc, net, nodes)?;
-    // The first is taken off first.
+    // The first socket is popped first.
     sockets.as_mut_slice().reverse();
     let mut members = Vec::new(alloc);
     for me in 1..=nodes {

@@ -1,4 +1,4 @@
-//! Rounds over ports in memory.
+//! Tests of rounds over ports in memory.
 
 use crate::line::NodeLine;
 use crate::rounds::{Cluster, Member, ask};
@@ -15,7 +15,7 @@ use vote_wire::ClusterKey;
 /// A users file of the token of RFC 4226, Appendix D.
 const SILVER: &[u8] = b"HOTP silver - 3132333435363738393031323334353637383930\n";
 
-/// What a line for node 1 is told where these datagrams come to the client, and where none of them is told.
+/// Returns the reply to a line for node 1 if these datagrams arrive at the client, or None without a reply of the node.
 fn told<'b>(
     alloc: Global,
     comings: &[Coming<'_>],
@@ -36,8 +36,7 @@ fn told<'b>(
     }
 }
 
-/// What another node or a stranger says is no reply of the node asked, whose own is the reply in the last round, and
-/// none behind it.
+/// The client accepts only the reply of the node it asked, up to the last round.
 #[test]
 fn takes_the_reply_of_the_node_asked(rt: HostRuntime) -> Result<(), Fail> {
     let own = Coming::Datagram {
@@ -61,7 +60,7 @@ fn takes_the_reply_of_the_node_asked(rt: HostRuntime) -> Result<(), Fail> {
     Ok(())
 }
 
-/// Whether a port offered this to a client.
+/// Returns whether a port offered `text` to a client.
 fn has_offered(port: &ListPort<'_>, text: &[u8]) -> bool {
     let Some(entries) = port.record() else {
         return false;
@@ -75,7 +74,7 @@ fn has_offered(port: &ListPort<'_>, text: &[u8]) -> bool {
     })
 }
 
-/// Node 1 of three without the others, over a fresh store and a port to which these come.
+/// Returns node 1 of three without the others, over a new store and a port with these datagrams.
 fn one_of_three<'b>(
     alloc: Global,
     book: &'b Book,
@@ -101,7 +100,7 @@ fn one_of_three<'b>(
     Ok(Cluster { members, client })
 }
 
-/// Whether node 1 is asked in vain, and gives its vote up meanwhile.
+/// Returns whether node 1 sends no reply, and gives its vote up meanwhile.
 fn gives_its_vote_up(cluster: &mut Cluster<'_, ListPort<'_>>) -> Result<bool, Fail> {
     let line = NodeLine {
         node: 1,
@@ -116,7 +115,7 @@ fn gives_its_vote_up(cluster: &mut Cluster<'_, ListPort<'_>>) -> Result<bool, Fa
     Ok(has_offered(&member.port, b"NO 1 TIMEOUT"))
 }
 
-/// Where nothing comes some time passes: a node of three that hears of no other one gives its vote up.
+/// Quiet rounds are ticks: a node of three that hears no other gives its vote up.
 #[test]
 fn time_passes_in_quiet_rounds(rt: HostRuntime) -> Result<(), Fail> {
     let alloc = rt.alloc();

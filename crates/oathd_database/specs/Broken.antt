@@ -1,4 +1,4 @@
--- Small databases, users files and floors files, each of which breaks one field of a promise. No contract cites them.
+-- Minimal databases, users files and floors files that keep or break one field of a promise. No contract cites them.
 use Rattle.std.specs.Prelude.{◌≡◌, ℕ, zero, suc, ◌+◌, pos, refl, Bool, true, false, List, [], ◌∷◌, Option, None, Some, codes}
 use Rattle.std.specs.Global.{Vec}
 use Rattle.std.specs.Borrow.{Bor}
@@ -38,8 +38,7 @@ use Rattle.oathd_database.specs.declared.serving.Serving.{Serving}
 
 -- ---- databases
 
--- A disk, told by a number, that shows these trees and has last committed them. It returns what was written, or it
--- doesn't.
+-- A disk, given as a number, that shows and has committed `trees`. If `is_clean`, it returns what was written.
 abbrev pub disk_of : Bool → (ℕ → Trees) → Ghosts ℕ
 disk_of is_clean trees = record {
   view = λ disk. record {
@@ -65,15 +64,15 @@ disk_of is_clean trees = record {
   names = λ old new fault. Unit {0};
 }
 
--- a disk that returned something else
+-- a disk that returned something other than what was written
 abbrev pub fallen : Ghosts ℕ
 fallen = disk_of false (λ disk. tables_at 0 [])
 
--- one that shows these trees for ever
+-- a disk that always shows `trees`
 abbrev pub still : Trees → Ghosts ℕ
 still trees = disk_of true (λ disk. trees)
 
--- one at boot 4 that may be written once more, at boot 5
+-- a disk at boot 4 that can be written once, at boot 5
 abbrev pub booting : Ghosts ℕ
 booting = disk_of true (λ disk. tables_at (4 + disk) [])
 
@@ -82,7 +81,7 @@ abbrev pub two_tables : ℕ → Trees
 two_tables zero = tables_at 4 []
 two_tables (suc disk) = trees_of (self_row 2 0 4 ∷ []) [] (pass_row 1 old_pass ∷ []) []
 
--- a disk that shows the ones or the others
+-- a disk that shows either of them
 abbrev pub two_disks : Ghosts ℕ
 two_disks = disk_of true two_tables
 
@@ -91,11 +90,11 @@ abbrev pub old_and_new : ℕ → Trees
 old_and_new zero = (old_db_at 4 []).trees
 old_and_new (suc disk) = tables_at 4 []
 
--- a disk that shows the old ones or the new
+-- a disk that shows either of them
 abbrev pub migrating : Ghosts ℕ
 migrating = disk_of true old_and_new
 
--- a list of the code without an item
+-- an empty list of the code
 abbrev pub no_items : {A : Type 0} → Vec A
 no_items = record {
   ptr = null_ptr;
@@ -107,7 +106,7 @@ no_items = record {
   small = lit≤ tt;
 }
 
--- the same, with one
+-- a list of the code with one item
 abbrev pub one_item : {A : Type 0} → A → Vec A
 one_item item = record {
   ptr = null_ptr;
@@ -119,7 +118,7 @@ one_item item = record {
   small = lit≤ tt;
 }
 
--- a connection to the disk of that number, with this schema, outside a transaction
+-- a connection to the disk `disk` with a schema, outside a transaction
 abbrev pub conn_of : Schema → ℕ → Conn ℕ
 conn_of schema disk = record {
   store = disk;
@@ -141,25 +140,25 @@ conn_of schema disk = record {
   };
 }
 
--- a connection to tables of a store
+-- a connection to the tables of a store
 abbrev pub small_conn : Conn ℕ
 small_conn = conn_of floor_schema 0
 
--- a store of this content over it
+-- a store with a content, over this connection
 abbrev pub store_of : Content → SqlHeld ℕ
 store_of content = record { conn = small_conn; mirror = content; staged = []; passes = 0; fault = None }
 
--- a store as it is made at a boot, with these first free factors
+-- a new store at a boot, with floors (first free factors)
 abbrev pub new_store : ℕ → List ℕ → SqlHeld ℕ
 new_store boot floors = store_of (opening_content_at boot floors)
 
 -- ---- users files
 
--- one event token of user `a`
+-- one event token, of user `a`
 abbrev pub one_book : List Credential
 one_book = event_token (codes "a") ∷ []
 
--- a users file of it, of at most so many bytes, that is imported at a moment
+-- a users file of this book, of at most `longest` bytes, imported at a moment
 abbrev pub IsOfOne : ℕ → ℕ → List ℕ → Type 0
 IsOfOne moment longest users = IsImported default_limits moment longest one_book (0 ∷ []) users
 
@@ -167,55 +166,55 @@ IsOfOne moment longest users = IsImported default_limits moment longest one_book
 abbrev pub no_users : List ℕ
 no_users = codes "HOTP"
 
--- settings by which clocks may have drifted by so many steps
+-- settings with a drift
 abbrev pub drifting : ℕ → Limits
 drifting drift = record default_limits { drift = drift }
 
--- a users file of one time token, whose clock may have drifted by two steps
+-- a users file of one time token, imported with a drift of two steps
 abbrev pub IsOfClock : List ℕ → Type 0
 IsOfClock users = IsImported (drifting 2) 59 15 (time_token Time30 ∷ []) (3 ∷ []) users
 
--- this fault of a line of a users file
+-- a fault of a line of a users file
 abbrev pub users_fault : ℕ → LineFault → Fault
 users_fault line kind = Users (record { line = line; kind = kind })
 
 -- ---- floors files
 
--- the floors file of a node alone that is at boot 7, for user `a`, with this first free factor
+-- the floors file of the only node, at boot 7, with the floor of user `a`
 abbrev pub floors_text : List ℕ → List ℕ
 floors_text next = text_of (codes "floors 1 1 1 7 0 1" ∷ next ∷ [])
 
--- that of a node alone without a token
+-- the floors file of the only node, without a token
 abbrev pub no_floors : List ℕ
 no_floors = text_of (codes "floors 1 1 1 7 0 0" ∷ [])
 
--- these nodes are lost
+-- the lost nodes
 abbrev pub lost_nodes : List ℕ → Option (Bor (List ℕ))
 lost_nodes nodes = Some (record { ref_ptr = (0, 0); now = nodes })
 
--- asked of files: for a new boot of that number
+-- the demand for a new boot
 abbrev pub asked_for : ℕ → Asked
 asked_for boot = record { since = 0; boot = boot }
 
--- a node of a whole cluster that is made anew
+-- a node of a cluster that is replaced as a whole
 abbrev pub whole : LostNode
 whole = record { node = 1; lost = None; since = 0 }
 
--- this fault of a line of the floors file of that number
+-- a fault of a line of the floors file `number`
 abbrev pub floors_fault : ℕ → ℕ → FloorsLineFault → GatherFault
 floors_fault number line kind = Floors number (record { line = line; kind = kind })
 
--- a store of this content, broken by the disk
+-- a store with a content, broken by the disk
 abbrev pub failing : Content → SmallStore
 failing content = record (holding content) { fault = Some Disk; failures = 1 }
 
 -- ---- a node
 
--- so many datagrams and replies
+-- a number of datagrams and of replies
 abbrev pub so_much : ℕ → ℕ → Served
 so_much received replied = record { received = received; replied = replied }
 
--- node 1 of one, at that address, is served for so many turns
+-- the only node at an address, served for no turn
 abbrev pub serving_for : SocketAddrV4 → Serving
 serving_for address = record {
   settings = default_limits;

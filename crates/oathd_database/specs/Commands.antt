@@ -1,4 +1,6 @@
--- What the commands over a users file and a database come to.
+-- The effects of the commands over a users file and a database.
+--
+-- Floor: the first free factor of a token at a node.
 use Rattle.std.specs.Prelude.{◌≡◌, ℕ, List, Option, None, Some, IfSome, Ok, length}
 use Rattle.std.specs.Io.KnownBytes.{Appends}
 use Rattle.sqlite.specs.Store.{Ghosts}
@@ -32,29 +34,29 @@ pub record HasImport (limits : Limits) (moment longest : ℕ) (text : List ℕ) 
 -- ---- The store
 
 module _ {S : Type 0} (g : Ghosts S) where
-  -- The store is this node's, made by one commit in the tables of some connection: it holds the first free factors of a
-  -- users file's import, those of time tokens later by the drift, and nothing else.
+  -- The store is the node's, created by one commit in the tables of some connection. It holds the floors of a users
+  -- file's import, later by the drift for time tokens, and nothing else.
   pub record HasMade (limits : Limits) (moment longest node : ℕ) (store : SqlHeld S) (text : List ℕ) : Type 0 where
     pub import : HasImport limits moment longest text
     pub conn : sql.Held S
     pub made : IsMade g conn node 0 (drifted_floors limits.drift import.book import.floors) store
 
-  -- The store is what the tables of some connection hold of a node with so many tokens: of this one where it is given.
+  -- The store is in the tables of some connection, with `tokens` tokens. If a node is given, the store is that node's.
   pub record HasOpened (given : Option ℕ) (tokens : ℕ) (store : SqlHeld S) : Type 0 where
     pub conn : sql.Held S
     pub node : ℕ
     pub is_given : IfSome given (λ n. node ≡ n)
     pub opened : IsOpenedStore g conn node tokens store
 
-  -- The tables of a connection were those of a store of version 1 of this node, with the tokens of a users file, and
-  -- were migrated in one commit.
+  -- The tables of a connection held the node's store of version 1, with the tokens of a users file. They were migrated
+  -- in one commit.
   pub record HasMigrated (limits : Limits) (moment longest node : ℕ) (new : sql.Held S) (text : List ℕ) : Type 0 where
     pub import : HasImport limits moment longest text
     pub old : sql.Held S
     pub migrated : IsMigrated g node (length import.book) old new
 
-  -- The tokens of the users file are written in order, each with the first free factor that the store has: that of the
-  -- node that some database names.
+  -- The tokens of the users file are written in order with their floors in the store. The store belongs to the node
+  -- which some database names.
   pub record HasExported (limits : Limits) (moment longest : ℕ) (old new : Option (List ℕ))
       (text : List ℕ) : Type 0 where
     pub import : HasImport limits moment longest text
@@ -62,7 +64,7 @@ module _ {S : Type 0} (g : Ghosts S) where
     pub opened : HasOpened None (length import.book) store
     pub written : HasCleanDisk (sql.state g store.conn) → Appends old new (export_text import.book store.mirror.rows)
 
-  -- The passes of this node's store in some database, which has the tokens of the users file, are written.
+  -- The passes of the node's store are written. The store is in some database and has the tokens of the users file.
   pub record HasAudited (limits : Limits) (moment longest node : ℕ) (old new : Option (List ℕ))
       (text : List ℕ) : Type 0 where
     pub import : HasImport limits moment longest text
@@ -72,8 +74,8 @@ module _ {S : Type 0} (g : Ghosts S) where
     pub kept : KeepsTables g found store
     pub written : HasCleanDisk (sql.state g store.conn) → WritesAudit g store old new
 
-  -- A node was opened over the store of its number in some database, which has the tokens of the users file, and was
-  -- served for so many turns.
+  -- A node was opened over its store and served for the given turns. The store is in some database and has the tokens
+  -- of the users file.
   pub record HasServed (serving : Serving) (served : Served) (text : List ℕ) : Type 0 where
     pub import : HasImport serving.settings 0 16777216 text
     pub found : SqlHeld S
@@ -89,7 +91,7 @@ module _ {S : Type 0} (g : Ghosts S) where
 
 -- ---- The faults
 
--- No store is made, opened or migrated: the users file is not imported, or it is and the store refuses.
+-- Nothing is created, opened or migrated: the users file is not imported, or the store fails after the import.
 abbrev pub IsRefused : Limits → ℕ → ℕ → Fault → List ℕ → Type 0
 IsRefused limits moment longest Memory text = Unit {0}
 IsRefused limits moment longest CannotWrite text = ⊥
@@ -98,8 +100,8 @@ IsRefused limits moment longest (Users fault) text = IsUnread limits moment long
 IsRefused limits moment longest (Store fault) text = HasImport limits moment longest text
 IsRefused limits moment longest Socket text = ⊥
 
--- A command that writes what a store keeps ends with this fault: the users file is not imported, or it is and the store
--- or the output fails.
+-- A command that prints a store's content ends with the fault. The users file is not imported, or the store or the
+-- output fails after the import.
 abbrev pub EndsOutput : Limits → ℕ → ℕ → Fault → List ℕ → Type 0
 EndsOutput limits moment longest Memory text = Unit {0}
 EndsOutput limits moment longest CannotWrite text = HasImport limits moment longest text
@@ -108,8 +110,8 @@ EndsOutput limits moment longest (Users fault) text = IsUnread limits moment lon
 EndsOutput limits moment longest (Store fault) text = HasImport limits moment longest text
 EndsOutput limits moment longest Socket text = ⊥
 
--- A command that serves a node ends with this fault: the users file is not imported, or it is and the store, the socket
--- or the clock fails.
+-- A command that serves a node ends with the fault. The users file is not imported, or the store, the socket or the
+-- clock fails after the import.
 abbrev pub EndsServing : Limits → ℕ → ℕ → Fault → List ℕ → Type 0
 EndsServing limits moment longest Memory text = Unit {0}
 EndsServing limits moment longest CannotWrite text = ⊥

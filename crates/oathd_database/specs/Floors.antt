@@ -1,4 +1,4 @@
--- The floors file of a stopped node.
+-- The floors file of a stopped node. Floor: the first free factor of a token at a node.
 use Rattle.std.specs.Prelude.{ℕ, List, [], ◌∷◌, length, Option, Some}
 use Rattle.std.specs.Io.KnownBytes.{Appends}
 use Rattle.sqlite.specs.Store.{Ghosts}
@@ -15,13 +15,13 @@ use Rattle.oathd_database.specs.Commands.{HasImport, HasOpened}
 use Rattle.oathd_database.specs.declared.fault.Fault.{Fault}
 use Rattle.oathd_database.specs.declared.fault.Fault.TheVariants.{Memory, CannotWrite, NoClock, Users, Store, Socket}
 
--- the tokens of a book in order, each with the first free factor of its row
+-- the tokens of a book in order, with the floors of their rows
 abbrev pub told_rows : List Credential → List RowRecord → List FloorRecord
 told_rows [] rows = []
 told_rows (token ∷ book) [] = []
 told_rows (token ∷ book) (row ∷ rows) = record { user = token.name; next = row.next } ∷ told_rows book rows
 
--- what a floors file tells of a node of a cluster, by what its store holds at a moment
+-- the floors file of a node, from the content of its store at a moment
 abbrev pub told_floors : ℕ → ℕ → ℕ → List Credential → Content → FloorsRecord
 told_floors node members moment book content =
     record {
@@ -30,7 +30,7 @@ told_floors node members moment book content =
     }
 
 module _ {S : Type 0} (g : Ghosts S) where
-  -- The floors file of this node's store in some database, which has the tokens of the users file, is written.
+  -- The floors file of the node's store is written. The store is in some database and has the tokens of the users file.
   pub record HasToldFloors (limits : Limits) (longest node members moment : ℕ) (old new : Option (List ℕ))
       (text : List ℕ) : Type 0 where
     pub import : HasImport limits 0 longest text
@@ -39,7 +39,7 @@ module _ {S : Type 0} (g : Ghosts S) where
     pub written : HasCleanDisk (sql.state g store.conn)
         → Appends old new (floors_text (told_floors node members moment import.book store.mirror))
 
--- The output failed, the store is broken, or no memory was left.
+-- The output failed, the store is broken, or the allocator refused the memory.
 abbrev pub IsToldFault : Fault → Type 0
 IsToldFault Memory = Unit {0}
 IsToldFault CannotWrite = Unit {0}

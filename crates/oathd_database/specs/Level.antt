@@ -1,4 +1,6 @@
--- A stopped node's first free factors are raised to the greatest of floors files.
+-- The floors of a stopped node are raised to the greatest in floors files.
+--
+-- Floor: the first free factor of a token at a node.
 use Rattle.std.specs.Prelude.{◌≡◌, ◌⊎◌, ℕ, List, [], ◌∷◌, length, map, take, Option, None, Some, Result, Ok, Err, OnErr, OnOk, false}
 use Rattle.sqlite.specs.Store.{Ghosts}
 use Rattle.otp_core.specs.Limits.{Limits}
@@ -17,37 +19,37 @@ use Rattle.oathd_database.specs.Gather.{files_after}
 use Rattle.oathd_database.specs.declared.gather.GatherFault.{GatherFault}
 use Rattle.oathd_database.specs.declared.gather.GatherFault.TheVariants.{Command, Floors, Files}
 
--- the greatest first free factor that files have for each token of a book, where one of them has its user
+-- the greatest floor in files for each token of a book, or None if no file has its user
 abbrev pub told_by : List FloorsRecord → List Credential → List (Option ℕ)
 told_by files book = map (λ token. greatest_of token.name files) book
 
--- the content once what is told of a token is heard
+-- the content after a message with the floor of a token
 abbrev pub told_at : ℕ → Option ℕ → Content → Content
 told_at token None content = content
 told_at token (Some floor) content = raise token floor content
 
--- a row with the greater of its own first free factor and the one told, if one is; all else stays
+-- a row with the greater of its own floor and the one in the files, if there is one; the rest stays
 abbrev pub levelled_row : Option ℕ → RowRecord → RowRecord
 levelled_row None row = row
 levelled_row (Some floor) row = record row { next = greater row.next floor }
 
--- rows in order, each with what is told of it; those of which nothing is told any more stay
+-- rows in order, each with its floor in the files; rows beyond the floors stay
 abbrev pub levelled_rows : List (Option ℕ) → List RowRecord → List RowRecord
 levelled_rows [] rows = rows
 levelled_rows (told ∷ floors) [] = []
 levelled_rows (told ∷ floors) (row ∷ rows) = levelled_row told row ∷ levelled_rows floors rows
 
--- what a store holds once its rows are levelled: the boot and the last pass stay
+-- the content of a store with raised floors; the boot and the last pass stay
 abbrev pub levelled : List (Option ℕ) → Content → Content
 levelled floors content = record content { rows = levelled_rows floors content.rows }
 
--- the first so many rows are levelled, and the others are as they were
+-- a prefix of the rows is raised, and the others are unchanged
 pub record IsPartLevelled (floors : List (Option ℕ)) (old now : Content) : Type 0 where
   pub count : ℕ
   pub is : now ≡ levelled (take count floors) old
 
--- A call that levels the rows. It commits them piece by piece: after a stop in its midst, as after an Err, the first so
--- many rows are levelled, which does no harm, and levelling them once more does the rest.
+-- A call that raises floors. It commits in batches: after a stop during the call, or an Err, a prefix of the rows is
+-- raised. Raising is harmless, and a repeated call raises the rest.
 pub record Levels {S A E : Type 0} (held : S → Held) (old new : S) (floors : List (Option ℕ))
     (result : Result A E) : Type 0 where
   pub ok : (held new).is_clean → OnOk result ((held new).content ≡ levelled floors (held old).content)
@@ -58,7 +60,8 @@ pub record Levels {S A E : Type 0} (held : S → Held) (old new : S) (floors : L
   pub clean : (held new).is_clean → (held old).is_clean
 
 module _ {S : Type 0} (g : Ghosts S) where
-  -- The store of this node in some database, which has the tokens of the users file, is levelled by floors files.
+  -- The floors of the node's store are raised by floors files. The store is in some database and has the tokens of the
+  -- users file.
   pub record HasLevelled (limits : Limits) (longest node : ℕ) (texts : List (List ℕ)) (store : SqlHeld S)
       (text : List ℕ) : Type 0 where
     pub import : HasImport limits 0 longest text
@@ -68,7 +71,8 @@ module _ {S : Type 0} (g : Ghosts S) where
     pub opened : HasOpened g (Some node) (length import.book) found
     pub levels : Levels {A = Unit {0}} {E = StoreFault} (sql_held g) found store (told_by files import.book) (Ok tt)
 
--- No store is levelled, or not all of it: a text is no floors file and none before it, or as where none is opened.
+-- Not all floors are raised. The command fails as any command over a store does, or `number` is the first text that is
+-- not a floors file.
 abbrev pub IsNotLevelled : Limits → ℕ → List (List ℕ) → GatherFault → List ℕ → Type 0
 IsNotLevelled limits longest texts (Command fault) text = IsRefused limits 0 longest fault text
 IsNotLevelled limits longest texts (Floors number fault) text =

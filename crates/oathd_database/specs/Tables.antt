@@ -1,4 +1,4 @@
--- What commands do to a store over SQLite.
+-- The effects of commands on a store over SQLite.
 use Rattle.std.specs.Prelude.{◌≡◌, ℕ, List, Option}
 use Rattle.std.specs.Io.KnownBytes.{Appends}
 use Rattle.sqlite.specs.Store.{Ghosts}
@@ -9,7 +9,8 @@ use Rattle.floor_sql.specs.Held.{HasCommitted, HasSame, SqlHeld}
 use Rattle.oathd_database.specs.Text.{audit_text}
 
 module _ {S : Type 0} (g : Ghosts S) where
-  -- The store has its content, and its connection the tables that it had while it is open. A stop leaves what it left.
+  -- The store keeps its content, and the open connection keeps its tables. A stop leaves the same trees as before the
+  -- call.
   pub record KeepsTables (old new : SqlHeld S) : Type 0 where
     pub content : (new.mirror ≡ old.mirror) × (new.staged ≡ old.staged) × (new.passes ≡ old.passes)
     pub tables : HasCleanDisk (state g new.conn) → HasSame (state g old.conn) (state g new.conn)

@@ -1,4 +1,4 @@
--- What a store keeps, as text.
+-- The content of a store, as text.
 use Rattle.std.specs.Prelude.{◌≡◌, ℕ, ◌+◌, List, [], ◌∷◌, ◌++◌, slice_get, Option, Some, codes}
 use Rattle.std.specs.Io.KnownBytes.{Appends}
 use Rattle.std.specs.Fmt.{decimal}
@@ -7,13 +7,13 @@ use Rattle.token_file.specs.Credential.{Credential}
 use Rattle.token_file.specs.Writing.{row_text}
 use Rattle.floor_store.specs.Records.{PassRecord, RowRecord}
 
--- the tokens of a book in order, each with the first free factor of its row: a users file
+-- a users file: the tokens of a book in order, with the floors (first free factors) of their rows
 abbrev pub export_text : List Credential → List RowRecord → List ℕ
 export_text [] rows = []
 export_text (token ∷ book) [] = []
 export_text (token ∷ book) (row ∷ rows) = row_text token row.next ++ export_text book rows
 
--- the row of the token with this number is written, and nothing else
+-- the row of the token `number` is written, and nothing else
 pub record WritesToken (book : List Credential) (rows : List RowRecord) (number : ℕ)
     (old new : Option (List ℕ)) : Type 0 where
   pub token : Credential
@@ -22,22 +22,22 @@ pub record WritesToken (book : List Credential) (rows : List RowRecord) (number 
   pub row_is : slice_get rows number ≡ Some row
   pub written : Appends old new (row_text token row.next)
 
--- a space, and a number
+-- a space followed by a number
 abbrev pub spaced_number : ℕ → List ℕ
 spaced_number number = codes " " ++ decimal number
 
--- a pass under its number: `pass NUMBER TOKEN LO HI BOOT SEQ`
+-- a pass with its number: `pass NUMBER TOKEN LO HI BOOT SEQ`
 abbrev pub pass_line : ℕ → PassRecord → List ℕ
 pass_line number pass = line_of (
     codes "pass" ++ spaced_number number ++ spaced_number pass.token
     ++ spaced_number pass.lo ++ spaced_number pass.hi ++ spaced_number pass.boot ++ spaced_number pass.seq
     )
 
--- passes in order, numbered from a number on
+-- passes in order, numbered from `number`
 abbrev pub pass_lines : ℕ → List PassRecord → List ℕ
 pass_lines number [] = []
 pass_lines number (pass ∷ passes) = pass_line number pass ++ pass_lines (number + 1) passes
 
--- the passes of an audit list in order of commit, numbered from 1 on
+-- the committed passes in order of commit, numbered from 1
 abbrev pub audit_text : List PassRecord → List ℕ
 audit_text passes = pass_lines 1 passes

@@ -1,4 +1,4 @@
-//! The command `audit`: the passes of a store are written.
+//! The command `audit`: prints the passes of a store.
 
 ghost use Rattle.std.specs.Prelude.{◌≡◌, ◌≢◌, ◌<◌, ◌^◌, IfErr, IfOk, IfSome, OnOk, Some};
 ghost use Rattle.std.specs.Io.KnownBytes.{Appends};
@@ -20,7 +20,7 @@ use sqlite::Alter;
 use std::alloc::Global;
 use std::io::{Read, Write};
 
-/// Writes a pass under its number.
+/// Writes one pass after its number.
 fn write_pass<W: Write>(writer: &mut W, number: u64, pass: Pass) -> Result<(), Fault>
     ensures written { OnOk result (Appends (W.contents writer.old) (W.contents writer.new) (pass_line number pass)) }
     ensures fault { IfErr result (λ fault. fault ≡ Fault.CannotWrite) }
@@ -30,7 +30,7 @@ fn write_pass<W: Write>(writer: &mut W, number: u64, pass: Pass) -> Result<(), F
     write!(writer, "pass {number} {token} {lo} {hi} {boot} {seq}\n").map_err(|_| Fault::CannotWrite)
 }
 
-/// Writes passes in order, each on a line of its own, numbered from 1 on.
+/// Writes passes in order, one on each line, numbered from 1.
 fn write_passes<W: Write>(writer: &mut W, passes: &[Pass]) -> Result<(), Fault>
     ensures written { OnOk result (Appends (W.contents writer.old) (W.contents writer.new) (audit_text passes.now)) }
     ensures fault { IfErr result (λ fault. fault ≡ Fault.CannotWrite) }
@@ -41,12 +41,13 @@ fn write_passes<W: Write>(writer: &mut W, passes: &[Pass]) -> Result<(), Fault>
     Ok(())
 }
 
-/// Writes the committed passes of a store in order of commit, each on a line of its own, `pass NUMBER TOKEN LO HI BOOT
-/// SEQ` with numbers from 1 on, and flushes it.
+/// Writes the committed passes of a store in order of commit, and flushes.
+///
+/// Each has a line `pass NUMBER TOKEN LO HI BOOT SEQ`, with numbers from 1.
 ///
 /// # Errors
-/// `Store` where the store is broken, or breaks at this call; then nothing is written. `CannotWrite`: a front of the
-/// text may have been written then.
+/// - Returns `Store` if the store is broken, or breaks at this call. Nothing is written.
+/// - Returns `CannotWrite` if the output fails. A prefix of the text may have been written.
 pub fn write_audit<S: Alter, W: Write>(
     alloc: Global,
     store: &mut SqlStore<S>,
@@ -63,10 +64,11 @@ pub fn write_audit<S: Alter, W: Write>(
     writer.flush().map_err(|_| Fault::CannotWrite)
 }
 
-/// Writes the passes of the store of a node, which has the tokens of the users file.
+/// Writes the passes of a node's store, which has the tokens of the users file.
 ///
 /// # Errors
-/// Those of [`open_store`] and [`write_audit`].
+/// - Returns the errors of [`open_store`].
+/// - Returns the errors of [`write_audit`].
 pub fn audit_store<R: Read + Drop, S: Alter + Drop, D: Database<S>, W: Write>(
     alloc: Global,
     users: R,
@@ -82,10 +84,12 @@ pub fn audit_store<R: Read + Drop, S: Alter + Drop, D: Database<S>, W: Write>(
     write_audit(alloc, &mut store, writer)
 }
 
-/// Writes the passes of the store of a node in the file with this path, as [`audit_store`] does.
+/// Writes the passes of the store in the file at `path`, as [`audit_store`] does.
 ///
 /// # Errors
-/// Those of [`audit_store`]; `Store(Disk)` where the file isn't there, `Store(Unusable)` where it is empty.
+/// - Returns the errors of [`audit_store`].
+/// - Returns `Store(Disk)` if the file is missing.
+/// - Returns `Store(Unusable)` if the file is empty.
 pub fn audit_file<R: Read + Drop, W: Write>(
     alloc: Global,
     rt: &HostRuntime,

@@ -1,4 +1,6 @@
-//! Where the tables of a store are, and how the store is opened.
+//! The trait of a database that holds a store, and the opening of its store.
+//!
+//! Floor: the first free factor of a token at a node.
 
 ghost use Rattle.std.specs.Prelude.{◌≡◌, false, length, IfErr, IfOk, IfSome};
 ghost use Rattle.floor_sql.specs.Calls.{IsOpened};
@@ -15,17 +17,18 @@ use sqlite::{Alter, Connection};
 use std::alloc::Global;
 use std::io::Read;
 
-/// A database that can be opened once. A database in a file that isn't there is made, with no table.
+/// A database that can be opened once. Opening it may create a missing file, with no table.
 pub trait Database<S: Alter>: Drop {
-    /// Opens it. The connection stands outside a transaction and has no limit on its steps.
+    /// Opens the database. The connection is outside a transaction and has no limit on its steps.
     ///
     /// # Errors
-    /// `Disk` where it can't be opened, `Unusable` where it has to hold a store and is an empty file.
+    /// - Returns `Disk` if the database cannot be opened.
+    /// - Returns `Unusable` if it has to hold a store and is an empty file.
     fn connect(self) -> Result<Connection<S>, StoreFault>
         ensures { IfOk result (λ conn. conn.in_transaction ≡ false) };
 }
 
-/// Opens the store of a node that the tables of a connection hold. It has the tokens of the users file.
+/// Opens the store of `node` in the tables of `conn`. It has the tokens of the users file.
 fn open_numbered<S: Alter + Drop>(
     alloc: Global,
     conn: Connection<S>,
@@ -43,13 +46,13 @@ fn open_numbered<S: Alter + Drop>(
         Err((_, fault)) => return Err(Fault::Store(fault)),
     };
     if store.tokens() != tokens {
-        // The disk did not return what was written.
+        // The disk returned something other than what was written.
         return Err(Fault::Store(StoreFault::Unusable));
     }
     Ok(store)
 }
 
-/// The same, of the node that the tables name where none is given.
+/// Opens the store of the node that the tables of `conn` name.
 fn open_named<S: Alter + Drop>(
     alloc: Global,
     conn: Connection<S>,
@@ -70,12 +73,16 @@ fn open_named<S: Alter + Drop>(
     }
 }
 
-/// Reads a users file, and opens the store of its tokens: that of the node given, or of the node that the tables name
-/// where none is given. The first free factors are the store's. The settings are those of the server.
+/// Reads a users file, and opens the store of its tokens.
+///
+/// The store belongs to the given node, or, without one, to the node that the tables name. The floors are the store's.
+/// The settings are the server's.
 ///
 /// # Errors
-/// `Users` where the users file has a fault or can't be read; the database is not opened then. `Store`: `Unusable`
-/// where the tables aren't those of such a store, `Disk` and `Memory`. `Memory`.
+/// - Returns `Users` if the users file has a fault or cannot be read. The database is not opened.
+/// - Returns `Store(Unusable)` if the tables hold no such store.
+/// - Returns `Store(Disk)` or `Store(Memory)` if the store meets one of these failures.
+/// - Returns `Memory` if the allocator refuses the memory.
 pub fn open_store<R: Read + Drop, S: Alter + Drop, D: Database<S>>(
     alloc: Global,
     users: R,

@@ -1,4 +1,4 @@
-//! The command `export`: the users file of a store is written.
+//! The command `export`: prints a users file with the content of a store.
 
 ghost use Rattle.std.specs.Prelude.{◌≡◌, ◌<◌, length, IfErr, IfOk, IfSome, OnOk};
 ghost use Rattle.std.specs.Io.KnownBytes.{Appends};
@@ -17,7 +17,7 @@ use std::alloc::Global;
 use std::io::{Read, Write};
 use token_file::{Book, TokenId, write_row};
 
-/// Writes the row of a token with its first free factor.
+/// Writes the row of a token with its floor, the first free factor.
 fn write_token<S: FloorStore, W: Write>(
     book: &Book,
     store: &S,
@@ -34,11 +34,15 @@ fn write_token<S: FloorStore, W: Write>(
     write_row(writer, book.token(id), row.next()).map_err(|_| Fault::CannotWrite)
 }
 
-/// Writes the row of each token of a book with the first free factor that its store has, and flushes it: a users file
-/// from which the tokens are imported as they stand. It takes no memory.
+/// Writes the row of each token of `book` with its floor in `store`, and flushes. Does not allocate.
+///
+/// The text is a users file from which the tokens are imported with these floors.
 ///
 /// # Errors
-/// `Store` where the store is broken, and `CannotWrite`. A front of the text may have been written then.
+/// - Returns `Store` if the store is broken.
+/// - Returns `CannotWrite` if the output fails.
+///
+/// A prefix of the text may have been written before an error.
 pub fn write_rows<S: FloorStore, W: Write>(
     book: &Book,
     store: &S,
@@ -56,11 +60,12 @@ pub fn write_rows<S: FloorStore, W: Write>(
     writer.flush().map_err(|_| Fault::CannotWrite)
 }
 
-/// Writes the users file of a store: each token of the users file, with the first free factor that the store has. The
-/// store is that of the node that the database names.
+/// Writes each token of the users file with its floor in the store. The store belongs to the node that the database
+/// names.
 ///
 /// # Errors
-/// Those of [`open_store`] and [`write_rows`].
+/// - Returns the errors of [`open_store`].
+/// - Returns the errors of [`write_rows`].
 pub fn export_store<R: Read + Drop, S: Alter + Drop, D: Database<S>, W: Write>(
     alloc: Global,
     users: R,
@@ -75,10 +80,12 @@ pub fn export_store<R: Read + Drop, S: Alter + Drop, D: Database<S>, W: Write>(
     write_rows(&users.book, &store, writer)
 }
 
-/// Writes the users file of the store in the file with this path, as [`export_store`] does.
+/// Writes the users file of the store in the file at `path`, as [`export_store`] does.
 ///
 /// # Errors
-/// Those of [`export_store`]; `Store(Disk)` where the file isn't there, `Store(Unusable)` where it is empty.
+/// - Returns the errors of [`export_store`].
+/// - Returns `Store(Disk)` if the file is missing.
+/// - Returns `Store(Unusable)` if the file is empty.
 pub fn export_file<R: Read + Drop, W: Write>(
     alloc: Global,
     rt: &HostRuntime,

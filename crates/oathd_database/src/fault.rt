@@ -7,22 +7,22 @@ use program_edge::ProgramFault;
 use thiserror::Error;
 use token_file::FileFault;
 
-/// What ends a command over a store before its time. The text lacks the program's name.
+/// A fault that ends a command over a store. Its text lacks the program's name.
 #[derive(Clone, Copy, Debug, PartialEq, Eq, Error)]
 pub enum Fault {
-    /// An allocation was refused.
+    /// The allocator refused the memory.
     #[error("out of memory")]
     Memory,
     /// Standard output failed.
     #[error("cannot write")]
     CannotWrite,
-    /// The clock tells no moment.
+    /// The clock tells no time.
     #[error("no clock")]
     NoClock,
     /// The users file has a fault.
     #[error("users {0}")]
     Users(FileFault),
-    /// The store refuses, or the node that is served has used all numbers of its boot.
+    /// The store fails, or the served node has used all numbers of its boot.
     #[error("store: {0}")]
     Store(StoreFault),
     /// The socket failed.

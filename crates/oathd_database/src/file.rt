@@ -19,8 +19,8 @@ pub struct DatabaseFile<'a> {
 }
 
 impl<'a> DatabaseFile<'a> {
-    /// The database in the file with this path. Where the file isn't there it is made with no table, and its owner
-    /// alone may read and write it.
+    /// Returns the database in the file at `path`. Opening it creates a missing file, with no table, that only its
+    /// owner may read and write.
     pub fn found_or_made(rt: &'a HostRuntime, path: &'a str) -> Self {
         DatabaseFile {
             rt,
@@ -29,7 +29,7 @@ impl<'a> DatabaseFile<'a> {
         }
     }
 
-    /// The database in the file with this path, which has to be there and to hold something.
+    /// Returns the database in the file at `path`, which has to exist and not be empty.
     pub fn found(rt: &'a HostRuntime, path: &'a str) -> Self {
         DatabaseFile {
             rt,
@@ -39,18 +39,18 @@ impl<'a> DatabaseFile<'a> {
     }
 }
 
-/// Whether this is a file that holds nothing.
+/// Returns whether `found` is a regular file of 0 bytes.
 fn is_empty_file(found: &Metadata) -> bool
     ensures { IsTrue result ↔ IsEmptyFile found.now }
 {
     found.is_file() && found.len() == 0
 }
 
-/// Whether what is seen of a file lets it be opened for a store. An empty one is not opened, since that would make a
-/// database of it.
+/// Checks that a file can be opened for a store. An empty file is refused: opening it would make it a database.
 ///
 /// # Errors
-/// `Disk` where nothing is seen, `Unusable` where the file is empty.
+/// - Returns `Disk` if the file's metadata cannot be had.
+/// - Returns `Unusable` if the file is empty.
 fn check_found(found: io::Result<Metadata>) -> Result<(), StoreFault>
     ensures missing { IsErr found → result ≡ Err StoreFault.Disk }
     ensures empty { IfOk found (λ file. IsEmptyFile file → result ≡ Err StoreFault.Unusable) }
@@ -63,8 +63,8 @@ fn check_found(found: io::Result<Metadata>) -> Result<(), StoreFault>
     }
 }
 
-/// Makes an empty file with this path where there is none, for its owner alone. Where that fails the file can't be
-/// opened either, and its fault is told then.
+/// Creates an empty file at `path`, for its owner alone, if there is none. Ignores a failure: opening the file reports
+/// it.
 fn make_private(rt: &HostRuntime, path: &str) {
     let _made = OpenOptions::new()
         .write(true)

@@ -1,4 +1,6 @@
-//! The command `floors`: the floors file of a stopped node is written.
+//! The command `floors`: prints the floors file of a stopped node.
+//!
+//! Floor: the first free factor of a token at a node.
 
 ghost use Rattle.std.specs.Prelude.{◌≡◌, ◌≤◌, ◌<◌, length, slice_get, Some, IfErr, IfOk, IfSome, OnOk};
 ghost use Rattle.std.specs.Io.KnownBytes.{Appends};
@@ -22,7 +24,7 @@ use std::alloc::Global;
 use std::io::{Read, Write};
 use token_file::Book;
 
-/// The first free factor that a store has of a token.
+/// Returns the floor of `token` in `store`.
 fn next_of<S: FloorStore>(store: &S, token: u32) -> Result<Next, StoreFault>
     requires { token < length (S.held store.now).content.rows }
     ensures { (S.held store.now).is_clean → IfOk result (λ next. IfSome
@@ -31,11 +33,11 @@ fn next_of<S: FloorStore>(store: &S, token: u32) -> Result<Next, StoreFault>
     Ok(store.row(token)?.next())
 }
 
-/// The first free factors that a store has of the tokens of a book, as a floors file tells them of a node of a cluster
-/// at a moment.
+/// Returns the content of a floors file: the floor of each token of `book` in the store of a node, at a moment.
 ///
 /// # Errors
-/// `Store` where the store is broken, and `Memory`.
+/// - Returns `Store` if the store is broken.
+/// - Returns `Memory` if the allocator refuses the memory.
 pub fn floors_of<'a, S: FloorStore>(
     alloc: Global,
     book: &'a Book,
@@ -69,7 +71,7 @@ pub fn floors_of<'a, S: FloorStore>(
     Ok(Floors { head, rows })
 }
 
-/// Writes floors, and flushes them.
+/// Writes `floors` and flushes.
 fn write_flushed<W: Write>(writer: &mut W, floors: &Floors<'_>) -> Result<(), Fault>
     ensures written { OnOk result (Appends (W.contents writer.old) (W.contents writer.new)
         (floors_text (floors_value floors.now))) }
@@ -84,7 +86,7 @@ fn write_flushed<W: Write>(writer: &mut W, floors: &Floors<'_>) -> Result<(), Fa
     }
 }
 
-/// Writes the floors file of a node by its store, and flushes it.
+/// Writes the floors file of a node from its store, and flushes.
 fn write_told<S: FloorStore, W: Write>(
     alloc: Global,
     book: &Book,
@@ -105,12 +107,14 @@ fn write_told<S: FloorStore, W: Write>(
     write_flushed(writer, &floors)
 }
 
-/// Writes the floors file of the store of a node: its number, how many members its cluster has, the boot of the store,
-/// the moment, in seconds since 1970-01-01 00:00:00 UTC, and the first free factor of each token of the users file. The
-/// node is stopped. Its store is not changed.
+/// Writes the floors file of a stopped node. Its store does not change.
+///
+/// The file has the node's number, the number of members, the store's boot, and the moment in seconds since 1970-01-01
+/// 00:00:00 UTC. A row follows for each token of the users file, with its floor.
 ///
 /// # Errors
-/// Those of [`open_store`]; `CannotWrite`. A front of the text may have been written then.
+/// - Returns the errors of [`open_store`].
+/// - Returns `CannotWrite` if the output fails. A prefix of the text may have been written.
 pub fn floors_store<R: Read + Drop, S: Alter + Drop, D: Database<S>, W: Write>(
     alloc: Global,
     users: R,
@@ -128,10 +132,12 @@ pub fn floors_store<R: Read + Drop, S: Alter + Drop, D: Database<S>, W: Write>(
     write_told(alloc, &users.book, &store, node, members, moment, writer)
 }
 
-/// Writes the floors file of the store in the file with this path, as [`floors_store`] does.
+/// Writes the floors file of the store in the file at `path`, as [`floors_store`] does.
 ///
 /// # Errors
-/// Those of [`floors_store`]; `Store(Disk)` where the file isn't there, `Store(Unusable)` where it is empty.
+/// - Returns the errors of [`floors_store`].
+/// - Returns `Store(Disk)` if the file is missing.
+/// - Returns `Store(Unusable)` if the file is empty.
 pub fn floors_file<R: Read + Drop, W: Write>(
     alloc: Global,
     rt: &HostRuntime,

@@ -1,4 +1,4 @@
-//! Floors files that a command reads, and what ends it before its time.
+//! Reads the floors files of a command.
 
 ghost use Rattle.std.specs.Prelude.{◌≡◌, [], map, IfErr, IfOk, Ok};
 ghost use Rattle.floors_file.specs.Floors.{floors_value};
@@ -10,16 +10,16 @@ use program_edge::ProgramFault;
 use std::alloc::Global;
 use thiserror::Error;
 
-/// What ends a command over floors files before its time. The text lacks the program's name.
+/// A fault that ends a command over floors files. Its text lacks the program's name.
 #[derive(Clone, Copy, Debug, PartialEq, Eq, Error)]
 pub enum GatherFault {
-    /// As any command over a store.
+    /// A fault of any command over a store.
     #[error("{0}")]
     Command(Fault),
     /// The floors file with this number, from 1, has a fault.
     #[error("floors {0} {1}")]
     Floors(usize, FloorsFault),
-    /// The floors files, together, don't tell enough.
+    /// The floors files together are insufficient.
     #[error("{0}")]
     Files(FilesFault),
 }
@@ -37,7 +37,7 @@ impl ProgramFault for GatherFault {
     }
 }
 
-/// What texts of floors files say.
+/// Returns the content of each floors file.
 pub(crate) fn read_files(alloc: Global, texts: &[Vec<u8>]) -> Result<Vec<Floors<'_>>, GatherFault>
     ensures read { IfOk result (λ files.
         files_after [] (map (λ text. text.items) texts.now) ≡ Ok (map floors_value files.items)) }

@@ -1,4 +1,4 @@
-//! The command `init`: the store of a node is made.
+//! The command `init`: creates the store of a node.
 
 ghost use Rattle.std.specs.Prelude.{IfErr, IfOk, IfSome};
 ghost use Rattle.otp_core.specs.Range.{IsMoment};
@@ -15,15 +15,18 @@ use sqlite::Alter;
 use std::alloc::Global;
 use std::io::Read;
 
-/// Makes the store of a node, with the first free factors with which the tokens of a users file are imported at the
-/// moment given, in seconds since 1970-01-01 00:00:00 UTC, 0 to 1099511627775. The node is 1 to 9. The database has no
-/// table. Of the settings the skew and the drift are looked at: what a node with these may have accepted of a time
-/// token up to the moment is not free.
+/// Creates the store of node `node`, 1 to 9, in a database without a table.
+///
+/// The tokens of the users file are imported at the given moment, in seconds since 1970-01-01 00:00:00 UTC, 0 to
+/// 1099511627775. Only the skew and the drift of the settings are used. A time token's factors that such a node may
+/// have accepted up to the moment are not free.
 ///
 /// # Errors
-/// `Users` where the users file has a fault or can't be read; the database is not opened then. `Store`:
-/// `AlreadyThere` where a store is there, `Unusable` where the database has other tables, `Disk` and `Memory`.
-/// `Memory`.
+/// - Returns `Users` if the users file has a fault or cannot be read. The database is not opened.
+/// - Returns `Store(AlreadyThere)` if the database holds a store.
+/// - Returns `Store(Unusable)` if the database has other tables.
+/// - Returns `Store(Disk)` or `Store(Memory)` if the store meets one of these failures.
+/// - Returns `Memory` if the allocator refuses the memory.
 pub fn init_store<R: Read + Drop, S: Alter + Drop, D: Database<S>>(
     alloc: Global,
     users: R,
@@ -49,10 +52,10 @@ pub fn init_store<R: Read + Drop, S: Alter + Drop, D: Database<S>>(
     }
 }
 
-/// Makes the store of a node in the file with this path, which is made where it isn't there, as [`init_store`] does.
+/// Creates the store of a node in the file at `path`, as [`init_store`] does. Creates the file if it is missing.
 ///
 /// # Errors
-/// Those of [`init_store`].
+/// Returns the errors of [`init_store`].
 pub fn init_file<R: Read + Drop>(
     alloc: Global,
     rt: &HostRuntime,

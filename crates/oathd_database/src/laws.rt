@@ -1,4 +1,6 @@
-//! What floors files that were read at the right time have, and definitions worked through.
+//! Laws about floors files that were read at the right time, counterexamples, and worked cases.
+//!
+//! Floor: the first free factor of a token at a node.
 
 ghost use Rattle.std.specs.Prelude.{◌≡◌, ◌≤◌, ℕ, ◌+◌, List, [], ◌∷◌, ◌++◌, None, Ok, Some, codes, length, map, slice_index, true};
 ghost use Rattle.std.specs.declared.fs.attrs.Metadata.{Metadata};
@@ -48,8 +50,9 @@ ghost use Rattle.oathd_database.specs.declared.gather.GatherFault.TheVariants.{C
 
 use vote_core::floors_tell_all;
 
-/// Of files that `check_lost` takes, each read after the last loss of the cluster, and with no lost node named that is
-/// not lost, the greatest first free factors are at least those that `Replaced` wants of a store made anew.
+/// Reach: after `check_lost` accepts floors files, their greatest floors are at least those that `Replaced` demands.
+///
+/// Each file was read after the last loss of the cluster, and every node that is named lost is lost.
 pub fn files_reach()
     ensures { (n tokens : ℕ) (opening : Opening) (events : List Event) → MayOpen n tokens opening
         → (loss : ℕ) → IsLastLoss n tokens opening events loss
@@ -65,10 +68,11 @@ pub fn files_reach()
     floors_tell_all();
 }
 
-/// Of a cluster that is made anew of files that `check_anew` takes, each read after the last acceptance of its former
-/// life (`AreMadeAnew`): the new nodes may open, whatever was sent before and is still on its way; what they accept of
-/// a user begins above all that was accepted of the same user before; and none opens below what all former members
-/// opened with.
+/// Replaced clusters: after `check_anew` accepts floors files, no factor of a user is accepted again.
+///
+/// Each file was read after the last acceptance of the former cluster (`AreMadeAnew`). The new nodes may open, whatever
+/// earlier datagrams are still on their way. Their acceptances for a user begin above all former ones for the same
+/// user. No new floor of a user is below the least floor of the same user at the former members' opening.
 pub fn files_reach_anew()
     ensures may_open { (n tokens : ℕ) (opening : Opening) (events : List Event) (former book : List Credential)
         (files : List FloorsRecord) (members : ℕ) (next : Opening)
@@ -86,15 +90,15 @@ pub fn files_reach_anew()
         → (node : ℕ) → 1 ≤ node → node ≤ members → least ≤ next.floor node new }
 {}
 
-/// A cluster made anew, worked through: a node alone that took factors up to 13 in its two boots, its floors file, and
-/// a new users file in which another user stands before its own.
+/// Worked cases. One node used factors up to 13 in two boots. A floors file of it and a new users file, which has
+/// another user first, replace its store.
 pub fn anew_is_worked()
     ensures { AreMadeAnew 1 1 (first_opening own_floors) alone (event_token (codes "a") ∷ [])
         (event_token (codes "b") ∷ event_token (codes "a") ∷ []) (told_alone 14 ∷ []) 1 (opening_at 3 14) }
 {}
 
-/// Levelling, worked through: a greater first free factor is taken, a lesser or an equal one is not, and a user of no
-/// file keeps its own. Grants, gates, drifts, the boot and the last pass stay.
+/// Worked cases. `level` takes a greater floor and ignores a smaller or equal one. A user of no file keeps its floor.
+/// Grants, gates, drifts, the boot and the last pass stay.
 pub fn levelling_is_worked()
     ensures told { told_by (first_floors ∷ second_floors ∷ [])
         (event_token (codes "c") ∷ event_token (codes "a") ∷ event_token (codes "b") ∷ [])
@@ -108,7 +112,7 @@ pub fn levelling_is_worked()
         ≡ two_rows (record granted_row { next = 7 }) later_row (Some old_pass) }
 {}
 
-/// The first free factors of an import with a drift, worked through: those of time tokens are later, up to the last.
+/// Worked cases. A drift raises the imported floors of time tokens, at most to the last one.
 pub fn drifted_floors_are_worked()
     ensures later { drifted_floors 2 (event_token (codes "a") ∷ time_token Time30 ∷ time_token Time60 ∷ [])
         (5 ∷ 5 ∷ 0 ∷ []) ≡ 5 ∷ 7 ∷ 2 ∷ [] }
@@ -118,8 +122,7 @@ pub fn drifted_floors_are_worked()
     ensures no_token { drifted_floors 1 [] (5 ∷ []) ≡ [] }
 {}
 
-/// What is promised of a users file holds of the least that keeps it, and each field is broken by the least that keeps
-/// all others; so is what is said of the fault that ends a command, by each fault that it doesn't end with.
+/// Counterexamples: each promise of an import, and of the fault that ends a command, fails for a minimal one.
 pub fn imports_can_be_broken()
     ensures imported { IsImported default_limits 0 6 [] [] (codes "# none") }
     ensures imported_book { (users : List ℕ) → IsOfOne 0 11 users → IsImported default_limits 0 11 [] [] users → ⊥ }
@@ -147,7 +150,7 @@ pub fn imports_can_be_broken()
     ensures unread_store { IsUnread default_limits 0 6 (Store Disk) no_users → ⊥ }
     ensures unread_socket { IsUnread default_limits 0 6 Socket no_users → ⊥ }
 
-    // the faults of a command that makes, opens or migrates a store
+    // the faults of a command that creates, opens or migrates a store
     ensures refused { IsRefused default_limits 0 6 (Store Disk) (codes "# none") }
     ensures refused_for_memory { IsRefused default_limits 0 6 Memory no_users }
     ensures refused_users { IsRefused default_limits 0 6 (users_fault 1 MissingField) no_users }
@@ -157,7 +160,7 @@ pub fn imports_can_be_broken()
     ensures refused_clock { IsRefused default_limits 0 6 NoClock (codes "# none") → ⊥ }
     ensures refused_socket { IsRefused default_limits 0 6 Socket (codes "# none") → ⊥ }
 
-    // those of one that writes
+    // the faults of a command that writes
     ensures output { EndsOutput default_limits 0 6 CannotWrite (codes "# none") }
     ensures output_store { EndsOutput default_limits 0 6 (Store Disk) (codes "# none") }
     ensures output_for_memory { EndsOutput default_limits 0 6 Memory no_users }
@@ -168,7 +171,7 @@ pub fn imports_can_be_broken()
     ensures output_clock { EndsOutput default_limits 0 6 NoClock (codes "# none") → ⊥ }
     ensures output_socket { EndsOutput default_limits 0 6 Socket (codes "# none") → ⊥ }
 
-    // those of one that serves
+    // the faults of a command that serves
     ensures serving { EndsServing default_limits 0 6 Socket (codes "# none") }
     ensures serving_no_clock { EndsServing default_limits 0 6 NoClock (codes "# none") }
     ensures serving_store { EndsServing default_limits 0 6 (Store Disk) (codes "# none") }
@@ -180,7 +183,7 @@ pub fn imports_can_be_broken()
     ensures serving_store_before_import { EndsServing default_limits 0 6 (Store Disk) no_users → ⊥ }
     ensures serving_output { EndsServing default_limits 0 6 CannotWrite (codes "# none") → ⊥ }
 
-    // those of a store's calls, and an empty file
+    // the faults of a store's calls, and an empty file
     ensures of_output { IsOutputFault None CannotWrite × IsOutputFault (Some Disk) (Store Disk) }
     ensures of_output_works { IsOutputFault None (Store Disk) → ⊥ }
     ensures of_output_other { IsOutputFault (Some Unusable) (Store Disk) → ⊥ }
@@ -202,10 +205,9 @@ pub fn imports_can_be_broken()
     ensures no_file { (found : Metadata) → IsEmptyFile (record found { mode = 16832; size = 0 }) → ⊥ }
 {}
 
-/// What is promised of a command over a database holds of the least that keeps it, and each field is broken by the
-/// least that keeps all others.
+/// Counterexamples: each promise of a command over a database fails for a minimal one.
 pub fn commands_can_be_broken()
-    // a store is made
+    // a store is created
     ensures made { (users : List ℕ) → IsOfClock users
         → HasMade fallen (drifting 2) 59 15 1 (new_store 0 (5 ∷ [])) users }
     ensures made_import { HasMade fallen default_limits 0 11 1 (new_store 0 []) no_users → ⊥ }
@@ -216,14 +218,14 @@ pub fn commands_can_be_broken()
         → HasMade fallen default_limits 0 11 1 (new_store 1 (0 ∷ [])) users → ⊥ }
     ensures made_node { HasMade (still (tables_at 0 [])) default_limits 0 11 2 (new_store 0 []) [] → ⊥ }
 
-    // one is opened
+    // a store is opened
     ensures opened { HasOpened fallen (Some 1) 0 (new_store 4 []) × HasOpened fallen None 0 (new_store 4 []) }
     ensures opened_given { HasOpened (still (tables_at 4 [])) (Some 2) 0 (new_store 4 []) → ⊥ }
     ensures opened_tokens { HasOpened (still (tables_at 4 [])) None 1 (new_store 4 []) → ⊥ }
     ensures opened_content { HasOpened (still (tables_at 4 [])) None 0 (new_store 5 []) → ⊥ }
     ensures opened_broken { HasOpened fallen None 0 (record (new_store 4 []) { fault = Some Disk }) → ⊥ }
 
-    // one is migrated
+    // a store is migrated
     ensures migrated { (users : List ℕ) → IsOfOne 0 11 users
         → HasMigrated fallen default_limits 0 11 1 small_conn users }
     ensures migrated_import { HasMigrated fallen default_limits 0 11 1 small_conn no_users → ⊥ }
@@ -234,7 +236,7 @@ pub fn commands_can_be_broken()
     ensures migrated_tokens { (users : List ℕ) → IsOfOne 0 11 users
         → HasMigrated migrating default_limits 0 11 1 (conn_of floor_schema 1) users → ⊥ }
 
-    // the tables of a store are kept, and its passes are written
+    // the tables of a store stay, and its passes are written
     ensures kept { KeepsTables (still (tables_at 4 [])) (new_store 4 []) (new_store 4 []) }
     ensures kept_mirror { KeepsTables fallen (new_store 4 []) (new_store 5 []) → ⊥ }
     ensures kept_staged { KeepsTables fallen (record (new_store 4 []) { staged = put_of 0 (free_row 5) None ∷ [] })
@@ -259,7 +261,7 @@ pub fn commands_can_be_broken()
     ensures exported_written { HasExported (still (tables_at 4 [])) default_limits 0 11 (Some []) (Some (codes "x")) []
         → ⊥ }
 
-    // the passes of a store
+    // the passes of a store are written
     ensures audited { (users : List ℕ) → IsOfOne 0 11 users
         → HasAudited fallen default_limits 0 11 1 (Some []) (Some []) users }
     ensures audited_import { HasAudited fallen default_limits 0 11 1 (Some []) (Some []) no_users → ⊥ }
@@ -272,7 +274,7 @@ pub fn commands_can_be_broken()
     ensures audited_written { HasAudited (still (tables_at 4 [])) default_limits 0 11 1 (Some []) (Some (codes "x")) []
         → ⊥ }
 
-    // the floors file of a store
+    // the floors file of a store is written
     ensures told { (users : List ℕ) → IsOfOne 0 11 users → HasToldFloors fallen default_limits 11 1 3 5 (Some [])
         (Some []) users }
     ensures told_import { HasToldFloors fallen default_limits 11 1 3 5 (Some []) (Some []) no_users → ⊥ }
@@ -300,10 +302,9 @@ pub fn commands_can_be_broken()
     ensures served_serves { (address : SocketAddrV4) → HasServed booting (serving_for address) (so_much 1 0) [] → ⊥ }
 {}
 
-/// What is promised of a command over floors files holds of the least that keeps it, and each field is broken by the
-/// least that keeps all others.
+/// Counterexamples: each promise of a command over floors files fails for a minimal one.
 pub fn floors_can_be_broken()
-    // floors files tell enough, or have a fault
+    // floors files are sufficient, or have a fault
     ensures gathered { IsGathered (asked_for 8) 1 None one_book (0 ∷ []) (floors_text (codes "a 5") ∷ []) (5 ∷ []) }
     ensures gathered_read { IsGathered (asked_for 8) 1 None [] [] (codes "x" ∷ []) [] → ⊥ }
     ensures gathered_told { IsGathered (asked_for 7) 1 None one_book (0 ∷ []) (floors_text (codes "a 5") ∷ []) (5 ∷ [])
@@ -334,7 +335,7 @@ pub fn floors_can_be_broken()
     ensures ungathered_for_cause { (users : List ℕ) → IsOfOne 0 11 users
         → IsUngatheredFor default_limits 0 11 whole [] (Files NotLost) users → ⊥ }
 
-    // no store is made anew
+    // no store is replaced
     ensures not_remade { (users : List ℕ) → IsOfOne 0 11 users
         → IsNotRemade default_limits 0 11 whole [] (Files TooManyLost) users }
     ensures not_remade_floors { (users : List ℕ) → IsOfOne 0 11 users
@@ -349,7 +350,7 @@ pub fn floors_can_be_broken()
     ensures not_remade_number { (users : List ℕ) → IsOfOne 0 11 users
         → IsNotRemade default_limits 0 11 whole (codes "x" ∷ []) (floors_fault 2 1 NotFloors) users → ⊥ }
 
-    // a store is made anew
+    // a store is replaced
     ensures remade { (users : List ℕ) → IsOfOne 1 11 users → HasRemade fallen default_limits 1 11 whole
         (floors_text (codes "a 5") ∷ []) (new_store 1048576 (5 ∷ [])) users }
     ensures remade_import { HasRemade fallen default_limits 1 11 whole (floors_text (codes "a 5") ∷ [])
@@ -369,7 +370,7 @@ pub fn floors_can_be_broken()
     ensures remade_node { HasRemade (still (tables_at 1048576 [])) default_limits 1 11 (record whole { node = 2 })
         (no_floors ∷ []) (new_store 1048576 []) [] → ⊥ }
 
-    // the rows of a store are levelled
+    // the floors of a store are raised
     ensures part { IsPartLevelled (Some 7 ∷ Some 8 ∷ []) (two_rows (free_row 5) (free_row 6) None)
         (two_rows (free_row 7) (free_row 6) None) }
     ensures part_is { IsPartLevelled [] (content_at 4 (free_row 5 ∷ [])) (content_at 4 (free_row 7 ∷ [])) → ⊥ }
@@ -406,7 +407,7 @@ pub fn floors_can_be_broken()
     ensures not_levelled_before_import { IsNotLevelled default_limits 11 [] (Command (Store Disk)) no_users → ⊥ }
 {}
 
-/// The users file and the passes of a store as text, and what a floors file tells of it, worked through.
+/// Worked cases. The users file, the passes and the floors file of a store, as text.
 pub fn texts_are_worked()
     ensures exported { (first second : Credential) (row later : RowRecord)
         → export_text (first ∷ second ∷ []) (row ∷ later ∷ [])
@@ -424,7 +425,7 @@ pub fn texts_are_worked()
     ensures told_no_token { told_rows [] (free_row 5 ∷ []) ≡ [] }
 {}
 
-/// The exit statuses, and which fault of a command each fault of a node is.
+/// Worked cases. The exit statuses, and a command's fault for each fault of a node.
 pub fn faults_are_worked()
     ensures statuses { map status_of (Memory ∷ CannotWrite ∷ NoClock ∷ users_fault 1 MissingField ∷ Store Disk ∷ Socket
         ∷ []) ≡ 1 ∷ 1 ∷ 1 ∷ 1 ∷ 3 ∷ 4 ∷ [] }

@@ -1,4 +1,6 @@
-//! The command `level`: the first free factors of a stopped node are raised to the greatest of floors files.
+//! The command `level`: raises the floors of a stopped node to the greatest in floors files.
+//!
+//! Floor: the first free factor of a token at a node.
 
 ghost use Rattle.std.specs.Prelude.{◌≡◌, ◌<◌, ◌≤◌, length, map, None, Option, ℕ, IfErr, IfOk, IfSome};
 ghost use Rattle.otp_core.specs.Limits.{default_limits};
@@ -22,7 +24,7 @@ use std::alloc::Global;
 use std::io::Read;
 use token_file::Book;
 
-/// The row of a token.
+/// Returns the row of `token`.
 fn read_row<S: FloorStore>(store: &S, token: u32) -> Result<Row, StoreFault>
     requires { token < length (S.held store.now).content.rows }
     ensures { (S.held store.now).is_clean → IfOk result (λ row. row ≡ row_in (S.held store.now).content token) }
@@ -30,7 +32,7 @@ fn read_row<S: FloorStore>(store: &S, token: u32) -> Result<Row, StoreFault>
     store.row(token)
 }
 
-/// Puts a greater first free factor of a token, as a node does that is told it by another.
+/// Puts a greater floor of `token`, as a node does after a message with it.
 #[tactic(auto, unfolding(vote_core::specs::Voting::raise))]
 fn raise_row<S: FloorStore>(store: &mut S, token: u32, floor: Next) -> Result<(), StoreFault>
     requires { token < length (S.held store.old).content.rows }
@@ -43,7 +45,7 @@ fn raise_row<S: FloorStore>(store: &mut S, token: u32, floor: Next) -> Result<()
     Ok(())
 }
 
-/// The same where something is told of the token.
+/// Puts the floor `told` of `token`, if there is one and it is greater.
 fn level_row<S: FloorStore>(store: &mut S, token: u32, told: Option<Next>) -> Result<(), StoreFault>
     requires { token < length (S.held store.old).content.rows }
     ensures { MayPut S.held store.old store.new (told_at token told (S.held store.old).content) result }
@@ -54,12 +56,13 @@ fn level_row<S: FloorStore>(store: &mut S, token: u32, told: Option<Next>) -> Re
     }
 }
 
-/// Raises the first free factor of each token of a book to the greatest that floors files have for its user, where it
-/// is below, and commits that. A user of whom no file tells keeps its own, and all else of a row stays. The store
-/// commits piece by piece: a stop or a fault leaves the first so many rows raised and the others as they were.
+/// Raises each lower floor of a token of `book` to the greatest in the floors files for its user, and commits.
+///
+/// A user of no file keeps its floor. The rest of a row stays. The store commits in batches: a stop or a fault leaves a
+/// prefix of the rows raised and the other rows unchanged.
 ///
 /// # Errors
-/// Those of the store.
+/// Returns the errors of the store.
 pub fn level_rows<S: FloorStore>(
     store: &mut S,
     book: &Book,
@@ -76,12 +79,13 @@ pub fn level_rows<S: FloorStore>(
     store.commit()
 }
 
-/// Raises the first free factors of the store of a node, which is stopped, to the greatest of the floors files whose
-/// texts are given, as [`level_rows`] does. To hear these of other members has the same effect.
+/// Raises the floors of a stopped node's store to the greatest in the texts of floors files, as [`level_rows`] does.
+///
+/// Messages of other members with these floors would have the same effect.
 ///
 /// # Errors
-/// `Floors` with the first text that is no floors file; the database is not opened then. `Command` with those of
-/// [`open_store`](crate::open_store) and [`level_rows`].
+/// - Returns `Floors` with the first text that is not a floors file. The database is not opened.
+/// - Returns `Command` with the errors of [`open_store`](crate::open_store) and [`level_rows`].
 pub fn level_store<R: Read + Drop, S: Alter + Drop, D: Database<S>>(
     alloc: Global,
     users: R,
@@ -114,11 +118,12 @@ pub fn level_store<R: Read + Drop, S: Alter + Drop, D: Database<S>>(
     }
 }
 
-/// Raises the first free factors of the store in the file with this path, as [`level_store`] does.
+/// Raises the floors of the store in the file at `path`, as [`level_store`] does.
 ///
 /// # Errors
-/// Those of [`level_store`]; `Command(Store(Disk))` where the file isn't there, `Command(Store(Unusable))` where it is
-/// empty.
+/// - Returns the errors of [`level_store`].
+/// - Returns `Command(Store(Disk))` if the file is missing.
+/// - Returns `Command(Store(Unusable))` if the file is empty.
 pub fn level_file<R: Read + Drop>(
     alloc: Global,
     rt: &HostRuntime,

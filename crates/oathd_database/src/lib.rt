@@ -1,7 +1,8 @@
-//! What the commands of `oathd` over a users file and a database do, from the first to the last step. Each has a file
-//! with its name, and in it a function over any [`Database`], `.._store`, and one over a file, `.._file`, which takes
-//! and gives plain values. Of these only [`init_file`] and [`init_lost_file`] write into a file that isn't there or is
-//! empty. Such a function of another crate opens a [`DatabaseFile`].
+//! The commands of `oathd` over a users file and a database, from the first to the last step.
+//!
+//! Each has a file with its name and two functions. `.._store` runs over any [`Database`]; `.._file` runs over a file,
+//! with plain values. Only [`init_file`] and [`init_lost_file`] write into a file that is missing or empty. A function
+//! `.._file` of another crate opens a [`DatabaseFile`].
 #![tactic(auto)]
 
 mod audit;

@@ -1,4 +1,6 @@
-//! The command `init` with lost nodes: the store of one is made anew, by the floors files of the others.
+//! The command `init --lost` and `init --anew`: creates a replacement store from floors files.
+//!
+//! Floor: the first free factor of a token at a node.
 
 ghost use Rattle.std.specs.Prelude.{◌≡◌, ◌≤◌, length, map, IfErr, IfOk, IfSome};
 ghost use Rattle.otp_core.specs.Range.{IsMoment};
@@ -20,18 +22,18 @@ use std::alloc::Global;
 use std::io::Read;
 use token_file::Book;
 
-/// The node whose store is made anew, and those that are lost with it.
+/// The node whose store is replaced, and the lost nodes.
 #[derive(Clone, Copy, Debug)]
 pub struct LostNode<'a> {
-    /// The node, 1 to 9.
+    /// The node's number, 1 to 9.
     pub node: u8,
-    /// The lost nodes, among which it is; or `None` where a whole cluster is made anew.
+    /// The lost nodes, with the node itself, or `None` if the whole cluster is replaced.
     pub lost: Option<&'a [u8]>,
     /// The moment from which on the floors files were read.
     pub since: u64,
 }
 
-/// Whether files tell enough to make the store of a node anew.
+/// Checks that the floors files are sufficient to replace the store of `node`.
 fn check(
     asked: Asked,
     node: u8,
@@ -48,7 +50,7 @@ fn check(
     }
 }
 
-/// The first free factors for the store of a lost node: the greatest of the floors files.
+/// Returns the floors of a replacement store: the greatest in the floors files.
 fn lost_floors(
     alloc: Global,
     asked: Asked,
@@ -79,18 +81,20 @@ fn lost_floors(
     }
 }
 
-/// One more than the boots of a second: a node that starts more often than that uses those of the next one.
+/// One more than the number of boots for one second. A node that starts more often uses boots of the next second.
 const BOOTS: u64 = 1 << 20;
 
-/// Makes the store of a lost node anew, while others go on: at the boot that is the moment times 2^20, with the
-/// greatest first free factors of the floors files, whose texts are given. The lost nodes and those of the files are
-/// the members, fewer lost than a majority. Where none is named lost, it is the store of a node of a whole cluster that
-/// is made anew: each majority of the former members has a file, and a user in none begins as at an import. The
-/// database has no table. Of the settings the skew and the drift are looked at.
+/// Creates a store in place of a lost one, from the texts of floors files, in a database without a table.
+///
+/// The new boot is the moment times 2^20. Each floor is the greatest in the files. If `lost.lost` is a list, it and the
+/// nodes of the files are all members, and fewer than a majority are lost. If it is `None`, the whole cluster is
+/// replaced. Then each majority of the former members has a file, and a user of no file begins as at an import. Only
+/// the skew and the drift of the settings are used.
 ///
 /// # Errors
-/// `Command` as for [`init_store`](crate::init_store); `Floors` with the first text that is no floors file; `Files`
-/// where they don't tell enough (`lost_fault`, `anew_fault`). The database is not opened then.
+/// - Returns `Command` as [`init_store`](crate::init_store) does.
+/// - Returns `Floors` with the first text that is not a floors file. The database is not opened.
+/// - Returns `Files` if the files are insufficient (`lost_fault`, `anew_fault`). The database is not opened.
 pub fn init_lost_store<R: Read + Drop, S: Alter + Drop, D: Database<S>>(
     alloc: Global,
     users: R,
@@ -133,11 +137,10 @@ pub fn init_lost_store<R: Read + Drop, S: Alter + Drop, D: Database<S>>(
     }
 }
 
-/// Makes the store of a lost node anew in the file with this path, which is made where it isn't there, as
-/// [`init_lost_store`] does.
+/// Creates a replacement store in the file at `path`, as [`init_lost_store`] does. Creates the file if it is missing.
 ///
 /// # Errors
-/// Those of [`init_lost_store`].
+/// Returns the errors of [`init_lost_store`].
 pub fn init_lost_file<R: Read + Drop>(
     alloc: Global,
     rt: &HostRuntime,

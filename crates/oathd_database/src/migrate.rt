@@ -1,4 +1,4 @@
-//! The command `migrate`: a store of version 1 becomes one of version 2.
+//! The command `migrate`: upgrades a store of version 1 to version 2.
 
 ghost use Rattle.std.specs.Prelude.{◌≡◌, false, length, IfErr, IfOk, IfSome};
 ghost use Rattle.floor_sql.specs.Migrate.{IsMigrated};
@@ -16,7 +16,7 @@ use sqlite::{Alter, Connection};
 use std::alloc::Global;
 use std::io::Read;
 
-/// Makes the store of version 1 of a node that a connection holds, with the tokens of the users file, one of version 2.
+/// Upgrades the store of `node` in the tables of `conn`, which has the tokens of the users file.
 fn migrate_tables<S: Alter + Drop>(
     conn: Connection<S>,
     node: u8,
@@ -32,12 +32,16 @@ fn migrate_tables<S: Alter + Drop>(
     }
 }
 
-/// Makes the store of version 1 of a node, which has the tokens of a users file, one of version 2, and gives the
-/// connection to it: no token has a drift, and all else is kept.
+/// Upgrades a node's store of version 1 to version 2, and returns the connection to it.
+///
+/// The store has the tokens of the users file. No token has a drift afterwards; everything else stays.
 ///
 /// # Errors
-/// `Users` where the users file has a fault or can't be read; the database is not opened then. `Store`: `AlreadyThere`
-/// where the store is of version 2, `Unusable` where the tables are neither, `Disk` and `Memory`. `Memory`.
+/// - Returns `Users` if the users file has a fault or cannot be read. The database is not opened.
+/// - Returns `Store(AlreadyThere)` if the store is of version 2.
+/// - Returns `Store(Unusable)` if the tables are of neither version.
+/// - Returns `Store(Disk)` or `Store(Memory)` if the store meets one of these failures.
+/// - Returns `Memory` if the allocator refuses the memory.
 pub fn migrate_store<R: Read + Drop, S: Alter + Drop, D: Database<S>>(
     alloc: Global,
     users: R,
@@ -53,10 +57,12 @@ pub fn migrate_store<R: Read + Drop, S: Alter + Drop, D: Database<S>>(
     migrate_tables(conn, node, &users)
 }
 
-/// Makes the store of version 1 of a node in the file with this path one of version 2, as [`migrate_store`] does.
+/// Upgrades the store in the file at `path`, as [`migrate_store`] does.
 ///
 /// # Errors
-/// Those of [`migrate_store`]; `Store(Disk)` where the file isn't there, `Store(Unusable)` where it is empty.
+/// - Returns the errors of [`migrate_store`].
+/// - Returns `Store(Disk)` if the file is missing.
+/// - Returns `Store(Unusable)` if the file is empty.
 pub fn migrate_file<R: Read + Drop>(
     alloc: Global,
     rt: &HostRuntime,

@@ -11,16 +11,16 @@ use std::alloc::Global;
 use token_file::Book;
 use vote_wire::ClusterKey;
 
-/// The key of a node that is served.
+/// The source of a node's key.
 #[derive(Drop)]
 pub enum NodeKey<'a> {
-    /// The cluster's own.
+    /// The cluster's own key.
     Own(ClusterKey),
-    /// The one that follows from the cluster's own, the cluster file and the users file.
+    /// The shared key, derived from the cluster's own key, the cluster file and the users file.
     Shared(ClusterKey, &'a Cluster<'a>),
 }
 
-/// The key under which a node with these tokens tags its datagrams.
+/// Returns the key under which a node with the tokens of `book` tags its datagrams.
 pub(crate) fn tag_key(alloc: Global, key: NodeKey<'_>, book: &Book) -> Result<ClusterKey, Fault>
     ensures key { IfOk result (λ tagging. tagging ≡ tag_key key.entry book.now) }
     ensures fault { IfErr result (λ fault. fault ≡ Fault.Memory) }
@@ -34,9 +34,10 @@ pub(crate) fn tag_key(alloc: Global, key: NodeKey<'_>, book: &Book) -> Result<Cl
     }
 }
 
-/// A node without a cluster file tags under the cluster's own key, and one with a cluster file under the shared key.
-/// Two of these with one key of the cluster that don't share the same tag under different keys, or their shared texts
-/// collide.
+/// Shows that nodes with one cluster key, but different shared content, tag under different keys.
+///
+/// It holds for nodes with cluster files, unless their shared texts collide. A node without a cluster file tags under
+/// the cluster's own key.
 pub fn node_keys_tell()
     ensures own { (a : AnyKey) (book : List Credential) → shared_by a book ≡ None → tag_key a book ≡ own_key a }
     ensures shared { (a : AnyKey) (book : List Credential) (s : AllShared) → shared_by a book ≡ Some s →

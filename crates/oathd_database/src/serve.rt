@@ -1,4 +1,4 @@
-//! The command `serve`: a node is served over a store and a socket.
+//! The command `serve`: runs a node over a store and a socket.
 
 ghost use Rattle.std.specs.Prelude.{◌≡◌, ◌<◌, ◌^◌, None, length, Result, IfErr, IfOk, IfSome};
 ghost use Rattle.oath_node.specs.TurnServing.{Serves};
@@ -30,13 +30,14 @@ use udp_port::{SystemClock, UdpPort, client_number};
 use vote_core::Place;
 use vote_wire::ClusterKey;
 
-/// How long a node waits for a datagram before some time has passed for it, in milliseconds.
+/// The number of milliseconds for which a node waits for a datagram before a tick.
 const WAIT_MILLIS: u64 = 200;
 
-/// Opens a node over a store, in a new boot: the last step before its socket is bound.
+/// Opens a node over `store`, in a new boot: the last step before its socket is bound.
 ///
 /// # Errors
-/// `Memory`; the store was left as it was. `Store` where the store refuses to raise the boot.
+/// - Returns `Memory` if the allocator refuses the memory. The store is unchanged.
+/// - Returns `Store` if the store fails to raise the boot.
 pub fn open_node<'b, S: FloorStore + Drop>(
     alloc: Global,
     book: &'b Book,
@@ -59,11 +60,12 @@ pub fn open_node<'b, S: FloorStore + Drop>(
     }
 }
 
-/// Serves a node over a port for so many turns, each of which is one receive.
+/// Serves a node over a port for `turns` receives.
 ///
 /// # Errors
-/// `Store` where the node's store fails, and `Store(Spent)` where no number of its boot is left; `Socket` at the 16th
-/// fault of the port in a row; `NoClock` where the clock tells no moment.
+/// - Returns `Store` if the node's store fails, and `Store(Spent)` if no proposal number of this boot is left.
+/// - Returns `Socket` at the 16th consecutive fault of the port.
+/// - Returns `NoClock` if the clock tells no time.
 pub fn serve_node<S: FloorStore, P: Port, C: Clock>(
     node: &mut Node<'_, S>,
     port: &mut P,
@@ -81,7 +83,7 @@ pub fn serve_node<S: FloorStore, P: Port, C: Clock>(
     }
 }
 
-/// A socket at an address of this machine, which waits for 200 milliseconds.
+/// Binds a socket to an address of this machine. Its receives wait at most 200 milliseconds.
 fn socket_at<N: Net>(net: &N, address: SocketAddrV4) -> Result<UdpSocket, Fault>
     ensures { IfErr result (λ fault. fault ≡ Fault.Socket) }
 {
@@ -94,16 +96,16 @@ fn socket_at<N: Net>(net: &N, address: SocketAddrV4) -> Result<UdpSocket, Fault>
     }
 }
 
-/// The log of a node that is served.
+/// The log of a served node.
 #[derive(Drop)]
 struct ServeLog {
-    /// What its first line says.
+    /// The content of its first line.
     start: Start,
     /// The other members of the node's cluster.
     members: ArrayVec<Member, MAX_OTHERS>,
 }
 
-/// The other members of a node's cluster, of whom a log tells whether they are heard.
+/// Returns the other members, whose silence the log reports.
 fn other_members(place: Place) -> ArrayVec<Member, MAX_OTHERS> {
     let mut others = ArrayVec::new();
     for number in 1..=place.n() {
@@ -114,8 +116,7 @@ fn other_members(place: Place) -> ArrayVec<Member, MAX_OTHERS> {
     others
 }
 
-/// Serves a node over a socket as [`serve_node`] does, and writes a log. What can't be written ends the log, and not
-/// the node.
+/// Serves a node over a socket, as [`serve_node`] does, with a log. A failed write ends the log, but not the node.
 fn serve_logged<S: FloorStore, N: TimeSource, W: Write>(
     node: &mut Node<'_, S>,
     port: UdpPort<&N>,
@@ -135,7 +136,7 @@ fn serve_logged<S: FloorStore, N: TimeSource, W: Write>(
     Ok(served)
 }
 
-/// Serves a node over a socket as [`serve_node`] does, with a log or without one.
+/// Serves a node over a socket, as [`serve_node`] does, with a log if there is one.
 fn serve_port<S: FloorStore, N: TimeSource, W: Write>(
     node: &mut Node<'_, S>,
     port: UdpPort<&N>,
@@ -158,8 +159,7 @@ fn serve_port<S: FloorStore, N: TimeSource, W: Write>(
     }
 }
 
-/// What the first line of a log says of a node at this address, in the boot behind that of its store, with these tokens
-/// and this key.
+/// Returns the content of a log's first line. Its boot is the one after the store's.
 fn start_of(
     place: Place,
     address: SocketAddrV4,
@@ -177,7 +177,7 @@ fn start_of(
     }
 }
 
-/// The log of a node at this place, if one is asked for.
+/// Returns the log of a node, or None if `is_logged` is false.
 fn log_of(is_logged: bool, start: Start, place: Place) -> Option<ServeLog> {
     if !is_logged {
         return None;
@@ -188,13 +188,17 @@ fn log_of(is_logged: bool, start: Start, place: Place) -> Option<ServeLog> {
     })
 }
 
-/// Opens the node of a store, which has the tokens of the users file, in a new boot, binds a UDP socket to its address,
-/// and serves it for so many turns, each of which is one receive of at most 200 milliseconds. What comes from the
-/// address of a member is that member's datagram, and what comes from any other address is a client's. Where a log is
-/// asked for, it goes to the writer; what can't be written ends the log, and not the node.
+/// Opens a node over its store in a new boot, binds a UDP socket to its address, and serves it for the given turns.
+///
+/// The store has the tokens of the users file. A turn is one receive of at most 200 milliseconds. A datagram from a
+/// member's address is that member's; a datagram from any other address is a client's. With a log, its lines go to the
+/// writer; a failed write ends the log, but not the node.
 ///
 /// # Errors
-/// Those of [`open_store`] and [`open_node`]; `Socket` where the socket can't be had; those of [`serve_node`].
+/// - Returns the errors of [`open_store`].
+/// - Returns the errors of [`open_node`].
+/// - Returns `Socket` if the socket cannot be bound.
+/// - Returns the errors of [`serve_node`].
 pub fn serve_store<R: Read + Drop, S: Alter + Drop, D: Database<S>, N: Net + TimeSource, W: Write>(
     alloc: Global,
     outside: &N,
@@ -225,10 +229,12 @@ pub fn serve_store<R: Read + Drop, S: Alter + Drop, D: Database<S>, N: Net + Tim
     serve_port(&mut node, port, outside, turns, log, writer)
 }
 
-/// Serves a node over the store in the file with this path, as [`serve_store`] does.
+/// Serves a node over the store in the file at `path`, as [`serve_store`] does.
 ///
 /// # Errors
-/// Those of [`serve_store`]; `Store(Disk)` where the file isn't there, `Store(Unusable)` where it is empty.
+/// - Returns the errors of [`serve_store`].
+/// - Returns `Store(Disk)` if the file is missing.
+/// - Returns `Store(Unusable)` if the file is empty.
 pub fn serve_file<R: Read + Drop, W: Write>(
     alloc: Global,
     rt: &HostRuntime,

@@ -6,17 +6,17 @@ use otp_core::Settings;
 use std::net::SocketAddrV4;
 use vote_core::Place;
 
-/// What a node is served with.
+/// The parameters of a served node.
 #[derive(Drop)]
 pub struct Serving<'a> {
     pub settings: Settings,
-    /// Which member it is, and of how many.
+    /// The node's number, and the number of members.
     pub place: Place,
-    /// The addresses of the members, in order of their numbers.
+    /// The members' addresses, in order of their numbers.
     pub members: Vec<SocketAddrV4>,
-    /// Where the key comes from under which it tags its datagrams.
+    /// The source of the key for its datagrams.
     pub key: NodeKey<'a>,
-    /// How many receives it makes: fewer than 2^54.
+    /// The number of receives: less than 2^54.
     pub turns: u64,
     /// Whether it writes a log.
     pub is_logged: bool,

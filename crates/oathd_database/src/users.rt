@@ -9,7 +9,7 @@ use std::alloc::{AllocError, Global};
 use std::io::Read;
 use token_file::{Book, FromRead, Kind, Token, TokenId, read_book};
 
-/// The tokens of a users file, at most 10,000, and the first free factors with which they are imported.
+/// The tokens of a users file, at most 10,000, and the floors of their import (floor: the first free factor).
 #[derive(Drop)]
 pub struct Users {
     pub book: Book,
@@ -18,11 +18,13 @@ pub struct Users {
     ghost few: { length book ≤ 10000 },
 }
 
-/// Reads a users file to its end. The tokens are imported at the moment given, in seconds since 1970-01-01 00:00:00
-/// UTC, 0 to 1099511627775.
+/// Reads a users file to its end, and imports its tokens at the given moment.
+///
+/// The moment is in seconds since 1970-01-01 00:00:00 UTC, 0 to 1099511627775.
 ///
 /// # Errors
-/// `Users` with the line and the fault of the file, or of its reading; `Memory`.
+/// - Returns `Users` with a line and its fault if the file has a fault or cannot be read.
+/// - Returns `Memory` if the allocator refuses the memory.
 pub fn read_users<R: Read + Drop>(
     alloc: Global,
     reader: R,
@@ -41,7 +43,7 @@ pub fn read_users<R: Read + Drop>(
     Ok(Users { book, floors })
 }
 
-/// The token with a number.
+/// Returns the token with the number `token`.
 pub(crate) fn token_at(book: &Book, token: u32) -> &Token
     requires within { token < length book.now }
     requires few { length book.now ≤ 10000 }
@@ -50,7 +52,7 @@ pub(crate) fn token_at(book: &Book, token: u32) -> &Token
     book.token(TokenId::new(token).unwrap())
 }
 
-/// The first free factor of an imported token whose clock may have drifted by so many time steps.
+/// Returns the floor of an imported token whose clock may have drifted by `drift` time steps.
 fn drifted_floor(drift: u64, kind: Kind, floor: Next) -> Next
     requires { drift ≤ 10 }
     ensures { result ≡ drifted_floor drift (period_of kind) floor }
@@ -61,7 +63,7 @@ fn drifted_floor(drift: u64, kind: Kind, floor: Next) -> Next
     }
 }
 
-/// The first free factor at a place.
+/// Returns the floor at `place`.
 fn floor_at(floors: &[Next], place: usize) -> Next
     requires { place < length floors.now }
     ensures { slice_get floors.now place ≡ Some result }
@@ -69,11 +71,12 @@ fn floor_at(floors: &[Next], place: usize) -> Next
     floors[place]
 }
 
-/// The first free factors with which tokens are imported whose clocks may have drifted by so many time steps, up to 10:
-/// a time token's is as many steps later.
+/// Returns the floors of an import whose clocks may have drifted by `drift` time steps, up to 10.
+///
+/// The floor of a time token is later by the drift.
 ///
 /// # Errors
-/// Want of memory alone.
+/// Fails only if the allocator refuses the memory.
 pub(crate) fn drifted_floors(
     alloc: Global,
     users: &Users,

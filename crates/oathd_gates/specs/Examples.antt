@@ -1,14 +1,14 @@
--- Worked rows of a store.
+-- Rows and stores of the worked cases.
 use Rattle.std.specs.Prelude.{ℕ, pos, List, [], ◌∷◌, Some}
 use Rattle.otp_core.specs.Gate.{GateRecord}
 use Rattle.floor_store.specs.Records.{RowRecord, span_of}
 use Rattle.floor_store.specs.Content.{Content}
 
--- so many failures, the last of which closes a token until a moment
+-- a gate with `fails` failures that is closed until a moment
 abbrev pub gate_with : ℕ → ℕ → GateRecord
 gate_with fails until = record { fails = fails; until = until }
 
--- a row with a gate, whose every other part is not as at its opening
+-- a row with a gate; no other part is as at the opening
 abbrev pub row_with : GateRecord → RowRecord
 row_with gate = record {
   next = 7;
@@ -17,11 +17,11 @@ row_with gate = record {
   drift = pos 4;
 }
 
--- a store at boot 5 with these rows, and a last pass
+-- a store at boot 5 with a last pass
 abbrev pub store_with : List RowRecord → Content
 store_with rows =
     record { rows = rows; boot = 5; last = Some (record { token = 0; lo = 6; hi = 6; boot = 2; seq = 3 }) }
 
--- rows of two tokens, of which both have failures
+-- the rows of two tokens that both have failures
 abbrev pub two_closed : List RowRecord
 two_closed = row_with (gate_with 3 115) ∷ row_with (gate_with 1 105) ∷ []

@@ -21,13 +21,13 @@ gate_line user gate =
 abbrev pub gate_text : Credential → GateRecord → List ℕ
 gate_text token gate = if gate.fails == 0 then [] else gate_line token.name gate
 
--- the lines of the tokens of a book in order, each by its row
+-- the lines of a book's tokens in order, by their rows
 abbrev pub gates_text : List Credential → List RowRecord → List ℕ
 gates_text [] rows = []
 gates_text (token ∷ book) [] = []
 gates_text (token ∷ book) (row ∷ rows) = gate_text token row.gate ++ gates_text book rows
 
--- the line of the gate of the token with this number is written, if it has failures, and nothing else
+-- the line of the token `number` is written, if its gate has failures, and nothing else
 pub record WritesGate (book : List Credential) (rows : List RowRecord) (number : ℕ)
     (old new : Option (List ℕ)) : Type 0 where
   pub token : Credential
@@ -37,7 +37,8 @@ pub record WritesGate (book : List Credential) (rows : List RowRecord) (number :
   pub written : Appends old new (gate_text token row.gate)
 
 module _ {S : Type 0} (g : Ghosts S) where
-  -- The gates with failures of this node's store in some database, which has the tokens of the users file, are written.
+  -- The gates with failures in the node's store are written. The store is in some database and has the tokens of the
+  -- users file.
   pub record HasToldGates (limits : Limits) (longest node : ℕ) (old new : Option (List ℕ))
       (text : List ℕ) : Type 0 where
     pub import : HasImport limits 0 longest text

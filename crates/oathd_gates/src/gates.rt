@@ -1,4 +1,4 @@
-//! The command `gates`: the gates of a store that have failures are written.
+//! The command `gates`: prints the gates of a store that have failures.
 
 ghost use Rattle.std.specs.Prelude.{◌≡◌, ◌<◌, length, IfErr, IfOk, IfSome, OnOk};
 ghost use Rattle.std.specs.Io.KnownBytes.{Appends};
@@ -36,7 +36,7 @@ fn write_gate<W: Write>(writer: &mut W, token: &Token, gate: Gate) -> io::Result
     write_line(writer, token.name(), gate)
 }
 
-/// Writes the line of the gate that a store has of a token, if it has failures.
+/// Writes the line of a token's gate in `store`, if it has failures.
 fn write_token<S: FloorStore, W: Write>(
     book: &Book,
     store: &S,
@@ -53,12 +53,15 @@ fn write_token<S: FloorStore, W: Write>(
     write_gate(writer, book.token(id), row.gate()).map_err(|_| Fault::CannotWrite)
 }
 
-/// Writes the gate of each token of a book that has failures by a store, each on a line of its own, `gate USER FAILURES
-/// UNTIL`, in order of rows, and flushes it. From the moment UNTIL on, in seconds since 1970-01-01 00:00:00 UTC, the
-/// token is open.
+/// Writes a line `gate USER FAILURES UNTIL` for each token that has failures, in the order of the book. Flushes.
+///
+/// The token is open from `UNTIL` on, in seconds since 1970-01-01 00:00:00 UTC.
 ///
 /// # Errors
-/// `Store` where the store is broken, and `CannotWrite`. A front of the text may have been written then.
+/// - Returns `Store` if the store is broken.
+/// - Returns `CannotWrite` if the output fails.
+///
+/// A prefix of the text may have been written before an error.
 pub fn write_gates<S: FloorStore, W: Write>(
     book: &Book,
     store: &S,
@@ -76,11 +79,13 @@ pub fn write_gates<S: FloorStore, W: Write>(
     writer.flush().map_err(|_| Fault::CannotWrite)
 }
 
-/// Writes the gates with failures of the store of a node, which has the tokens of the users file, as [`write_gates`]
-/// does. The node is stopped. Its store is not changed.
+/// Writes the gates of a stopped node that have failures, as [`write_gates`] does. Its store does not change.
+///
+/// The store has the tokens of the users file.
 ///
 /// # Errors
-/// Those of [`open_store`] and [`write_gates`].
+/// - Returns the errors of [`open_store`].
+/// - Returns the errors of [`write_gates`].
 pub fn gates_store<R: Read + Drop, S: Alter + Drop, D: Database<S>, W: Write>(
     alloc: Global,
     users: R,
@@ -96,10 +101,12 @@ pub fn gates_store<R: Read + Drop, S: Alter + Drop, D: Database<S>, W: Write>(
     write_gates(&users.book, &store, writer)
 }
 
-/// Writes the gates with failures of the store in the file with this path, as [`gates_store`] does.
+/// Writes the gates of the store in the file at `path`, as [`gates_store`] does.
 ///
 /// # Errors
-/// Those of [`gates_store`]; `Store(Disk)` where the file isn't there, `Store(Unusable)` where it is empty.
+/// - Returns the errors of [`gates_store`].
+/// - Returns `Store(Disk)` if the file is missing.
+/// - Returns `Store(Unusable)` if the file is empty.
 pub fn gates_file<R: Read + Drop, W: Write>(
     alloc: Global,
     rt: &HostRuntime,

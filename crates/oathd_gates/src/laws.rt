@@ -12,7 +12,7 @@ ghost use Rattle.oathd_gates.specs.Gates.{HasToldGates, WritesGate, gate_line, g
 ghost use Rattle.oathd_gates.specs.Unlock.{HasUser, IsNotUnlocked, LacksUser, Unlocks, unlock_status, unlocked_content};
 ghost use Rattle.oathd_gates.specs.declared.unlock.UnlockFault.TheVariants.{Command};
 
-/// Gates as text, worked through: a token without failures has no line, whatever moment stands with it.
+/// Worked cases. Gates as text: a token without failures has no line, whatever its moment.
 pub fn gates_are_worked()
     ensures line { gate_line (codes "ann") (gate_with 3 115) ≡ codes "gate ann 3 115\n" }
     ensures one { gate_text (event_token (codes "ann")) (gate_with 1 0) ≡ codes "gate ann 1 0\n" }
@@ -23,8 +23,8 @@ pub fn gates_are_worked()
     ensures no_rows { gates_text [] [] ≡ [] }
 {}
 
-/// Unlocking, worked through: the gate of one row is cleared. The other rows, its own other parts, the boot and the
-/// last pass stay; a number that no token has changes nothing.
+/// Worked cases. Unlocking clears the gate of one row. The other rows, the rest of the row, the boot and the last pass
+/// stay. The number of no token changes nothing.
 pub fn unlocking_is_worked()
     ensures first { unlocked_content (store_with two_closed) 0
         ≡ store_with (row_with clear_gate ∷ row_with (gate_with 1 105) ∷ []) }
@@ -35,10 +35,9 @@ pub fn unlocking_is_worked()
     ensures no_token { unlocked_content (store_with two_closed) 2 ≡ store_with two_closed }
 {}
 
-/// What is promised of both commands holds of the least that keeps it, and each field is broken by the least that keeps
-/// all others.
+/// Counterexamples: each promise of `gates` and `unlock` fails for a minimal one.
 pub fn promises_can_be_broken()
-    // the user of a users file, and one that it lacks
+    // a user in a users file, and a user that it lacks
     ensures user { (users : List ℕ) → IsOfOne 0 11 users → HasUser default_limits 11 (codes "a") users }
     ensures user_import { HasUser default_limits 11 (codes "a") no_users → ⊥ }
     ensures user_of_nobody { (users : List ℕ) → IsOfOne 0 11 users → HasUser default_limits 11 (codes "b") users → ⊥ }
@@ -47,7 +46,7 @@ pub fn promises_can_be_broken()
     ensures lacks_longest { LacksUser default_limits 5 (codes "a") (codes "# none") → ⊥ }
     ensures lacks_known { (users : List ℕ) → IsOfOne 0 11 users → LacksUser default_limits 11 (codes "a") users → ⊥ }
 
-    // a user's token is unlocked, or none is
+    // a user's token is unlocked, or no token is
     ensures unlocks { (users : List ℕ) → IsOfOne 0 11 users
         → Unlocks fallen default_limits 11 1 (codes "a") (new_store 4 (0 ∷ [])) users }
     ensures unlocks_known { (users : List ℕ) → IsOfOne 0 11 users
@@ -78,7 +77,7 @@ pub fn promises_can_be_broken()
     ensures gate_written { WritesGate (event_token (codes "a") ∷ []) (row_with clear_gate ∷ []) 0 (Some [])
         (Some (codes "x")) → ⊥ }
 
-    // the gates of a store are
+    // the gates of a store are written
     ensures told { (users : List ℕ) → IsOfOne 0 11 users
         → HasToldGates fallen default_limits 11 1 (Some []) (Some []) users }
     ensures told_import { HasToldGates fallen default_limits 11 1 (Some []) (Some []) no_users → ⊥ }

@@ -1,8 +1,8 @@
-//! What a stopped node keeps of wrong codes: the gates of its store are written, and one of them is opened.
+//! The commands `gates` and `unlock`, which show and clear the failures of tokens at a stopped node.
 //!
-//! A gate counts the failures of a token at one node since its last acceptance there, and says until when the token is
-//! closed. [`gates_file`] writes those with failures, and [`unlock_file`] forgets the failures of one token. Of the
-//! rest of a store nothing is changed: no factor becomes free by it.
+//! A gate counts a token's failures at one node since its last acceptance there. It says until when the token is
+//! closed. [`gates_file`] prints the gates that have failures. [`unlock_file`] clears the gate of one token and changes
+//! nothing else: no used factor becomes free.
 #![tactic(auto)]
 
 mod gates;

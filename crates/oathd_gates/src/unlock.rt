@@ -1,4 +1,4 @@
-//! The command `unlock`: a user's failures are forgotten.
+//! The command `unlock`: clears a user's failures.
 
 ghost use Rattle.std.specs.Prelude.{◌≡◌, ◌<◌, length, IfErr, IfOk, IfSome};
 ghost use Rattle.floor_store.specs.Held.{MayWrite};
@@ -15,10 +15,10 @@ use std::alloc::Global;
 use std::io::Read;
 use thiserror::Error;
 
-/// What ends the command before its time. The text lacks the program's name.
+/// A fault that ends the command. Its text lacks the program's name.
 #[derive(Clone, Copy, Debug, PartialEq, Eq, Error)]
 pub enum UnlockFault<'a> {
-    /// As any command over a store.
+    /// A fault of any command over a store.
     #[error("{0}")]
     Command(Fault),
     /// No token of the users file has this name.
@@ -26,11 +26,11 @@ pub enum UnlockFault<'a> {
     NoUser(&'a str),
 }
 
-/// Forgets the failures of a token, by one put and its commit: none counts, and the token is open. All else that the
-/// store holds stays as it is.
+/// Clears the gate of a token, by one put and its commit: it has no failures and is open. Everything else in the store
+/// stays.
 ///
 /// # Errors
-/// The fault by which the store is broken.
+/// Returns the fault that broke the store.
 pub fn open_gate<S: FloorStore>(store: &mut S, token: u32) -> Result<(), StoreFault>
     requires { token < length (S.held store.old).content.rows }
     ensures { MayWrite S.held store.old store.new (unlocked_content (S.held store.old).content token) result }
@@ -45,11 +45,14 @@ pub fn open_gate<S: FloorStore>(store: &mut S, token: u32) -> Result<(), StoreFa
     }
 }
 
-/// Forgets the failures of a user's token in the store of a node, which has the tokens of the users file, and gives the
-/// store. The node is stopped.
+/// Clears the gate of a user's token at a stopped node, and returns the store.
+///
+/// The store has the tokens of the users file.
 ///
 /// # Errors
-/// `Command` as for [`open_store`], and where the store breaks at the write; `NoUser` where no token has this name:
+/// - Returns `Command` with the errors of [`open_store`]. Nothing is written.
+/// - Returns `NoUser` if no token has this name. Nothing is written.
+/// - Returns `Command(Store)` if the store breaks at the write.
 /// then nothing is written.
 pub fn unlock_store<'a, R: Read + Drop, S: Alter + Drop, D: Database<S>>(
     alloc: Global,
@@ -78,11 +81,12 @@ pub fn unlock_store<'a, R: Read + Drop, S: Alter + Drop, D: Database<S>>(
     }
 }
 
-/// Forgets the failures of a user's token in the store in the file with this path, as [`unlock_store`] does.
+/// Clears the gate of a user's token in the store in the file at `path`, as [`unlock_store`] does.
 ///
 /// # Errors
-/// Those of [`unlock_store`]; `Command(Store(Disk))` where the file isn't there, `Command(Store(Unusable))` where it is
-/// empty.
+/// - Returns the errors of [`unlock_store`].
+/// - Returns `Command(Store(Disk))` if the file is missing.
+/// - Returns `Command(Store(Unusable))` if the file is empty.
 pub fn unlock_file<'a, R: Read + Drop>(
     alloc: Global,
     rt: &HostRuntime,

@@ -1,5 +1,6 @@
 //! `oathd` without the commands over a database, and so without SQLite: it compiles in less than half of the time.
-//! `tools/program` runs it for these commands as long as there is no current build of `oathd`.
+//!
+//! `tools/program` runs it for the other commands if there is no current build of `oathd`.
 #![tactic(auto)]
 
 ghost use Rattle.oathd_words.specs.Words.{IsInRange};
@@ -12,7 +13,7 @@ use std::alloc::Global;
 use std::io::{self, BufWriter, Read, Write};
 use std::process::ExitCode;
 
-/// Does what a task asks for, with the text of the cluster file that it names. Gives the exit status.
+/// Carries out a task, with the text of the cluster file that it names. Returns the exit status.
 fn perform_task<'a, R: Read, O: Write>(
     alloc: Global,
     rt: &HostRuntime,
@@ -30,7 +31,7 @@ fn perform_task<'a, R: Read, O: Write>(
     Ok(0)
 }
 
-/// Reads the cluster file that a task names, if it names one, and does what the task asks for. Gives the exit status.
+/// Reads the cluster file that a task names, if any, and carries out the task. Returns the exit status.
 fn follow_task<R: Read, O: Write, E: Write>(
     alloc: Global,
     rt: &HostRuntime,
@@ -50,7 +51,7 @@ fn follow_task<R: Read, O: Write, E: Write>(
     }
 }
 
-/// Does what the words ask for, or writes what clap has to say of them. Gives the exit status.
+/// Carries out what the words ask for, or writes clap's text. Returns the exit status.
 fn follow<R: Read, O: Write, E: Write>(
     alloc: Global,
     rt: &HostRuntime,

@@ -1,4 +1,4 @@
--- Inputs and runs that the laws work through.
+-- Inputs and runs of the worked cases.
 use Rattle.std.specs.Prelude.{ℕ, List, [], ◌∷◌, ◌++◌, Option, Some, codes}
 use Rattle.otp_core.specs.Limits.{default_limits, limits_of}
 use Rattle.oath_node.specs.ReferenceServer.{Line}
@@ -20,27 +20,27 @@ lines_before bad lines = record { good = lines; bad = bad }
 abbrev pub fault_at : ℕ → LineFault → FileFault
 fault_at line kind = record { line = line; kind = kind }
 
--- the run of the usual server, over a users file and an input of at most so many bytes
+-- the run of a server with default settings; `longest` bytes at most for a users file, `limit` for the input
 abbrev pub run_at_most : ℕ → ℕ → List ℕ → Run
 run_at_most longest limit text =
     run_of (record { limits = default_limits; moment = 0 }) longest limit text
 
--- two lines are answered, and the seventh line of the input is bad
+-- the run of an input with two answers, whose seventh line is bad
 abbrev pub answered : Run
 answered = Answered (codes "OK 1 0" ∷ codes "NO 2 INVALID" ∷ []) (Some 7)
 
--- a users file of a time token, and a client's line at the fifth step of its clock, with this code
+-- a users file of a time token, and a client's line with `code` at the fifth step of its clock
 abbrev pub time_line : List ℕ → List ℕ
 time_line code =
     codes "HOTP/T30 silver - 3132333435363738393031323334353637383930\n%%\n7 150 CHECK 1 silver " ++ code
     ++ codes " -\n"
 
--- the run over it of a server with this skew, whose users are imported at that step
+-- the run of this input by a server with a skew, whose users are imported at the fifth step
 abbrev pub run_at_step_5 : ℕ → List ℕ → Run
 run_at_step_5 skew code = run_of (record { limits = limits_of 10 skew 100; moment = 150 }) 199 299 (time_line code)
 
--- A fault says where an input was cut off, of which so many bytes are read, in a users file of at most so many that is
--- imported at this moment.
+-- The fault names the line in which the input was cut off. `read` was read of it, its users file has at most `longest`
+-- bytes, and the users are imported at the moment.
 abbrev pub IsCutAt : ℕ → ℕ → ℕ → List ℕ → Fault → Type 0
 IsCutAt moment longest limit read fault =
     IsCutSo (record { limits = default_limits; moment = moment }) longest limit read fault

@@ -1,4 +1,4 @@
--- What the command `secret` prints, and how it ends.
+-- The output and the end of the command `secret`.
 use Rattle.std.specs.Prelude.{◌≡◌, List, [], ℕ, Option, Some, None, Result, Ok, Err}
 use Rattle.std.specs.Io.KnownBytes.{Appends}
 use Rattle.program_edge.specs.Line.{line_of}
@@ -10,23 +10,23 @@ use Rattle.secret_text.specs.declared.fault.SecretFault.{SecretFault}
 use Rattle.oathd_lines.specs.declared.fault.Fault.{Fault}
 use Rattle.oathd_lines.specs.declared.fault.Fault.TheVariants.{BadKey, CannotWrite}
 
--- the secret in base32 on a line of its own
+-- the secret in base32 and an LF
 abbrev pub secret_line : Result (List ℕ) FromHexError → List ℕ
 secret_line (Ok secret) = line_of (base32_text secret)
 secret_line (Err error) = []
 
--- what a key in hexadecimal prints: nothing where it is refused
+-- the output for a secret in hexadecimal: nothing if it is refused
 abbrev pub secret_output : Option SecretFault → List ℕ → List ℕ
 secret_output (Some fault) hex = []
 secret_output None hex = secret_line (decode_of hex)
 
--- how the command ends over a key, refused or not
+-- the end of the command, for a refused secret or an accepted one
 abbrev pub secret_end : Option SecretFault → Result Unit Fault
 secret_end (Some fault) = Err (BadKey fault)
 secret_end None = Ok tt
 
--- The call ends as the key makes it, and has written what the key makes, no more and no less. Where the
--- output failed, the key was not refused, and no more is said.
+-- The call ends as the secret demands, and has written exactly its output. After a failure of the output, the secret
+-- was accepted, and nothing more is promised.
 abbrev pub EndsWithText : List ℕ → Result Unit Fault → Option (List ℕ) → Option (List ℕ) → Type 0
 EndsWithText hex (Err CannotWrite) old new = hex_refusal_of hex ≡ None
 EndsWithText hex result old new =

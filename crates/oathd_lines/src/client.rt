@@ -4,7 +4,7 @@ ghost use Rattle.oathd_lines.specs.Client.{client_line_of};
 use field_text::{cut_at, read_number};
 use oath_node::ClientLine;
 
-/// A client's number, the moment and the client's line, with single spaces between.
+/// Reads a client's number, a moment and the client's line, separated by single spaces.
 pub(crate) fn read_client_line(line: &[u8]) -> Option<ClientLine<'_>>
     ensures { result ≡ client_line_of line.now }
 {

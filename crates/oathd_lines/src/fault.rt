@@ -9,10 +9,10 @@ use thiserror::Error;
 use token_file::FileFault;
 use users_input::{InputFault, UsersFault};
 
-/// What ends a run before its time. The text lacks the program's name.
+/// A fault that ends a run. Its text lacks the program's name.
 #[derive(Clone, Copy, Debug, PartialEq, Eq, Error)]
 pub enum Fault {
-    /// An allocation was refused.
+    /// The allocator refused the memory.
     #[error("out of memory")]
     Memory,
     /// Standard input failed.
@@ -24,10 +24,10 @@ pub enum Fault {
     /// The users file has a fault.
     #[error("users {0}")]
     Users(FileFault),
-    /// The line of the input with this number, from 1, is no client's.
+    /// The line of the input with this number, from 1, is not a client's.
     #[error("input line {0}")]
     InputLine(u64),
-    /// The secret among the words has a fault.
+    /// The secret on the command line has a fault.
     #[error("bad key: {0}")]
     BadKey(SecretFault),
     /// A word of the process is not UTF-8.

@@ -12,7 +12,7 @@ ghost use Rattle.oathd_lines.specs.Secret.{EndsWithText};
 ghost use Rattle.oathd_lines.specs.declared.fault.Fault.{Fault};
 ghost use Rattle.oathd_lines.specs.declared.fault.Fault.TheVariants.{BadKey, CannotRead, CannotWrite, InputLine, Memory, NotText, Users};
 
-/// Some lines of clients.
+/// Worked cases. Lines of clients.
 pub fn client_lines_are_worked()
     ensures line { client_line_of (codes "7 100 CHECK 1") ≡ Some (line_saying 7 100 (codes "CHECK 1")) }
     ensures nothing_said { client_line_of (codes "7 100 ") ≡ Some (line_saying 7 100 []) }
@@ -30,7 +30,7 @@ pub fn client_lines_are_worked()
     ensures space_before { client_line_of (codes " 7 100 x") ≡ None }
     ensures tab { client_line_of (codes "7\t100 x") ≡ None }
 
-    // lines end at the first bad one
+    // lines end at the first bad line
     ensures good { client_lines 3 (Some (codes "7 1 x") ∷ Some (codes "8 2 y") ∷ [])
         ≡ lines_before None (line_saying 7 1 (codes "x") ∷ line_saying 8 2 (codes "y") ∷ []) }
     ensures bad { client_lines 3 (Some (codes "7 1 x") ∷ Some [] ∷ Some (codes "8 2 y") ∷ [])
@@ -41,7 +41,7 @@ pub fn client_lines_are_worked()
         ≡ lines_before (Some 4) (line_saying 7 1 (codes "x") ∷ []) }
 {}
 
-/// Some runs: what is answered, printed, and how each ends.
+/// Worked cases. Runs: their answers, their output and their ends.
 pub fn runs_are_worked()
     ensures answered { run_at_most 99 99 (codes "#\n%%\n7 1 CHECK 1 a 755224 -\n7 1 x\n7 1\n7 1 x\n")
         ≡ Answered (codes "NO 1 UNKNOWN" ∷ codes "NO - BADLINE" ∷ []) (Some 5) }
@@ -49,7 +49,7 @@ pub fn runs_are_worked()
     ensures again { run_at_most 199 299 (codes "HOTP silver pw 3132333435363738393031323334353637383930\n%%\n"
         ++ codes "7 100 CHECK 1 silver 755224 -\n7 101 CHECK 1 silver 755224 -\n8 102 CHECK 1 silver 755224 -\n")
         ≡ Answered (codes "NO 1 PASSWORD" ∷ codes "NO 1 PASSWORD" ∷ codes "NO 1 THROTTLED 3" ∷ []) None }
-    // no step up to the skew behind that of the import is free
+    // no step up to the import's step and the skew is free
     ensures moment { run_at_step_5 1 (codes "254676") ≡ Answered (codes "NO 1 INVALID" ∷ []) None }
     ensures skew_of_the_node { run_at_step_5 0 (codes "287922") ≡ Answered (codes "NO 1 INVALID" ∷ []) None }
     ensures skew_of_the_import { run_at_step_5 3 (codes "162583") ≡ Answered (codes "NO 1 INVALID" ∷ []) None }
@@ -74,8 +74,7 @@ pub fn runs_are_worked()
     ensures text { (status_of NotText ≡ 2) × (outside_fault_of outside.NotText ≡ NotText) }
 {}
 
-/// What is promised of the end of a run, and of a fault in the midst of its users file, is broken by an end that
-/// differs the least.
+/// Counterexamples: each promise of a run's end, and of a failure within its users file, fails for a minimal one.
 pub fn promises_can_be_broken()
     ensures kept { EndsSo answered (Err (InputLine 7)) (Some []) (Some (codes "OK 1 0\nNO 2 INVALID\n")) }
     ensures lost_answer { EndsSo answered (Err (InputLine 7)) (Some []) (Some (codes "OK 1 0\n")) → ⊥ }

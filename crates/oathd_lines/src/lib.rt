@@ -1,5 +1,6 @@
-//! What the commands of `oathd` do, over any reader and writer: `lines` answers the lines of clients behind a
-//! users file, and `secret` prints a secret in base32.
+//! The commands `lines` and `secret` of `oathd`, over any reader and writer.
+//!
+//! `lines` answers the lines of clients that follow a users file. `secret` prints a secret in base32.
 //!
 //! ```rust
 //! use oathd_lines::serve_lines;

@@ -21,8 +21,8 @@ use token_file::read_book;
 use users_input::{HoldsLine, Input, NextLine, Retrying, UsersFile, text_of};
 use vote_wire::ClusterKey;
 
-/// Writes an answer on a line of its own, and flushes it unless the input holds the next line: no answer is held
-/// back while more of the input is waited for.
+/// Writes an answer and an LF. Flushes if the input has to wait for the next line, so that no client waits for an
+/// answer.
 fn write_answer<B: HoldsLine, W: Write>(
     input: &Input<B>,
     writer: &mut W,
@@ -38,8 +38,8 @@ fn write_answer<B: HoldsLine, W: Write>(
     writer.flush().map_err(|_| Fault::CannotWrite)
 }
 
-/// Answers the lines that are left of an input, of which the first has this number, each before the next one is
-/// read, up to the first bad one.
+/// Answers the remaining lines of an input, numbered from `first`, up to the first bad line. Each is answered before
+/// the next one is read.
 fn answer_lines<B: BufRead + HoldsLine + Drop, W: Write>(
     alloc: Global,
     server: &mut LineServer<'_>,
@@ -54,7 +54,7 @@ fn answer_lines<B: BufRead + HoldsLine + Drop, W: Write>(
         result (W.contents writer.old) (W.contents writer.new)) }
     ensures behind { IfErr result IsBehindUsers }
 {
-    // Each line takes a byte of the room at least, so that there are fewer than 2^32.
+    // Each line takes at least one byte of the room, so there are fewer than 2^32.
     let _room = input.room();
     let mut line = Vec::new(alloc);
     for number in first..u64::MAX {
@@ -64,19 +64,19 @@ fn answer_lines<B: BufRead + HoldsLine + Drop, W: Write>(
             NextLine::Whole => match read_client_line(text_of(&line)) {
                 Some(line) => match server.answer(&line) {
                     Ok(answer) => write_answer(&input, writer, &answer)?,
-                    // It isn't refused before 2^62 lines.
+                    // Refused only after 2^62 lines.
                     Err(_) => unreachable!(),
                 },
                 None => return Err(Fault::InputLine(number)),
             },
         }
     }
-    // No input has so many lines.
+    // No input has this many lines.
     Err(Fault::Memory)
 }
 
-/// Reads the users file of an input, and answers the lines behind it by a node that has no members to hear under
-/// the key.
+/// Reads the users file of an input, and answers the lines after it. The node has no members, so it hears nobody under
+/// `key`.
 fn serve_input<B: BufRead + HoldsLine + Drop, W: Write>(
     alloc: Global,
     settings: Settings,
@@ -102,18 +102,23 @@ fn serve_input<B: BufRead + HoldsLine + Drop, W: Write>(
     answer_lines(alloc, &mut server, clients, first, writer)
 }
 
-/// Reads a users file, a line `%%` and lines of clients, answers each line by one node before the next one is read,
-/// and writes each answer on a line of its own. The writer is flushed before more of the input is waited for, and
-/// else not. The node keeps its last 1,024 answers, but those to bad lines, and gives one again to the same client and
-/// line. It has no members to hear under the key. Each line of a client is its number, the moment and its request,
-/// with single spaces between. At most `limit` bytes are read, and one more, which tells that the input goes on: then
-/// the line that the limit cuts is bad. The users are imported at the moment given, in seconds since 1970-01-01
-/// 00:00:00 UTC, 0 to 1099511627775. Of the input a piece of 8,192 bytes and one line are held.
+/// Reads a users file, a line `%%` and lines of clients, and answers each line by one node.
+///
+/// A client's line has its number, a moment and its request, separated by single spaces. Each line is answered, on a
+/// line of its own, before the next one is read. The writer is flushed before the run waits for more of the input, and
+/// at no other time. The node keeps its last 1,024 answers, except those to bad lines. It repeats an answer to the same
+/// client and line. It has no members, so it hears nobody under `key`.
+///
+/// At most `limit` bytes and one more are read: a line that continues past the limit is bad. The users are imported at
+/// the given moment, in seconds since 1970-01-01 00:00:00 UTC, 0 to 1099511627775. At most 8,192 bytes of the input and
+/// one line are held.
 ///
 /// # Errors
-/// `Users` where the users file has a fault, or the input fails in its midst, and then nothing is written;
-/// `InputLine` at the first bad line, and `CannotRead` where the input fails later, after the answers to the lines
-/// before; `Memory`; `CannotWrite`.
+/// - Returns `Users` if the users file has a fault, or the input fails within it. Nothing is written.
+/// - Returns `InputLine` at the first bad line, after the answers to the lines before it.
+/// - Returns `CannotRead` if the input fails after the users file, after the answers to the lines before.
+/// - Returns `Memory` if the allocator refuses the memory.
+/// - Returns `CannotWrite` if the output fails.
 pub fn serve_lines<R: Read, W: Write>(
     alloc: Global,
     settings: Settings,

@@ -5,11 +5,13 @@ use program_edge::write_line;
 use secret_text::{read_hex, write_base32};
 use std::io::Write;
 
-/// Writes the base32 text of a secret (RFC 4648, section 6), which has 1 to 128 bytes and is given in
-/// hexadecimal, two digits a byte, and an LF. The writer is not flushed.
+/// Writes the base32 text of a secret (RFC 4648, section 6) and an LF. Does not flush.
+///
+/// The secret has 1 to 128 bytes, given in hexadecimal, two digits a byte.
 ///
 /// # Errors
-/// `BadKey` where the secret is refused, and then nothing is written; else `CannotWrite` where the writer fails.
+/// - Returns `BadKey` if the secret is refused. Nothing is written.
+/// - Returns `CannotWrite` if the output fails.
 pub fn print_secret<W: Write>(writer: &mut W, hex: &[u8]) -> Result<(), Fault>
     ensures ends { EndsWithText hex.now result (W.contents writer.old) (W.contents writer.new) }
 {

@@ -1,11 +1,11 @@
--- What ends a command that keeps nothing before its time.
+-- The faults that end a command without a database.
 use Rattle.std.specs.Prelude.{ℕ}
 use Rattle.oathd_lines.specs.Fault as lines
 use Rattle.oathd_cluster.specs.Fault as cluster
 use Rattle.oathd_memory.specs.declared.fault.Fault.{Fault}
 use Rattle.oathd_memory.specs.declared.fault.Fault.TheVariants.{Run, Sim, Cluster, CannotReadFile, NoDatabases, ClusterFile, NoMember, KeyPath}
 
--- the exit status: that of a run or a cluster, or 1
+-- the exit status: the status of a run's or a cluster's fault, else 1
 abbrev pub status_of : Fault → ℕ
 status_of (Run fault) = lines.status_of fault
 status_of (Sim fault) = 1

@@ -1,4 +1,4 @@
--- How the commands end that keep nothing.
+-- The ends of the commands without a database.
 use Rattle.std.specs.Prelude.{◌≡◌, ◌≤◌, ◌⊎◌, ℕ, ◌+◌, List, length, replicate, take, Option, Result, Ok, Err, IfNone, IfSome}
 use Rattle.otp_core.specs.Range.{IsMoment}
 use Rattle.cluster_file.specs.ClusterFile.{ClusterRecord, cluster_of}
@@ -19,11 +19,11 @@ use Rattle.oathd_memory.specs.declared.fault.Fault.{Fault}
 use Rattle.oathd_memory.specs.declared.fault.Fault.TheVariants.{Run, Sim, Cluster, CannotReadFile, NoDatabases, KeyPath}
 use Rattle.oathd_memory.specs.declared.setup.NodesSetup.{NodesSetup}
 
--- A key is that of the file that is named, of which nothing is said; where none is named it is 32 zeros.
+-- The key is in a key file, which may have any, or it is 32 zeros without a path.
 abbrev pub IsKeyOf : {A : Type 0} → Option A → List ℕ → Type 0
 IsKeyOf path key = IfNone path (key ≡ replicate 32 0)
 
--- a fault is one of a key: its file can't be read, or has none, or the memory fails
+-- the fault is one of a key: its file cannot be read or has none, or the allocator refused the memory
 abbrev pub IsOfKey : Fault → Type 0
 IsOfKey (Run lines.Memory) = Unit {0}
 IsOfKey (Run (lines.BadKey fault)) = Unit {0}
@@ -31,19 +31,19 @@ IsOfKey (CannotReadFile path) = Unit {0}
 IsOfKey KeyPath = Unit {0}
 IsOfKey fault = ⊥
 
--- ---- What nodes are run with
+-- ---- The setup of nodes
 
--- what the code has
+-- the record of a value of the code
 abbrev pub setup_value : NodesSetup → Setup
 setup_value setup =
     record { nodes = setup.nodes; limits = setup.settings; moment = setup.moment; key = setup.key }
 
--- there are 1 to 9 nodes, and the moment is in its range
+-- The number of nodes is 1 to 9, and the moment is in its range.
 abbrev pub IsSetupInRange : Setup → Type 0
 IsSetupInRange setup = (1 ≤ setup.nodes) × (setup.nodes ≤ 9) × IsMoment setup.moment
 
--- Nodes are run with this, with the users imported at a moment: with what the words give, and the key of the file that
--- is named or 32 zeros; or with what the text of a cluster file says, and its key.
+-- The setup of nodes whose users are imported at a moment. From the words, its key is in the key file or is 32 zeros.
+-- From the text of a cluster file, its key is the cluster's.
 abbrev pub IsSetup : NodesWords → ℕ → List ℕ → Setup → Type 0
 IsSetup (Given count settings path) moment text setup =
     (key : List ℕ) × IsKeyOf path key
@@ -52,13 +52,12 @@ IsSetup (Named path) moment text setup =
     (cluster : ClusterRecord) × (cluster_of text ≡ Ok cluster) × (key : List ℕ) × IsKeyIn cluster.key key
     × (setup ≡ record { nodes = length cluster.members; limits = cluster.settings; moment = moment; key = key })
 
--- a fault is one of what nodes are run with: one of the key, or the first of the cluster file that is named
+-- the fault is one of a setup: of the key, or the first one of the cluster file
 abbrev pub IsOfSetup : NodesWords → List ℕ → Fault → Type 0
 IsOfSetup (Given count settings path) text fault = IsOfKey fault
 IsOfSetup (Named path) text fault = IsOfKey fault ⊎ IsOfClusterFile text fault
 
--- A command over nodes ends so: as it does with what the nodes are run with, or with a fault of that, and nothing is
--- written.
+-- The end of a command over nodes: the one that its setup demands, or a fault of the setup, and nothing is written.
 abbrev pub EndsWithSetup : NodesWords → ℕ → List ℕ → (Setup → Type 0) → Result Unit Fault
     → Option (List ℕ) → Option (List ℕ) → Type 0
 EndsWithSetup nodes moment text EndsWith result old new =
@@ -67,7 +66,7 @@ EndsWithSetup nodes moment text EndsWith result old new =
 
 -- ---- The commands
 
--- The command `lines` ends so over its input, where that is known, and its output: as the run over that input does.
+-- The end of the command `lines`, if its input is known: it ends as the run over the input does.
 abbrev pub LinesEndSo : Setup → Option (List ℕ) → Result Unit Fault → Option (List ℕ) → Option (List ℕ) → Type 0
 LinesEndSo setup input (Ok done) old new =
     IfSome input (λ text. EndsSo (run_of_input setup.limits setup.moment text) (Ok tt) old new)
@@ -75,7 +74,7 @@ LinesEndSo setup input (Err (Run fault)) old new =
     IfSome input (λ text. EndsSo (run_of_input setup.limits setup.moment text) (Err fault) old new)
 LinesEndSo setup input (Err fault) old new = ⊥
 
--- The command `sim` ends so over its input, where that is known, and its output: as the simulation does.
+-- The end of the command `sim`, if its input is known: it ends as the simulation does.
 abbrev pub SimEndsSo : Setup → Option (List ℕ) → Result Unit Fault → Option (List ℕ) → Option (List ℕ) → Type 0
 SimEndsSo setup input (Ok done) old new =
     IfSome input (λ text. sim.EndsSo (sim.sim_of setup 16777216 16777216 text) (Ok tt) old new)
@@ -87,8 +86,8 @@ SimEndsSo setup input (Err fault) old new = ⊥
 abbrev pub lines_read : ℕ → List ℕ → LinesRead
 lines_read nodes text = node_lines nodes 1 (lines_of 16777216 (take (16777216 + 1) text))
 
--- The command `cluster` ends so over its input, where that is known, and its output: with a line for each of the
--- input's. Where no users file could be had, nothing is written.
+-- The end of the command `cluster`, if its input is known: it writes a line for each line of the input. Without a
+-- readable users file, nothing is written.
 abbrev pub ClusterEndsSo : ℕ → Option (List ℕ) → Result Unit Fault → Option (List ℕ) → Option (List ℕ) → Type 0
 ClusterEndsSo nodes input (Ok done) old new =
     IfSome input (λ text. cluster.EndsSo (lines_read nodes text) (Ok tt) old new)
@@ -97,13 +96,13 @@ ClusterEndsSo nodes input (Err (Cluster fault)) old new =
 ClusterEndsSo nodes input (Err (CannotReadFile path)) old new = new ≡ old
 ClusterEndsSo nodes input (Err fault) old new = ⊥
 
--- The command `secret` ends so over its output: with the text of the secret, or with its fault; or the output failed.
+-- The end of the command `secret`: the text of the secret, its fault, or a failure of the output.
 abbrev pub SecretEndsSo : List ℕ → Result Unit Fault → Option (List ℕ) → Option (List ℕ) → Type 0
 SecretEndsSo hex (Ok done) old new = EndsWithText hex (Ok tt) old new
 SecretEndsSo hex (Err (Run fault)) old new = (fault ≡ lines.CannotWrite) ⊎ EndsWithText hex (Err fault) old new
 SecretEndsSo hex (Err fault) old new = ⊥
 
--- What is asked for ends so, with this text of the cluster file that is named. Nothing is done with a database.
+-- The end of a task, with the text of the cluster file that it names. A task over a database does nothing.
 abbrev pub EndsAsAsked : Task → List ℕ → Option (List ℕ) → Result Unit Fault
     → Option (List ℕ) → Option (List ℕ) → Type 0
 EndsAsAsked (Lines nodes moment) text input result old new =

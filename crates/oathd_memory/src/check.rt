@@ -1,4 +1,4 @@
-//! The command `check`: what the members of a cluster have to share.
+//! The command `check`: prints what the members of a cluster have to share.
 
 ghost use Rattle.std.specs.Prelude.{◌≡◌, IfOk, IfSome};
 ghost use Rattle.cluster_file.specs.Check.{check_text};
@@ -17,7 +17,7 @@ use std::rt::Files;
 use token_file::{Book, FileFault, FromRead, read_book};
 use vote_wire::ClusterKey;
 
-/// The tokens of a users file, as a node with these settings reads it.
+/// Returns the tokens of a users file, as a node with these settings reads them.
 fn tokens_of<R: Read + Drop>(alloc: Global, users: R, settings: Settings) -> Result<Book, FileFault>
     ensures { IfOk result (λ book. IfSome (R.remaining users) (HasTokens settings book)) }
 {
@@ -28,8 +28,8 @@ fn tokens_of<R: Read + Drop>(alloc: Global, users: R, settings: Settings) -> Res
     }
 }
 
-/// Writes what two sites compare of a cluster with this key and book, with the fingerprint of its shared key. The
-/// output holds back what it is given until it is flushed.
+/// Writes what two sites of a cluster compare, with the fingerprint of the shared key. `held` buffers the output until
+/// it is flushed.
 fn write_checked<O: Write>(
     alloc: Global,
     key: &ClusterKey,
@@ -50,7 +50,7 @@ fn write_checked<O: Write>(
     Ok(())
 }
 
-/// Reads the users of a cluster with this key, and writes what its members have to share.
+/// Reads the users of a cluster, and writes what its members have to share.
 fn check_users<'a, R: Read + Drop, O: Write>(
     alloc: Global,
     key: &ClusterKey,
@@ -71,8 +71,9 @@ fn check_users<'a, R: Read + Drop, O: Write>(
     }
 }
 
-/// Reads what the text of a cluster file says, its key, and the users file at this path, and writes what the members
-/// have to share. The output holds back what it is given until it is flushed.
+/// Reads a cluster from the text of its file, its key and the users file, and writes what the members have to share.
+///
+/// `held` buffers the output until it is flushed.
 pub(crate) fn check<'a, F: Files, O: Write>(
     alloc: Global,
     files: &F,

@@ -1,4 +1,4 @@
-//! A cluster file that is named, and the key that it names.
+//! Reads a cluster file, and the key that it gives or names.
 
 ghost use Rattle.std.specs.Prelude.{◌≡◌, ◌≤◌, ◌<◌, [], length, IfErr, IfOk, None};
 ghost use Rattle.cluster_file.specs.ClusterFile.{cluster_of, cluster_value};
@@ -16,11 +16,11 @@ use std::str;
 use vote_core::Place;
 use vote_wire::ClusterKey;
 
-/// The text of the cluster file with this path, up to the first byte that it may not have, or no text where none is
-/// named.
+/// Returns the text of the cluster file at `path`, up to the first byte past 65,536. Returns no text without a path.
 ///
 /// # Errors
-/// `CannotReadFile` where it can't be opened or read, and `Run(Memory)`.
+/// - Returns `CannotReadFile` if the file cannot be opened or read.
+/// - Returns `Run(Memory)` if the allocator refuses the memory.
 pub fn cluster_text<'a, F: Files>(
     alloc: Global,
     files: &F,
@@ -35,10 +35,11 @@ pub fn cluster_text<'a, F: Files>(
     }
 }
 
-/// The cluster that the text of a cluster file says.
+/// Returns the cluster that the text of a cluster file describes.
 ///
 /// # Errors
-/// `ClusterFile` with the first fault of the text, and `Run(Memory)`.
+/// - Returns `ClusterFile` with the first fault of the text.
+/// - Returns `Run(Memory)` if the allocator refuses the memory.
 pub fn cluster_in(alloc: Global, text: &[u8]) -> Result<Cluster<'_>, Fault<'_>>
     ensures cluster { IfOk result (λ cluster. cluster_of text.now ≡ Ok (cluster_value cluster)) }
     ensures members { IfOk result (λ cluster.
@@ -57,17 +58,18 @@ pub fn cluster_in(alloc: Global, text: &[u8]) -> Result<Cluster<'_>, Fault<'_>>
     }
 }
 
-/// A key once more.
+/// Copies a key.
 fn same_key(key: &ClusterKey) -> ClusterKey
     ensures { result ≡ key.now }
 {
     ClusterKey::new(key.as_slice()).unwrap()
 }
 
-/// The key of a cluster: the one that its file gives, or that of the file that it names.
+/// Returns the key of a cluster: the key in its file, or in the key file that it names.
 ///
 /// # Errors
-/// Those of [`read_key`], and `KeyPath` where the path is not UTF-8.
+/// - Returns `KeyPath` if the path is not UTF-8.
+/// - Returns the errors of [`read_key`].
 pub fn cluster_key<'t, F: Files>(
     alloc: Global,
     files: &F,
@@ -85,10 +87,10 @@ pub fn cluster_key<'t, F: Files>(
     }
 }
 
-/// Which member of a cluster the node with this number is.
+/// Returns the place of the node `node` among the members of a cluster.
 ///
 /// # Errors
-/// `NoMember` where the cluster has fewer members.
+/// Returns `NoMember` if the cluster has fewer members.
 pub fn member_place<'a>(cluster: &Cluster<'_>, node: u8) -> Result<Place, Fault<'a>>
     requires { 1 ≤ node }
     ensures place { IfOk result (λ place. place ≡ record { me = node; n = length cluster.now.members.items }) }

@@ -19,8 +19,9 @@ use std::net::Net;
 use std::rt::Files;
 use token_file::MAX_FILE_LEN;
 
-/// Answers the lines of the input by a node that is run with this. The output holds back what it is given until it is
-/// flushed. That happens before more of the input is waited for, and at the end, whatever that is.
+/// Answers the lines of the input by a node with this setup.
+///
+/// `held` buffers the output. It is flushed before the command waits for more input, and at every end.
 fn answer_lines<'a, R: Read, O: Write>(
     alloc: Global,
     setup: &NodesSetup,
@@ -46,8 +47,7 @@ fn answer_lines<'a, R: Read, O: Write>(
     }
 }
 
-/// Prints a secret in base32, over an output that holds back what it is given until it is flushed. That happens at the
-/// end, whatever that is.
+/// Prints a secret in base32. `held` buffers the output. It is flushed at every end.
 fn print<O: Write>(hex: &str, held: &mut O) -> Result<(), oathd_lines::Fault>
     ensures ends { (result ≡ Err CannotWrite)
         ⊎ EndsWithText hex.now result (O.contents held.old) (O.contents held.new) }
@@ -56,8 +56,7 @@ fn print<O: Write>(hex: &str, held: &mut O) -> Result<(), oathd_lines::Fault>
     flushed(held, end)
 }
 
-/// Runs the script of the input over nodes that are run with this. The output holds back what it is given until it is
-/// flushed.
+/// Runs the script of the input over nodes with this setup. `held` buffers the output until it is flushed.
 fn simulate<'a, R: Read, O: Write>(
     alloc: Global,
     setup: &NodesSetup,
@@ -84,8 +83,10 @@ fn simulate<'a, R: Read, O: Write>(
     }
 }
 
-/// Runs a cluster of nodes that are run with this, over the users file at this path, and sends it the lines of the
-/// input. The output holds back what it is given until it is flushed.
+/// Runs a cluster of nodes with this setup over the users file at the path `users`, and sends it the lines of the
+/// input.
+///
+/// `held` buffers the output until it is flushed.
 fn run_nodes<'a, F: Files + Net, R: Read, O: Write>(
     alloc: Global,
     files: &F,
@@ -119,11 +120,13 @@ fn run_nodes<'a, F: Files + Net, R: Read, O: Write>(
     }
 }
 
-/// Does what is asked for, but nothing with a database, with the text of the cluster file that the task names. The
-/// output holds back what it is given until it is flushed.
+/// Carries out a task that needs no database, with the text of the cluster file that it names.
+///
+/// `held` buffers the output until it is flushed.
 ///
 /// # Errors
-/// What ends the command before its time, and `NoDatabases` where a command over a database is asked for.
+/// - Returns `NoDatabases` for a command over a database.
+/// - Returns the fault that ends the command.
 pub fn perform<'a, F: Files + Net, R: Read, O: Write>(
     alloc: Global,
     files: &F,

@@ -2,22 +2,22 @@ use cluster_file::ClusterFault;
 use program_edge::{OutsideFault, ProgramFault};
 use thiserror::Error;
 
-/// What ends a command that keeps nothing before its time. The text lacks the program's name.
+/// A fault that ends a command without a database. Its text lacks the program's name.
 #[derive(Clone, Copy, Debug, PartialEq, Eq, Error)]
 pub enum Fault<'a> {
-    /// A run over the input ends so, or the words can't be had, or the key is bad.
+    /// A fault of a run over the input, of reading the words, or of the key.
     #[error("{0}")]
     Run(oathd_lines::Fault),
-    /// A simulation ends so.
+    /// A fault of a simulation.
     #[error("{0}")]
     Sim(oathd_sim::Fault),
-    /// A cluster ends so.
+    /// A fault of a cluster.
     #[error("{0}")]
     Cluster(oathd_cluster::Fault),
-    /// The file with this path can't be read.
+    /// The file at this path cannot be read.
     #[error("cannot read {0}")]
     CannotReadFile(&'a str),
-    /// A command over a database is asked of a program that has none.
+    /// The command needs a database, and this program has none.
     #[error("no databases")]
     NoDatabases,
     /// The cluster file has a fault.

@@ -14,10 +14,10 @@ use std::io::{ErrorKind, Read};
 use std::rt::Files;
 use vote_wire::ClusterKey;
 
-/// The most bytes of a key file, of which the longest key has 128, and of a cluster file.
+/// The maximum number of bytes of a key file or a cluster file. The longest key has 128 digits.
 pub(crate) const MAX_KEY_FILE_LEN: u32 = 65_536;
 
-/// The key that the text of a file says: hexadecimal digits, and at most one LF behind them.
+/// Reads the key in the text of a file: hexadecimal digits, and at most one LF after them.
 fn key_of(text: &[u8]) -> Result<ClusterKey, SecretFault>
     ensures fault { result_err result ≡ key_refusal_of (without_lf text.now) }
     ensures value { IfOk result (λ key. decode_of (without_lf text.now) ≡ Ok key) }
@@ -25,17 +25,18 @@ fn key_of(text: &[u8]) -> Result<ClusterKey, SecretFault>
     ClusterKey::read(without_lf(text))
 }
 
-/// The key of 32 zeros, which is every cluster's that is given none.
+/// Returns the key of 32 zeros, which stands for a missing key.
 fn key_of_zeros() -> ClusterKey
     ensures { result ≡ replicate 32 0 }
 {
     ClusterKey::new(&[0; 32]).unwrap()
 }
 
-/// The text of the file with this path, up to the first byte past so many.
+/// Returns the text of the file at `path`, up to the first byte past `most`.
 ///
 /// # Errors
-/// `CannotReadFile` where it can't be opened or read, and `Run(Memory)`.
+/// - Returns `CannotReadFile` if the file cannot be opened or read.
+/// - Returns `Run(Memory)` if the allocator refuses the memory.
 pub fn file_text<'a, F: Files>(
     alloc: Global,
     files: &F,
@@ -57,11 +58,12 @@ pub fn file_text<'a, F: Files>(
     }
 }
 
-/// The key of the file with this path, or 32 zeros where none is named. A file of more than 65,536 bytes is too long.
+/// Returns the key in the file at `path`, or 32 zeros without a path. A file of more than 65,536 bytes is too long.
 ///
 /// # Errors
-/// `CannotReadFile` where the file can't be opened or read, `Run(Memory)` where no memory is left for its text, and
-/// `Run(BadKey)` where that is no key of 16 to 64 bytes in hexadecimal, with at most one LF at its end.
+/// - Returns `CannotReadFile` if the file cannot be opened or read.
+/// - Returns `Run(Memory)` if the allocator refuses the memory for its text.
+/// - Returns `Run(BadKey)` if the text is not a key of 16 to 64 bytes in hexadecimal, with at most one LF at its end.
 pub fn read_key<'a, F: Files>(
     alloc: Global,
     files: &F,

@@ -16,8 +16,7 @@ ghost use Rattle.oathd_memory.specs.Check.{CheckEndsSo, HasChecked, HasTokens, I
 ghost use Rattle.oathd_memory.specs.Nodes.{ClusterEndsSo, EndsAsAsked, EndsWithSetup, IsKeyOf, IsOfKey, IsOfSetup, IsSetup, LinesEndSo, SecretEndsSo, SimEndsSo};
 ghost use Rattle.oathd_memory.specs.declared.fault.Fault.TheVariants.{CannotReadFile, Cluster, KeyPath, NoDatabases, NoMember, Run, Sim};
 
-/// What is promised of a key, and of why none is had, holds of the least that keeps it, and is broken by the least that
-/// doesn't.
+/// Counterexamples: each promise of a key, and of the reason why there is none, fails for a minimal one.
 pub fn keys_can_be_broken()
     ensures key_of { IsKeyOf no_path (replicate 32 0) × IsKeyOf (Some (codes "k")) [] }
     ensures key_of_31_zeros { IsKeyOf no_path (replicate 31 0) → ⊥ }
@@ -49,7 +48,7 @@ pub fn keys_can_be_broken()
         × (IsOfSetup named_nodes [] NoDatabases → ⊥) }
 {}
 
-/// What nodes are run with is what the words or the cluster file say: with each number changed alone it isn't.
+/// Counterexamples: the words or the cluster file determine the setup of nodes. Any other number in it is wrong.
 pub fn setups_can_be_broken()
     ensures given { IsSetup (given_nodes 2) 5 [] usual_setup × IsSetup nodes_with_key 5 [] (keyed [] usual_setup) }
     ensures given_nodes { IsSetup (given_nodes 2) 5 [] (setup_of 3 default_limits 5) → ⊥ }
@@ -64,7 +63,7 @@ pub fn setups_can_be_broken()
     ensures named_moment { IsSetup named_nodes 5 small_text (setup_of 1 default_limits 6) → ⊥ }
     ensures named_key { IsSetup named_nodes 5 keyed_text (setup_of 1 default_limits 5) → ⊥ }
 
-    // a command ends as with that, or with a fault of that
+    // a command ends as its setup demands, or with a fault of the setup
     ensures ends { EndsGiven (λ setup. setup ≡ usual_setup) done [] }
     ensures ends_with_another { EndsGiven (λ setup. setup ≡ setup_of 3 default_limits 5) done [] → ⊥ }
     ensures ends_with_none { EndsGiven (λ setup. ⊥) done [] → ⊥ }
@@ -75,8 +74,7 @@ pub fn setups_can_be_broken()
     ensures ends_named_at_another_line { EndsNamed [] (λ setup. ⊥) (ended_by (file_fault 2 NoMembers)) [] → ⊥ }
 {}
 
-/// What a check has read and written holds of the least that keeps it, and each part is broken by the least that keeps
-/// all others.
+/// Counterexamples: each promise of what a check reads and writes fails for a minimal one.
 pub fn checks_can_be_broken()
     ensures tokens { HasTokens default_limits [] [] × HasTokens default_limits one_token (codes "HOTP a - 31") }
     ensures tokens_of_nothing { HasTokens default_limits one_token [] → ⊥ }
@@ -101,8 +99,7 @@ pub fn checks_can_be_broken()
     ensures checks_no_key_and_writes { CheckEndsSo small_text (ended_by KeyPath) (Some []) (Some (codes "x")) → ⊥ }
 {}
 
-/// What is promised of the end of each command holds of the least that keeps it, and each part is broken by the least
-/// that keeps all others.
+/// Counterexamples: each promise of a command's end fails for a minimal one.
 pub fn ends_can_be_broken()
     ensures lines { LinesEndSo usual_setup (Some []) done (Some []) (Some []) }
     ensures lines_write_more { LinesEndSo usual_setup (Some []) done (Some []) (Some (codes "\n")) → ⊥ }
@@ -161,7 +158,7 @@ pub fn ends_can_be_broken()
         × (SecretEndsSo (codes "00") (ended_by (Sim sims.Memory)) (Some []) (Some []) → ⊥) }
 {}
 
-/// What is asked for ends as that command does, with its own words.
+/// Counterexamples: a task ends as its own command does, with its own words.
 pub fn tasks_can_be_broken()
     ensures lines { EndsAsAsked (tasks.Lines (given_nodes 1) 150) [] (Some (time_line (codes "254676"))) done
         (Some []) (Some (codes "NO 1 INVALID\n")) }

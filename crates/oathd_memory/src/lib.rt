@@ -1,7 +1,7 @@
-//! The commands of `oathd` that keep nothing between two runs: `lines`, `sim`, `cluster`, `check` and `secret`.
+//! The commands of `oathd` without a database: `lines`, `sim`, `cluster`, `check` and `secret`.
 //!
-//! [`perform`] does what the words of the program ask for, over an input and an output; a [`Fault`] ends it before its
-//! time. The commands over a database are none of this crate, so that a program without them needs none of SQLite.
+//! They keep nothing between two runs. [`perform`] carries out a task over an input and an output; a [`Fault`] ends it.
+//! The commands over a database are in other crates, so that a program without them needs no SQLite.
 #![tactic(auto)]
 
 mod check;

@@ -1,4 +1,4 @@
-//! What the nodes of a command are run with.
+//! The parameters of a command's nodes.
 
 ghost use Rattle.std.specs.Prelude.{IfErr, IfOk};
 ghost use Rattle.otp_core.specs.Range.{IsMoment};
@@ -14,22 +14,25 @@ use std::alloc::Global;
 use std::rt::Files;
 use vote_wire::ClusterKey;
 
-/// What the nodes of a command are run with.
+/// The parameters of a command's nodes.
 #[derive(Drop)]
 pub(crate) struct NodesSetup {
-    /// How many nodes there are: 1 to 9.
+    /// The number of nodes: 1 to 9.
     pub(crate) nodes: u8,
     pub(crate) settings: Settings,
-    /// The moment at which the users are imported, in seconds since 1970-01-01 00:00:00 UTC: 0 to 1099511627775.
+    /// The moment of the users' import, in seconds since 1970-01-01 00:00:00 UTC: 0 to 1099511627775.
     pub(crate) moment: u64,
     pub(crate) key: ClusterKey,
 }
 
-/// What nodes are run with whose users are imported at a moment: what the words give, and the key of the file that is
-/// named, or 32 zeros; or what the text of the cluster file says that is named, and its key.
+/// Returns the setup of nodes whose users are imported at `moment`, from the words or from the cluster file.
+///
+/// With the words, the key is in the key file, or is 32 zeros. With the text of a cluster file, the key is the
+/// cluster's.
 ///
 /// # Errors
-/// Those of [`read_key`], and those of [`cluster_in`] and [`cluster_key`] where a cluster file is named.
+/// - Returns the errors of [`read_key`] without a cluster file.
+/// - Returns the errors of [`cluster_in`] and [`cluster_key`] with a cluster file.
 pub(crate) fn nodes_setup<'a, F: Files>(
     alloc: Global,
     files: &F,

@@ -1,4 +1,4 @@
--- Simulations, each of which breaks a part of a promise. No contract cites them.
+-- Minimal simulations that keep or break one part of a promise. No contract cites them.
 use Rattle.std.specs.Prelude.{ℕ, List, codes}
 use Rattle.otp_core.specs.Limits.{default_limits}
 use Rattle.token_file.specs.declared.fault.FileFault.{FileFault}
@@ -10,10 +10,10 @@ use Rattle.oathd_sim.specs.declared.fault.Fault.{Fault}
 abbrev pub fault_at : ℕ → LineFault → FileFault
 fault_at line kind = record { line = line; kind = kind }
 
--- an input of 99 bytes at most is not read for this fault
+-- an input of at most 99 bytes is not read because of the fault
 abbrev pub IsUnreadFor : List ℕ → Fault → Type 0
 IsUnreadFor text fault = IsUnread default_limits 0 99 99 text fault
 
--- an input of no user, and of a script of one line behind it
+-- an input without users, and with a script of one line
 abbrev pub one_tick : List ℕ
 one_tick = codes "#\n%%\ntick 1"

@@ -1,4 +1,4 @@
--- The two parts of an input, as they are read; private contracts alone cite what stands here.
+-- The two parts of an input. Private contracts alone cite this file.
 use Rattle.std.specs.Prelude.{◌≡◌, ℕ, Bool, List, Ok, Err, IsTrue}
 use Rattle.otp_core.specs.Limits.{Limits}
 use Rattle.token_file.specs.Credential.{Credential}
@@ -10,14 +10,14 @@ use Rattle.oathd_sim.specs.Sim.{Sim, BadScript, import_read}
 use Rattle.oathd_sim.specs.declared.fault.Fault.{Fault}
 use Rattle.oathd_sim.specs.declared.fault.Fault.TheVariants.{Memory, CannotRead, CannotWrite, Users, ScriptLine}
 
--- what is read of an input is this users file, and this script behind it, which the limit may cut, from the line with
--- a number on
+-- What was read of an input is this users file and this script, from the line `first` on. The limit may have cut the
+-- script.
 pub record HasParts (limits : Limits) (moment longest limit : ℕ) (read : List ℕ) (book : List Credential)
     (floors : List ℕ) (first : ℕ) (script : List ℕ) (is_cut : Bool) : Type 0 where
   pub import : import_read limits moment longest limit read ≡ Ok (import_of book floors)
   pub rest : numbered first (lines_between is_cut (pieces_of script)) ≡ rest_behind 0 (lines_of limit read)
 
--- the two parts aren't read for this fault
+-- The two parts are not read because of the fault.
 abbrev pub IsUnread : Limits → ℕ → ℕ → ℕ → List ℕ → Fault → Type 0
 IsUnread limits moment longest limit read Memory = Unit {0}
 IsUnread limits moment longest limit read CannotRead =
@@ -29,7 +29,7 @@ IsUnread limits moment longest limit read (Users fault) =
     → IsCutOff Read longest (instant_of limits moment) (users_file (lines_of limit read) read) fault.line)
 IsUnread limits moment longest limit read (ScriptLine number) = ⊥
 
--- a simulation is given up for this fault
+-- A simulation is abandoned because of the fault.
 abbrev pub IsGivenUp : Sim → Fault → Type 0
 IsGivenUp sim Memory = Unit {0}
 IsGivenUp sim (ScriptLine number) = sim ≡ BadScript number

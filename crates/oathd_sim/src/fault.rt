@@ -7,10 +7,10 @@ use thiserror::Error;
 use token_file::FileFault;
 use users_input::{InputFault, UsersFault};
 
-/// What ends a simulation before its time. The text lacks the program's name.
+/// A fault that ends a simulation. Its text lacks the program's name.
 #[derive(Clone, Copy, Debug, PartialEq, Eq, Error)]
 pub enum Fault {
-    /// An allocation was refused.
+    /// The allocator refused the memory.
     #[error("out of memory")]
     Memory,
     /// Standard input failed.

@@ -21,7 +21,7 @@ ghost use Rattle.sim_script.specs.Event.{empty_script, eventful};
 ghost use Rattle.oathd_sim.specs.Sim.{BadScript, EndsSo, IsTaken, Refused, Reports};
 ghost use Rattle.oathd_sim.specs.Sim.{event_under, output_of, script_events, script_read, sim_of, sim_of_script};
 
-/// Scripts in whole inputs, whose lines are numbered from 1 with the users file and `%%` among them.
+/// Worked cases. Scripts in whole inputs: lines are numbered from 1, and the users file and `%%` count.
 pub fn scripts_are_worked()
     ensures good { script_read 3 99 (codes "#\n%%\ntick 1") ≡ Ok (eventful (Happens (Ticks 1) ∷ [])) }
     ensures after_users { script_read 3 99 (codes "#\n\n%%\ntick 1\ntick\n") ≡ Err 5 }
@@ -39,14 +39,14 @@ pub fn scripts_are_worked()
     ensures cut_after_marker { script_read 3 3 (codes "%%\ntick 1\n# b") ≡ Err 2 }
 {}
 
-/// What is printed over some inputs, and what a script says of nodes under a key.
+/// Worked cases. Outputs of simulations, and a script's events under a key.
 pub fn simulations_are_worked()
-    // no step up to the skew behind that of the import is free
+    // no step up to the import's step and the skew is free
     ensures moment { printed_at_step_5 1 (codes "254676") ≡ codes "answer 0 1 7 NO 1 INVALID\nsent 0\n" }
     ensures skew_of_the_nodes { printed_at_step_5 0 (codes "287922") ≡ codes "answer 0 1 7 NO 1 INVALID\nsent 0\n" }
     ensures skew_of_the_import { printed_at_step_5 3 (codes "162583") ≡ codes "answer 0 1 7 NO 1 INVALID\nsent 0\n" }
 
-    // one byte past the limit is read, and the line that goes on there is bad
+    // one byte past the limit is read, and a line that continues there is bad
     ensures at_the_limit { output_of (sim_of (one_node []) 99 18 line_of_15)
         ≡ codes "answer 0 1 7 NO - BADLINE\nsent 0\n" }
     ensures past_the_limit { sim_of (one_node []) 99 17 line_of_15 ≡ BadScript 2 }
@@ -69,7 +69,7 @@ pub fn simulations_are_worked()
         ∷ world.Cut false (world.Ticks 1) ∷ world.Restart 1 ∷ world.Lost 1 ∷ world.Anew 1 2 (3 ∷ []) ∷ [] }
 {}
 
-/// What each fault below is for a simulation.
+/// Worked cases. A simulation's fault for each fault of its parts.
 pub fn faults_are_worked()
     ensures inputs { map input_fault_of (input.Memory ∷ input.CannotRead ∷ []) ≡ Memory ∷ CannotRead ∷ [] }
     ensures users { map users_fault_of (users.Memory ∷ users.File (fault_at 2 MissingField) ∷ [])
@@ -77,8 +77,8 @@ pub fn faults_are_worked()
     ensures scripts { map script_fault_of (script.Memory ∷ script.Line 4 ∷ []) ≡ Memory ∷ ScriptLine 4 ∷ [] }
 {}
 
-/// What is promised of the end of a simulation, of the parts of an input and of a fault in the midst of its users file
-/// is broken by what differs the least.
+/// Counterexamples: each promise of a simulation's end, of an input's parts, and of a failure within its users file
+/// fails for a minimal one.
 pub fn promises_can_be_broken()
     ensures reported { (report : ReportValue) →
         EndsSo (Reports report) (Ok tt) (Some []) (Some (report_text report)) }

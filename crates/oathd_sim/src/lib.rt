@@ -1,5 +1,6 @@
-//! What the command `sim` of `oathd` does, over any reader and writer: it runs a script of what happens to the nodes of
-//! a cluster, behind a users file, and prints what the run tells.
+//! The command `sim` of `oathd`, over any reader and writer.
+//!
+//! It reads a users file and a script of what happens to the nodes of a cluster, runs the script, and prints a report.
 //!
 //! ```rust
 //! use oathd_sim::run_sim;

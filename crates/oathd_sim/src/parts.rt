@@ -14,16 +14,16 @@ use users_input::{Input, LimitedText, UsersFile};
 pub(crate) struct Parts {
     /// The tokens of the users file.
     pub(crate) book: Book,
-    /// Their first free factors.
+    /// The floors of the tokens (floor: the first free factor).
     pub(crate) floors: Vec<Next>,
-    /// What stands behind the users file.
+    /// The text after the users file and `%%`.
     pub(crate) script: LimitedText,
-    /// The number of its first line, from 1 in the whole input.
+    /// The number of the script's first line, from 1 in the whole input.
     pub(crate) first: u64,
     ghost each: { length floors.items ≡ length book },
 }
 
-/// Reads a users file, and the script behind it.
+/// Reads a users file and the script after it.
 pub(crate) fn read_parts<B: BufRead + Drop>(
     alloc: Global,
     settings: Settings,

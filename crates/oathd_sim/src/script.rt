@@ -8,27 +8,27 @@ use bumpalo::Bump;
 use sim_script::{Script, ScriptFault, read_script};
 use std::alloc::Global;
 
-/// How many lines a text has, of which the last may be empty.
+/// Returns the number of lines of a text. The last one may be empty.
 fn line_count(text: &[u8]) -> u64
     ensures { result ≡ count_by (λ byte. byte == 10) text.now + 1 }
 {
     text.iter().filter(|byte| **byte == b'\n').count() as u64 + 1
 }
 
-/// The fault of a bad line of a script whose first line has a number in its input, by the line's number in the script.
+/// Returns the fault of the script's line `number`, in a script whose first line is the line `first` of the input.
 fn bad_line(first: u64, number: u64) -> ScriptFault
     requires { 1 ≤ number }
     ensures { IsRefused (Err (first + (number - 1))) result }
 {
     match first.checked_add(number - 1) {
         Some(number) => ScriptFault::Line(number),
-        // No input has so many lines.
+        // No input has this many lines.
         None => ScriptFault::Memory,
     }
 }
 
-/// What a script says of the given number of nodes, where its last line may be cut, and its first line has a number in
-/// its input. A line that is cut is bad.
+/// Reads a script for `nodes` nodes, whose first line is the line `first` of the input. If the last line is cut, it is
+/// bad.
 pub(crate) fn read_lines<'a>(
     alloc: Global,
     arena: &'a Bump,

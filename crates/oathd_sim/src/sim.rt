@@ -27,7 +27,7 @@ use token_file::Book;
 use users_input::{Input, Retrying};
 use vote_wire::ClusterKey;
 
-/// So many lists of the same first free factors.
+/// Returns `count` copies of a list of floors (floor: the first free factor).
 fn copies(alloc: Global, floors: &[Next], count: u8) -> Result<Vec<Vec<Next>>, Fault>
     ensures same { IfOk result (λ lists. map (λ list. list.items) lists.items ≡ replicate count floors.now) }
     ensures fault { IfErr result (λ fault. fault ≡ Fault.Memory) }
@@ -39,7 +39,7 @@ fn copies(alloc: Global, floors: &[Next], count: u8) -> Result<Vec<Vec<Next>>, F
     Ok(lists)
 }
 
-/// What a run of a script tells, over nodes with these first free factors.
+/// Returns the report of a script, over nodes with these floors.
 fn run_script(
     alloc: Global,
     book: &Book,
@@ -75,7 +75,7 @@ fn run_script(
     )?)
 }
 
-/// What a run of the script tells, over so many nodes that open with the first free factors of the users file.
+/// Returns the report of a script, over `nodes` nodes that open with the floors of the users file.
 fn report_on(
     alloc: Global,
     nodes: u8,
@@ -110,7 +110,7 @@ fn report_on(
     run_script(alloc, &parts.book, settings, key, &floors, &script)
 }
 
-/// Writes what a run tells, and flushes it.
+/// Writes a report and flushes.
 fn print_report<W: Write>(writer: &mut W, report: &Report) -> Result<(), Fault>
     ensures written { OnOk result (Appends (W.contents writer.old) (W.contents writer.new) (report_text report.now)) }
     ensures fault { IfErr result (λ fault. fault ≡ Fault.CannotWrite) }
@@ -119,7 +119,7 @@ fn print_report<W: Write>(writer: &mut W, report: &Report) -> Result<(), Fault>
     writer.flush().map_err(|_| Fault::CannotWrite)
 }
 
-/// Reads a users file and a script, runs the script, and writes what the run tells.
+/// Reads a users file and a script, runs the script, and writes the report.
 fn simulate<B: BufRead + Drop, W: Write>(
     alloc: Global,
     nodes: u8,
@@ -143,17 +143,21 @@ fn simulate<B: BufRead + Drop, W: Write>(
     print_report(writer, &report)
 }
 
-/// Reads a users file, a line `%%` and a script of what happens to the nodes of a cluster, runs it over so many nodes,
-/// 1 to 9, each of which opens with the first free factors of the users file, and writes what the run tells, and
-/// flushes it. Run are the events of the script, and then a round for each further line, among its live members.
-/// Nothing is written unless the whole script is good. At most `limit` bytes are read, and one more, which tells that
-/// the input goes on: then the line that the limit cuts is bad. The users are imported at the moment given, in seconds
-/// since 1970-01-01 00:00:00 UTC, 0 to 1099511627775. The script is held, and what the run tells.
+/// Reads a users file, a line `%%` and a script, runs the script over `nodes` nodes, 1 to 9, and writes the report.
+/// Flushes.
+///
+/// Each node opens with the floors of the users file. The script's events are run first, then a round among its live
+/// members for each further line. Nothing is written unless the whole script is good. At most `limit` bytes and one
+/// more are read: a line that continues past the limit is bad. The users are imported at the given moment, in seconds
+/// since 1970-01-01 00:00:00 UTC, 0 to 1099511627775. The script and the report are held in memory.
 ///
 /// # Errors
-/// `Users` where the users file has a fault, or the input fails in its midst; `CannotRead` where the input fails later;
-/// `ScriptLine` with the number, from 1 in the whole input, of the script's first bad line; `Memory`; and nothing is
-/// written then. `CannotWrite`.
+/// - Returns `Users` if the users file has a fault, or the input fails within it. Nothing is written.
+/// - Returns `CannotRead` if the input fails after the users file. Nothing is written.
+/// - Returns `ScriptLine` with the number, from 1 in the whole input, of the script's first bad line. Nothing is
+///   written.
+/// - Returns `Memory` if the allocator refuses the memory. Nothing is written.
+/// - Returns `CannotWrite` if the output fails.
 pub fn run_sim<R: Read, W: Write>(
     alloc: Global,
     nodes: u8,

@@ -1,4 +1,4 @@
--- Small values of what words ask for, each of which breaks one range or one promise. No contract cites them.
+-- Minimal examples and counterexamples of the command line's ranges and promises. No contract cites them.
 use Rattle.std.specs.Prelude.{ℕ, ◌+◌, false, List, [], ◌∷◌, ◌++◌, Option, None, codes}
 use Rattle.std.specs.Borrow.{Bor}
 use Rattle.std.specs.Global.{Vec}
@@ -31,73 +31,73 @@ file = word (codes "c")
 abbrev pub local_text : ℕ → List ℕ
 local_text port = codes "127.0.0.1:" ++ (48 + port) ∷ []
 
--- such texts with commas between them, behind a first one
+-- such texts, separated by commas
 abbrev pub local_texts : ℕ → List ℕ → List ℕ
 local_texts first [] = local_text first
 local_texts first (port ∷ ports) = local_text first ++ 44 ∷ local_texts port ports
 
 -- ---- Nodes
 
--- so many nodes are given
+-- `count` nodes, given by options
 abbrev pub given_nodes : ℕ → NodesWords
 given_nodes count = nodes.Given count default_limits None
 
--- the cluster file says which nodes there are
+-- the nodes of the cluster file
 abbrev pub named_nodes : NodesWords
 named_nodes = nodes.Named file
 
--- a cluster is given, of which the node is the first of so many members
+-- a cluster of `count` members, given by options, whose first member is the node
 abbrev pub given_cluster : ℕ → Vec SocketAddrV4 → ClusterWords
 given_cluster count members = clusters.Given default_limits (place 1 count) members (word [])
 
--- the cluster file says a cluster, of which the node has this number
+-- the cluster of the cluster file, with the node `node`
 abbrev pub named_cluster : ℕ → ClusterWords
 named_cluster node = clusters.Named node file
 
--- ---- What is done with a store
+-- ---- Actions on a store
 
--- a store is made at a moment, or at the present one, by the cluster file
+-- a creation at `moment`, or at the current time, by the cluster file
 abbrev pub init_at : Option ℕ → ℕ → Action
 init_at moment node = Init node (imports.Named file) moment
 
--- one is made with the usual settings
+-- a creation with the default settings
 abbrev pub usual_init : Action
 usual_init = Init 1 (imports.Given default_limits) None
 
--- one is made anew by the cluster file
+-- a replacement by the cluster file
 abbrev pub remake_at : Option ℕ → FormerWords → ℕ → Action
 remake_at moment former node = Remake node (imports.Named file) moment former
 
--- one is made anew with the usual settings
+-- a replacement with the default settings
 abbrev pub usual_remake : FormerWords → Action
 usual_remake former = Remake 1 (imports.Given default_limits) None former
 
--- a node of the cluster file is served for so many receives
+-- a run of `turns` receives for a node of the cluster file
 abbrev pub serve_for : ℕ → ℕ → Action
 serve_for turns node = Serve (named_cluster node) turns false
 
--- the first of these members is served
+-- a run for the first of `members`
 abbrev pub usual_serve : Vec SocketAddrV4 → Action
 usual_serve members = Serve (given_cluster 1 members) 0 false
 
--- a floors file is written, for nine members or for those of the cluster file
+-- a floors file for nine members, or for the members of the cluster file
 abbrev pub floors_of : ℕ → Action
 floors_of node = Floors node (counts.Given 9)
 
 abbrev pub floors_by_file : Action
 floors_by_file = Floors 1 (counts.Named file)
 
--- a store is levelled
+-- floors (first free factors) raised by floors files
 abbrev pub level_by : Vec (Bor (List ℕ)) → ℕ → Action
 level_by floors node = Level node floors
 
--- failures are forgotten
+-- a clearing of failures
 abbrev pub unlock_of : ℕ → Action
 unlock_of node = Unlock node (word [])
 
 -- ---- Tasks
 
--- these nodes answer lines, run a script, or run over sockets, with the users imported at a moment
+-- tasks over `nodes`, with the users imported at `moment`: lines, a script, sockets
 abbrev pub lines_at : ℕ → NodesWords → Task
 lines_at moment nodes = tasks.Lines nodes moment
 
@@ -107,6 +107,6 @@ sim_at moment nodes = tasks.Sim nodes moment
 abbrev pub cluster_at : ℕ → NodesWords → Task
 cluster_at moment nodes = tasks.Cluster (word []) nodes moment
 
--- this is done with a store
+-- a task over a store
 abbrev pub store_of : Action → Task
 store_of action = tasks.Store (word []) (word []) action

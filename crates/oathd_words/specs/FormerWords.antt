@@ -1,4 +1,4 @@
--- What the words say of former stores, by the values that clap found.
+-- The options about former stores, as values that clap found.
 use Rattle.std.specs.Prelude.{◌≡◌, ◌≤◌, ◌^◌, ◌-◌, ◌&&◌, ◌||◌, ℕ, nat_le, nat_lt, Bool, true, false, is_some, if◌then◌else◌, List, [], ◌∷◌, map, Option, Some, None, codes}
 use Rattle.std.specs.List.{list_all}
 use Rattle.std.specs.Option.{option_map}
@@ -10,7 +10,7 @@ use Rattle.oathd_words.specs.declared.former_words.CountWords.{CountWords}
 use Rattle.oathd_words.specs.declared.former_words.CountWords.TheVariants.{Given, Named}
 use Rattle.oathd_words.specs.declared.former_words.FormerWords.{FormerWords}
 
--- all values that an option has
+-- all values of an option
 abbrev pub values_given : Found → List ℕ → Option (List (List ℕ))
 values_given found name = option_map raw_values (matched_of found name)
 
@@ -19,12 +19,12 @@ abbrev pub is_node_text : List ℕ → Bool
 is_node_text (digit ∷ []) = nat_le 49 digit && nat_le digit 57
 is_node_text text = false
 
--- the node that a digit is
+-- the value of the first digit of a text
 abbrev pub node_in : List ℕ → ℕ
 node_in [] = 0
 node_in (digit ∷ digits) = digit - 48
 
--- the nodes that texts are, if each is one
+-- the nodes that texts name, if each text is a digit from 1 to 9
 abbrev pub nodes_in : List (List ℕ) → Option (List ℕ)
 nodes_in texts = if list_all is_node_text texts then Some (map node_in texts) else None
 
@@ -33,22 +33,23 @@ abbrev pub moment_within : Option ℕ → Option ℕ
 moment_within None = None
 moment_within (Some moment) = if nat_lt moment (2 ^ 40) then Some moment else None
 
--- 0 where no text is there
+-- 0 without a text, else the moment in its range
 abbrev pub moment_or_0 : Option (List ℕ) → Option ℕ → Option ℕ
 moment_or_0 None number = Some 0
 moment_or_0 (Some text) number = moment_within number
 
--- the moment from which on floors files were read: that of the option, if it is in its range, and 0 without it
+-- the moment from which on floors files were read: the option's, if it is in its range, and 0 without the option
 abbrev pub since_given : Found → Option ℕ
 since_given found = moment_or_0 (first_value found (codes "since")) (number_at found (codes "since"))
 
--- of former stores: the lost nodes, or none where all are made anew, from when on the floors files are, and their paths
+-- former stores: the lost nodes, or None if all are replaced; the moment from which on the floors files were read;
+-- paths
 pub record FormerSaid : Type 0 where
   pub lost : Option (List ℕ)
   pub since : ℕ
   pub floors : List (List ℕ)
 
--- what the code has
+-- the record of a value of the code
 abbrev pub former_value : FormerWords → FormerSaid
 former_value former = record {
   lost = option_map (λ nodes. nodes.items) former.lost;
@@ -56,7 +57,7 @@ former_value former = record {
   floors = map (λ path. path.now) former.floors.items;
 }
 
--- what is said of the lost nodes: which they are, or that all are made anew, and not both
+-- the lost nodes, or None for all replaced; exactly one of them has to be given
 abbrev pub lost_said : Bool → Option (List (List ℕ)) → Option (Option (List ℕ))
 lost_said true None = Some None
 lost_said true (Some texts) = None
@@ -70,20 +71,19 @@ former_of (Some lost) None floors = None
 former_of (Some lost) (Some since) None = None
 former_of (Some lost) (Some since) (Some floors) = Some (record { lost = lost; since = since; floors = floors })
 
--- what is said of former stores
+-- what the options say of former stores
 abbrev pub former_given : Found → Option FormerSaid
 former_given found = former_of
     (lost_said (is_flag (first_value found (codes "anew"))) (values_given found (codes "lost")))
     (since_given found) (values_given found (codes "floors"))
 
--- whether anything is said of former stores
+-- whether an option about former stores is given
 abbrev pub is_of_former : Found → Bool
 is_of_former found = is_flag (first_value found (codes "anew"))
     || (is_some (matched_of found (codes "lost"))
     || (is_some (matched_of found (codes "floors")) || is_some (matched_of found (codes "since"))))
 
--- How many members there are is said so: by a number, where no cluster file is named, of which the node is one, or by
--- the cluster file at this path.
+-- the source of the number of members: the option `members`, which includes `node`, or the cluster file at a path
 abbrev pub AsksForCount : Found → ℕ → CountWords → Type 0
 AsksForCount found node (Given count) =
     (first_value found (codes "cluster") ≡ None) × GivesMember found (codes "members") count × (node ≤ count)

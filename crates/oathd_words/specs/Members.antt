@@ -5,27 +5,27 @@ use Rattle.std.specs.Net.Grammar.{IsSocketV4Text}
 use Rattle.std.specs.declared.net.socket_addr.SocketAddrV4.{SocketAddrV4}
 use Rattle.udp_port.specs.Address.{number_of}
 
--- each of these texts is the address beside it: four numbers with dots between, a colon and a port
+-- the address of each text: four numbers with dots between, a colon and a port
 abbrev pub SayAddresses : List (List ℕ) → List SocketAddrV4 → Type 0
 SayAddresses [] [] = Unit {0}
 SayAddresses [] (address ∷ addresses) = ⊥
 SayAddresses (text ∷ texts) [] = ⊥
 SayAddresses (text ∷ texts) (address ∷ addresses) = IsSocketV4Text text address × SayAddresses texts addresses
 
--- the texts between the commas of a text
+-- the parts of a text between its commas
 abbrev pub parts_of : List ℕ → List (List ℕ)
 parts_of text = slice_split (λ byte. byte == 44) text
 
--- whether an address is one of others; two are the same where the numbers of their clients are
+-- whether an address is one of `others`, by host and port
 abbrev pub is_among : SocketAddrV4 → List SocketAddrV4 → Bool
 is_among address others = list_any (λ other. number_of other == number_of address) others
 
--- whether no address stands twice
+-- whether no address occurs twice
 abbrev pub are_different : List SocketAddrV4 → Bool
 are_different [] = true
 are_different (address ∷ addresses) = not (is_among address addresses) && are_different addresses
 
--- a text says the addresses of these members: 1 to 9, with a comma between two, and each another
+-- A text has the members' addresses: 1 to 9 different ones, separated by commas.
 pub record AreMembers (text : List ℕ) (members : List SocketAddrV4) : Type 0 where
   pub said : SayAddresses (parts_of text) members
   pub few : length members ≤ 9

@@ -1,4 +1,4 @@
--- What the words of the commands over a database ask for, by the values that clap found.
+-- The command line of the commands over a database, as values that clap found.
 use Rattle.std.specs.Prelude.{◌≡◌, ◌<◌, ◌≤◌, ◌^◌, ◌-◌, ℕ, nat_lt, false, true, if◌then◌else◌, List, length, map, Option, Some, None, codes}
 use Rattle.clap.specs.Matches.{first_value}
 use Rattle.clap.specs.declared.parser.matches.Found.{Found}
@@ -18,20 +18,20 @@ use Rattle.oathd_words.specs.declared.store_words.ImportWords.{ImportWords}
 use Rattle.oathd_words.specs.declared.store_words.ImportWords.TheVariants as imports
 use Rattle.oathd_words.specs.declared.store_words.Action.TheVariants.{Init, Remake, Serve, Export, Audit, Migrate, Floors, Level, Gates, Unlock}
 
--- a moment in its range is given, or none is
+-- a given moment in its range, or None without the option
 abbrev pub GivesMoment : Found → Option ℕ → Type 0
 GivesMoment found None = first_value found (codes "moment") ≡ None
 GivesMoment found (Some moment) = (number_at found (codes "moment") ≡ Some moment) × IsMoment moment
 
--- The skew and the drift of an import are given, and in their ranges. The other limits, which no import looks at, are
--- the usual ones.
+-- The options give the skew and the drift of an import, in their ranges. The other limits, which no import uses, have
+-- their default values.
 pub record GivesImport (found : Found) (limits : Limits) : Type 0 where
   pub skew_given : number_at found (codes "skew") ≡ Some limits.skew
   pub drift_given : number_at found (codes "drift") ≡ Some limits.drift
   pub usual : limits ≡ record (limits_of 10 limits.skew 100) { drift = limits.drift }
   pub in_range : AreLimits limits
 
--- the settings of an import are given, where no cluster file is named, or the cluster file at this path says them
+-- the source of an import's settings: the options, or the cluster file at a path
 abbrev pub AsksForImport : Found → ImportWords → Type 0
 AsksForImport found (imports.Given settings) =
     (first_value found (codes "cluster") ≡ None) × GivesImport found settings
@@ -42,18 +42,18 @@ abbrev pub few_turns : Option ℕ → Option ℕ
 few_turns None = None
 few_turns (Some turns) = if nat_lt turns (2 ^ 32) then Some turns else None
 
--- the number of turns that is given, or the most that there are, for a node that goes on until it is stopped
+-- the given number of turns, or 2^54 - 1 for a node that runs until it is stopped
 abbrev pub turns_given : Found → Option ℕ
 turns_given found =
     if is_flag (first_value found (codes "forever")) then Some (2 ^ 54 - 1)
     else few_turns (number_at found (codes "turns"))
 
--- which member the node is, of how many
+-- The options give the number of the node, which is one of the members.
 pub record GivesPlace (found : Found) (place : PlaceRecord) : Type 0 where
   pub node_given : GivesMember found (codes "node") place.me
   pub within : IsPlace place
 
--- a node is to be served: this member of these, with these limits and the key at this path
+-- The options give a node to serve: its place, the members' addresses, the limits and the path of the key.
 pub record AsksForMembers (found : Found) (limits : Limits) (place : PlaceRecord) (members : List SocketAddrV4)
     (key : List ℕ) : Type 0 where
   pub place_given : GivesPlace found place
@@ -64,15 +64,14 @@ pub record AsksForMembers (found : Found) (limits : Limits) (place : PlaceRecord
   pub limits_given : GivesLimits found limits
   pub key_given : first_value found (codes "key") ≡ Some key
 
--- what a cluster is, is said so: by the words, where no cluster file is named, or by the cluster file at this path, of
--- which the node is this member
+-- the source of a cluster: the options, or the cluster file at a path with the number of the node
 abbrev pub AsksForCluster : Found → ClusterWords → Type 0
 AsksForCluster found (Given settings place members key) =
     (first_value found (codes "cluster") ≡ None) × AsksForMembers found settings place members.items key.now
 AsksForCluster found (Named node path) =
     (first_value found (codes "cluster") ≡ Some path.now) × GivesMember found (codes "node") node
 
--- the command with this name, and these values, ask for this with a store
+-- the action that the command `name` asks for with the values found
 abbrev pub AsksForAction : List ℕ → Found → Action → Type 0
 AsksForAction name found (Init node import moment) =
     (name ≡ codes "init") × (is_of_former found ≡ false) × GivesMember found (codes "node") node
@@ -96,18 +95,18 @@ AsksForAction name found (Unlock node user) =
     (name ≡ codes "unlock") × GivesMember found (codes "node") node
     × (first_value found (codes "USER") ≡ Some user.now)
 
--- the same, over the store of this database and with this users file
+-- an action with the paths of its database and its users file
 abbrev pub AsksForStore : List ℕ → Found → List ℕ → List ℕ → Action → Type 0
 AsksForStore name found database users action =
     (first_value found (codes "DB") ≡ Some database) × (first_value found (codes "USERS") ≡ Some users)
     × AsksForAction name found action
 
--- the numbers of what is said of a cluster are in their ranges
+-- the numbers of a cluster are in their ranges
 abbrev pub IsClusterInRange : ClusterWords → Type 0
 IsClusterInRange (Given settings place members key) = length members.items ≡ place.n
 IsClusterInRange (Named node path) = (1 ≤ node) × (node ≤ 9)
 
--- the numbers of what is asked for are in their ranges
+-- the numbers of an action are in their ranges
 abbrev pub IsActionInRange : Action → Type 0
 IsActionInRange (Init node import None) = (1 ≤ node) × (node ≤ 9)
 IsActionInRange (Init node import (Some moment)) = (1 ≤ node) × (node ≤ 9) × IsMoment moment

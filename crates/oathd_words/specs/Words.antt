@@ -1,4 +1,4 @@
--- What the words of the command line ask for, by the values that clap found.
+-- The command line, as values that clap found.
 use Rattle.std.specs.Prelude.{◌≡◌, ℕ, List, Option, None, Some, codes}
 use Rattle.clap.specs.Matches.{first_value}
 use Rattle.clap.specs.declared.parser.matches.Found.{Found}
@@ -17,12 +17,12 @@ use Rattle.oathd_words.specs.declared.store_words.ImportWords.TheVariants as imp
 use Rattle.oathd_words.specs.declared.words.Task.{Task}
 use Rattle.oathd_words.specs.declared.words.Task.TheVariants.{Lines, Sim, Cluster, Store, Check, Secret}
 
--- these paths of a users file and of a cluster file are given
+-- the paths of a users file and of a cluster file
 abbrev pub AsksToCheck : Found → List ℕ → List ℕ → Type 0
 AsksToCheck found users cluster =
     (first_value found (codes "USERS") ≡ Some users) × (first_value found (codes "cluster") ≡ Some cluster)
 
--- the command with this name, and these values, ask for this
+-- the task that the command `name` asks for with the values found
 abbrev pub AsksFor : List ℕ → Found → Task → Type 0
 AsksFor name found (Lines nodes moment) =
     (name ≡ codes "lines") × AsksForNodes (λ n. n ≡ 1) found nodes × GivesMoment found (Some moment)
@@ -36,7 +36,7 @@ AsksFor name found (Check users cluster) =
     (name ≡ codes "check") × AsksToCheck found users.now cluster.now
 AsksFor name found (Secret hex) = (name ≡ codes "secret") × (first_value found (codes "HEX") ≡ Some hex.now)
 
--- the command with this name, and these values, ask for nothing
+-- the command `name` asks for nothing with the values found
 abbrev pub AsksForNothing : List ℕ → Found → Type 0
 AsksForNothing name found = (task : Task) → AsksFor name found task → ⊥
 
@@ -49,22 +49,22 @@ IsInRange (Store database users action) = IsActionInRange action
 IsInRange (Check users cluster) = Unit {0}
 IsInRange (Secret hex) = Unit {0}
 
--- the cluster file that is named where a node is to be served so
+-- the path of the cluster file, if a node is served by one
 abbrev pub named_path : ClusterWords → Option (List ℕ)
 named_path (Given settings place members key) = None
 named_path (Named node path) = Some path.now
 
--- the cluster file that is named where users are to be imported so
+-- the path of the cluster file, if users are imported by one
 abbrev pub import_path : ImportWords → Option (List ℕ)
 import_path (imports.Given settings) = None
 import_path (imports.Named path) = Some path.now
 
--- the cluster file that is named where how many members there are is said so
+-- the path of the cluster file, if the number of members comes from one
 abbrev pub count_path : CountWords → Option (List ℕ)
 count_path (counts.Given count) = None
 count_path (counts.Named path) = Some path.now
 
--- the cluster file that an action names
+-- the path of the cluster file that an action names, if it names one
 abbrev pub path_of_action : Action → Option (List ℕ)
 path_of_action (Init node import moment) = import_path import
 path_of_action (Remake node import moment former) = import_path import

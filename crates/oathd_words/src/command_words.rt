@@ -1,4 +1,4 @@
-//! The commands of `oathd`, as clap is told of them.
+//! The commands of `oathd`, in the form that clap takes.
 
 use crate::help::{
     AUDIT_HELP, CHECK_HELP, CLUSTER_HELP, EXPORT_HELP, FLOORS_HELP, GATES_HELP, INIT_HELP,
@@ -19,26 +19,26 @@ use std::alloc::{AllocError, Global};
 
 /// A command of the program.
 pub(crate) struct CommandWords {
-    /// The word that stands for it.
+    /// The word that names it.
     word: &'static str,
-    /// The same behind the program's name.
+    /// The program's name and the word.
     whole: &'static str,
     about: &'static str,
-    /// Its usage, where clap's own is too long.
+    /// Its usage, if clap's own is too long.
     usage: Option<&'static str>,
-    /// What its help says besides its words.
+    /// The text of its help after the options.
     after_help: &'static str,
-    /// Whether the help of a word stands below it.
+    /// Whether its help describes each option on the next line.
     next_line_help: bool,
     words: &'static [Word],
-    /// The numbers among its values, each with its range.
+    /// The numbers among its values, with their ranges.
     numbers: &'static [NumberOption],
 }
 
-/// The command that prints what `--version` does.
+/// The command that prints the version, as `--version` does.
 pub(crate) const VERSION_COMMAND: &str = "version";
 
-/// The commands, in the order of the help. Behind them stands clap's own command `help`.
+/// The commands in the order of the help. Clap's own command `help` follows.
 pub(crate) const COMMANDS: [CommandWords; 15] = [
     CommandWords {
         word: "lines",
@@ -262,7 +262,7 @@ pub(crate) const COMMANDS: [CommandWords; 15] = [
 ];
 
 impl CommandWords {
-    /// The command as clap's.
+    /// Returns the command for clap.
     fn command<'a>(&self, alloc: Global) -> Result<Command<'a>, AllocError> {
         let command = Command::new(alloc, self.word)
             .about(self.about)
@@ -278,13 +278,13 @@ impl CommandWords {
         Ok(command)
     }
 
-    /// The command with the program's name before its own, as errors write it.
+    /// Returns the command under its whole name, which errors print.
     fn usage<'a>(&self, alloc: Global) -> Result<Command<'a>, AllocError> {
         self.command(alloc)?.bin_name(self.whole)
     }
 }
 
-/// The program with one command more.
+/// Adds `command` to `program`.
 fn with_command<'a>(
     program: Command<'a>,
     command: Result<Command<'a>, AllocError>,
@@ -292,7 +292,7 @@ fn with_command<'a>(
     program.subcommand(command?)
 }
 
-/// The program with these commands.
+/// Adds `commands` to `program`.
 fn with_commands<'a>(
     alloc: Global,
     mut program: Command<'a>,
@@ -304,7 +304,7 @@ fn with_commands<'a>(
     Ok(program)
 }
 
-/// The program without its commands.
+/// Returns the program without commands.
 fn bare_program<'a>(alloc: Global) -> Command<'a> {
     Command::new(alloc, "oathd")
         .version(VERSION)
@@ -313,7 +313,7 @@ fn bare_program<'a>(alloc: Global) -> Command<'a> {
         .subcommand_required(true)
 }
 
-/// The whole command line, with these commands.
+/// Returns the program with `commands`.
 pub(crate) fn program<'a>(
     alloc: Global,
     commands: &[CommandWords],
@@ -321,7 +321,7 @@ pub(crate) fn program<'a>(
     with_commands(alloc, bare_program(alloc), commands)
 }
 
-/// The one of some commands that has this name.
+/// Returns the command called `name`, or None.
 fn find_command<'c>(commands: &'c [CommandWords], name: &str) -> Option<&'c CommandWords> {
     for words in commands {
         if words.word == name {
@@ -331,7 +331,7 @@ fn find_command<'c>(commands: &'c [CommandWords], name: &str) -> Option<&'c Comm
     None
 }
 
-/// The error that says what the addresses of the members have to be.
+/// Returns the error that says what `--members` takes as addresses.
 fn addresses_error(
     alloc: Global,
     usage: &mut Command<'_>,
@@ -344,7 +344,7 @@ fn addresses_error(
     usage.error(ErrorKind::ValueValidation, text.as_str())
 }
 
-/// The error that says how many members there have to be.
+/// Returns the error that says what `--members` takes as a number.
 fn count_error(alloc: Global, usage: &mut Command<'_>, members: &str) -> Result<Error, AllocError> {
     let text = format!(in alloc;
         "invalid value '{members}' for '--members <N>': the node is one of N"
@@ -352,7 +352,7 @@ fn count_error(alloc: Global, usage: &mut Command<'_>, members: &str) -> Result<
     usage.error(ErrorKind::ValueValidation, text.as_str())
 }
 
-/// The error that says what floors files stand beside.
+/// Returns the error that says which options `--floors` needs.
 fn floors_error(usage: &mut Command<'_>) -> Result<Error, AllocError> {
     usage.error(
         ErrorKind::MissingRequiredArgument,
@@ -360,7 +360,7 @@ fn floors_error(usage: &mut Command<'_>) -> Result<Error, AllocError> {
     )
 }
 
-/// The error that says what the moment stands beside from which on floors files were read.
+/// Returns the error that says which options `--since` needs.
 fn since_error(usage: &mut Command<'_>) -> Result<Error, AllocError> {
     usage.error(
         ErrorKind::MissingRequiredArgument,
@@ -368,22 +368,22 @@ fn since_error(usage: &mut Command<'_>) -> Result<Error, AllocError> {
     )
 }
 
-/// Whether it is said which databases are made anew.
+/// Returns whether an option says which databases are replaced.
 fn is_said_for_whom(matches: &ArgMatches<'_>) -> bool {
     matches.contains_id("lost") || is_given(matches, "anew")
 }
 
-/// Whether floors files are named, and nothing says for whom.
+/// Returns whether `--floors` is given, and no option says which databases are replaced.
 fn are_floors_alone(matches: &ArgMatches<'_>) -> bool {
     matches.contains_id("floors") && !is_said_for_whom(matches)
 }
 
-/// Whether a moment is given from which on floors files were read, and nothing says for whom.
+/// Returns whether `--since` is given, and no option says which databases are replaced.
 fn is_since_alone(matches: &ArgMatches<'_>) -> bool {
     matches.contains_id("since") && !is_said_for_whom(matches)
 }
 
-/// The error for values of a command that asks for its numbers.
+/// Returns the error for values of a command, if its members are not at fault.
 fn number_or_former_error(
     alloc: Global,
     usage: &mut Command<'_>,
@@ -403,9 +403,11 @@ fn number_or_former_error(
     number_error(alloc, usage, matches, numbers)
 }
 
-/// The error that names the first of some numbers that is out of its range or not in digits alone, with that range, or
-/// else the members, or what floors files and their moment stand beside. A command without numbers is told how many
-/// members there are, and one with numbers their addresses.
+/// Returns the error for values that ask for nothing.
+///
+/// It names the first of `numbers` that is out of its range or has anything but digits. If there is none, it names
+/// `--members`, `--floors` or `--since`. `--members` takes a number in a command without `numbers`, and addresses in a
+/// command with them.
 fn error_of(
     alloc: Global,
     usage: &mut Command<'_>,
@@ -421,7 +423,7 @@ fn error_of(
     }
 }
 
-/// The error for values of the command with this name that ask for nothing, with the usage of the command.
+/// Returns the error for values that ask for nothing, with the usage of the command `name`.
 pub(crate) fn value_error(
     alloc: Global,
     commands: &[CommandWords],

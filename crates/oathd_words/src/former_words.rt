@@ -1,4 +1,4 @@
-//! The words about former stores: of nodes that are lost, away or made anew.
+//! The options about former stores: of nodes that are lost, away or replaced.
 
 ghost use Rattle.std.specs.Prelude.{◌≡◌, ◌≤◌, ℕ, codes, map, IfNone, IfOk, IfSome};
 ghost use Rattle.std.specs.List.{list_all};
@@ -14,28 +14,28 @@ use command_line::number_of;
 use otp_core::MOMENTS_END;
 use std::alloc::{AllocError, Global};
 
-/// What the words say of former stores, from whose floors files one is made anew.
+/// What the options say of former stores, whose floors files a replacement is made from.
 #[derive(Drop)]
 pub struct FormerWords<'a> {
-    /// The lost nodes, each 1 to 9, or `None` where all of the cluster are made anew.
+    /// The lost nodes, each 1 to 9, or `None` if the whole cluster is replaced.
     pub lost: Option<Vec<u8>>,
-    /// The moment from which on the files were read, in seconds since 1970-01-01 00:00:00 UTC: 0 to 1099511627775. It
-    /// is 0 where none is given.
+    /// The moment from which on the files were read, in seconds since 1970-01-01 00:00:00 UTC: 0 to 1099511627775. 0 if
+    /// the option is not given.
     pub since: u64,
     /// The paths of the floors files.
     pub floors: Vec<&'a str>,
 }
 
-/// What the words say of how many members there are.
+/// Where the number of members comes from.
 #[derive(Drop)]
 pub enum CountWords<'a> {
-    /// So many: 1 to 9.
+    /// The number itself: 1 to 9.
     Given(u8),
-    /// The path of the cluster file that says them.
+    /// The path of the cluster file that has the members.
     Named(&'a str),
 }
 
-/// Whether a text is a digit from 1 to 9.
+/// Returns whether `text` is a digit from 1 to 9.
 fn is_node_text(text: &str) -> bool
     ensures { result ≡ is_node_text text.now }
 {
@@ -45,7 +45,7 @@ fn is_node_text(text: &str) -> bool
     }
 }
 
-/// The node that a digit is.
+/// Returns the value of the first digit of `text`.
 fn node_in(text: &str) -> u8
     ensures { result ≡ node_in text.now }
 {
@@ -55,21 +55,21 @@ fn node_in(text: &str) -> u8
     }
 }
 
-/// Whether each of some texts is a digit from 1 to 9.
+/// Returns whether each text is a digit from 1 to 9.
 fn are_node_texts(texts: &[&str]) -> bool
     ensures { result ≡ list_all (λ text. is_node_text text.now) texts.now }
 {
     texts.iter().all(|text| is_node_text(text))
 }
 
-/// The nodes that digits are.
+/// Returns the value of each digit.
 fn nodes_of(alloc: Global, texts: &[&str]) -> Result<Vec<u8>, AllocError>
     ensures { IfOk result (λ nodes. nodes.items ≡ map (λ text. node_in text.now) texts.now) }
 {
     texts.iter().map(|text| node_in(text)).collect(alloc)
 }
 
-/// The nodes that texts are, or `None` where one isn't a digit from 1 to 9.
+/// Returns the nodes that `texts` name, or `None` if one of them is not a digit from 1 to 9.
 #[tactic(auto, using(crate::proofs::FormerLemmas::nodes_none, crate::proofs::FormerLemmas::nodes_all))]
 fn nodes_in(alloc: Global, texts: &[&str]) -> Result<Option<Vec<u8>>, AllocError>
     ensures { IfOk result (λ read. option_map (λ nodes. nodes.items) read
@@ -82,8 +82,7 @@ fn nodes_in(alloc: Global, texts: &[&str]) -> Result<Option<Vec<u8>>, AllocError
     Ok(Some(nodes))
 }
 
-/// What is said of the lost nodes: which they are, or that there are none since all stores are made anew; or `None`
-/// where neither is said, or both.
+/// Returns the lost nodes, or `Some(None)` if `is_anew`. Returns `None` if both are given, or neither.
 fn lost_nodes(
     alloc: Global,
     is_anew: bool,
@@ -102,8 +101,7 @@ fn lost_nodes(
     }
 }
 
-/// The moment from which on floors files were read, 0 where none is given, or `None` where it isn't one in digits
-/// alone.
+/// Returns the value of `--since`, 0 without it, or `None` if it is out of its range or has anything but digits.
 fn since_of(matches: &ArgMatches<'_>) -> Option<u64>
     ensures { result ≡ since_given (found_of matches.now) }
 {
@@ -116,7 +114,7 @@ fn since_of(matches: &ArgMatches<'_>) -> Option<u64>
     }
 }
 
-/// The paths that an option names, each time that it is given.
+/// Returns each value of the option `name`, or `None` if the option is not given.
 pub(crate) fn paths_of<'a>(
     alloc: Global,
     matches: &ArgMatches<'a>,
@@ -131,7 +129,7 @@ pub(crate) fn paths_of<'a>(
     }
 }
 
-/// Whether anything is said of former stores.
+/// Returns whether an option about former stores is given.
 pub(crate) fn is_of_former(matches: &ArgMatches<'_>) -> bool
     ensures { result ≡ is_of_former (found_of matches.now) }
 {
@@ -141,7 +139,7 @@ pub(crate) fn is_of_former(matches: &ArgMatches<'_>) -> bool
         || matches.contains_id("since")
 }
 
-/// What is said of former stores, or `None` where it isn't all said.
+/// Returns what the options say of former stores, or `None` if one is missing or wrong.
 pub(crate) fn former_words<'a>(
     alloc: Global,
     matches: &ArgMatches<'a>,
@@ -165,7 +163,7 @@ pub(crate) fn former_words<'a>(
     }
 }
 
-/// What is said of how many members there are, of which the node is one, or `None` where nothing is said.
+/// Returns the source of the number of members, or `None` if it is missing or `node` is not one of them.
 pub(crate) fn count_words<'a>(matches: &ArgMatches<'a>, node: u8) -> Option<CountWords<'a>>
     ensures some { IfSome result (AsksForCount (found_of matches.now) node) }
     ensures none { IfNone result ((count : AnyCount) → AsksForCount (found_of matches.now) node count → ⊥) }

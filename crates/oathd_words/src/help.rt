@@ -1,6 +1,6 @@
-//! The texts of the help of `oathd` and of its commands.
+//! The help texts of `oathd` and of its commands.
 
-/// What the help of the program says besides its commands.
+/// The help of the program, after its commands.
 pub(crate) const PROGRAM_HELP: &str = "\
 oathd init makes a database with what a node keeps, and oathd serve serves the
 node: no moving factor of a token (counter or time step) is accepted twice,
@@ -13,7 +13,7 @@ The status is 0 where all is done, 1 where a fault of the input, memory, clock
 or output, which standard error names, ended the run, 2 where the words are
 wrong, 3 where a store failed, and 4 where a socket did.";
 
-/// What the help of the command `lines` says of its input.
+/// The help of the command `lines`, after its options.
 pub(crate) const LINES_HELP: &str = "\
 Standard input is a users file, a line %% and the lines of clients. Each line of
 a client is answered by a line on standard output.
@@ -52,7 +52,7 @@ Example, which prints OK 1 0 and OK 2 8:
         '7 100 CHECK 1 silver 755224 -' \\
         '7 110 RESYNC 2 silver 162583 399871 -' | oathd lines";
 
-/// What the help of the command `sim` says of its input.
+/// The help of the command `sim`, after its options.
 pub(crate) const SIM_HELP: &str = "\
 Standard input is a users file as the command lines takes it, a line %% and a
 script. N nodes begin with the users file, each with a store in memory. Nothing
@@ -89,7 +89,7 @@ Example, which prints pass 0 2 1 0 0 0, answer 2 1 7 OK a 0 and sent 3:
         'client 1 7 100 CHECK a silver 755224 -' \\
         'deliver 2 0' 'deliver 1 2' | oathd sim 3";
 
-/// What the help of the command `cluster` says of its input.
+/// The help of the command `cluster`, after its options.
 pub(crate) const CLUSTER_HELP: &str = "\
 USERS is a users file as the command lines takes it. N nodes begin with it, each
 with a store in memory and a UDP socket of its own on this machine. Standard
@@ -113,7 +113,7 @@ Example, which prints 1 OK a 0 and 2 NO b INVALID:
     printf '%s\\n' '1 100 CHECK a silver 755224 -' \\
         '2 100 CHECK b silver 755224 -' | oathd cluster users 3";
 
-/// What the help of the command `init` says besides its words.
+/// The help of the command `init`, after its options.
 pub(crate) const INIT_HELP: &str = "\
 DB is made where it isn't there, and then holds the store of node I: the first
 free factor of each token of the users file, its throttle and the node's votes,
@@ -141,7 +141,7 @@ pub(crate) const SERVE_USAGE: &str = "\
 oathd serve [OPTIONS] --node <I> --members <A,B,..> --key <PATH>
                    <DB> <USERS>";
 
-/// What the help of the command `serve` says besides its words.
+/// The help of the command `serve`, after its options.
 pub(crate) const SERVE_HELP: &str = "\
 DB is the store of node I, which oathd init made, and USERS the users file that
 it was made with. The node has a UDP socket at the I-th of the addresses and
@@ -169,14 +169,14 @@ Example of a node alone, and of a member of a cluster:
     oathd serve node1.db users --node 1 --members 127.0.0.1:7001 --key key
     oathd serve node1.db users --node 1 --cluster cluster";
 
-/// What the help of the command `export` says besides its words.
+/// The help of the command `export`, after its options.
 pub(crate) const EXPORT_HELP: &str = "\
 USERS is the users file that the store was made with. What is printed is a users
 file with the first free factors that the store has.
 
 The status is 3 where the database fails, or holds no such store.";
 
-/// What the help of the command `audit` says besides its words.
+/// The help of the command `audit`, after its options.
 pub(crate) const AUDIT_HELP: &str = "\
 USERS is the users file that the store was made with. For each code that node I
 accepted, in order, this line is printed:
@@ -187,7 +187,7 @@ of the node's vote.
 
 The status is 3 where the database fails, or holds no store of node I.";
 
-/// What the help of the command `migrate` says besides its words.
+/// The help of the command `migrate`, after its options.
 pub(crate) const MIGRATE_HELP: &str = "\
 DB is the store of node I as a version of oathd before clock drift made it, and
 USERS the users file that it was made with. It becomes a store that keeps the
@@ -197,7 +197,7 @@ step, or nothing.
 The status is 3 where the database fails, holds no such store, or is of the
 present version.";
 
-/// What the help of the command `floors` says besides its words.
+/// The help of the command `floors`, after its options.
 pub(crate) const FLOORS_HELP: &str = "\
 DB is the store of node I, which is stopped, and USERS the users file that it
 was made with. What is printed is a floors file, for oathd init and oathd level
@@ -208,7 +208,7 @@ NEXT is the first free factor that the node has. The store stays as it is.
 
 The status is 3 where the database fails, or holds no store of node I.";
 
-/// What the help of the command `level` says besides its words.
+/// The help of the command `level`, after its options.
 pub(crate) const LEVEL_HELP: &str = "\
 DB is the store of node I, which is stopped, and USERS the users file that it
 was made with. The first free factor of each token becomes the greatest that
@@ -218,7 +218,7 @@ was away for days has at once what the others would tell it one by one.
 The status is 1 where a floors file has a fault, and 3 where the database fails,
 or holds no store of node I.";
 
-/// What the help of the command `gates` says besides its words.
+/// The help of the command `gates`, after its options.
 pub(crate) const GATES_HELP: &str = "\
 DB is the store of node I, which is stopped, and USERS the users file that it
 was made with. For each token with failures in a row this line is printed:
@@ -227,7 +227,7 @@ The token is closed until the moment UNTIL, in seconds since 1970.
 
 The status is 3 where the database fails, or holds no store of node I.";
 
-/// What the help of the command `unlock` says besides its words.
+/// The help of the command `unlock`, after its options.
 pub(crate) const UNLOCK_HELP: &str = "\
 DB is the store of node I, which is stopped, and USERS the users file that it
 was made with. The failures of the user at this node are forgotten, so that the
@@ -236,7 +236,7 @@ token is open; all else stays.
 The status is 1 where there is no such user, and 3 where the database fails, or
 holds no store of node I.";
 
-/// What the help of the command `check` says besides its words.
+/// The help of the command `check`, after its options.
 pub(crate) const CHECK_HELP: &str = "\
 FILE is the cluster file of oathd serve, and USERS its users file. Both are read
 as oathd serve reads them, with the file of the key, and these lines are
@@ -253,7 +253,7 @@ Members that print the same fingerprint hear each other: their files say the
 same members, settings and life, they have the same users, and the same key.
 Those that print another hear nothing of each other.";
 
-/// What the help of the command `secret` says besides its word.
+/// The help of the command `secret`, after its options.
 pub(crate) const SECRET_HELP: &str = "\
 HEX can be seen by other users of the machine while the program runs, and stays
 in the shell's history: give secrets of test tokens, or use a machine of your
@@ -262,5 +262,5 @@ own.
 Example, which prints MZXW6YTBOI======:
     oathd secret 666f6f626172";
 
-/// What the help of the command `version` says besides its words.
+/// The help of the command `version`, after its options.
 pub(crate) const VERSION_HELP: &str = "It prints what oathd --version does.";

@@ -15,8 +15,7 @@ ghost use Rattle.oathd_words.specs.declared.former_words.FormerWords.{FormerWord
 ghost use Rattle.oathd_words.specs.declared.store_words.Action.TheVariants.{Audit, Export, Gates, Migrate};
 ghost use Rattle.oathd_words.specs.declared.words.Task.TheVariants.{Check, Secret};
 
-/// What is promised of the addresses of members holds of the least that keeps it, and each part is broken by the least
-/// that keeps all others.
+/// Counterexamples: the smallest list of members is accepted, and each part of the rule fails for a minimal one.
 pub fn members_can_be_broken()
     ensures says { SayAddresses [] [] × SayAddresses (local_text 5 ∷ []) (at_local 5 ∷ []) }
     ensures says_of_no_text { SayAddresses [] (at_local 5 ∷ []) → ⊥ }
@@ -31,13 +30,13 @@ pub fn members_can_be_broken()
         (map at_local (0 ∷ 1 ∷ 2 ∷ 3 ∷ 4 ∷ 5 ∷ 6 ∷ 7 ∷ 8 ∷ 9 ∷ [])) → ⊥ }
     ensures members_different { (text : List ℕ) → AreMembers text (at_local 5 ∷ at_local 5 ∷ []) → ⊥ }
 
-    // two are alike where host and port are
+    // two addresses are the same if host and port are
     ensures different { map are_different (
         [] ∷ (at_local 5 ∷ at_local 6 ∷ at_host 126 5 ∷ []) ∷ (at_local 5 ∷ at_local 6 ∷ at_local 5 ∷ [])
         ∷ (at_local 6 ∷ at_local 5 ∷ at_local 5 ∷ []) ∷ []) ≡ true ∷ true ∷ false ∷ false ∷ [] }
 {}
 
-/// The numbers of what is asked for are in their ranges at the ends of each, and out of them behind these.
+/// Worked cases. Each range includes its ends, and excludes the numbers beside them.
 pub fn ranges_can_be_broken()
     ensures nodes { AreNodesInRange (given_nodes 1) × AreNodesInRange (given_nodes 9) × AreNodesInRange named_nodes }
     ensures no_nodes { AreNodesInRange (given_nodes 0) → ⊥ }
@@ -105,7 +104,7 @@ pub fn ranges_can_be_broken()
     ensures secret { IsInRange (Secret (word [])) }
 {}
 
-/// Which cluster file is named, worked through.
+/// Worked cases. The cluster file that a task names.
 pub fn paths_are_worked()
     ensures named { map cluster_path_of (lines_at 0 named_nodes ∷ sim_at 0 named_nodes ∷ cluster_at 0 named_nodes
         ∷ store_of (init_at None 1) ∷ store_of (serve_for 0 1) ∷ store_of floors_by_file ∷ Check (word []) file ∷ [])
@@ -120,7 +119,7 @@ pub fn paths_are_worked()
     ensures level { (floors : Vec (Bor (List ℕ))) → path_of_action (level_by floors 1) ≡ None }
 {}
 
-/// What words say of former stores, worked through.
+/// Worked cases. The options about former stores.
 pub fn former_words_are_worked()
     ensures nodes { map nodes_in ((codes "1" ∷ codes "9" ∷ []) ∷ [] ∷ (codes "0" ∷ []) ∷ (codes ":" ∷ [])
         ∷ (codes "1" ∷ codes "12" ∷ []) ∷ ([] ∷ []) ∷ [])
@@ -137,7 +136,7 @@ pub fn former_words_are_worked()
     ensures not_all { former_of None (Some 5) (Some []) ∷ former_of (Some None) None (Some [])
         ∷ former_of (Some None) (Some 5) None ∷ [] ≡ replicate 3 None }
 
-    // any of them makes it something of former stores
+    // each of the options alone makes a command one about former stores
     ensures of_none { (found : Found) → found.entries.items ≡ [] → is_of_former found ≡ false }
     ensures of_lost { (found : Found) (value : MatchedArg) → found.entries.items ≡ (word (codes "lost"), value) ∷ []
         → is_of_former found ≡ true }

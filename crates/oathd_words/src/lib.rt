@@ -1,5 +1,4 @@
-//! What the words of `oathd` ask for: its commands as clap knows them, and the values that clap finds, read as a
-//! [`Task`].
+//! The command line of `oathd`: the commands for clap, and the values that clap finds, read as a [`Task`].
 #![tactic(auto)]
 
 mod command_words;

@@ -1,4 +1,4 @@
-//! The addresses of a cluster's members.
+//! Reads the addresses of a cluster's members.
 
 ghost use Rattle.std.specs.Prelude.{◌≡◌, ◌≤◌, ◌∷◌, ◌++◌, [], List, IfNone, IfOk, IfSome, length};
 ghost use Rattle.std.specs.Net.Grammar.{IsSocketV4Text};
@@ -10,7 +10,7 @@ use std::alloc::{AllocError, Global};
 use std::net::SocketAddrV4;
 use udp_port::{MAX_MEMBERS, client_number};
 
-/// Addresses with the one that a text says behind them, or `None` where it says none.
+/// Returns `addresses` followed by the address in `text`, or `None` if `text` is no address.
 fn with_address(
     mut addresses: Vec<SocketAddrV4>,
     text: &[u8],
@@ -27,7 +27,7 @@ fn with_address(
     Ok(Some(addresses))
 }
 
-/// The addresses that a text says, with a comma between two, or `None` where it doesn't say 1 to 9.
+/// Returns the addresses between the commas of `text`, or `None` if they are not 1 to 9 addresses.
 fn read_addresses(alloc: Global, text: &[u8]) -> Result<Option<Vec<SocketAddrV4>>, AllocError>
     ensures some { IfOk result (λ read. IfSome read (λ addresses.
         SayAddresses (parts_of text.now) addresses.items × (length addresses.items ≤ 9))) }
@@ -49,7 +49,7 @@ fn read_addresses(alloc: Global, text: &[u8]) -> Result<Option<Vec<SocketAddrV4>
     Ok(None)
 }
 
-/// Whether an address is one of others. Two are the same where the numbers of their clients are.
+/// Returns whether `address` is one of `others`. Two addresses are the same if host and port are.
 fn is_among(address: SocketAddrV4, others: &[SocketAddrV4]) -> bool
     ensures { result ≡ is_among address others.now }
 {
@@ -57,7 +57,7 @@ fn is_among(address: SocketAddrV4, others: &[SocketAddrV4]) -> bool
     others.iter().any(|other| client_number(*other) == number)
 }
 
-/// Whether no address stands twice.
+/// Returns whether no address occurs twice.
 fn are_different(addresses: &[SocketAddrV4]) -> bool
     ensures { result ≡ are_different addresses.now }
 {
@@ -67,8 +67,8 @@ fn are_different(addresses: &[SocketAddrV4]) -> bool
     !is_among(*first, others) && are_different(others)
 }
 
-/// The addresses of members that a text says: 1 to 9 IPv4 addresses with ports, with a comma between two, or `None`
-/// where it doesn't, or one stands twice.
+/// Returns the members' addresses in `text`: 1 to 9 different IPv4 addresses with ports, separated by commas. Returns
+/// `None` for any other text.
 pub fn read_members(alloc: Global, text: &[u8]) -> Result<Option<Vec<SocketAddrV4>>, AllocError>
     ensures some { IfOk result (λ read. IfSome read (λ members. AreMembers text.now members.items)) }
     ensures none { IfOk result (λ read. IfNone read ((members : List AnyAddress)

@@ -1,4 +1,4 @@
-//! What the words say of nodes that keep nothing.
+//! The options about nodes whose stores are in memory.
 
 ghost use Rattle.std.specs.Prelude.{◌≡◌, Option, Some, None, codes, IfNone, IfSome};
 ghost use Rattle.std.specs.Option.{option_map};
@@ -10,23 +10,23 @@ use crate::words::settings_of;
 use clap::ArgMatches;
 use otp_core::Settings;
 
-/// What the words say of the nodes of a command that keeps nothing.
+/// Where the nodes of a command without a database come from.
 #[derive(Drop)]
 pub enum NodesWords<'a> {
-    /// All of it.
+    /// The options say everything.
     Given {
-        /// How many nodes there are: 1 to 9.
+        /// The number of nodes: 1 to 9.
         count: u8,
         settings: Settings,
-        /// The path of the file of the cluster's key, if one is named.
+        /// The path of the key file, if one is given.
         key: Option<&'a str>,
     },
-    /// The path of the cluster file that says it.
+    /// The path of the cluster file.
     Named(&'a str),
 }
 
 impl<'a> NodesWords<'a> {
-    /// The path of the cluster file that is named, if one is.
+    /// Returns the path of the cluster file, or None.
     pub(crate) fn cluster_path(&self) -> Option<&'a str>
         ensures { option_map (λ path. path.now) result ≡ nodes_path self.now }
     {
@@ -37,7 +37,7 @@ impl<'a> NodesWords<'a> {
     }
 }
 
-/// What the words say without a cluster file of nodes of which there are so many, or `None` where they say nothing.
+/// Returns `count` nodes as the options give them, or `None` if an option is missing or wrong.
 fn given_nodes<'a>(matches: &ArgMatches<'a>, count: Option<u8>) -> Option<NodesWords<'a>>
     requires { first_value (found_of matches.now) (codes "cluster") ≡ None }
     ensures some { IfSome result (AsksForNodes (λ n. count ≡ Some n) (found_of matches.now)) }
@@ -54,8 +54,8 @@ fn given_nodes<'a>(matches: &ArgMatches<'a>, count: Option<u8>) -> Option<NodesW
     })
 }
 
-/// What the words say of nodes, of which there are so many where no cluster file is named, or `None` where they say
-/// nothing.
+/// Returns the nodes that the options give, or `None` if one is missing or wrong. `count` is their number without a
+/// cluster file.
 pub(crate) fn nodes_words<'a>(matches: &ArgMatches<'a>, count: Option<u8>) -> Option<NodesWords<'a>>
     ensures some { IfSome result (AsksForNodes (λ n. count ≡ Some n) (found_of matches.now)) }
     ensures none { IfNone result ((nodes : AnyNodes)

@@ -1,32 +1,34 @@
-//! The values and options of the commands of `oathd`, as clap is told of them.
+//! The arguments and options of the commands of `oathd`, in the form that clap takes.
+//!
+//! Floor: the first free factor of a token at a node.
 
 use clap::{Arg, ArgAction};
 use command_line::NumberOption;
 use otp_core::MOMENTS_END;
 use std::alloc::{AllocError, Global};
 
-/// A value that is no number of any size: it stands by its place, or it is that of an option.
+/// An argument, or an option with a value that is not a number of many digits.
 #[derive(Clone, Copy)]
 pub(crate) struct TextWord {
-    /// Its name, by which clap knows it: in capitals where it stands by its place, else the option without its dashes.
+    /// Its name for clap: in capitals for an argument, and without the dashes for an option.
     name: &'static str,
-    /// What stands for the value of an option in the help.
+    /// The name of an option's value in the help.
     value_name: Option<&'static str>,
     is_required: bool,
-    /// An option without which it is required, if there is one.
+    /// The option that makes it not required, if there is one.
     unless: Option<&'static str>,
-    /// The options that can't stand beside it.
+    /// The options that exclude it.
     conflicts: &'static [&'static str],
-    /// Whether it is one of the numbers from 1 to 9.
+    /// Whether its value is a number from 1 to 9.
     is_digit: bool,
     help: &'static str,
 }
 
-/// The numbers of nodes that there may be, and those of the nodes.
+/// The numbers of a node, and the possible numbers of nodes.
 const DIGITS: [&str; 9] = ["1", "2", "3", "4", "5", "6", "7", "8", "9"];
 
 impl TextWord {
-    /// The value or option as clap's.
+    /// Returns the argument or option for clap.
     fn arg<'a>(&self, alloc: Global) -> Result<Arg<'a>, AllocError> {
         let mut arg = Arg::new(alloc, self.name)
             .required(self.is_required)
@@ -52,17 +54,17 @@ impl TextWord {
 /// An option without a value.
 #[derive(Clone, Copy)]
 pub(crate) struct FlagWord {
-    /// Its name, by which clap knows it too, without its dashes.
+    /// Its name, for clap too, without the dashes.
     name: &'static str,
-    /// The options that can't stand beside it.
+    /// The options that exclude it.
     conflicts: &'static [&'static str],
-    /// The options that have to stand beside it.
+    /// The options that it needs.
     needs: &'static [&'static str],
     help: &'static str,
 }
 
 impl FlagWord {
-    /// The option as clap's.
+    /// Returns the option for clap.
     fn arg<'a>(&self, alloc: Global) -> Result<Arg<'a>, AllocError> {
         Arg::new(alloc, self.name)
             .long(self.name)
@@ -76,21 +78,21 @@ impl FlagWord {
 /// An option with several values.
 #[derive(Clone, Copy)]
 pub(crate) struct ListWord {
-    /// Its name, by which clap knows it too, without its dashes.
+    /// Its name, for clap too, without the dashes.
     name: &'static str,
     value_name: &'static str,
     is_required: bool,
-    /// The options that can't stand beside it.
+    /// The options that exclude it.
     conflicts: &'static [&'static str],
-    /// The options that have to stand beside it.
+    /// The options that it needs.
     needs: &'static [&'static str],
-    /// Whether it is given once, with numbers of nodes and commas between them, or once for each value.
+    /// Whether it is given once, with node numbers separated by commas. Otherwise it is given once for each value.
     are_nodes: bool,
     help: &'static str,
 }
 
 impl ListWord {
-    /// The option as clap's.
+    /// Returns the option for clap.
     fn arg<'a>(&self, alloc: Global) -> Result<Arg<'a>, AllocError> {
         let arg = Arg::new(alloc, self.name)
             .long(self.name)
@@ -110,7 +112,7 @@ impl ListWord {
     }
 }
 
-/// A word of a command.
+/// An argument or option of a command.
 #[derive(Clone, Copy)]
 pub(crate) enum Word {
     Number(NumberOption),
@@ -120,7 +122,7 @@ pub(crate) enum Word {
 }
 
 impl Word {
-    /// The word as clap's.
+    /// Returns the argument or option for clap.
     pub(crate) fn arg<'a>(&self, alloc: Global) -> Result<Arg<'a>, AllocError> {
         match self {
             Word::Number(option) => Ok(option.arg(alloc)),
@@ -131,7 +133,7 @@ impl Word {
     }
 }
 
-/// How far past the first free factor a code is looked for.
+/// The number of factors past the floor at which a code is searched.
 pub(crate) const LOOK_AHEAD: NumberOption = NumberOption {
     name: "look-ahead",
     short: None,
@@ -141,7 +143,7 @@ pub(crate) const LOOK_AHEAD: NumberOption = NumberOption {
     help: "How far past the first free factor a code is looked for,\n0 to 100",
 };
 
-/// How many time steps a time token may be off.
+/// The number of time steps that a time token may be off.
 pub(crate) const SKEW: NumberOption = NumberOption {
     name: "skew",
     short: None,
@@ -152,7 +154,7 @@ pub(crate) const SKEW: NumberOption = NumberOption {
         be at, 0 to 10",
 };
 
-/// How far past the first free factor two codes in a row are looked for.
+/// The number of factors past the floor at which two successive codes are searched.
 pub(crate) const RANGE: NumberOption = NumberOption {
     name: "range",
     short: None,
@@ -162,7 +164,7 @@ pub(crate) const RANGE: NumberOption = NumberOption {
     help: "How far past the first free factor a resynchronization looks,\n0 to 1000",
 };
 
-/// How far the window of a time token moves with its clock.
+/// The number of time steps by which the window of a time token follows its clock.
 pub(crate) const DRIFT: NumberOption = NumberOption {
     name: "drift",
     short: None,
@@ -173,7 +175,7 @@ pub(crate) const DRIFT: NumberOption = NumberOption {
         clock, 0 to 10",
 };
 
-/// The moment at which the users are imported.
+/// The moment of the users' import.
 pub(crate) const MOMENT: NumberOption = NumberOption {
     name: "moment",
     short: None,
@@ -184,7 +186,7 @@ pub(crate) const MOMENT: NumberOption = NumberOption {
         1970-01-01 00:00:00 UTC, 0 to 1099511627775",
 };
 
-/// How many receives a node has.
+/// The number of a node's receives.
 pub(crate) const TURNS: NumberOption = NumberOption {
     name: "turns",
     short: None,
@@ -194,7 +196,7 @@ pub(crate) const TURNS: NumberOption = NumberOption {
     help: "How many receives the node has, each of 200 milliseconds at most,\n0 to 4294967295",
 };
 
-/// How many nodes there are.
+/// The number of nodes.
 pub(crate) const NODE_COUNT: TextWord = TextWord {
     name: "N",
     value_name: None,
@@ -227,7 +229,7 @@ pub(crate) const DATABASE: TextWord = TextWord {
     help: "The path of the database",
 };
 
-/// The secret that is printed.
+/// The secret to print.
 pub(crate) const HEX: TextWord = TextWord {
     name: "HEX",
     value_name: None,
@@ -238,7 +240,7 @@ pub(crate) const HEX: TextWord = TextWord {
     help: "The secret in hexadecimal: two digits for each of 1 to 128 bytes",
 };
 
-/// Which node it is.
+/// The number of the node.
 pub(crate) const NODE: TextWord = TextWord {
     name: "node",
     value_name: Some("I"),
@@ -249,7 +251,7 @@ pub(crate) const NODE: TextWord = TextWord {
     help: "The number of the node, 1 to 9",
 };
 
-/// The moment at which the users are imported, which is the clock's where none is given.
+/// The moment of the users' import, by default the clock's.
 pub(crate) const CLOCK_MOMENT: TextWord = TextWord {
     name: "moment",
     value_name: Some("SECONDS"),
@@ -273,7 +275,7 @@ pub(crate) const MEMBERS: TextWord = TextWord {
         the form 127.0.0.1:7001, each another",
 };
 
-/// The file of the key, which has to be named.
+/// The key file, which is required.
 pub(crate) const KEY: TextWord = TextWord {
     name: "key",
     value_name: Some("PATH"),
@@ -296,7 +298,7 @@ pub(crate) const CLUSTER: TextWord = TextWord {
         looked for in place of those options",
 };
 
-/// Whether a node goes on until it is stopped.
+/// The flag that lets a node run until it is stopped.
 pub(crate) const FOREVER: FlagWord = FlagWord {
     name: "forever",
     conflicts: &["turns"],
@@ -304,7 +306,7 @@ pub(crate) const FOREVER: FlagWord = FlagWord {
     help: "Go on until the process is stopped",
 };
 
-/// Whether a node writes a log.
+/// The flag that makes a node write a log.
 pub(crate) const LOG: FlagWord = FlagWord {
     name: "log",
     conflicts: &[],
@@ -325,7 +327,7 @@ pub(crate) const IMPORT_CLUSTER: TextWord = TextWord {
         options",
 };
 
-/// How many time steps an import leaves unfree beside the skew.
+/// The number of time steps, beside the skew, that an import leaves unfree.
 pub(crate) const IMPORT_DRIFT: NumberOption = NumberOption {
     name: "drift",
     short: None,
@@ -348,7 +350,7 @@ pub(crate) const LOST: ListWord = ListWord {
         between them; I is one of them",
 };
 
-/// Whether the databases of a whole cluster are made anew.
+/// The flag that replaces the databases of a whole cluster.
 pub(crate) const ANEW: FlagWord = FlagWord {
     name: "anew",
     conflicts: &["lost"],
@@ -356,7 +358,7 @@ pub(crate) const ANEW: FlagWord = FlagWord {
     help: "The databases of all nodes are made anew",
 };
 
-/// The floors files of the other nodes, from which a database is made.
+/// The floors files of the other nodes, from which a replacement is made.
 pub(crate) const FORMER_FLOORS: ListWord = ListWord {
     name: "floors",
     value_name: "FILE",
@@ -368,7 +370,7 @@ pub(crate) const FORMER_FLOORS: ListWord = ListWord {
         lost, or with --anew for so many that each majority has one",
 };
 
-/// The floors files to which first free factors are raised.
+/// The floors files that floors are raised to.
 pub(crate) const FLOORS: ListWord = ListWord {
     name: "floors",
     value_name: "FILE",
@@ -379,7 +381,7 @@ pub(crate) const FLOORS: ListWord = ListWord {
     help: "What oathd floors printed of another node; once for each file",
 };
 
-/// The moment from which on floors files were read.
+/// The moment from which on the floors files were read.
 pub(crate) const SINCE: TextWord = TextWord {
     name: "since",
     value_name: Some("SECONDS"),
@@ -391,7 +393,7 @@ pub(crate) const SINCE: TextWord = TextWord {
         00:00:00 UTC: an older floors file is refused",
 };
 
-/// The same, for the error that says its range.
+/// The same moment, for the error that names its range.
 pub(crate) const SINCE_NUMBER: NumberOption = NumberOption {
     name: "since",
     short: None,
@@ -401,7 +403,7 @@ pub(crate) const SINCE_NUMBER: NumberOption = NumberOption {
     help: "",
 };
 
-/// How many members there are.
+/// The number of members.
 pub(crate) const MEMBER_COUNT: TextWord = TextWord {
     name: "members",
     value_name: Some("N"),
@@ -412,7 +414,7 @@ pub(crate) const MEMBER_COUNT: TextWord = TextWord {
     help: "How many members the cluster has, 1 to 9",
 };
 
-/// The cluster file that says how many members there are.
+/// The cluster file that has the members.
 pub(crate) const COUNT_CLUSTER: TextWord = TextWord {
     name: "cluster",
     value_name: Some("FILE"),
@@ -423,7 +425,7 @@ pub(crate) const COUNT_CLUSTER: TextWord = TextWord {
     help: "A cluster file, which says the members in place of that option",
 };
 
-/// The user whose failures are forgotten.
+/// The user whose failures are cleared.
 pub(crate) const USER: TextWord = TextWord {
     name: "USER",
     value_name: None,
@@ -434,7 +436,7 @@ pub(crate) const USER: TextWord = TextWord {
     help: "The name of the user",
 };
 
-/// The cluster file of a node that answers lines.
+/// The cluster file of the command `lines`.
 pub(crate) const NODE_CLUSTER: TextWord = TextWord {
     name: "cluster",
     value_name: Some("FILE"),
@@ -446,7 +448,7 @@ pub(crate) const NODE_CLUSTER: TextWord = TextWord {
         in place of those options",
 };
 
-/// The cluster file of nodes that keep nothing, which stands for their number as well.
+/// The cluster file of the commands `sim` and `cluster`, which replaces the number of nodes.
 pub(crate) const NODES_CLUSTER: TextWord = TextWord {
     name: "cluster",
     value_name: Some("FILE"),
@@ -458,7 +460,7 @@ pub(crate) const NODES_CLUSTER: TextWord = TextWord {
         far a code is looked for in place of N and those options",
 };
 
-/// The cluster file of a check.
+/// The cluster file of the command `check`.
 pub(crate) const CHECKED_CLUSTER: TextWord = TextWord {
     name: "cluster",
     value_name: Some("FILE"),
@@ -469,7 +471,7 @@ pub(crate) const CHECKED_CLUSTER: TextWord = TextWord {
     help: "The cluster file",
 };
 
-/// The file of the key, which need not be named.
+/// The key file, which is optional.
 pub(crate) const KEY_OR_ZEROS: TextWord = TextWord {
     name: "key",
     value_name: Some("PATH"),

@@ -1,4 +1,6 @@
-//! The words of the commands over a database.
+//! The arguments and options of the commands over a database.
+//!
+//! Floor: the first free factor of a token at a node.
 
 ghost use Rattle.std.specs.Prelude.{◌≡◌, ◌≤◌, ℕ, false, true, None, Some, Option, codes, IfNone, IfOk, IfSome};
 ghost use Rattle.std.specs.Option.{option_map};
@@ -25,20 +27,20 @@ use std::alloc::{AllocError, Global};
 use std::net::SocketAddrV4;
 use vote_core::Place;
 
-/// What the words say of a cluster.
+/// Where a cluster is described.
 #[derive(Drop)]
 pub enum ClusterWords<'a> {
-    /// All of it.
+    /// The options say everything.
     Given {
         settings: Settings,
-        /// Which member the node is, and of how many.
+        /// The node's number, and the number of members.
         place: Place,
-        /// The addresses of the members, in order of their numbers.
+        /// The members' addresses, in order of their numbers.
         members: Vec<SocketAddrV4>,
-        /// The path of the file of the cluster's key.
+        /// The path of the key file.
         key: &'a str,
     },
-    /// Which file says it.
+    /// A cluster file has the description.
     Named {
         /// The number of the node: 1 to 9.
         node: u8,
@@ -47,76 +49,76 @@ pub enum ClusterWords<'a> {
     },
 }
 
-/// What the words say of an import.
+/// Where the settings of an import come from.
 #[derive(Drop)]
 pub enum ImportWords<'a> {
-    /// Its settings, of which an import looks at the skew and the drift.
+    /// The settings themselves. An import uses only the skew and the drift.
     Given(Settings),
-    /// The path of the cluster file that says them.
+    /// The path of the cluster file that has them.
     Named(&'a str),
 }
 
-/// What is done with the store of a node.
+/// An action on the store of a node.
 #[derive(Drop)]
 pub enum Action<'a> {
-    /// To make it.
+    /// Creates it.
     Init {
         /// The number of the node: 1 to 9.
         node: u8,
         import: ImportWords<'a>,
-        /// The moment at which the users are imported, in seconds since 1970-01-01 00:00:00 UTC: 0 to
-        /// 1099511627775. It is the present one where none is given.
+        /// The moment of the users' import, in seconds since 1970-01-01 00:00:00 UTC: 0 to 1099511627775. `None` for
+        /// the current time.
         moment: Option<u64>,
     },
-    /// To make it anew, by the floors files of former stores.
+    /// Creates it in place of a lost one, from floors files.
     Remake {
         /// The number of the node: 1 to 9.
         node: u8,
         import: ImportWords<'a>,
-        /// The moment at which it is made, in seconds since 1970-01-01 00:00:00 UTC: 0 to 1099511627775. It is the
-        /// present one where none is given.
+        /// The moment of its creation, in seconds since 1970-01-01 00:00:00 UTC: 0 to 1099511627775. `None` for the
+        /// current time.
         moment: Option<u64>,
         former: FormerWords<'a>,
     },
-    /// To serve its node.
+    /// Serves the node.
     Serve {
         cluster: ClusterWords<'a>,
-        /// How many receives there are: fewer than 2^54.
+        /// The number of receives: less than 2^54.
         turns: u64,
-        /// Whether it writes a log.
+        /// Whether the node writes a log.
         is_logged: bool,
     },
-    /// To write the users file that it makes.
+    /// Prints a users file with the store's content.
     Export,
-    /// To write its passes.
+    /// Prints its passes.
     Audit {
         /// The number of the node: 1 to 9.
         node: u8,
     },
-    /// To make it one of the present version.
+    /// Upgrades it to the current format.
     Migrate {
         /// The number of the node: 1 to 9.
         node: u8,
     },
-    /// To write its floors file.
+    /// Prints its floors file.
     Floors {
         /// The number of the node: 1 to 9.
         node: u8,
         count: CountWords<'a>,
     },
-    /// To raise its first free factors to the greatest of floors files.
+    /// Raises its floors to the greatest in floors files.
     Level {
         /// The number of the node: 1 to 9.
         node: u8,
         /// The paths of the floors files.
         floors: Vec<&'a str>,
     },
-    /// To write its gates that have failures.
+    /// Prints its gates that have failures.
     Gates {
         /// The number of the node: 1 to 9.
         node: u8,
     },
-    /// To forget the failures of a user.
+    /// Clears the failures of a user.
     Unlock {
         /// The number of the node: 1 to 9.
         node: u8,
@@ -126,7 +128,7 @@ pub enum Action<'a> {
 }
 
 impl<'a> Action<'a> {
-    /// The path of the cluster file that the action names, if it names one.
+    /// Returns the path of the cluster file that the action names, or None.
     pub(crate) fn cluster_path(&self) -> Option<&'a str>
         ensures { option_map (λ path. path.now) result ≡ path_of_action self.now }
     {
@@ -152,7 +154,8 @@ impl<'a> Action<'a> {
     }
 }
 
-/// The moment that is given, if any, or `None` where it isn't one in digits alone.
+/// Returns the value of `--moment`, `Some(None)` without it, or `None` if it is out of its range or has anything but
+/// digits.
 fn moment_of(matches: &ArgMatches<'_>) -> Option<Option<u64>>
     ensures some { IfSome result (GivesMoment (found_of matches.now)) }
     ensures none { IfNone result ((moment : Option ℕ) → GivesMoment (found_of matches.now) moment → ⊥) }
@@ -163,7 +166,7 @@ fn moment_of(matches: &ArgMatches<'_>) -> Option<Option<u64>>
     Some(Some(import_moment(matches)?))
 }
 
-/// The settings of an import: the skew and the drift that are given, or `None` where one is none.
+/// Returns the given skew and drift, with default values for the rest, or `None` if one is missing or wrong.
 fn import_settings(matches: &ArgMatches<'_>) -> Option<Settings>
     ensures some { IfSome result (GivesImport (found_of matches.now)) }
     ensures none { IfNone result ((limits : Limits) → GivesImport (found_of matches.now) limits → ⊥) }
@@ -173,7 +176,7 @@ fn import_settings(matches: &ArgMatches<'_>) -> Option<Settings>
     Settings::new(10, skew, 100)?.with_drift(drift)
 }
 
-/// What the words say of an import, or `None` where they say nothing.
+/// Returns the source of an import's settings, or `None` if a setting is missing or wrong.
 fn import_words<'a>(matches: &ArgMatches<'a>) -> Option<ImportWords<'a>>
     ensures some { IfSome result (AsksForImport (found_of matches.now)) }
     ensures none { IfNone result ((import : AnyImport) → AsksForImport (found_of matches.now) import → ⊥) }
@@ -184,10 +187,10 @@ fn import_words<'a>(matches: &ArgMatches<'a>) -> Option<ImportWords<'a>>
     }
 }
 
-/// So many receives make a node go on until it is stopped: 500 years of them at a million datagrams a second.
+/// The number of receives of a node that runs until it is stopped. At a million datagrams a second it lasts 500 years.
 const TURNS_FOREVER: u64 = (1 << 54) - 1;
 
-/// Whether a flag with this name is given.
+/// Returns whether the flag `name` is given.
 pub(crate) fn is_given(matches: &ArgMatches<'_>, name: &str) -> bool
     ensures { result ≡ is_flag (first_value (found_of matches.now) name.now) }
 {
@@ -197,7 +200,7 @@ pub(crate) fn is_given(matches: &ArgMatches<'_>, name: &str) -> bool
     }
 }
 
-/// A number of receives that is given, or `None` where it isn't one below 2^32.
+/// Returns `turns` if it is below 2^32, or `None`.
 fn few_turns(turns: Option<u64>) -> Option<u64>
     ensures { result ≡ few_turns turns }
 {
@@ -207,8 +210,9 @@ fn few_turns(turns: Option<u64>) -> Option<u64>
     }
 }
 
-/// How often a node receives, or `None` where that isn't a number below 2^32 in digits alone, and it isn't to go on
-/// until it is stopped.
+/// Returns the number of receives: the greatest with `--forever`, else the value of `--turns`.
+///
+/// Returns `None` if the value is missing, not below 2^32, or has anything but digits.
 fn turns_of(matches: &ArgMatches<'_>) -> Option<u64>
     ensures { result ≡ turns_given (found_of matches.now) }
 {
@@ -218,7 +222,7 @@ fn turns_of(matches: &ArgMatches<'_>) -> Option<u64>
     few_turns(number_of(matches, "turns"))
 }
 
-/// Which member a node is of so many, or `None` where it is none of them.
+/// Returns the place of the given node among `members`, or `None` if it is not one of them.
 fn place_of(matches: &ArgMatches<'_>, members: u8) -> Option<Place>
     requires { members ≤ 9 }
     ensures some { IfSome result (λ place. GivesPlace (found_of matches.now) place × (place.n ≡ members)) }
@@ -228,8 +232,7 @@ fn place_of(matches: &ArgMatches<'_>, members: u8) -> Option<Place>
     Place::new(member_number(matches, "node")?, members)
 }
 
-/// What the values of the command `init` ask for where they say nothing of former stores, or `None` where they ask for
-/// nothing.
+/// Returns the action of `init` without options about former stores, or `None` if a value is missing or wrong.
 fn plain_init<'a>(matches: &ArgMatches<'a>) -> Option<Action<'a>>
     requires { spec_is_of_former (found_of matches.now) ≡ false }
     ensures some { IfSome result (AsksForAction (codes "init") (found_of matches.now)) }
@@ -248,7 +251,7 @@ fn plain_init<'a>(matches: &ArgMatches<'a>) -> Option<Action<'a>>
     }
 }
 
-/// What they ask for where they say something of former stores, with what they say of these.
+/// Returns the action of `init` with `former`, or `None` if a value is missing or wrong.
 fn remake<'a>(matches: &ArgMatches<'a>, former: FormerWords<'a>) -> Option<Action<'a>>
     requires of_former { spec_is_of_former (found_of matches.now) ≡ true }
     requires given { former_given (found_of matches.now) ≡ Some (former_value former) }
@@ -269,7 +272,7 @@ fn remake<'a>(matches: &ArgMatches<'a>, former: FormerWords<'a>) -> Option<Actio
     }
 }
 
-/// What the values of the command `init` ask for, or `None` where they ask for nothing.
+/// Returns the action of `init`, or `None` if a value is missing or wrong.
 fn init_action<'a>(
     alloc: Global,
     matches: &ArgMatches<'a>,
@@ -287,7 +290,7 @@ fn init_action<'a>(
     }
 }
 
-/// What the values of the command `serve` say of a cluster without its file, or `None` where they say nothing.
+/// Returns the cluster that the options of `serve` give, or `None` if one is missing or wrong.
 fn given_cluster<'a>(
     alloc: Global,
     matches: &ArgMatches<'a>,
@@ -317,7 +320,7 @@ fn given_cluster<'a>(
     }))
 }
 
-/// What the values of the command `serve` say of a cluster, or `None` where they say nothing.
+/// Returns where `serve` finds the cluster, or `None` if a value is missing or wrong.
 fn cluster_words<'a>(
     alloc: Global,
     matches: &ArgMatches<'a>,
@@ -335,7 +338,7 @@ fn cluster_words<'a>(
     }
 }
 
-/// What the values of the command `serve` ask for, or `None` where they ask for nothing.
+/// Returns the action of `serve`, or `None` if a value is missing or wrong.
 fn serve_action<'a>(
     alloc: Global,
     matches: &ArgMatches<'a>,
@@ -358,7 +361,7 @@ fn serve_action<'a>(
     }))
 }
 
-/// What the values of the command `audit` ask for, or `None` where they ask for nothing.
+/// Returns the action of `audit`, or `None` if a value is missing or wrong.
 fn audit_action<'a>(matches: &ArgMatches<'_>) -> Option<Action<'a>>
     ensures some { IfSome result (AsksForAction (codes "audit") (found_of matches.now)) }
     ensures none { IfNone result ((action : AnyAction)
@@ -369,7 +372,7 @@ fn audit_action<'a>(matches: &ArgMatches<'_>) -> Option<Action<'a>>
     })
 }
 
-/// What the values of the command `migrate` ask for, or `None` where they ask for nothing.
+/// Returns the action of `migrate`, or `None` if a value is missing or wrong.
 fn migrate_action<'a>(matches: &ArgMatches<'_>) -> Option<Action<'a>>
     ensures some { IfSome result (AsksForAction (codes "migrate") (found_of matches.now)) }
     ensures none { IfNone result ((action : AnyAction)
@@ -380,7 +383,7 @@ fn migrate_action<'a>(matches: &ArgMatches<'_>) -> Option<Action<'a>>
     })
 }
 
-/// What the values of the command `floors` ask for, or `None` where they ask for nothing.
+/// Returns the action of `floors`, or `None` if a value is missing or wrong.
 fn floors_action<'a>(matches: &ArgMatches<'a>) -> Option<Action<'a>>
     ensures some { IfSome result (AsksForAction (codes "floors") (found_of matches.now)) }
     ensures none { IfNone result ((action : AnyAction)
@@ -393,7 +396,7 @@ fn floors_action<'a>(matches: &ArgMatches<'a>) -> Option<Action<'a>>
     }
 }
 
-/// What the values of the command `level` ask for, or `None` where they ask for nothing.
+/// Returns the action of `level`, or `None` if a value is missing or wrong.
 fn level_action<'a>(
     alloc: Global,
     matches: &ArgMatches<'a>,
@@ -411,7 +414,7 @@ fn level_action<'a>(
     }
 }
 
-/// What the values of the command `gates` ask for, or `None` where they ask for nothing.
+/// Returns the action of `gates`, or `None` if a value is missing or wrong.
 fn gates_action<'a>(matches: &ArgMatches<'_>) -> Option<Action<'a>>
     ensures some { IfSome result (AsksForAction (codes "gates") (found_of matches.now)) }
     ensures none { IfNone result ((action : AnyAction)
@@ -422,7 +425,7 @@ fn gates_action<'a>(matches: &ArgMatches<'_>) -> Option<Action<'a>>
     })
 }
 
-/// What the values of the command `unlock` ask for, or `None` where they ask for nothing.
+/// Returns the action of `unlock`, or `None` if a value is missing or wrong.
 fn unlock_action<'a>(matches: &ArgMatches<'a>) -> Option<Action<'a>>
     ensures some { IfSome result (AsksForAction (codes "unlock") (found_of matches.now)) }
     ensures none { IfNone result ((action : AnyAction)
@@ -433,7 +436,7 @@ fn unlock_action<'a>(matches: &ArgMatches<'a>) -> Option<Action<'a>>
     Some(Action::Unlock { node, user })
 }
 
-/// What the values of a command over a database with this name ask for, or `None` where they ask for nothing.
+/// Returns the action of the command `name`, or `None` if it is no command over a database or a value is wrong.
 pub(crate) fn read_action<'a>(
     alloc: Global,
     name: &str,

@@ -18,57 +18,54 @@ use command_line::number_of;
 use otp_core::{MOMENTS_END, Settings};
 use std::alloc::{AllocError, Global};
 
-/// What the words ask for. It has no Debug, which would show a secret.
+/// A task that the command line asks for. It has no Debug, which would show a secret.
 #[derive(Drop)]
 pub enum Task<'a> {
-    /// To answer the lines of the input, as one node.
+    /// Answers the lines of the input, as one node.
     Lines {
         nodes: NodesWords<'a>,
-        /// The moment at which the users are imported, in seconds since 1970-01-01 00:00:00 UTC: 0 to
-        /// 1099511627775.
+        /// The moment of the users' import, in seconds since 1970-01-01 00:00:00 UTC: 0 to 1099511627775.
         moment: u64,
     },
-    /// To run the script of the input over a cluster.
+    /// Runs the script of the input over a cluster.
     Sim {
         nodes: NodesWords<'a>,
-        /// The moment at which the users are imported, in seconds since 1970-01-01 00:00:00 UTC: 0 to
-        /// 1099511627775.
+        /// The moment of the users' import, in seconds since 1970-01-01 00:00:00 UTC: 0 to 1099511627775.
         moment: u64,
     },
-    /// To run a cluster over sockets of this machine, and to send it the lines of the input.
+    /// Runs a cluster over sockets of this machine, and sends it the lines of the input.
     Cluster {
         /// The path of the users file.
         users: &'a str,
         nodes: NodesWords<'a>,
-        /// The moment at which the users are imported, in seconds since 1970-01-01 00:00:00 UTC: 0 to
-        /// 1099511627775.
+        /// The moment of the users' import, in seconds since 1970-01-01 00:00:00 UTC: 0 to 1099511627775.
         moment: u64,
     },
-    /// To do something with the store of a node.
+    /// Carries out an action on the store of a node.
     Store {
-        /// The path of its database.
+        /// The path of the database.
         database: &'a str,
         /// The path of the users file.
         users: &'a str,
         action: Action<'a>,
     },
-    /// To read what a node would be served with, but its database, and to print what all members share.
+    /// Reads a node's files, except its database, and prints what all members share.
     Check {
         /// The path of the users file.
         users: &'a str,
         /// The path of the cluster file.
         cluster: &'a str,
     },
-    /// To print the base32 text of a secret.
+    /// Prints the base32 text of a secret.
     Secret {
-        /// The secret in hexadecimal, two digits for each byte. Any text may be given, and is refused where it
-        /// is not so.
+        /// The secret in hexadecimal, two digits for each byte. It may be any text here: running the task refuses a
+        /// wrong one.
         hex: &'a str,
     },
 }
 
 impl<'a> Task<'a> {
-    /// The path of the cluster file that the task names, if it names one.
+    /// Returns the path of the cluster file that the task names, or None.
     pub fn cluster_path(&self) -> Option<&'a str>
         ensures { option_map (λ path. path.now) result ≡ cluster_path_of self.now }
     {
@@ -83,7 +80,7 @@ impl<'a> Task<'a> {
     }
 }
 
-/// The limits that the options give, or `None` where a number is out of its range or written with anything but digits.
+/// Returns the limits that the options give, or `None` if a number is out of its range or has anything but digits.
 pub(crate) fn settings_of(matches: &ArgMatches<'_>) -> Option<Settings>
     ensures some { IfSome result (GivesLimits (found_of matches.now)) }
     ensures none { IfNone result ((limits : Limits) → GivesLimits (found_of matches.now) limits → ⊥) }
@@ -95,7 +92,7 @@ pub(crate) fn settings_of(matches: &ArgMatches<'_>) -> Option<Settings>
     Settings::new(look_ahead, skew, range)?.with_drift(drift)
 }
 
-/// The moment of an import that is given, or `None` where it is out of its range or written with anything but digits.
+/// Returns the given moment of an import, or `None` if it is out of its range or has anything but digits.
 pub(crate) fn import_moment(matches: &ArgMatches<'_>) -> Option<u64>
     ensures some { IfSome result (λ moment. GivesMoment (found_of matches.now) (Some moment)) }
     ensures none { IfNone result ((moment : ℕ) → GivesMoment (found_of matches.now) (Some moment) → ⊥) }
@@ -107,7 +104,7 @@ pub(crate) fn import_moment(matches: &ArgMatches<'_>) -> Option<u64>
     Some(moment)
 }
 
-/// The number from 1 to 9 that is given under a name, or `None` where it isn't one in digits alone.
+/// Returns the value of `name`, or `None` if it is not a number from 1 to 9, in digits alone.
 pub(crate) fn member_number(matches: &ArgMatches<'_>, name: &str) -> Option<u8>
     ensures some { IfSome result (GivesMember (found_of matches.now) name.now) }
     ensures none { IfNone result ((number : ℕ) → GivesMember (found_of matches.now) name.now number → ⊥) }
@@ -119,7 +116,7 @@ pub(crate) fn member_number(matches: &ArgMatches<'_>, name: &str) -> Option<u8>
     Some(number as u8)
 }
 
-/// What the values of the command `lines` ask for, or `None` where they ask for nothing.
+/// Returns the task of `lines`, or `None` if a value is missing or wrong.
 fn lines_task<'a>(matches: &ArgMatches<'a>) -> Option<Task<'a>>
     ensures some { IfSome result (AsksFor (codes "lines") (found_of matches.now)) }
     ensures none { IfNone result ((nodes : AnyNodes) (moment : ℕ)
@@ -133,7 +130,7 @@ fn lines_task<'a>(matches: &ArgMatches<'a>) -> Option<Task<'a>>
     }
 }
 
-/// What the values of the command `sim` ask for, or `None` where they ask for nothing.
+/// Returns the task of `sim`, or `None` if a value is missing or wrong.
 fn sim_task<'a>(matches: &ArgMatches<'a>) -> Option<Task<'a>>
     ensures some { IfSome result (AsksFor (codes "sim") (found_of matches.now)) }
     ensures none { IfNone result ((nodes : AnyNodes) (moment : ℕ)
@@ -147,7 +144,7 @@ fn sim_task<'a>(matches: &ArgMatches<'a>) -> Option<Task<'a>>
     }
 }
 
-/// What the values of the command `cluster` ask for, or `None` where they ask for nothing.
+/// Returns the task of `cluster`, or `None` if a value is missing or wrong.
 fn cluster_task<'a>(matches: &ArgMatches<'a>) -> Option<Task<'a>>
     ensures some { IfSome result (AsksFor (codes "cluster") (found_of matches.now)) }
     ensures none { IfNone result ((users : List ℕ) (nodes : AnyNodes) (moment : ℕ)
@@ -167,7 +164,7 @@ fn cluster_task<'a>(matches: &ArgMatches<'a>) -> Option<Task<'a>>
     }
 }
 
-/// What the values of the command `check` ask for, or `None` where they ask for nothing.
+/// Returns the task of `check`, or `None` if a value is missing.
 fn check_task<'a>(matches: &ArgMatches<'a>) -> Option<Task<'a>>
     ensures some { IfSome result (AsksFor (codes "check") (found_of matches.now)) }
     ensures none { IfNone result ((users cluster : List ℕ) → AsksToCheck (found_of matches.now) users cluster → ⊥) }
@@ -177,7 +174,7 @@ fn check_task<'a>(matches: &ArgMatches<'a>) -> Option<Task<'a>>
     Some(Task::Check { users, cluster })
 }
 
-/// What the value of the command `secret` asks for, or `None` where there is none.
+/// Returns the task of `secret`, or `None` if its value is missing.
 fn secret_task<'a>(matches: &ArgMatches<'a>) -> Option<Task<'a>>
     ensures some { IfSome result (AsksFor (codes "secret") (found_of matches.now)) }
     ensures none { IfNone result (first_value (found_of matches.now) (codes "HEX") ≡ None) }
@@ -186,7 +183,7 @@ fn secret_task<'a>(matches: &ArgMatches<'a>) -> Option<Task<'a>>
     Some(Task::Secret { hex })
 }
 
-/// What the values of a command over a database with this name ask for, or `None` where they ask for nothing.
+/// Returns the task of the command `name`, or `None` if it is no command over a database or a value is wrong.
 fn store_task<'a>(
     alloc: Global,
     name: &str,
@@ -209,7 +206,7 @@ fn store_task<'a>(
     }
 }
 
-/// What the values of the command with this name ask for, or `None` where they ask for nothing.
+/// Returns the task of the command `name`, or `None` if the values ask for nothing.
 fn task_of<'a>(
     alloc: Global,
     name: &str,
@@ -228,7 +225,7 @@ fn task_of<'a>(
     }
 }
 
-/// What the values of the command with this name ask for, or the error that says why they ask for nothing.
+/// Returns the task of the command `name`, or the error that says why the values ask for nothing.
 fn asked<'a>(
     alloc: Global,
     commands: &[CommandWords],
@@ -243,11 +240,11 @@ fn asked<'a>(
     }
 }
 
-/// The words to which clap answers with the version.
+/// The words for which clap prints the version.
 const VERSION_WORDS: [&str; 2] = ["oathd", "--version"];
 
-/// What the words that were found ask for, or the error that says why they ask for nothing. The version is such an
-/// error too, as the help is.
+/// Returns the task that `matches` ask for, or the error that says why they ask for nothing. Help and version are
+/// errors too.
 fn found<'a>(
     alloc: Global,
     commands: &[CommandWords],
@@ -265,7 +262,7 @@ fn found<'a>(
     asked(alloc, commands, name, values)
 }
 
-/// What the words ask for of these commands, or the error that says why they ask for nothing.
+/// Returns the task that `words` ask for among `commands`, or the error that says why they ask for nothing.
 fn read<'a>(
     alloc: Global,
     commands: &[CommandWords],
@@ -278,9 +275,11 @@ fn read<'a>(
     found(alloc, commands, &mut program, &matches)
 }
 
-/// What the words ask for. The first of them is the program's name. The error has clap's text, which
-/// goes to standard output where help or the version was asked for; a value that asks for nothing is named with the
-/// usage of the command.
+/// Returns the task that `words` ask for. The first word is the program's name.
+///
+/// # Errors
+/// Returns clap's error, which has its text. Help and version go to standard output. The error for a wrong value names
+/// it and shows the usage of the command.
 pub fn read_words<'a>(alloc: Global, words: &'a [String]) -> Result<Task<'a>, Error>
     ensures { IfOk result IsInRange }
 {

@@ -1,4 +1,4 @@
--- What the words of the command line ask for, by the values that clap found.
+-- The command line, as values that clap found.
 use Rattle.std.specs.Prelude.{◌≡◌, ℕ, ◌≤◌, Bool, true, false, List, map, Option, Some, None, codes, option_map}
 use Rattle.std.specs.Char.{to_ascii_lowercase}
 use Rattle.clap.specs.Matches.{first_value, one_text}
@@ -26,20 +26,20 @@ hash_name Sha512 = codes "SHA512"
 abbrev pub IsNameOf : List ℕ → Hash → Type 0
 IsNameOf text hash = lowercase_of text ≡ lowercase_of (hash_name hash)
 
--- the value of `--totp` asks for the mode
+-- the mode for a value of `--totp`
 abbrev pub IsMode : Option (List ℕ) → Mode → Type 0
 IsMode None Hotp = Unit {0}
 IsMode None (Totp hash) = ⊥
 IsMode (Some text) Hotp = ⊥
 IsMode (Some text) (Totp hash) = IsNameOf text hash
 
--- a flag as clap reads it
+-- A flag, as clap reads it.
 pub record IsFlag (found : Found) (name : List ℕ) (flag : Bool) : Type 0 where
   pub absent : one_text found name ≡ None → flag ≡ false
   pub given : one_text found name ≡ Some (codes "true") → flag ≡ true
   pub not_given : one_text found name ≡ Some (codes "false") → flag ≡ false
 
--- the values that were found are these, and in their ranges
+-- The values found are these, each in its range.
 pub record AsksFor (found : Found) (words : Words) : Type 0 where
   pub mode : IsMode (first_value found (codes "totp")) words.mode
   pub is_base32 : IsFlag found (codes "base32") words.is_base32

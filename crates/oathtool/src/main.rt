@@ -11,13 +11,13 @@ use std::io::{self, BufWriter};
 use std::process::ExitCode;
 use std::time::{SystemTime, UNIX_EPOCH};
 
-/// The present moment in seconds since 1970-01-01 00:00:00 UTC, or `None` where there is no clock.
+/// Returns the current time in seconds since 1970-01-01 00:00:00 UTC, or `None` without a clock.
 fn clock(rt: &HostRuntime) -> Option<u64> {
     let now = SystemTime::now(rt).ok()?;
     Some(now.duration_since(UNIX_EPOCH).ok()?.as_secs())
 }
 
-/// Does what the words of the process ask for, over standard output and standard error. Gives the exit status.
+/// Carries out the words of the process, over standard output and standard error. Returns the exit status.
 fn run_process(rt: &HostRuntime) -> Result<u8, Fault> {
     let words = process_words(rt, rt.alloc())?;
     let mut output = BufWriter::new(rt.alloc(), io::writer(rt)).map_err(|_| Fault::Memory)?;

@@ -5,11 +5,11 @@ use program_edge::{exit_status, flushed};
 use std::alloc::Global;
 use std::io::Write;
 
-/// The program's name, which stands before the text of a fault.
+/// The program's name, which precedes the text of a fault.
 pub(crate) const PROGRAM: &str = "oathtool";
 
-/// Reads the words and writes what they ask for, or what clap has to say of them. The output is flushed, also where a
-/// run ended in a fault. Gives the exit status.
+/// Reads the words and writes what they ask for, or clap's text. Flushes the output, also after a fault. Returns the
+/// exit status.
 fn follow<O: Write, E: Write>(
     alloc: Global,
     words: &[String],
@@ -31,10 +31,11 @@ fn follow<O: Write, E: Write>(
     }
 }
 
-/// Does what the words of the process ask for, the first of which is the program's name. What it prints, the help
-/// and the version go to the output, which is flushed, and a fault's text and what is wrong with the words to the
-/// errors. `clock` is the present moment in seconds since 1970-01-01 00:00:00 UTC, if there is a clock. Gives the
-/// exit status.
+/// Carries out the words of the process, the first of which is the program's name. Returns the exit status.
+///
+/// The output gets what the run prints, the help and the version, and is flushed. The errors get a fault's text, and
+/// clap's text about wrong words. `clock` is the current time in seconds since 1970-01-01 00:00:00 UTC, if there is a
+/// clock.
 pub(crate) fn run<O: Write, E: Write>(
     alloc: Global,
     words: &[String],

@@ -13,13 +13,13 @@ use oathtool_core::{MAX_WINDOW, Mode, Words};
 use otp_core::{Digits, FACTORS_END, Factor};
 use std::alloc::{AllocError, Global};
 
-/// The names of the hashes that a time-based code is made with.
+/// The names of the hashes of time-based codes.
 const HASH_NAMES: [&str; 3] = ["SHA1", "SHA256", "SHA512"];
 
-/// How many digits a code may have.
+/// The possible numbers of digits of a code.
 const DIGIT_COUNTS: [&str; 3] = ["6", "7", "8"];
 
-/// The counter at which the codes begin.
+/// The counter of the first code.
 const COUNTER: NumberOption = NumberOption {
     name: "counter",
     short: Some('c'),
@@ -29,7 +29,7 @@ const COUNTER: NumberOption = NumberOption {
     help: "The counter at which the codes begin,\n0 to 4611686018427387903 (HOTP)",
 };
 
-/// How many more codes there are, or how far one is looked for.
+/// The number of further codes, or the greatest offset of an OTP.
 const WINDOW: NumberOption = NumberOption {
     name: "window",
     short: Some('w'),
@@ -39,10 +39,10 @@ const WINDOW: NumberOption = NumberOption {
     help: "How many more codes to print, or how far to look for OTP,\n0 to 1000",
 };
 
-/// The options that take a number.
+/// The options with a number.
 const NUMBERS: [NumberOption; 2] = [COUNTER, WINDOW];
 
-/// What the help says besides the words.
+/// The text of the help after the options.
 const PROGRAM_HELP: &str = "\
 Examples:
   oathtool -w 9 3132333435363738393031323334353637383930
@@ -56,7 +56,7 @@ in the shell's history: give keys of test tokens, or use a machine of your own.
 The status is 0, or 1 where OTP isn't found, KEY is bad, or memory, clock or
 output fail, or 2 where the words are wrong or a value is out of range.";
 
-/// An option that takes a text.
+/// Returns an option with a text.
 fn text<'a>(alloc: Global, name: &'a str, short: char, value: &'a str, help: &'a str) -> Arg<'a> {
     Arg::new(alloc, name)
         .long(name)
@@ -66,7 +66,7 @@ fn text<'a>(alloc: Global, name: &'a str, short: char, value: &'a str, help: &'a
         .help(help)
 }
 
-/// An option without a value.
+/// Returns an option without a value.
 fn flag<'a>(alloc: Global, name: &'a str, help: &'a str) -> Arg<'a> {
     Arg::new(alloc, name)
         .long(name)
@@ -74,7 +74,7 @@ fn flag<'a>(alloc: Global, name: &'a str, help: &'a str) -> Arg<'a> {
         .help(help)
 }
 
-/// The option of codes based on a counter.
+/// Returns the option for codes based on a counter.
 fn hotp_arg<'a>(alloc: Global) -> Result<Arg<'a>, AllocError> {
     flag(
         alloc,
@@ -84,7 +84,7 @@ fn hotp_arg<'a>(alloc: Global) -> Result<Arg<'a>, AllocError> {
     .conflicts_with("totp")
 }
 
-/// The option of codes based on time, which may name their hash.
+/// Returns the option for codes based on time, whose value may name the hash.
 fn totp_arg<'a>(alloc: Global) -> Arg<'a> {
     Arg::new(alloc, "totp")
         .long("totp")
@@ -100,19 +100,19 @@ fn totp_arg<'a>(alloc: Global) -> Arg<'a> {
         )
 }
 
-/// Adds the options that say which kind of code.
+/// Adds the options for the kind of code.
 fn with_modes<'a>(alloc: Global, command: Command<'a>) -> Result<Command<'a>, AllocError> {
     command.arg(hotp_arg(alloc)?)?.arg(totp_arg(alloc))
 }
 
-/// The option that says how many digits a code has.
+/// Returns the option for the number of digits of a code.
 fn digits_arg<'a>(alloc: Global) -> Arg<'a> {
     text(alloc, "digits", 'd', "DIGITS", "How many digits a code has")
         .value_parser(DIGIT_COUNTS.as_slice())
         .default_value("6")
 }
 
-/// Adds the options that take a number.
+/// Adds the options with a number.
 fn with_numbers<'a>(alloc: Global, command: Command<'a>) -> Result<Command<'a>, AllocError> {
     command
         .arg(COUNTER.arg(alloc))?
@@ -120,7 +120,7 @@ fn with_numbers<'a>(alloc: Global, command: Command<'a>) -> Result<Command<'a>, 
         .arg(WINDOW.arg(alloc))
 }
 
-/// The option that says how long a time step is.
+/// Returns the option for the length of a time step.
 fn step_size_arg<'a>(alloc: Global) -> Arg<'a> {
     text(
         alloc,
@@ -132,7 +132,7 @@ fn step_size_arg<'a>(alloc: Global) -> Arg<'a> {
     .default_value("30s")
 }
 
-/// The option that says from when on time steps are counted.
+/// Returns the option for the start of the time steps.
 fn start_arg<'a>(alloc: Global) -> Arg<'a> {
     text(
         alloc,
@@ -144,7 +144,7 @@ fn start_arg<'a>(alloc: Global) -> Arg<'a> {
     .default_value("1970-01-01 00:00:00 UTC")
 }
 
-/// The option that says of which time the codes are.
+/// Returns the option for the time of the codes.
 fn now_arg<'a>(alloc: Global) -> Arg<'a> {
     text(
         alloc,
@@ -163,7 +163,7 @@ fn with_times<'a>(alloc: Global, command: Command<'a>) -> Result<Command<'a>, Al
         .arg(now_arg(alloc))
 }
 
-/// The option that says in which text the key is.
+/// Returns the option for the encoding of the key.
 fn base32_arg<'a>(alloc: Global) -> Arg<'a> {
     flag(
         alloc,
@@ -173,7 +173,7 @@ fn base32_arg<'a>(alloc: Global) -> Arg<'a> {
     .short('b')
 }
 
-/// The value that is the key.
+/// Returns the argument for the key.
 fn key_arg<'a>(alloc: Global) -> Arg<'a> {
     Arg::new(alloc, "KEY")
         .required(true)
@@ -181,14 +181,14 @@ fn key_arg<'a>(alloc: Global) -> Arg<'a> {
         .help("The secret, 1 to 128 bytes in hexadecimal, or in base32 with -b")
 }
 
-/// The value that is a code, which may be left out.
+/// Returns the argument for a code, which is optional.
 fn otp_arg<'a>(alloc: Global) -> Arg<'a> {
     Arg::new(alloc, "OTP").action(ArgAction::Set).help(
         "A code to look for. Its offset is printed: from the counter on, or the\nnearest to the time step, -w to w",
     )
 }
 
-/// The whole command line.
+/// Returns the whole command line.
 fn command<'a>(alloc: Global) -> Result<Command<'a>, AllocError> {
     let command = Command::new(alloc, "oathtool")
         .version(VERSION)
@@ -204,7 +204,7 @@ fn command<'a>(alloc: Global) -> Result<Command<'a>, AllocError> {
     command.arg(key_arg(alloc))?.arg(otp_arg(alloc))
 }
 
-/// The hash with this name, in any case.
+/// Returns the hash called `name`, in any case, or None.
 fn hash_named(name: &str) -> Option<Hash>
     ensures some { IfSome result (IsNameOf name.now) }
     ensures none { IfNone result ((hash : AnyHash) → IsNameOf name.now hash → ⊥) }
@@ -220,7 +220,7 @@ fn hash_named(name: &str) -> Option<Hash>
     }
 }
 
-/// The mode that the value of `--totp` asks for, which is not there for HOTP.
+/// Returns the mode for the value of `--totp`, or for HOTP without that option, or None if no hash has this name.
 fn mode_of(totp: Option<&str>) -> Option<Mode>
     ensures some { IfSome result (IsMode (option_map (λ text. text.now) totp.entry)) }
     ensures none { IfNone result ((mode : AnyMode) → IsMode (option_map (λ text. text.now) totp.entry) mode → ⊥) }
@@ -231,8 +231,8 @@ fn mode_of(totp: Option<&str>) -> Option<Mode>
     }
 }
 
-/// What the values of the words ask for, or `None` where one is out of its range or a number is written
-/// with anything but digits.
+/// Returns the words for the values that clap found, or `None` if one is out of its range or a number has anything but
+/// digits.
 fn words_of<'a>(matches: &ArgMatches<'a>) -> Option<Words<'a>>
     ensures some { IfSome result (AsksFor (found_of matches.now)) }
     ensures none { IfNone result ((words : AnyWords) → AsksFor (found_of matches.now) words → ⊥) }
@@ -255,9 +255,11 @@ fn words_of<'a>(matches: &ArgMatches<'a>) -> Option<Words<'a>>
     })
 }
 
-/// What the words ask for. The first of them is the program's name. The error has clap's text, which
-/// goes to standard output where help or the version was asked for; a number that is out of its range or
-/// not in digits alone is named with that range.
+/// Returns what `words` ask for. The first word is the program's name.
+///
+/// # Errors
+/// Returns clap's error, which has its text. Help and version go to standard output. The error for a wrong number names
+/// the option and its range.
 pub(crate) fn read_words<'a>(alloc: Global, words: &'a [String]) -> Result<Words<'a>, Error>
     ensures { IfOk result HasWindow }
 {

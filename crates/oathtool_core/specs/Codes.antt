@@ -1,4 +1,4 @@
--- The codes of a key, and the lines that are printed of them.
+-- The codes of a key, and their lines in the output.
 use Rattle.std.specs.Prelude.{◌≡◌, ℕ, List, flat_map}
 use Rattle.std.specs.List.{range_with_len}
 use Rattle.program_edge.specs.Line.{line_of}
@@ -16,10 +16,10 @@ code_at generator factor = code_of generator.hash generator.key.now factor (coun
 abbrev pub IsSetUp : Codes → Generator → Type 0
 IsSetUp codes generator = AreCodesOf codes generator.hash generator.key.now (count_of generator.digits)
 
--- the code of a factor is the OTP, to the last byte
+-- the code of the factor is the OTP, to the last byte
 abbrev pub Matches : Generator → List ℕ → ℕ → Type 0
 Matches generator otp factor = code_at generator factor ≡ otp
 
--- the codes of so many factors from one on, upwards, each on a line of its own
+-- the codes of `count` factors from `first` upwards, one on each line
 abbrev pub code_lines : Generator → ℕ → ℕ → List ℕ
 code_lines generator first count = flat_map (λ factor. line_of (code_at generator factor)) (range_with_len first count)

@@ -1,4 +1,4 @@
--- What a run reads before it prints, and why it stops.
+-- The values that a run reads before it prints, and the reasons why it stops.
 use Rattle.std.specs.Prelude.{◌≡◌, ℕ, ◌+◌, ◌^◌, ◌⊎◌, ◌≤◌, nat_lt, if◌then◌else◌, List, Option, Some, None, Result, Ok, Err, option_map}
 use Rattle.hmac_core.specs.declared.hash.Hash.{Hash}
 use Rattle.hmac_core.specs.declared.hash.Hash.TheVariants.{Sha1}
@@ -23,13 +23,13 @@ use Rattle.oathtool_core.specs.declared.words.Words.{Words}
 abbrev pub time_text : Words → Option (List ℕ)
 time_text words = option_map (λ text. text.now) words.time
 
--- the text gives the time, and none where there is no text
+-- the time of an optional text
 abbrev pub IsTimeGiven : Option (List ℕ) → Option ℕ → Type 0
 IsTimeGiven None now = now ≡ None
 IsTimeGiven (Some text) None = ⊥
 IsTimeGiven (Some text) (Some seconds) = IsTimeText text seconds
 
--- the words give these times and this step size
+-- The words give the times and the step size.
 pub record HasTimes (words : Words) (times : Times) : Type 0 where
   pub start : IsTimeText words.start.now times.start
   pub time : IsTimeGiven (time_text words) times.time
@@ -44,11 +44,11 @@ abbrev pub IsNoTimeGiven : Option (List ℕ) → Type 0
 IsNoTimeGiven None = ⊥
 IsNoTimeGiven (Some text) = IsNoTime text
 
--- the start or the time that is given is none
+-- the start, or the given time, is not a time
 abbrev pub HasBadTime : Words → Type 0
 HasBadTime words = IsNoTime words.start.now ⊎ IsNoTimeGiven (time_text words)
 
--- why the times or the step size are refused: a bad time comes first
+-- the reason why the times or the step size are refused; a bad time comes first
 abbrev pub IsTimesFault : Words → Fault → Type 0
 IsTimesFault words BadTime = HasBadTime words
 IsTimesFault words BadStepSize = (HasBadTime words → ⊥) × (step_size_of words.step_size.now ≡ None)
@@ -57,14 +57,14 @@ IsTimesFault words _ = ⊥
 
 -- ---- the key
 
--- the words give this secret
+-- The words give the secret.
 pub record HasKey (words : Words) (secret : List ℕ) : Type 0 where
   pub taken : key_refusal words.is_base32 words.key.now ≡ None
   pub value : IsKeyOf words.is_base32 words.key.now secret
 
 -- ---- the first factor
 
--- the time of the codes: the one that is given, or the clock's
+-- the time of the codes: the given one, or the clock's
 abbrev pub moment_of : Option ℕ → Option ℕ → Option ℕ
 moment_of (Some seconds) clock = Some seconds
 moment_of None None = None
@@ -85,10 +85,9 @@ first_in (Totp hash) counter times clock = step_at times (moment_of times.time c
 abbrev pub first_of : Words → Times → Option ℕ → Result ℕ Fault
 first_of words times clock = first_in words.mode words.counter times clock
 
--- ---- all of it
+-- ---- the whole plan
 
--- The words, and what the clock says, give this secret and this first factor, and the window's last
--- factor is in range.
+-- The words and the clock give the secret and the first factor, and the window's last factor is in range.
 pub record IsReady (words : Words) (clock : Option ℕ) (plan : Plan) : Type 0 where
   pub times : Times
   pub has_times : HasTimes words times
@@ -96,8 +95,8 @@ pub record IsReady (words : Words) (clock : Option ℕ) (plan : Plan) : Type 0 w
   pub first : first_of words times clock ≡ Ok plan.first
   pub range : IsFactor (plan.first + words.window)
 
--- Why a run stops before it prints: the times or the step size; then the key; then the clock, and a
--- time before the start; then a factor out of range.
+-- The reasons why a run stops before it prints, in order. The times or the step size are wrong. The key is wrong. The
+-- clock is missing, or the time is before the start. A factor is out of range.
 pub data Stops (words : Words) (clock : Option ℕ) (fault : Fault) : Type 0 where
   AtTimes : IsTimesFault words fault → Stops words clock fault
   AtKey : (times : Times) → HasTimes words times
@@ -109,14 +108,14 @@ pub data Stops (words : Words) (clock : Option ℕ) (fault : Fault) : Type 0 whe
       → first_of words times clock ≡ Ok first → 2 ^ 62 ≤ first + words.window → fault ≡ FactorTooLarge
       → Stops words clock fault
 
--- ---- what the codes are made with
+-- ---- the parameters of the codes
 
 -- the hash of a mode
 abbrev pub hash_of : Mode → Hash
 hash_of Hotp = Sha1
 hash_of (Totp hash) = hash
 
--- the generator has the words' hash and digits, and this key
+-- The generator has the words' hash and digits, and the secret as its key.
 pub record IsGenerator (words : Words) (secret : List ℕ) (generator : Generator) : Type 0 where
   pub hash : generator.hash ≡ hash_of words.mode
   pub key : generator.key.now ≡ secret

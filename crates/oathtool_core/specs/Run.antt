@@ -1,4 +1,4 @@
--- What a run prints, and how it ends.
+-- The output and the end of a run.
 use Rattle.std.specs.Prelude.{◌≡◌, ℕ, ◌+◌, ℤ, List, [], Option, Some, None, Result, Ok, Err, option_map}
 use Rattle.std.specs.Fmt.{decimal, signed_decimal}
 use Rattle.std.specs.Io.KnownBytes.{Appends}
@@ -18,14 +18,14 @@ use Rattle.oathtool_core.specs.declared.words.Words.{Words}
 abbrev pub otp_text : Words → Option (List ℕ)
 otp_text words = option_map (λ text. text.now) words.otp
 
--- the text is the OTP's offset, on a line
+-- the text is the OTP's offset and an LF
 abbrev pub IsOffsetLine : Mode → Generator → List ℕ → ℕ → ℕ → List ℕ → Type 0
 IsOffsetLine Hotp generator otp first window text =
     (offset : ℕ) × IsLeastOffset generator otp first window offset × (text ≡ line_of (decimal offset))
 IsOffsetLine (Totp hash) generator otp first window text =
     (offset : ℤ) × IsNearestOffset generator otp first window offset × (text ≡ line_of (signed_decimal offset))
 
--- the text is what is printed: the codes, or the offset
+-- the text is the output: the codes, or the offset
 abbrev pub IsPrinted : Mode → Option (List ℕ) → Generator → ℕ → ℕ → List ℕ → Type 0
 IsPrinted mode None generator first window text = text ≡ code_lines generator first (window + 1)
 IsPrinted mode (Some otp) generator first window text = IsOffsetLine mode generator otp first window text
@@ -36,7 +36,7 @@ IsUnmatched mode None generator first window = ⊥
 IsUnmatched Hotp (Some otp) generator first window = HasNoOffset generator otp first window
 IsUnmatched (Totp hash) (Some otp) generator first window = HasNoNearest generator otp first window
 
--- all was read, and the text was written, no more and no less
+-- Everything was read, and exactly the text was written.
 pub record Prints (words : Words) (clock : Option ℕ) (old new : Option (List ℕ)) : Type 0 where
   pub plan : Plan
   pub ready : IsReady words clock plan
@@ -46,7 +46,7 @@ pub record Prints (words : Words) (clock : Option ℕ) (old new : Option (List �
   pub printed : IsPrinted words.mode (otp_text words) generator plan.first words.window text
   pub written : Appends old new text
 
--- all was read, no code is the OTP, and nothing was written
+-- Everything was read, no code is the OTP, and nothing was written.
 pub record FindsNone (words : Words) (clock : Option ℕ) (old new : Option (List ℕ)) : Type 0 where
   pub plan : Plan
   pub ready : IsReady words clock plan
@@ -55,14 +55,14 @@ pub record FindsNone (words : Words) (clock : Option ℕ) (old new : Option (Lis
   pub unmatched : IsUnmatched words.mode (otp_text words) generator plan.first words.window
   pub written : Appends old new []
 
--- How a run ends with a fault: it stops before it prints, and has written nothing; or it finds no
--- match; or the output fails.
+-- The end of a run with a fault: it stops before it prints and has written nothing, it finds no match, or the output
+-- fails.
 pub data Fails (words : Words) (clock : Option ℕ) (fault : Fault) (old new : Option (List ℕ)) : Type 0 where
   Stopped : Stops words clock fault → Appends old new [] → Fails words clock fault old new
   Unmatched : fault ≡ NoMatch → FindsNone words clock old new → Fails words clock fault old new
   Unwritten : fault ≡ CannotWrite → Fails words clock fault old new
 
--- how a run ends
+-- the end of a run
 abbrev pub EndsSo : Words → Option ℕ → Result Unit Fault → Option (List ℕ) → Option (List ℕ) → Type 0
 EndsSo words clock (Ok done) old new = Prints words clock old new
 EndsSo words clock (Err fault) old new = Fails words clock fault old new

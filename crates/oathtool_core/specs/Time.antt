@@ -8,7 +8,7 @@ use Rattle.oathtool_core.specs.declared.time.Fields.{Fields}
 
 -- ---- `YYYY-MM-DD hh:mm:ss UTC`
 
--- the text has its length, and what stands between and behind the numbers
+-- the text has the length and the separators of the form
 abbrev pub has_marks : List ℕ → Bool
 has_marks text =
     (length text == 23) && (slice_index text 4 == 45) && (slice_index text 7 == 45) && (slice_index text 10 == 32)
@@ -19,13 +19,13 @@ has_marks text =
 abbrev pub number_at : List ℕ → ℕ → ℕ → Option ℕ
 number_at text from to = number_of (slice_range text from to)
 
--- the fields that six numbers are, where each is one
+-- the fields of six numbers, if each is there
 abbrev pub fields_of_numbers : Option ℕ → Option ℕ → Option ℕ → Option ℕ → Option ℕ → Option ℕ → Option Fields
 fields_of_numbers (Some year) (Some month) (Some day) (Some hour) (Some minute) (Some second) =
     Some (record { year = year; month = month; day = day; hour = hour; minute = minute; second = second })
 fields_of_numbers _ _ _ _ _ _ = None
 
--- the six numbers of such a text
+-- the six numbers of a text in the form
 abbrev pub fields_of : List ℕ → Option Fields
 fields_of text =
     if has_marks text
@@ -33,16 +33,16 @@ fields_of text =
     (number_at text 11 13) (number_at text 14 16) (number_at text 17 19)
     else None
 
--- the calendar's day with the numbers' year, month and day
+-- the day of the calendar with the numbers' year, month and day
 abbrev pub IsNamedDay : Fields → Date → Type 0
 IsNamedDay fields date = IsYmd (pos fields.year) (pos fields.month) (pos fields.day) date
 
--- the calendar has no such day
+-- the calendar has no day with the numbers
 abbrev pub IsNoDay : Fields → Type 0
 IsNoDay fields = (date : Date) → IsNamedDay fields date → ⊥
 
--- The numbers name a day of the calendar and a time of day, and so many seconds lie between 1970 and it:
--- 86,400 for each day, and those of the day.
+-- The numbers name a day of the calendar and a time of day. `seconds` is 86,400 for each day after 1970-01-01, and the
+-- seconds of the day.
 pub record IsTimeOf (fields : Fields) (seconds : ℕ) : Type 0 where
   pub date : Date
   pub named : IsNamedDay fields date
@@ -52,7 +52,7 @@ pub record IsTimeOf (fields : Fields) (seconds : ℕ) : Type 0 where
   pub value : pos seconds ≡ epoch_day date *ℤ pos 86_400
       +ℤ pos (fields.hour * 3_600 + fields.minute * 60 + fields.second)
 
--- the text is a day and a time of day, and so many seconds lie between 1970 and it
+-- the text is a day and a time of day, `seconds` after 1970
 pub record IsDateText (text : List ℕ) (seconds : ℕ) : Type 0 where
   pub fields : Fields
   pub read : fields_of text ≡ Some fields
@@ -60,7 +60,7 @@ pub record IsDateText (text : List ℕ) (seconds : ℕ) : Type 0 where
 
 -- ---- `@SECONDS`
 
--- the text is `@` and so many seconds
+-- the text is `@` followed by `seconds`
 pub record IsSecondsText (text : List ℕ) (seconds : ℕ) : Type 0 where
   pub digits : List ℕ
   pub marked : text ≡ 64 ∷ digits
@@ -68,10 +68,10 @@ pub record IsSecondsText (text : List ℕ) (seconds : ℕ) : Type 0 where
 
 -- ---- both
 
--- the text gives so many seconds, in one of the two forms
+-- the text gives `seconds` in one of the two forms
 abbrev pub IsEitherText : List ℕ → ℕ → Type 0
 IsEitherText text seconds = IsSecondsText text seconds ⊎ IsDateText text seconds
 
--- the text gives this time, in seconds since 1970-01-01 00:00:00 UTC
+-- the text gives the time, in seconds since 1970-01-01 00:00:00 UTC
 abbrev pub IsTimeText : List ℕ → ℕ → Type 0
 IsTimeText text seconds = IsMoment seconds × IsEitherText text seconds

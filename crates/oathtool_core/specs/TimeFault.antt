@@ -1,4 +1,4 @@
--- What a fault of a time is for a run.
+-- A run's faults for the faults of a time.
 use Rattle.oathtool_core.specs.declared.fault.Fault.{Fault}
 use Rattle.oathtool_core.specs.declared.fault.Fault.TheVariants.{BadTime as BadTimeOption, Memory as NoMemory}
 use Rattle.oathtool_core.specs.declared.time.TimeFault.{TimeFault}

@@ -1,4 +1,4 @@
--- What the words ask for.
+-- The range of the words' window.
 use Rattle.std.specs.Prelude.{◌≤◌}
 use Rattle.oathtool_core.specs.declared.words.Words.{Words}
 

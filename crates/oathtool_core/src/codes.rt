@@ -9,7 +9,7 @@ use otp_core::{Code, Codes, Digits, Factor};
 use program_edge::write_line;
 use std::io::Write;
 
-/// What the codes of a key are made with.
+/// The parameters of codes.
 #[derive(Clone, Copy)]
 pub(crate) struct Generator<'a> {
     pub hash: Hash,
@@ -18,14 +18,14 @@ pub(crate) struct Generator<'a> {
 }
 
 impl<'a> Generator<'a> {
-    /// Its codes, with the key set up once for all of them.
+    /// Returns the generator's codes. Their key is set up once for all of them.
     pub(crate) fn codes(self) -> Codes
         ensures { IsSetUp result self.entry }
     {
         Codes::new(self.hash, self.key, self.digits)
     }
 
-    /// The code of a factor.
+    /// Returns the code of a factor.
     fn code(self, codes: &Codes, factor: Factor) -> Code
         requires { IsSetUp codes.now self }
         ensures { result ≡ code_at self.entry factor }
@@ -33,7 +33,7 @@ impl<'a> Generator<'a> {
         codes.at(factor)
     }
 
-    /// Whether the code of a factor is this one.
+    /// Returns whether `otp` is the code of a factor.
     pub(crate) fn matches(self, codes: &Codes, factor: Factor, otp: &[u8]) -> bool
         requires { IsSetUp codes.now self }
         ensures { IsTrue result ↔ Matches self.entry otp.now factor }
@@ -42,7 +42,7 @@ impl<'a> Generator<'a> {
     }
 }
 
-/// The factor so far after another.
+/// Returns the factor at `distance` after `first`.
 pub(crate) fn factor_after(first: Factor, distance: u64) -> Factor
     requires { IsFactor (first + distance) }
     ensures { result ≡ first + distance }
@@ -50,7 +50,7 @@ pub(crate) fn factor_after(first: Factor, distance: u64) -> Factor
     Factor::new(first.value() + distance).unwrap()
 }
 
-/// Writes the codes of a factor and of so many after it, each on a line of its own.
+/// Writes the codes of a factor and of the following ones in the window, one on each line.
 pub(crate) fn codes_from<W: Write>(
     generator: Generator<'_>,
     first: Factor,

@@ -8,19 +8,26 @@ use crate::words::{Mode, Words};
 use std::alloc::Global;
 use std::io::Write;
 
-/// Writes what the words ask for. Without an OTP that is the code of the first factor and of each in the window
-/// after it, upwards, each in decimal on a line of its own. With one it is the OTP's offset in decimal on a line:
-/// for codes based on a counter the least in the window, and else the nearest time step before or after, of two
-/// the one before.
+/// Writes what the words ask for: codes, or the offset of an OTP.
 ///
-/// `clock` is the present moment in seconds since 1970-01-01 00:00:00 UTC, or `None` where there is no clock. It
-/// counts only where codes are based on time and the words give none.
+/// Without an OTP, it writes the code of the first factor and of each further one in the window, upwards, one on each
+/// line. With an OTP, it writes the offset in decimal on one line. A code based on a counter has the least offset in
+/// the window. A code based on time has the offset of the nearest time step, before or after; of two, the one before.
+///
+/// `clock` is the current time in seconds since 1970-01-01 00:00:00 UTC, or `None` without a clock. It is used only if
+/// codes are based on time and the words have no time.
 ///
 /// # Errors
-/// The first in this order, with nothing written: `BadTime` and `BadStepSize` of the texts, also for codes based on
-/// a counter; `BadKey`; `NoClock` where the clock counts and is not there, or is 2^40 or above, and `BeforeStart`
-/// of a time before the start; `FactorTooLarge` where the window's last factor is above 2^62 - 1; and `NoMatch`.
-/// `CannotWrite` where the writer fails, which keeps what was written.
+/// - Returns `BadTime` if a time is wrong, also for codes based on a counter.
+/// - Returns `BadStepSize` if the step size is wrong, also for codes based on a counter.
+/// - Returns `BadKey` if the key is wrong.
+/// - Returns `NoClock` if the clock is used, and is missing or is 2^40 or above.
+/// - Returns `BeforeStart` if the time is before the start.
+/// - Returns `FactorTooLarge` if the window's last factor is above 2^62 - 1.
+/// - Returns `NoMatch` if the OTP is none of the codes.
+/// - Returns `CannotWrite` if the output fails. It keeps what was written.
+///
+/// The first of these errors is returned. Only `CannotWrite` can follow a write. `Memory` may replace any of them.
 pub fn run<W: Write>(
     alloc: Global,
     words: &Words<'_>,

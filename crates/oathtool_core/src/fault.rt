@@ -5,22 +5,22 @@ use program_edge::{OutsideFault, ProgramFault, USAGE};
 use secret_text::SecretFault;
 use thiserror::Error;
 
-/// What ends a run before its time. The text lacks the program's name.
+/// A fault that ends a run. Its text lacks the program's name.
 #[derive(Clone, Copy, Debug, PartialEq, Eq, Error)]
 pub enum Fault {
-    /// `--start-time` or `--now` is no moment.
+    /// `--start-time` or `--now` is not a valid time.
     #[error("a time is @SECONDS or 'YYYY-MM-DD hh:mm:ss UTC', from 1970 on and below 2^40 seconds")]
     BadTime,
     /// The step size is out of range.
     #[error("a time step size is 1 to 1000000 seconds, with or without a final 's'")]
     BadStepSize,
-    /// KEY is no secret.
+    /// KEY is not a valid secret.
     #[error("bad key: {0}")]
     BadKey(SecretFault),
-    /// There is no clock, or it is out of range.
+    /// The clock is missing or out of range.
     #[error("no clock")]
     NoClock,
-    /// The time is before the one from which time steps are counted.
+    /// The time is before the start of the time steps.
     #[error("the time is before the start time")]
     BeforeStart,
     /// A factor would be above 2^62 - 1.
@@ -29,7 +29,7 @@ pub enum Fault {
     /// OTP is none of the codes.
     #[error("no match")]
     NoMatch,
-    /// An allocation was refused.
+    /// The allocator refused the memory.
     #[error("out of memory")]
     Memory,
     /// Standard output failed.

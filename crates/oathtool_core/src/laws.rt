@@ -26,7 +26,7 @@ ghost use Rattle.oathtool_core.specs.declared.time.TimeFault.TheVariants.{BadTim
 ghost use Rattle.oathtool_core.specs.declared.words.Mode.TheVariants.{Hotp, Totp};
 ghost use Rattle.oathtool_core.specs.declared.words.Words.{Words};
 
-/// Some times as text, worked through. The date of 2005 is of RFC 6238, Appendix B.
+/// Worked cases. Times as text. The date of 2005 is from RFC 6238, Appendix B.
 pub fn times_are_worked()
     ensures marks { all_lack_marks badly_marked ≡ true }
     ensures numbers { all_lack_numbers badly_numbered ≡ true }
@@ -48,8 +48,7 @@ pub fn times_are_worked()
     ensures second_60 { IsNoTime (codes "2005-03-18 01:58:60 UTC") }
 {}
 
-/// What the words say, worked through: the step size, the key, the first factor, what codes are made with, and
-/// what a fault's exit status is.
+/// Worked cases. The step size, the key, the first factor, the parameters of codes, and the exit status of each fault.
 pub fn plans_are_worked()
     ensures step_sizes { map step_size_of
         (codes "1" ∷ codes "30s" ∷ codes "1000000" ∷ codes "1000000s" ∷ codes "0" ∷ codes "0s" ∷ codes "1000001"
@@ -110,8 +109,10 @@ pub fn plans_are_worked()
     ensures time_faults { map fault_of (NoTime ∷ NoMemory ∷ []) ≡ BadTime ∷ Memory ∷ [] }
 {}
 
-/// Of several faults the first in this order ends a run before it prints: a bad time, a bad step size, a bad key,
-/// then that of the first factor, and then a factor out of range. Memory may run out at any of them.
+/// Order of faults: the first fault in this order ends a run, and nothing is printed.
+///
+/// The order is: a bad time, a bad step size, a bad key, a fault of the first factor, a factor out of range. The
+/// allocator may refuse memory at any step.
 pub fn faults_are_in_order()
     ensures time { (words : Words) (clock : Option ℕ) (fault : Fault) → HasBadTime words
         → Stops words clock fault → IsOr BadTime fault }
@@ -132,9 +133,9 @@ pub fn faults_are_in_order()
         → first + words.window < 2 ^ 62 → Stops words clock fault → fault ≡ Memory }
 {}
 
-/// Where an OTP is found, worked through over the codes that it equals, and what is printed.
+/// Worked cases. The offset of an OTP, by the codes that it equals, and the output.
 pub fn offsets_are_worked()
-    // From counter 9 on, with a window of 1: the least distance.
+    // From counter 9 on, with a window of 1: the least offset.
     ensures counter { (generator : Generator) (otp : List ℕ) → (Matches generator otp 9 → ⊥) → Matches generator otp 10
         → IsLeastOffset generator otp 9 1 1 }
     ensures counter_beyond { (generator : Generator) (otp : List ℕ) → IsLeastOffset generator otp 9 1 2 → ⊥ }
@@ -147,7 +148,7 @@ pub fn offsets_are_worked()
     ensures counter_some { (generator : Generator) (otp : List ℕ) → HasNoOffset generator otp 9 1
         → (Matches generator otp 9 → ⊥) × (Matches generator otp 10 → ⊥) }
 
-    // Around step 9, with a window of 1: the nearest, and of two the one before.
+    // Around step 9, with a window of 1: the nearest step, and of two the one before.
     ensures before { (generator : Generator) (otp : List ℕ) → (Matches generator otp 9 → ⊥) → Matches generator otp 8
         → IsNearestOffset generator otp 9 1 (negsuc 0) }
     ensures after_unmatched_before { (generator : Generator) (otp : List ℕ) → (Matches generator otp 8 → ⊥)
@@ -173,7 +174,7 @@ pub fn offsets_are_worked()
     ensures step_some { (generator : Generator) (otp : List ℕ) → HasNoNearest generator otp 9 1
         → (Matches generator otp 8 → ⊥) × (Matches generator otp 9 → ⊥) × (Matches generator otp 10 → ⊥) }
 
-    // What is printed, and which OTP is none of the codes.
+    // The output, and an OTP that is none of the codes.
     ensures matches { (generator : Generator) (otp : List ℕ) → Matches generator otp 9 → code_at generator 9 ≡ otp }
     ensures code { (generator : Generator) → code_at (record generator { hash = Sha256; digits = Eight }) 5
         ≡ code_of Sha256 generator.key.now 5 8 }
@@ -193,10 +194,12 @@ pub fn offsets_are_worked()
         → (IsUnmatched Hotp (Some otp) generator 9 1 → ⊥) × (IsUnmatched (Totp Sha1) (Some otp) generator 9 1 → ⊥) }
 {}
 
-/// What is promised of a run's end: a run that fails has written nothing, but where the output failed; where the words
-/// give their times, a key and a first factor, and its window is in range, it fails by memory, by the output or for
-/// want of a match alone; it fails for want of a match where an OTP was given, and that is no code that was asked for;
-/// and one that prints, prints what its words ask for and nothing else.
+/// Ends: a failed run has written nothing, unless the output failed. A successful run has printed exactly what its
+/// words ask for.
+///
+/// Assume that the times, the key and the first factor are good, and that the window is in range. Then a run fails only
+/// if the allocator refuses memory, the output fails, or nothing matches. Nothing matches only if the words have an OTP
+/// and it is none of the codes.
 pub fn ends_are_told()
     ensures nothing_written { (words : Words) (clock : Option ℕ) (fault : Fault) (text : List ℕ)
         → EndsSo words clock (Err fault) (Some []) (Some text) → (fault ≡ CannotWrite → ⊥) → text ≡ [] }

@@ -1,4 +1,4 @@
-//! The codes that `oathtool` prints, and the offset of one that it is given, over any writer.
+//! The codes that `oathtool` prints, and the offset of an OTP, over any writer.
 //!
 //! ```rust
 //! use hmac_core::Hash;
@@ -22,7 +22,7 @@
 //! assert_eq!(rt; written.as_slice(), b"07081804\n".as_slice());
 //! ```
 //!
-//! What the words of a command line are, and which of them are wrong, is the program's to say.
+//! The program itself reads its command line, and says which words are wrong.
 #![tactic(auto)]
 
 mod codes;

@@ -11,7 +11,7 @@ use otp_core::Factor;
 use program_edge::write_line;
 use std::io::Write;
 
-/// How far after a factor the code is the OTP: the least distance, at most the window.
+/// Returns the least offset in the window at which the code is the OTP, or None.
 pub(crate) fn find_offset_hotp(
     generator: Generator<'_>,
     first: Factor,
@@ -31,7 +31,7 @@ pub(crate) fn find_offset_hotp(
     None
 }
 
-/// The step so far before another, or `None` below 0.
+/// Returns the step at `distance` before another, or `None` if it is below 0.
 fn factor_before(step: Factor, distance: u64) -> Option<Factor>
     ensures none { IsNone result ↔ (step < distance) }
     ensures value { IfSome result (λ factor. factor + distance ≡ step) }
@@ -39,7 +39,7 @@ fn factor_before(step: Factor, distance: u64) -> Option<Factor>
     Factor::new(step.value().checked_sub(distance)?)
 }
 
-/// How far from a step the code is the OTP: the nearest, at most the window before or after, and of two
+/// Returns the offset of the nearest step in the window, before or after, whose code is the OTP, or None. Of two, it is
 /// the one before.
 pub(crate) fn find_offset_totp(
     generator: Generator<'_>,
@@ -65,7 +65,7 @@ pub(crate) fn find_offset_totp(
     None
 }
 
-/// Writes an offset in decimal on a line of its own.
+/// Writes an offset in decimal and an LF.
 pub(crate) fn write_offset<W: Write, I: Integer>(writer: &mut W, offset: I) -> Result<(), Fault>
     ensures written { OnOk result
         (Appends (W.contents writer.old) (W.contents writer.new) (line_of (I.text offset))) }

@@ -14,7 +14,7 @@ use otp_core::{Factor, MOMENTS_END, Secret, step};
 use secret_text::{SecretFault, read_base32, read_hex};
 use std::alloc::Global;
 
-/// What the words say of time, in seconds. `time` is there where the clock isn't asked.
+/// The times of the words, in seconds. `time` is None if the clock is used.
 #[derive(Clone, Copy)]
 pub(crate) struct Times {
     pub start: u64,
@@ -22,11 +22,11 @@ pub(crate) struct Times {
     pub step_size: u64,
 }
 
-/// What a run makes its codes from.
+/// The secret and the first factor of a run.
 #[derive(Drop)]
 pub(crate) struct Plan {
     pub secret: Secret,
-    /// The counter or the time step at which the codes begin.
+    /// The counter or the time step of the first code.
     pub first: Factor,
 }
 
@@ -43,7 +43,7 @@ impl From<TimeFault> for Fault {
     }
 }
 
-/// Reads a time that may be there.
+/// Reads an optional time.
 fn read_given(alloc: Global, text: Option<&str>) -> Result<Option<u64>, TimeFault>
     ensures some { IfOk result (IsTimeGiven (option_map (λ text. text.now) text.entry)) }
     ensures bad { result ≡ Err TimeFault.BadTime → IsNoTimeGiven (option_map (λ text. text.now) text.entry) }
@@ -86,7 +86,7 @@ fn read_key(text: &[u8], is_base32: bool) -> Result<Secret, SecretFault>
     }
 }
 
-/// The counter or the time step at which the codes begin. `clock` is what the clock says, if it is there.
+/// Returns the counter or the time step of the first code. `clock` is the current time, if there is a clock.
 fn first_factor(words: &Words<'_>, times: &Times, clock: Option<u64>) -> Result<Factor, Fault>
     requires { HasTimes words.now times.now }
     ensures { result ≡ first_of words.now times.now clock }
@@ -102,7 +102,7 @@ fn first_factor(words: &Words<'_>, times: &Times, clock: Option<u64>) -> Result<
     step(moment, times.start, times.step_size).ok_or(Fault::BeforeStart)
 }
 
-/// Whether the factors after the first one stay in their range.
+/// Returns whether all factors of the window are in range.
 fn is_range(first: Factor, window: u64) -> bool
     ensures { IsTrue result ↔ IsFactor (first + window) }
 {
@@ -113,7 +113,7 @@ fn is_range(first: Factor, window: u64) -> bool
 }
 
 impl Plan {
-    /// Reads what the words say, in the order in which faults count.
+    /// Reads the words, in the order of their faults.
     pub(crate) fn new(alloc: Global, words: &Words<'_>, clock: Option<u64>) -> Result<Self, Fault>
         ensures ready { IfOk result (IsReady words.now clock) }
         ensures stops { IfErr result (Stops words.now clock) }
@@ -127,7 +127,7 @@ impl Plan {
         Ok(Plan { secret, first })
     }
 
-    /// What the codes are made with.
+    /// Returns the parameters of the codes.
     pub(crate) fn generator(&self, words: &Words<'_>) -> Generator<'_>
         ensures { IsGenerator words.now self.now.secret result }
     {

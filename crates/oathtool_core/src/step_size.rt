@@ -6,7 +6,7 @@ use field_text::read_number;
 /// The longest time step, in seconds.
 const MAX_STEP_SIZE: u64 = 1_000_000;
 
-/// The length of a time step in seconds, 1 to 1,000,000, which may end with `s`.
+/// Returns the length of a time step, 1 to 1,000,000 seconds, or None. The text may end with `s`.
 pub(crate) fn read_step_size(text: &[u8]) -> Option<u64>
     ensures { result ≡ step_size_of text.now }
 {

@@ -9,7 +9,7 @@ use otp_core::MOMENTS_END;
 use std::alloc::Global;
 use thiserror::Error;
 
-/// The seconds of a day.
+/// The number of seconds of a day.
 const SECONDS_A_DAY: u64 = 86_400;
 
 /// The reason why a text gives no time.
@@ -48,7 +48,7 @@ struct Fields {
     second: u64,
 }
 
-/// Whether a byte of a text is this one.
+/// Returns whether the byte at `place` is `mark`.
 fn is_at(text: &[u8], place: usize, mark: u8) -> bool
     requires { place < length text.now }
     ensures { result ≡ (slice_index text.now place == mark) }
@@ -56,8 +56,7 @@ fn is_at(text: &[u8], place: usize, mark: u8) -> bool
     text[place] == mark
 }
 
-/// Whether a text is as long as `YYYY-MM-DD hh:mm:ss UTC`, and has what stands between and behind the
-/// numbers.
+/// Returns whether a text has the length and the separators of `YYYY-MM-DD hh:mm:ss UTC`.
 fn has_date_marks(text: &[u8]) -> bool
     ensures { result ≡ has_marks text.now }
 {
@@ -75,7 +74,7 @@ fn has_date_marks(text: &[u8]) -> bool
         & is_at(text, 22, b'C')
 }
 
-/// The numbers of a text `YYYY-MM-DD hh:mm:ss UTC`, or `None` of any other.
+/// Returns the numbers of a text `YYYY-MM-DD hh:mm:ss UTC`, or `None` for any other text.
 fn read_fields(text: &[u8]) -> Option<Fields>
     ensures { result ≡ fields_of text.now }
 {
@@ -92,7 +91,7 @@ fn read_fields(text: &[u8]) -> Option<Fields>
     })
 }
 
-/// The day with these numbers.
+/// Returns the day of the calendar with these numbers.
 fn day_of(fields: &Fields) -> Result<Date, TimeFault>
     ensures day { IfOk result (IsNamedDay fields.now) }
     ensures none { OnErr result (IsNoDay fields.now) }
@@ -104,7 +103,7 @@ fn day_of(fields: &Fields) -> Result<Date, TimeFault>
     Ok(Date::new(year, month, day)?)
 }
 
-/// The seconds from 1970 to the start of a day, or `None` where it is before 1970.
+/// Returns the seconds from 1970 to the start of a day, or `None` if the day is before 1970.
 #[tactic(auto, using(std::proofs::lemmas::Int::ints))]
 fn seconds_to(day: Date) -> Option<u64>
     ensures some { IfSome result (λ seconds. pos seconds ≡ epoch_day day *ℤ pos 86_400) }
@@ -115,7 +114,7 @@ fn seconds_to(day: Date) -> Option<u64>
     Some(days * SECONDS_A_DAY)
 }
 
-/// The time with these numbers.
+/// Returns the time with these numbers, in seconds since 1970.
 fn time_of(fields: &Fields) -> Result<u64, TimeFault>
     ensures some { IfOk result (IsTimeOf fields.now) }
     ensures none { OnErr result ((seconds : ℕ) → IsTimeOf fields.now seconds → ⊥) }
@@ -131,7 +130,7 @@ fn time_of(fields: &Fields) -> Result<u64, TimeFault>
     Ok(start + fields.hour * 3600 + fields.minute * 60 + fields.second)
 }
 
-/// The time that a text `YYYY-MM-DD hh:mm:ss UTC` gives.
+/// Reads a time `YYYY-MM-DD hh:mm:ss UTC`.
 fn read_date_time(text: &[u8]) -> Result<u64, TimeFault>
     ensures some { IfOk result (IsDateText text.now) }
     ensures none { OnErr result ((seconds : ℕ) → IsDateText text.now seconds → ⊥) }
@@ -143,7 +142,7 @@ fn read_date_time(text: &[u8]) -> Result<u64, TimeFault>
     }
 }
 
-/// What stands behind the `@` that a text begins with.
+/// Returns the text after a leading `@`, or None without one.
 fn after_at(text: &[u8]) -> Option<&[u8]>
     ensures some { IfSome result (λ rest. text.now ≡ 64 ∷ rest.now) }
     ensures none { IfNone result ((rest : List ℕ) → text.now ≡ 64 ∷ rest → ⊥) }
@@ -152,7 +151,7 @@ fn after_at(text: &[u8]) -> Option<&[u8]>
     if *first == b'@' { Some(rest) } else { None }
 }
 
-/// The time that a text gives, in or out of range.
+/// Reads a time in either form, in or out of range.
 fn read_either(text: &[u8]) -> Result<u64, TimeFault>
     ensures some { IfOk result (IsEitherText text.now) }
     ensures none { OnErr result ((seconds : ℕ) → IsEitherText text.now seconds → ⊥) }
@@ -171,8 +170,8 @@ fn read_either(text: &[u8]) -> Result<u64, TimeFault>
 /// 00:00:00 UTC. They are below 2^40. The second form has exactly 23 bytes, and names a day of the Gregorian calendar.
 ///
 /// # Errors
-/// Returns `BadTime` if the text has neither form, names no day, or gives a time before 1970 or from 2^40 seconds on.
-/// Returns `Memory` if the calendar's library does. Reading takes no memory of its own.
+/// - Returns `BadTime` if the text has neither form, names no day, or gives a time before 1970 or from 2^40 seconds on.
+/// - Returns `Memory` if the calendar does. Reading itself does not allocate.
 pub fn read_time(_alloc: Global, text: &[u8]) -> Result<u64, TimeFault>
     ensures some { IfOk result (IsTimeText text.now) }
     ensures bad { (result ≡ Err TimeFault.BadTime) ↔ ((seconds : ℕ) → IsTimeText text.now seconds → ⊥) }

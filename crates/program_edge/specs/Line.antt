@@ -1,6 +1,6 @@
 -- Lines of output.
 use Rattle.std.specs.Prelude.{ℕ, List, [], ◌∷◌, ◌++◌}
 
--- a text on a line of its own: behind it stands an LF
+-- a text followed by an LF
 abbrev pub line_of : List ℕ → List ℕ
 line_of text = text ++ 10 ∷ []

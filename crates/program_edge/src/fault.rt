@@ -1,10 +1,10 @@
-/// What fails at a program's edge. Each program has a text and a status of its own for it.
+/// A failure at a program's edge. Each program has its own text and status for it.
 #[derive(Clone, Copy, Debug, PartialEq, Eq)]
 pub enum OutsideFault {
-    /// An allocation was refused.
+    /// The allocator refused the memory.
     Memory,
     /// The output failed.
     CannotWrite,
-    /// A word that the process was started with is not UTF-8.
+    /// A word of the process is not UTF-8.
     NotText,
 }

@@ -1,4 +1,4 @@
-//! What the programs share at their edge: the words of the process, lines of output, and how a run ends.
+//! The shared edge of the programs: the words of the process, lines of output, and the end of a run.
 #![tactic(auto)]
 
 mod fault;

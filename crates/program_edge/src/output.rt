@@ -5,7 +5,10 @@ ghost use Rattle.program_edge.specs.Line.{line_of};
 use crate::fault::OutsideFault;
 use std::io::Write;
 
-/// Writes a text, and the LF that ends it.
+/// Writes a text and an LF.
+///
+/// # Errors
+/// Returns `CannotWrite` if the output fails.
 pub fn write_line<W: Write>(writer: &mut W, text: &[u8]) -> Result<(), OutsideFault>
     ensures written { OnOk result (Appends (W.contents writer.old) (W.contents writer.new) (line_of text.now)) }
     ensures fault { IfErr result (λ fault. fault ≡ OutsideFault.CannotWrite) }
@@ -18,8 +21,7 @@ pub fn write_line<W: Write>(writer: &mut W, text: &[u8]) -> Result<(), OutsideFa
         .map_err(|_| OutsideFault::CannotWrite)
 }
 
-/// The end of a run over a writer that holds back what it is given, and is flushed now: the run's own end, or
-/// `CannotWrite` where the writer fails.
+/// Flushes a buffering writer at the end of a run. Returns the run's own end, or `CannotWrite` if the writer fails.
 pub fn flushed<W: Write, F: From<OutsideFault> + Drop>(
     writer: &mut W,
     end: Result<(), F>,

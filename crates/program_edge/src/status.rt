@@ -3,22 +3,23 @@ ghost use Rattle.std.specs.Prelude.{◌≡◌, IfErr, IfOk, OnOk};
 use std::fmt::Display;
 use std::io::Write;
 
-/// The exit status of words that ask for nothing that a program does, and of values out of their ranges.
+/// The exit status for words that ask for nothing, and for values out of their ranges.
 pub const USAGE: u8 = 2;
 
-/// What ends a run of a program before its time. Its text lacks the program's name.
+/// A fault that ends a run of a program. Its text lacks the program's name.
 pub trait ProgramFault: Copy + Display {
     ghost use Rattle.std.specs.Prelude.{ℕ};
 
     ghost status_of: { Self → ℕ };
 
-    /// The exit status of a run that ends so.
+    /// Returns the exit status of a run that ends with the fault.
     fn status(self) -> u8
         ensures { result ≡ status_of self };
 }
 
-/// The exit status of a program whose run ends so. The text of a fault goes to the errors, with the program's
-/// name before it; whether it could be written makes no difference.
+/// Returns the exit status for the end of a run. Writes a fault's text to `errors`, after the program's name.
+///
+/// A failure of that write changes nothing.
 pub fn exit_status<W: Write, F: ProgramFault>(
     errors: &mut W,
     program: &str,

@@ -5,7 +5,7 @@ use std::alloc::Global;
 use std::env::{self, Env};
 use std::io::ErrorKind;
 
-/// The words that the process was started with. The first is the program's name.
+/// Returns the words of the process. The first is the program's name.
 pub fn process_words<R: Env>(rt: &R, alloc: Global) -> Result<Vec<String>, OutsideFault>
     ensures fault { IfErr result (λ fault. fault ≢ OutsideFault.CannotWrite) }
 {

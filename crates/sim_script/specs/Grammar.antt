@@ -1,4 +1,4 @@
--- The grammar of scripts. A line is fields with single spaces between.
+-- The grammar of scripts. The fields of a line are separated by single spaces.
 use Rattle.std.specs.Prelude.{◌≡◌, ℕ, ◌+◌, ◌*◌, ◌^◌, ◌<◌, ◌≤◌, Bool, true, false, List, [], ◌∷◌, ◌++◌, length, Some, Ok, codes}
 use Rattle.std.specs.List.{join_with_byte}
 use Rattle.hex.specs.Hex.{decode_of}
@@ -7,7 +7,7 @@ use Rattle.cluster_sim.specs.Rounds.{IsAscending, RoundLine, is_live}
 use Rattle.sim_script.specs.Lines.{fields_of, lines_of, telling_lines}
 use Rattle.sim_script.specs.Event.{Act, Says, Deliver, Ticks, Noise, Event, Happens, Cut, Restart, Lost, Anew, ScriptRecord}
 
--- a line of these fields, with a space between each and the next
+-- a line with these fields, separated by spaces
 abbrev pub HasFields : List ℕ → List (List ℕ) → Type 0
 HasFields line fields = line ≡ join_with_byte 32 fields
 
@@ -21,7 +21,7 @@ pub record IsHex (text bytes : List ℕ) : Type 0 where
   pub most : length text ≤ 1024
   pub value : decode_of text ≡ Ok bytes
 
--- `WORD NODE CLIENT MOMENT LINE`, where the client's line is any bytes
+-- `WORD NODE CLIENT MOMENT LINE`; the client's line may be any bytes
 pub record IsSaidLine (word line : List ℕ) (node client moment : ℕ) (said : List ℕ) : Type 0 where
   pub node_text : List ℕ
   pub client_text : List ℕ
@@ -55,7 +55,7 @@ pub record IsNoiseLine (line : List ℕ) (node from : ℕ) (bytes : List ℕ) : 
   pub is_from : IsNumber from_text from
   pub is_hex : IsHex digits bytes
 
--- a line that says what is done at a node
+-- a line of an action at a node
 abbrev pub IsActLine : List ℕ → Act → Type 0
 IsActLine line (Says node client moment said) = IsSaidLine (codes "client") line node client moment said
 IsActLine line (Deliver node k) = IsDeliverLine line node k
@@ -74,18 +74,18 @@ pub record IsLostLine (line : List ℕ) (node : ℕ) : Type 0 where
   pub fields : HasFields line (codes "lost" ∷ node_text ∷ [])
   pub is_node : IsNumber node_text node
 
--- texts of these numbers, one each
+-- the numbers of texts, one each
 abbrev pub AreNumbers : List (List ℕ) → List ℕ → Type 0
 AreNumbers [] [] = Unit {0}
 AreNumbers (text ∷ texts) (number ∷ numbers) = IsNumber text number × AreNumbers texts numbers
 AreNumbers _ _ = ⊥
 
--- each of these is at most that number
+-- each number is at most `most`
 abbrev pub AreUpTo : ℕ → List ℕ → Type 0
 AreUpTo most [] = Unit {0}
 AreUpTo most (number ∷ numbers) = (number ≤ most) × AreUpTo most numbers
 
--- `anew NODE BOOT NEXT ..`: a first free factor for each token, from 0 on, and none above 2^62
+-- `anew NODE BOOT NEXT ..`: the floors of the tokens from 0, each at most 2^62 (floor: the first free factor)
 pub record IsAnewLine (line : List ℕ) (node boot : ℕ) (floors : List ℕ) : Type 0 where
   pub node_text : List ℕ
   pub boot_text : List ℕ
@@ -96,12 +96,12 @@ pub record IsAnewLine (line : List ℕ) (node boot : ℕ) (floors : List ℕ) : 
   pub are_numbers : AreNumbers (fields_of text) floors
   pub within : AreUpTo (2 ^ 62) floors
 
--- what says whether the change of a cut is kept
+-- the word for a stop that keeps the change, or loses it
 abbrev pub kept_word : Bool → List ℕ
 kept_word true = codes "kept"
 kept_word false = codes "lost"
 
--- `cut kept EVENT` and `cut lost EVENT`, where the event is what is done at a node
+-- `cut kept EVENT` and `cut lost EVENT`, with an action at a node
 pub record IsCutLine (line : List ℕ) (kept : Bool) (act : Act) : Type 0 where
   pub act_text : List ℕ
   pub fields : HasFields line (codes "cut" ∷ kept_word kept ∷ act_text ∷ [])
@@ -115,13 +115,13 @@ IsEventLine line (Restart node) = IsRestartLine line node
 IsEventLine line (Lost node) = IsLostLine line node
 IsEventLine line (Anew node boot floors) = IsAnewLine line node boot floors
 
--- lines that say these events, in order
+-- the lines of events, in order
 abbrev pub SayEvents : List (List ℕ) → List Event → Type 0
 SayEvents [] [] = Unit {0}
 SayEvents (line ∷ lines) (event ∷ events) = IsEventLine line event × SayEvents lines events
 SayEvents _ _ = ⊥
 
--- `live A B ..`: a strict majority of so many nodes, each above the one before it, and the first above 0
+-- `live A B ..`: a strict majority of `nodes` nodes, in ascending order from 1
 pub record IsLiveLine (nodes : ℕ) (line live : List ℕ) : Type 0 where
   pub text : List ℕ
   pub fields : HasFields line (codes "live" ∷ text ∷ [])
@@ -130,23 +130,23 @@ pub record IsLiveLine (nodes : ℕ) (line live : List ℕ) : Type 0 where
   pub within : AreUpTo nodes live
   pub majority : nodes < 2 * length live
 
--- `round NODE CLIENT MOMENT LINE`, at one of these members
+-- `round NODE CLIENT MOMENT LINE`, at one of the live members
 pub record IsRoundLine (live line : List ℕ) (round : RoundLine) : Type 0 where
   pub said : IsSaidLine (codes "round") line round.node round.client round.moment round.line
   pub at_live : is_live live round.node ≡ true
 
--- lines that say these rounds among the live members, in order
+-- the lines of rounds among the live members, in order
 abbrev pub SayRounds : List ℕ → List (List ℕ) → List RoundLine → Type 0
 SayRounds live [] [] = Unit {0}
 SayRounds live (line ∷ lines) (round ∷ rounds) = IsRoundLine live line round × SayRounds live lines rounds
 SayRounds live _ _ = ⊥
 
--- lines that say the live members of so many nodes, and then the rounds among them; no lines say none
+-- the lines of live members and of rounds among them, or no lines for none
 abbrev pub SayLast : ℕ → List (List ℕ) → List ℕ → List RoundLine → Type 0
 SayLast nodes [] live rounds = (live ≡ []) × (rounds ≡ [])
 SayLast nodes (line ∷ lines) live rounds = IsLiveLine nodes line live × SayRounds live lines rounds
 
--- lines that say a script of so many nodes: its events, then its live members, then its rounds
+-- the lines of a script for `nodes` nodes: its events, its live members, its rounds
 pub record SayScript (nodes : ℕ) (lines : List (List ℕ)) (script : ScriptRecord) : Type 0 where
   pub first : List (List ℕ)
   pub last : List (List ℕ)
@@ -154,11 +154,11 @@ pub record SayScript (nodes : ℕ) (lines : List (List ℕ)) (script : ScriptRec
   pub events : SayEvents first script.events
   pub rounds : SayLast nodes last script.live script.rounds
 
--- a text whose lines say this, but for empty lines and remarks
+-- the text of a script, with remarks
 abbrev pub IsScript : ℕ → List ℕ → ScriptRecord → Type 0
 IsScript nodes text script = SayScript nodes (telling_lines (lines_of text)) script
 
--- a text whose first bad line has this number, from 1: the lines before it say a script, and with it they say none
+-- A text with the first bad line `number`, from 1: the lines before it are a script's, and with it they are none's.
 pub record HasFirstBad (nodes : ℕ) (text : List ℕ) (number : ℕ) : Type 0 where
   pub front : List (List ℕ)
   pub line : List ℕ

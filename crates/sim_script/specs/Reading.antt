@@ -1,4 +1,4 @@
--- What readers of lines and of scripts end with.
+-- The results of the readers of lines and scripts.
 use Rattle.std.specs.Prelude.{◌≡◌, ℕ, Option, Some, None, Result, Ok, Err}
 use Rattle.sim_script.specs.Event.{ScriptRecord}
 use Rattle.sim_script.specs.declared.fault.LineFault.{LineFault}
@@ -6,19 +6,19 @@ use Rattle.sim_script.specs.declared.fault.LineFault.TheVariants as line
 use Rattle.sim_script.specs.declared.fault.ScriptFault.{ScriptFault}
 use Rattle.sim_script.specs.declared.fault.ScriptFault.TheVariants.{Line, Memory}
 
--- what a reader gives is what is said, or nothing is said where it finds another form; private contracts alone cite it
+-- The value that a reader returns is `said`, and `Form` means that there is none. Private contracts alone cite it.
 abbrev pub Reads : {A B : Type 0} → (A → B) → Option B → Result A LineFault → Type 0
 Reads value said (Ok read) = said ≡ Some (value read)
 Reads value said (Err line.Form) = said ≡ None
 Reads value said (Err line.Memory) = Unit
 
--- what is read now is what is said with a line more, or that is bad; private contracts alone cite it
+-- The script with a line more is `said`, and `Form` means that the line is bad. Private contracts alone cite it.
 abbrev pub Takes : Option ScriptRecord → ScriptRecord → Result Unit LineFault → Type 0
 Takes said new (Ok _) = said ≡ Some new
 Takes said new (Err line.Form) = said ≡ None
 Takes said new (Err line.Memory) = Unit
 
--- a script whose first bad line has this number is refused so; any is for want of memory
+-- A script is refused for its first bad line, or because the allocator refused the memory.
 abbrev pub IsRefused : Result ScriptRecord ℕ → ScriptFault → Type 0
 IsRefused said (Line number) = said ≡ Err number
 IsRefused said Memory = Unit

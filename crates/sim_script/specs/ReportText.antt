@@ -1,4 +1,4 @@
--- What a run tells, as text.
+-- The report of a run, as text.
 use Rattle.std.specs.Prelude.{ℕ, List, ◌++◌, codes}
 use Rattle.std.specs.Fmt.{decimal}
 use Rattle.std.specs.List.{flat_map}
@@ -6,7 +6,7 @@ use Rattle.program_edge.specs.Line.{line_of}
 use Rattle.otp_core.specs.Acceptance.{Acceptance}
 use Rattle.cluster_sim.specs.World.{ReportValue, Told}
 
--- a space, and a number
+-- a space followed by a number
 abbrev pub spaced_number : ℕ → List ℕ
 spaced_number number = codes " " ++ decimal number
 
@@ -17,14 +17,14 @@ pass_line pass = line_of (
     ++ spaced_number pass.node ++ spaced_number pass.token ++ spaced_number pass.lo ++ spaced_number pass.hi
     )
 
--- what a client was told: `answer EVENT NODE CLIENT TEXT`
+-- an answer to a client: `answer EVENT NODE CLIENT TEXT`
 abbrev pub answer_line : Told → List ℕ
 answer_line answer = line_of (
     codes "answer" ++ spaced_number answer.event ++ spaced_number answer.node ++ spaced_number answer.client
     ++ codes " " ++ answer.bytes
     )
 
--- how many datagrams were sent: `sent COUNT`
+-- the number of datagrams sent: `sent COUNT`
 abbrev pub sent_line : ℕ → List ℕ
 sent_line count = line_of (codes "sent" ++ spaced_number count)
 

@@ -1,4 +1,4 @@
--- What a script and its lines say, as functions. Grammar.antt has the same by what is said.
+-- The reading of scripts, as functions. Grammar.antt has the same as relations.
 use Rattle.std.specs.Prelude.{ℕ, ◌*◌, ◌^◌, ◌==◌, ◌&&◌, nat_le, nat_lt, Bool, true, false, if◌then◌else◌, List, [], ◌∷◌, ◌++◌, length, Option, Some, None, option_map, Result, codes}
 use Rattle.std.specs.Option.{option_or}
 use Rattle.std.specs.Result.{result_ok}
@@ -11,7 +11,7 @@ use Rattle.sim_script.specs.Lines.{fields_of, is_remark, lines_of}
 use Rattle.sim_script.specs.Event.{Act, Says, Deliver, Ticks, Noise, Event, Happens, Cut, Restart, Lost, Anew, ScriptRecord, empty_script}
 use Rattle.sim_script.specs.Turns.{state_after}
 
--- the next step, where there is something to take it with
+-- the next step on a value, or None
 infixl 10 ◌>>=◌
 abbrev pub ◌>>=◌ : {A B : Type 0} → Option A → (A → Option B) → Option B
 None >>= next = None
@@ -21,7 +21,7 @@ Some x >>= next = next x
 abbrev pub bytes_of : List ℕ → Option (List ℕ)
 bytes_of digits = if nat_le 2 (length digits) && nat_le (length digits) 1024 then result_ok (decode_of digits) else None
 
--- `NODE CLIENT MOMENT LINE`, where the line is all that stands behind the third space
+-- `NODE CLIENT MOMENT LINE`; the line is all of the text after the third space
 abbrev pub said_line : List ℕ → Option RoundLine
 said_line text = do
   first ← halves_of 32 text
@@ -32,7 +32,7 @@ said_line text = do
   moment ← number_of third.before
   Some (record { node = node; client = client; moment = moment; line = third.behind })
 
--- a line that is said
+-- the action of a client's line
 abbrev pub client_act : List ℕ → Option Act
 client_act text = do
   said ← said_line text
@@ -62,7 +62,7 @@ noise_act text = do
   bytes ← bytes_of second.behind
   Some (Noise node from bytes)
 
--- the act of a word, and of what stands behind the space behind it
+-- the action of a word and the text after the next space
 abbrev pub act_of_word : List ℕ → List ℕ → Option Act
 act_of_word word rest =
     if bytes_eq word (codes "client") then client_act rest
@@ -71,20 +71,20 @@ act_of_word word rest =
     else if bytes_eq word (codes "noise") then noise_act rest
     else None
 
--- an act on a line of its own
+-- the action of a line
 abbrev pub act_line : List ℕ → Option Act
 act_line line = do
   halves ← halves_of 32 line
   act_of_word halves.before halves.behind
 
--- whether what a stop's act writes is kept, by a word
+-- whether a stop keeps the change, by its word
 abbrev pub kept_of_word : List ℕ → Option Bool
 kept_of_word word =
     if bytes_eq word (codes "kept") then Some true
     else if bytes_eq word (codes "lost") then Some false
     else None
 
--- `kept` or `lost`, and an act
+-- `kept` or `lost`, and an action
 abbrev pub cut_event : List ℕ → Option Event
 cut_event text = do
   halves ← halves_of 32 text
@@ -98,19 +98,19 @@ restart_event text = do
   node ← number_of text
   Some (Restart node)
 
--- `NODE`, whose store is lost
+-- `NODE`, for a loss of its store
 abbrev pub lost_event : List ℕ → Option Event
 lost_event text = do
   node ← number_of text
   Some (Lost node)
 
--- a first free factor, which is at most 2^62
+-- a floor (the first free factor of a token): at most 2^62
 abbrev pub next_of : List ℕ → Option ℕ
 next_of text = do
   number ← number_of text
   if nat_le number (2 ^ 62) then Some number else None
 
--- a first free factor for each of these fields
+-- a floor for each field
 abbrev pub nexts_of : List (List ℕ) → Option (List ℕ)
 nexts_of [] = Some []
 nexts_of (field ∷ fields) = do
@@ -128,7 +128,7 @@ anew_event text = do
   floors ← nexts_of (fields_of second.behind)
   Some (Anew node boot floors)
 
--- the event of a word, and of what stands behind the space behind it
+-- the event of a word and the text after the next space
 abbrev pub event_of_word : List ℕ → List ℕ → Option Event
 event_of_word word rest =
     if bytes_eq word (codes "restart") then restart_event rest
@@ -139,19 +139,19 @@ event_of_word word rest =
       act ← act_of_word word rest
       Some (Happens act)
 
--- what a line says, if it is in the grammar
+-- the event of a line, if it is in the grammar
 abbrev pub event_line : List ℕ → Option Event
 event_line line = do
   halves ← halves_of 32 line
   event_of_word halves.before halves.behind
 
--- the number of a node above another, of so many nodes
+-- the number of a node above `last`, at most `nodes`
 abbrev pub member_above : ℕ → ℕ → List ℕ → Option ℕ
 member_above nodes last text = do
   node ← number_of text
   if nat_lt last node && nat_le node nodes then Some node else None
 
--- the nodes of fields, each above the one before it, and the first above another, of so many nodes
+-- the nodes of fields, in ascending order, above `last` and at most `nodes`
 abbrev pub members_above : ℕ → ℕ → List (List ℕ) → Option (List ℕ)
 members_above nodes last [] = Some []
 members_above nodes last (field ∷ fields) = do
@@ -159,57 +159,57 @@ members_above nodes last (field ∷ fields) = do
   more ← members_above nodes node fields
   Some (node ∷ more)
 
--- `A B ..`: a strict majority of so many nodes, in ascending order
+-- `A B ..`: a strict majority of `nodes` nodes, in ascending order
 abbrev pub live_members : ℕ → List ℕ → Option (List ℕ)
 live_members nodes text = do
   live ← members_above nodes 0 (fields_of text)
   if nat_lt nodes (2 * length live) then Some live else None
 
--- the live members that a line says, of so many nodes
+-- the live members of a line, among `nodes` nodes
 abbrev pub live_line : ℕ → List ℕ → Option (List ℕ)
 live_line nodes line = do
   halves ← halves_of 32 line
   if bytes_eq halves.before (codes "live") then live_members nodes halves.behind else None
 
--- `NODE CLIENT MOMENT LINE`, at one of these members
+-- `NODE CLIENT MOMENT LINE`, at one of the live members
 abbrev pub line_among : List ℕ → List ℕ → Option RoundLine
 line_among live text = do
   said ← said_line text
   if is_live live said.node then Some said else None
 
--- the round that a line says, among these members
+-- the round of a line, among the live members
 abbrev pub round_among : List ℕ → List ℕ → Option RoundLine
 round_among live line = do
   halves ← halves_of 32 line
   if bytes_eq halves.before (codes "round") then line_among live halves.behind else None
 
--- a script with an event more
+-- a script with one event more
 abbrev pub with_event : ScriptRecord → Event → ScriptRecord
 with_event script event = record script { events = script.events ++ event ∷ [] }
 
--- a script whose events are over, with these live members
+-- a script with live members, whose events are complete
 abbrev pub with_live : ScriptRecord → List ℕ → ScriptRecord
 with_live script live = record script { live = live }
 
--- a script with a round more
+-- a script with one round more
 abbrev pub with_round : ScriptRecord → RoundLine → ScriptRecord
 with_round script round = record script { rounds = script.rounds ++ round ∷ [] }
 
--- the script with a line more, which says live members or an event
+-- a script with one line more, which has live members or an event
 abbrev pub with_first_part : ℕ → ScriptRecord → List ℕ → Option ScriptRecord
 with_first_part nodes script line =
     option_or (option_map (with_live script) (live_line nodes line)) (option_map (with_event script) (event_line line))
 
--- The script with a line more, of so many nodes. Once there are live members, all lines are rounds.
+-- A script with one line more, for `nodes` nodes. After the live members all lines are rounds.
 abbrev pub with_telling_line : ℕ → ScriptRecord → List ℕ → Option ScriptRecord
 with_telling_line nodes script line =
     if length script.live == 0 then with_first_part nodes script line
     else option_map (with_round script) (round_among script.live line)
 
--- the same, where the line may say nothing
+-- a script with one line more, which may be a remark
 abbrev pub with_line : ℕ → ScriptRecord → List ℕ → Option ScriptRecord
 with_line nodes script line = if is_remark line then Some script else with_telling_line nodes script line
 
--- what a script says of so many nodes, or the number, from 1, of its first bad line
+-- the script of a text for `nodes` nodes, or the number, from 1, of its first bad line
 abbrev pub script_of : ℕ → List ℕ → Result ScriptRecord ℕ
 script_of nodes text = state_after (with_line nodes) 1 empty_script (lines_of text)

@@ -3,13 +3,13 @@ ghost use Rattle.std.specs.Prelude.{◌≡◌};
 use std::alloc::AllocFailed;
 use thiserror::Error;
 
-/// Why a script isn't read.
+/// The reason why a script is not read.
 #[derive(Clone, Copy, Debug, PartialEq, Eq, Error)]
 pub enum ScriptFault {
     /// The line with this number, from 1, is the first bad one.
     #[error("script line {0}")]
     Line(u64),
-    /// An allocation was refused.
+    /// The allocator refused the memory.
     #[error("out of memory")]
     Memory,
 }
@@ -24,12 +24,12 @@ impl<T: Drop> From<AllocFailed<T>> for ScriptFault {
     }
 }
 
-/// Why a line isn't taken.
+/// The reason why a line is not accepted.
 #[derive(Clone, Copy, Debug, PartialEq, Eq)]
 pub(crate) enum LineFault {
-    /// It is bad: in another form, or out of its place.
+    /// The line is bad: not in the grammar, or out of its place.
     Form,
-    /// An allocation was refused.
+    /// The allocator refused the memory.
     Memory,
 }
 

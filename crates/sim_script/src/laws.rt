@@ -9,7 +9,7 @@ ghost use Rattle.sim_script.specs.ReportText.{report_text};
 ghost use Rattle.sim_script.specs.Script.{bytes_of, event_line, live_line, round_among, script_of};
 ghost use Rattle.sim_script.specs.declared.fault.ScriptFault.TheVariants.{Line, Memory};
 
-/// A line is in the grammar exactly where it is read so.
+/// Grammar of lines: a line is in the grammar if and only if the readers' functions accept it, with the same content.
 pub fn grammar_is_read()
     ensures event { (line : List ℕ) (event : Event) → IsEventLine line event ↔ (event_line line ≡ Some event) }
     ensures live { (nodes : ℕ) (line live : List ℕ) → IsLiveLine nodes line live ↔ (live_line nodes line ≡ Some live) }
@@ -17,7 +17,8 @@ pub fn grammar_is_read()
         → IsRoundLine live line round ↔ (round_among live line ≡ Some round) }
 {}
 
-/// A text is a script exactly where it is read so, and its first bad line is the one that is told.
+/// Grammar of scripts: a text is a script if and only if `script_of` accepts it, and the first bad line is the one it
+/// names.
 pub fn scripts_are_in_the_grammar()
     ensures script { (nodes : ℕ) (text : List ℕ) (script : ScriptRecord)
         → IsScript nodes text script ↔ (script_of nodes text ≡ Ok script) }
@@ -25,7 +26,7 @@ pub fn scripts_are_in_the_grammar()
         → HasFirstBad nodes text number ↔ (script_of nodes text ≡ Err number) }
 {}
 
-/// Some lines of scripts.
+/// Worked cases. Lines of events.
 pub fn lines_are_worked()
     // each form
     ensures client { event_line (codes "client 2 7 100 CHECK 1") ≡ Some (Happens (Says 2 7 100 (codes "CHECK 1"))) }
@@ -41,7 +42,7 @@ pub fn lines_are_worked()
     ensures kept_line { event_line (codes "cut kept client 1 2 3 x") ≡ Some (Cut true (Says 1 2 3 (codes "x"))) }
     ensures lost_noise { event_line (codes "cut lost noise 1 2 ab") ≡ Some (Cut false (Noise 1 2 (171 ∷ []))) }
 
-    // what stands in the fields
+    // the fields
     ensures nothing_said { event_line (codes "client 1 2 3 ") ≡ Some (Happens (Says 1 2 3 [])) }
     ensures spaces_said { event_line (codes "client 1 2 3  a b ") ≡ Some (Happens (Says 1 2 3 (codes " a b "))) }
     ensures zeros { event_line (codes "tick 007") ≡ Some (Happens (Ticks 7)) }
@@ -82,7 +83,7 @@ pub fn lines_are_worked()
     ensures empty { event_line [] ≡ None }
 {}
 
-/// Lines that say which members are live, and rounds among them.
+/// Worked cases. Lines with live members, and rounds among them.
 pub fn rounds_are_worked()
     // live members
     ensures live { live_line 3 (codes "live 1 2") ≡ Some (1 ∷ 2 ∷ []) }
@@ -95,7 +96,7 @@ pub fn rounds_are_worked()
     ensures half { live_line 4 (codes "live 1 2") ≡ None }
     ensures few { live_line 3 (codes "live 1") ≡ None }
 
-    // out of order, and no nodes of the cluster
+    // not ascending, and not a node of the cluster
     ensures twice { live_line 3 (codes "live 1 1") ≡ None }
     ensures descending { live_line 3 (codes "live 2 1") ≡ None }
     ensures zero { live_line 3 (codes "live 0 1") ≡ None }
@@ -122,7 +123,7 @@ pub fn rounds_are_worked()
     ensures round_is_no_event { event_line (codes "round 1 7 100 CHECK 1") ≡ None }
 {}
 
-/// Some scripts.
+/// Worked cases. Whole scripts.
 pub fn scripts_are_read()
     ensures events { script_of 3 (codes "tick 1\ndeliver 2 0\n")
         ≡ Ok (eventful (Happens (Ticks 1) ∷ Happens (Deliver 2 0) ∷ [])) }
@@ -138,7 +139,7 @@ pub fn scripts_are_read()
     ensures blank { script_of 3 (codes "tick 1\n \n") ≡ Err 2 }
     ensures remark_behind { script_of 3 (codes "tick 1\n #\n") ≡ Err 2 }
 
-    // rounds behind the events
+    // rounds after the events
     ensures rounds { script_of 3 (codes "tick 1\nlive 1 2\nround 2 7 9 a\nround 1 8 9 b\n") ≡ Ok (record {
       events = Happens (Ticks 1) ∷ [];
       live = 1 ∷ 2 ∷ [];
@@ -159,7 +160,7 @@ pub fn scripts_are_read()
     ensures no_majority { script_of 4 (codes "tick 1\nlive 1 2\nround 1 7 9 a\n") ≡ Err 2 }
 {}
 
-/// A report as text.
+/// Worked cases. Reports as text.
 pub fn reports_are_worked()
     ensures nothing { report_text (record { passes = []; answers = []; sent = 0 }) ≡ codes "sent 0\n" }
     ensures order { report_text (record {
@@ -172,7 +173,7 @@ pub fn reports_are_worked()
         ++ codes "sent 18446744073709551615\n" }
 {}
 
-/// What is promised of a refusal is broken by another line than the first bad one.
+/// Counterexamples: a refusal names the first bad line, and no line before or after it.
 pub fn promises_can_be_broken()
     ensures kept { IsRefused (script_of 3 (codes "tick 1\ntick\ntick\n")) (Line 2) }
     ensures line_before { IsRefused (script_of 3 (codes "tick 1\ntick\ntick\n")) (Line 1) → ⊥ }

@@ -1,12 +1,15 @@
-//! Scripts of the simulation, which say what happens to the nodes, and the text of what a run tells.
+//! Scripts of the simulation, which say what happens to the nodes, and the text of a run's report.
 //!
-//! Each line of a script says an event, in fields with single spaces between: `client NODE CLIENT MOMENT LINE`,
-//! `deliver NODE K`, `tick NODE`, `noise NODE FROM HEX`, `restart NODE`, and `cut kept EVENT` and `cut lost EVENT`,
-//! whose event is one of the first four. Behind all events a line `live A B ..` may name a strict majority of the
-//! nodes, in ascending order; then each line is `round NODE CLIENT MOMENT LINE`, at one of them. An empty line and one
-//! that begins with `#` say nothing. [`read_script`] takes exactly these, and tells the first bad line (the laws
-//! [`grammar_is_read`] and [`scripts_are_in_the_grammar`]). [`write_report`] prints what was accepted, what was
-//! answered, and how many datagrams were sent.
+//! Each line of a script is one event, in fields separated by single spaces:
+//! - `client NODE CLIENT MOMENT LINE`, `deliver NODE K`, `tick NODE` and `noise NODE FROM HEX` are actions at a node.
+//! - `cut kept EVENT` and `cut lost EVENT` are stops during one of these four actions.
+//! - `restart NODE`, `lost NODE` and `anew NODE BOOT NEXT ..` restart a node, lose its store and replace its store.
+//!
+//! A line `live A B ..` after all events names a strict majority of the nodes in ascending order. Each line after it is
+//! `round NODE CLIENT MOMENT LINE`, at one of them. Empty lines and lines that begin with `#` are remarks.
+//! [`read_script`] accepts exactly these lines, and names the first bad one (the laws [`grammar_is_read`] and
+//! [`scripts_are_in_the_grammar`]). [`write_report`] prints the acceptances, the answers and the number of datagrams
+//! sent.
 #![tactic(auto)]
 
 mod fault;

@@ -16,10 +16,10 @@ use field_text::{cut_at, read_number};
 use hex::FromHexError;
 use otp_core::Next;
 
-/// The most digits of a noise.
+/// The maximum number of digits of a noise.
 const MAX_DIGITS: usize = 1_024;
 
-/// Whether a line says nothing: it is empty, or it begins with `#`.
+/// Returns whether a line is a remark: it is empty, or it begins with `#`.
 pub(crate) fn is_remark(line: &[u8]) -> bool
     ensures { result ≡ is_remark line.now }
 {
@@ -29,7 +29,7 @@ pub(crate) fn is_remark(line: &[u8]) -> bool
     }
 }
 
-/// A client's line, with where and when it comes: `NODE CLIENT MOMENT LINE`.
+/// Reads a client's line with its node, client and moment: `NODE CLIENT MOMENT LINE`.
 pub(crate) fn read_said(text: &[u8]) -> Option<RoundLine<'_>>
     ensures { option_map round_line result ≡ said_line text.now }
 {
@@ -44,7 +44,7 @@ pub(crate) fn read_said(text: &[u8]) -> Option<RoundLine<'_>>
     })
 }
 
-/// A client's line as an act.
+/// Reads the action of a client's line.
 fn read_client(text: &[u8]) -> Option<Act<'_>>
     ensures { option_map act_of result ≡ client_act text.now }
 {
@@ -62,7 +62,7 @@ fn read_client(text: &[u8]) -> Option<Act<'_>>
     })
 }
 
-/// A delivery: `NODE K`.
+/// Reads a delivery: `NODE K`.
 fn read_deliver(text: &[u8]) -> Option<Act<'_>>
     ensures { option_map act_of result ≡ deliver_act text.now }
 {
@@ -73,7 +73,7 @@ fn read_deliver(text: &[u8]) -> Option<Act<'_>>
     })
 }
 
-/// A tick: `NODE`.
+/// Reads a tick: `NODE`.
 fn read_tick(text: &[u8]) -> Option<Act<'_>>
     ensures { option_map act_of result ≡ tick_act text.now }
 {
@@ -82,7 +82,7 @@ fn read_tick(text: &[u8]) -> Option<Act<'_>>
     })
 }
 
-/// The bytes of 2 to 1,024 hexadecimal digits, two a byte, in either case. They are placed in the arena.
+/// Returns the bytes of 2 to 1,024 hexadecimal digits, two a byte, in either case. Allocates them in the arena.
 fn read_bytes<'a>(arena: &'a Bump, digits: &[u8]) -> Result<&'a [u8], LineFault>
     ensures { Reads (λ bytes. bytes.now) (bytes_of digits.now) result }
 {
@@ -96,7 +96,7 @@ fn read_bytes<'a>(arena: &'a Bump, digits: &[u8]) -> Result<&'a [u8], LineFault>
     }
 }
 
-/// Noise: `NODE FROM HEX`.
+/// Reads a noise: `NODE FROM HEX`.
 fn read_noise<'a>(arena: &'a Bump, text: &[u8]) -> Result<Act<'a>, LineFault>
     ensures { Reads act_of (noise_act text.now) result }
 {
@@ -109,7 +109,7 @@ fn read_noise<'a>(arena: &'a Bump, text: &[u8]) -> Result<Act<'a>, LineFault>
     })
 }
 
-/// What is done at a node: a word, and what stands behind the space behind it.
+/// Reads an action from its word and the text after the next space.
 fn read_act<'a>(arena: &'a Bump, word: &[u8], rest: &'a [u8]) -> Result<Act<'a>, LineFault>
     ensures { Reads act_of (act_of_word word.now rest.now) result }
 {
@@ -126,7 +126,7 @@ fn read_act<'a>(arena: &'a Bump, word: &[u8], rest: &'a [u8]) -> Result<Act<'a>,
     }
 }
 
-/// Whether what a stop's act writes is kept, by a word.
+/// Reads the word that says whether a stop keeps the change of its action.
 fn read_kept(word: &[u8]) -> Option<bool>
     ensures { result ≡ kept_of_word word.now }
 {
@@ -139,7 +139,7 @@ fn read_kept(word: &[u8]) -> Option<bool>
     }
 }
 
-/// A stop inside an act: `kept` or `lost`, and the act.
+/// Reads a stop during an action: `kept` or `lost`, and the action.
 fn read_cut<'a>(arena: &'a Bump, text: &'a [u8]) -> Result<WorldEvent<'a>, LineFault>
     ensures { Reads event_of (cut_event text.now) result }
 {
@@ -150,7 +150,7 @@ fn read_cut<'a>(arena: &'a Bump, text: &'a [u8]) -> Result<WorldEvent<'a>, LineF
     Ok(WorldEvent::Cut { kept, act })
 }
 
-/// A restart: `NODE`.
+/// Reads a restart: `NODE`.
 fn read_restart(text: &[u8]) -> Option<WorldEvent<'_>>
     ensures { option_map event_of result ≡ restart_event text.now }
 {
@@ -159,7 +159,7 @@ fn read_restart(text: &[u8]) -> Option<WorldEvent<'_>>
     })
 }
 
-/// A store that is lost: `NODE`.
+/// Reads the loss of a store: `NODE`.
 fn read_lost(text: &[u8]) -> Option<WorldEvent<'_>>
     ensures { option_map event_of result ≡ lost_event text.now }
 {
@@ -168,14 +168,14 @@ fn read_lost(text: &[u8]) -> Option<WorldEvent<'_>>
     })
 }
 
-/// A first free factor, which is at most 2^62.
+/// Reads a floor, the first free factor of a token: at most 2^62.
 fn read_next(text: &[u8]) -> Option<Next>
     ensures { result ≡ next_of text.now }
 {
     Next::new(read_number(text)?)
 }
 
-/// First free factors: `NEXT ..`. They are placed in the arena.
+/// Reads floors: `NEXT ..`. Allocates them in the arena.
 fn read_floors<'a>(arena: &'a Bump, text: &[u8]) -> Result<&'a [Next], LineFault>
     ensures { Reads (λ floors. floors.now) (nexts_of (fields_of text.now)) result }
 {
@@ -189,7 +189,7 @@ fn read_floors<'a>(arena: &'a Bump, text: &[u8]) -> Result<&'a [Next], LineFault
     Ok(into_bump_slice(floors))
 }
 
-/// A store that is made anew: `NODE BOOT NEXT ..`.
+/// Reads the replacement of a store: `NODE BOOT NEXT ..`.
 fn read_anew<'a>(arena: &'a Bump, text: &[u8]) -> Result<WorldEvent<'a>, LineFault>
     ensures { Reads event_of (anew_event text.now) result }
 {
@@ -202,7 +202,7 @@ fn read_anew<'a>(arena: &'a Bump, text: &[u8]) -> Result<WorldEvent<'a>, LineFau
     })
 }
 
-/// The event that a line says.
+/// Reads the event of a line.
 pub(crate) fn read_event<'a>(arena: &'a Bump, line: &'a [u8]) -> Result<WorldEvent<'a>, LineFault>
     ensures { Reads event_of (event_line line.now) result }
 {

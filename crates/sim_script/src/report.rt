@@ -25,7 +25,7 @@ fn write_pass<W: Write>(writer: &mut W, pass: &WorldPass) -> Result<(), OutsideF
     )
 }
 
-/// Writes what a client was told.
+/// Writes an answer to a client.
 fn write_answer<W: Write>(writer: &mut W, answer: &WorldAnswer) -> Result<(), OutsideFault>
     ensures written { OnOk result (Appends (W.contents writer.old) (W.contents writer.new) (answer_line answer.now)) }
     ensures fault { IfErr result (λ fault. fault ≡ OutsideFault.CannotWrite) }
@@ -40,7 +40,7 @@ fn write_answer<W: Write>(writer: &mut W, answer: &WorldAnswer) -> Result<(), Ou
     write_line(writer, &answer.bytes)
 }
 
-/// Writes how many datagrams were sent.
+/// Writes the number of datagrams sent.
 fn write_sent<W: Write>(writer: &mut W, count: u64) -> Result<(), OutsideFault>
     ensures written { OnOk result (Appends (W.contents writer.old) (W.contents writer.new) (sent_line count)) }
     ensures fault { IfErr result (λ fault. fault ≡ OutsideFault.CannotWrite) }
@@ -48,7 +48,7 @@ fn write_sent<W: Write>(writer: &mut W, count: u64) -> Result<(), OutsideFault>
     write!(writer, "sent {count}\n").map_err(|_| OutsideFault::CannotWrite)
 }
 
-/// Writes accepted submissions, each on a line of its own.
+/// Writes accepted submissions, one on each line.
 fn write_passes<W: Write>(writer: &mut W, passes: &[WorldPass]) -> Result<(), OutsideFault>
     ensures written { OnOk result (Appends (W.contents writer.old) (W.contents writer.new)
         (flat_map pass_line passes.now)) }
@@ -60,7 +60,7 @@ fn write_passes<W: Write>(writer: &mut W, passes: &[WorldPass]) -> Result<(), Ou
     Ok(())
 }
 
-/// Writes what clients were told, each answer on a line of its own.
+/// Writes answers to clients, one on each line.
 fn write_answers<W: Write>(writer: &mut W, answers: &[WorldAnswer]) -> Result<(), OutsideFault>
     ensures written { OnOk result (Appends (W.contents writer.old) (W.contents writer.new)
         (flat_map answer_line answers.now)) }
@@ -72,10 +72,10 @@ fn write_answers<W: Write>(writer: &mut W, answers: &[WorldAnswer]) -> Result<()
     Ok(())
 }
 
-/// Writes what a run tells: its passes, then its answers, then how many datagrams were sent, each on a line of its own.
+/// Writes a run's passes, its answers and the number of datagrams sent, one on each line.
 ///
 /// # Errors
-/// `CannotWrite` where the writer fails. A front of the text may have been written then.
+/// Returns `CannotWrite` if the output fails. A prefix of the text may have been written.
 pub fn write_report<W: Write>(writer: &mut W, report: &Report) -> Result<(), OutsideFault>
     ensures written { OnOk result (Appends (W.contents writer.old) (W.contents writer.new) (report_text report.now)) }
     ensures fault { IfErr result (λ fault. fault ≡ OutsideFault.CannotWrite) }

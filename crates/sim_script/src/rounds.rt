@@ -1,4 +1,4 @@
-//! The lines of a script behind its events: which members are live, and what comes in rounds among them.
+//! Reads the lines after a script's events: the live members, and the rounds among them.
 
 ghost use Rattle.std.specs.Prelude.{◌≡◌, ◌<◌, ◌≤◌, ◌==◌, IfSome};
 ghost use Rattle.std.specs.Option.{option_map};
@@ -12,17 +12,17 @@ use arrayvec::ArrayVec;
 use cluster_sim::RoundLine;
 use field_text::{cut_at, read_number};
 
-/// The most nodes of a cluster.
+/// The maximum number of nodes of a cluster.
 pub const MAX_NODES: usize = 9;
 
-/// Whether a byte stands between two fields.
+/// Returns whether a byte separates two fields.
 pub(crate) fn is_field_end(byte: &u8) -> bool
     ensures { result ≡ (byte.now == 32) }
 {
     *byte == b' '
 }
 
-/// The number of a node above another, of so many nodes.
+/// Reads the number of a node above `last`, at most `nodes`.
 fn read_member(nodes: u8, last: u8, text: &[u8]) -> Option<u8>
     ensures member { result ≡ member_above nodes last text.now }
     ensures above { IfSome result (λ node. last < node) }
@@ -36,7 +36,7 @@ fn read_member(nodes: u8, last: u8, text: &[u8]) -> Option<u8>
     }
 }
 
-/// Some nodes, each above the one before it: `A B ..`.
+/// Reads the numbers of nodes in ascending order: `A B ..`.
 fn read_members(nodes: u8, text: &[u8]) -> Option<ArrayVec<u8, MAX_NODES>>
     requires { nodes ≤ 9 }
     ensures { option_map (λ live. live.items) result ≡ members_above nodes 0 (fields_of text.now) }
@@ -50,7 +50,7 @@ fn read_members(nodes: u8, text: &[u8]) -> Option<ArrayVec<u8, MAX_NODES>>
     Some(live)
 }
 
-/// The live members that a line says: `live A B ..`, a strict majority of so many nodes, each above the one before it.
+/// Reads the live members: `live A B ..`, a strict majority of `nodes` in ascending order.
 pub(crate) fn read_live(nodes: u8, line: &[u8]) -> Option<ArrayVec<u8, MAX_NODES>>
     requires { nodes ≤ 9 }
     ensures { option_map (λ live. live.items) result ≡ live_line nodes line.now }
@@ -67,7 +67,7 @@ pub(crate) fn read_live(nodes: u8, line: &[u8]) -> Option<ArrayVec<u8, MAX_NODES
     }
 }
 
-/// Whether a node is one of these.
+/// Returns whether `node` is one of `live`.
 fn is_among(live: &[u8], node: u64) -> bool
     ensures { result ≡ is_live live.now node }
 {
@@ -79,7 +79,7 @@ fn is_among(live: &[u8], node: u64) -> bool
     false
 }
 
-/// The round that a line says: `round NODE CLIENT MOMENT LINE`, at one of these members.
+/// Reads a round: `round NODE CLIENT MOMENT LINE`, at one of the live members.
 pub(crate) fn read_round<'a>(live: &[u8], line: &'a [u8]) -> Option<RoundLine<'a>>
     ensures { option_map round_line result ≡ round_among live.now line.now }
 {

@@ -11,20 +11,19 @@ use bumpalo::Bump;
 use cluster_sim::{RoundLine, WorldEvent};
 use std::alloc::Global;
 
-/// What a script says.
+/// The content of a script.
 #[derive(Drop)]
 pub struct Script<'a> {
-    /// What happens first, in order.
+    /// The events, in order.
     pub events: Vec<WorldEvent<'a>>,
-    /// The members that are live behind the events: a strict majority, in ascending order. None where no line names
-    /// them.
+    /// The live members after the events: a strict majority, in ascending order. Empty if no line names them.
     pub live: ArrayVec<u8, MAX_NODES>,
-    /// The lines that come among the live members, each in a round of its own.
+    /// The clients' lines at live members, each in a round of its own.
     pub rounds: Vec<RoundLine<'a>>,
 }
 
 impl<'a> Script<'a> {
-    /// A script that says nothing.
+    /// Returns an empty script.
     fn new(alloc: Global) -> Self
         ensures { script_value result ≡ empty_script }
     {
@@ -35,7 +34,7 @@ impl<'a> Script<'a> {
         }
     }
 
-    /// Takes a line more, in a script of so many nodes. Where that is refused, what is left is not said.
+    /// Adds a line to a script of `nodes` nodes. After an error the content is unspecified.
     fn take_line(&mut self, arena: &'a Bump, nodes: u8, line: &'a [u8]) -> Result<(), LineFault>
         requires { nodes ≤ 9 }
         ensures { Takes (with_line nodes (script_value self.old) line.now) (script_value self.new) result }
@@ -56,20 +55,22 @@ impl<'a> Script<'a> {
     }
 }
 
-/// Whether a byte ends a line.
+/// Returns whether a byte ends a line.
 fn is_line_end(byte: &u8) -> bool
     ensures { result ≡ (byte.now == 10) }
 {
     *byte == b'\n'
 }
 
-/// What a script says of a cluster of so many nodes, at most 9: its events, and then, if it has them, its live members
-/// and its rounds. Each stands on a line of its own; an empty line and one that begins with `#` say nothing. What is
-/// said borrows the text, and the bytes of noises are placed in the arena. Time and memory are in proportion to the
-/// text.
+/// Reads a script for a cluster of `nodes` nodes, at most 9: its events, its live members and its rounds.
+///
+/// Each is on a line of its own; live members and rounds are optional. Empty lines and lines that begin with `#` are
+/// remarks. The result borrows the text. The bytes of noises and the floors (first free factors) are allocated in the
+/// arena. Time and memory are proportional to the text.
 ///
 /// # Errors
-/// `Line` with the number, from 1, of the first line that is in another form or out of its place; `Memory`.
+/// - Returns `Line` with the number, from 1, of the first line that is not in the grammar or out of its place.
+/// - Returns `Memory` if the allocator refuses the memory.
 pub fn read_script<'a>(
     alloc: Global,
     arena: &'a Bump,

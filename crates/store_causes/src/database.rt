@@ -1,4 +1,4 @@
-//! What is found at the path of a database.
+//! Looks at the path of a database for the cause of a fault.
 
 use crate::named::{Named, StoreCause, named_cause};
 use fault_causes::{FileCause, file_cause_of};
@@ -7,24 +7,24 @@ use sqlite::{Connection, Error, ErrorCode, Row};
 use std::fs::{self, OpenOptions};
 use std::io::Read;
 
-/// The bytes with which a database of SQLite begins.
+/// The first bytes of a database of SQLite.
 const MAGIC: &[u8; 16] = b"SQLite format 3\0";
 
 /// The row that names the node of a store.
 const SELECT_SELF: &str = "SELECT version, node, tokens FROM self WHERE id = 1";
 
-/// The store that was asked for, as far as it is known.
+/// The store that a command needs, as far as it is known.
 #[derive(Clone, Copy, Debug)]
 pub struct Expected {
-    /// Its node.
+    /// The number of its node.
     pub node: Option<u64>,
-    /// How many rows the users file has.
+    /// The number of rows of the users file.
     pub rows: Option<u64>,
-    /// Whether it was to be made.
+    /// Whether the command creates it.
     pub is_new: bool,
 }
 
-/// What keeps a file from being read and written now, if one of these does.
+/// Returns the reason why a file cannot be read and written now, or None without a known reason.
 fn access_cause(rt: &HostRuntime, path: &str) -> Option<FileCause> {
     match OpenOptions::new().read(true).write(true).open(rt, path) {
         Ok(_file) => None,
@@ -32,7 +32,7 @@ fn access_cause(rt: &HostRuntime, path: &str) -> Option<FileCause> {
     }
 }
 
-/// Whether the file with this path begins as a database does.
+/// Returns whether the file at `path` begins as a database does.
 fn is_database(rt: &HostRuntime, path: &str) -> bool {
     let Ok(mut file) = fs::open(rt, path) else {
         return false;
@@ -41,7 +41,7 @@ fn is_database(rt: &HostRuntime, path: &str) -> bool {
     file.read_exact(&mut first).is_ok() && &first == MAGIC
 }
 
-/// What keeps the database with this path from being opened now, if one of these does.
+/// Returns the reason why the database at `path` cannot be opened now, or None without a known reason.
 fn open_cause(rt: &HostRuntime, path: &str, is_new: bool) -> Option<StoreCause> {
     match access_cause(rt, path) {
         Some(FileCause::Missing) if is_new => return Some(StoreCause::NotMade),
@@ -55,14 +55,14 @@ fn open_cause(rt: &HostRuntime, path: &str, is_new: bool) -> Option<StoreCause> 
     }
 }
 
-/// A number that isn't below 0, in a column of a row.
+/// Returns the number in a column of a row, or None if it is not an integer of at least 0.
 fn number_at(row: &Row, column: usize) -> Option<u64> {
     let number: i64 = row.get(column).ok()?;
     u64::try_from(number).ok()
 }
 
-/// What the tables of the database with this path say of their store, or `None` where they aren't those of one. An
-/// empty file is not opened, since that would make a database of it.
+/// Returns what the tables of the database at `path` say of their store, or `None` if they are not a store's. Does not
+/// open an empty file: that would make it a database.
 fn named_in(rt: &HostRuntime, path: &str) -> Option<Named> {
     if !is_database(rt, path) {
         return None;
@@ -76,8 +76,9 @@ fn named_in(rt: &HostRuntime, path: &str) -> Option<Named> {
     })
 }
 
-/// What keeps the store in the file with this path from being used, as it is found now: behind a fault of a store, with
-/// which a command has ended. `None` where nothing is found that would.
+/// Returns the reason why the store in the file at `path` cannot be used now, or `None` without a known reason.
+///
+/// Called after the fault of a store has ended a command.
 pub fn store_cause(
     rt: &HostRuntime,
     path: &str,

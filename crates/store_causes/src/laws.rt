@@ -2,7 +2,7 @@ ghost use Rattle.std.specs.Prelude.{◌≡◌, ◌∷◌, [], Some, None};
 ghost use Rattle.store_causes.specs.Named.{named_cause};
 ghost use Rattle.store_causes.specs.declared.named.StoreCause.{StoreCause};
 
-/// Causes, worked through: the version comes first, then the node, then the number of rows.
+/// Worked cases. The order of causes is: the version, the node, the number of rows.
 pub fn causes_are_worked()
     ensures none { named_cause (record { version = 2; node = 1; tokens = 50 }) (Some 1) (Some 50) ≡ None }
     ensures unknown { named_cause (record { version = 2; node = 1; tokens = 50 }) None None ≡ None }

@@ -1,8 +1,8 @@
 //! The cause of a fault of a store: what is found at the path of its database.
 //!
-//! As `fault_causes`, it looks after a command has failed, and what it finds may be another thing than what made the
-//! command fail. Looking opens the database as the command did, and writes no row: so it holds the file for that while.
-//! What a file has no clause can say; what is told of the row that names its node is defined (`causes_are_worked`).
+//! As in `fault_causes`, the cause is found by looking after the failure, and may not be what made the command fail.
+//! Looking opens the database as the command did, which locks the file meanwhile, and writes no row. No contract covers
+//! the content of a file. The cause in the row that names a store's node is defined (`causes_are_worked`).
 #![tactic(auto)]
 
 mod database;

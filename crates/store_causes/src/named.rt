@@ -4,7 +4,7 @@ ghost use Rattle.store_causes.specs.Named.{named_cause, node_cause, tokens_cause
 use fault_causes::FileCause;
 use thiserror::Error;
 
-/// What keeps the store of a database from being used.
+/// The reason why the store of a database cannot be used.
 #[derive(Clone, Copy, Debug, PartialEq, Eq, Error)]
 pub enum StoreCause {
     #[error("{0}")]
@@ -23,18 +23,18 @@ pub enum StoreCause {
     OtherTables,
     #[error("a store of version 1: oathd migrate makes version 2 of it")]
     VersionOne,
-    /// A version that this program doesn't know.
+    /// The store has a version that this program doesn't know.
     #[error("a store of version {0}")]
     Version(u64),
-    /// The node whose store it is, and the one that was asked for.
+    /// The node of the store, and the node that the command needs.
     #[error("the store of node {0}, not {1}")]
     OtherNode(u64, u64),
-    /// How many tokens the store has, and how many the users file has.
+    /// The number of the store's tokens, and the number of the users file's rows.
     #[error("{0} rows, {1} in the users file")]
     OtherRows(u64, u64),
 }
 
-/// What the tables of a store say of it: its version, the number of its node, and how many tokens it has.
+/// What the tables of a store say of it: its version, the number of its node, and its number of tokens.
 #[derive(Clone, Copy, Debug, PartialEq, Eq)]
 pub struct Named {
     pub version: u64,
@@ -42,7 +42,7 @@ pub struct Named {
     pub tokens: u64,
 }
 
-/// Why a store of this version isn't one that is used.
+/// Returns the reason why a store of this version cannot be used, or None.
 fn version_cause(version: u64) -> Option<StoreCause>
     ensures { result ≡ version_cause version }
 {
@@ -53,7 +53,7 @@ fn version_cause(version: u64) -> Option<StoreCause>
     }
 }
 
-/// Why the store of this node isn't that of the node that was asked for, if one was.
+/// Returns the reason why the store is not the node's, or None.
 fn node_cause(node: u64, asked: Option<u64>) -> Option<StoreCause>
     ensures { result ≡ node_cause node asked }
 {
@@ -63,7 +63,7 @@ fn node_cause(node: u64, asked: Option<u64>) -> Option<StoreCause>
     }
 }
 
-/// Why a store with so many tokens isn't that of a users file with so many rows.
+/// Returns the reason why the store is not the users file's, or None.
 fn tokens_cause(tokens: u64, rows: Option<u64>) -> Option<StoreCause>
     ensures { result ≡ tokens_cause tokens rows }
 {
@@ -73,8 +73,9 @@ fn tokens_cause(tokens: u64, rows: Option<u64>) -> Option<StoreCause>
     }
 }
 
-/// Why a store that says this of itself isn't the one that was asked for: one of version 2, of this node, with so many
-/// tokens, as far as these are known.
+/// Returns the reason why a store is not the one that a command needs, or None.
+///
+/// A command needs version 2, and, as far as they are known, the node and the number of rows.
 pub fn named_cause(named: Named, node: Option<u64>, rows: Option<u64>) -> Option<StoreCause>
     ensures { result ≡ named_cause named node rows }
 {

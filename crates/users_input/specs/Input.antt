@@ -1,11 +1,11 @@
--- The lines of an input that is read up to a limit, and its two parts.
+-- The lines of an input up to a limit, and its two parts.
 use Rattle.std.specs.Prelude.{◌≡◌, ◌⊎◌, ◌<◌, ◌≤◌, ℕ, ◌+◌, ◌==◌, nat_lt, not, Bool, false, if◌then◌else◌, List, [], ◌∷◌, length, take, drop, take_while, ◌++◌, Option, Some, None, codes, slice_index_or}
 use Rattle.std.specs.List.{flat_map, list_any, slice_split}
 use Rattle.std.specs.Str.{bytes_eq}
 use Rattle.users_input.specs.declared.input.NextLine.{NextLine}
 use Rattle.users_input.specs.declared.input.NextLine.TheVariants.{Whole, Cut, End}
 
--- a line that is whole is its bytes without the LF; a line that goes on past the limit is None
+-- the bytes of a line without the LF, or None for a line that continues past the limit
 abbrev pub TextLine : Type 0
 TextLine = Option (List ℕ)
 
@@ -13,18 +13,17 @@ TextLine = Option (List ℕ)
 abbrev pub pieces_of : List ℕ → List (List ℕ)
 pieces_of text = slice_split (λ byte. byte == 10) text
 
--- What stands behind the last LF is a line unless it is empty. Where the text was cut off, it is the line
--- that goes on.
+-- The text after the last LF is a line unless it is empty. If the text was cut off, it is the line that continues.
 abbrev pub last_line : Bool → List ℕ → List TextLine
 last_line is_cut last = if is_cut then None ∷ [] else if length last == 0 then [] else Some last ∷ []
 
--- the lines that pieces between LFs are, of which the last is as above
+-- the lines of the pieces between LFs, with the last one as above
 abbrev pub lines_between : Bool → List (List ℕ) → List TextLine
 lines_between is_cut [] = []
 lines_between is_cut (last ∷ []) = last_line is_cut last
 lines_between is_cut (line ∷ next ∷ more) = Some line ∷ lines_between is_cut (next ∷ more)
 
--- the lines of a text of which so many bytes are read
+-- the lines of a text up to `limit` bytes
 abbrev pub lines_of : ℕ → List ℕ → List TextLine
 lines_of limit text = lines_between (nat_lt limit (length text)) (pieces_of (take limit text))
 
@@ -45,7 +44,7 @@ has_marker lines = list_any is_marker lines
 abbrev pub users_part : List TextLine → List TextLine
 users_part lines = take_while (λ line. not (is_marker line)) lines
 
--- the lines behind the first `%%`
+-- the lines after the first `%%`
 abbrev pub rest_part : List TextLine → List TextLine
 rest_part lines = drop (length (users_part lines) + 1) lines
 
@@ -54,16 +53,16 @@ abbrev pub line_bytes : TextLine → List ℕ
 line_bytes None = []
 line_bytes (Some line) = line ++ 10 ∷ []
 
--- the users file of what is read of an input: the lines before the first `%%`, or all where there is none
+-- the users file in the bytes that were read of an input: the lines before the first `%%`, or all without one
 abbrev pub users_file : List TextLine → List ℕ → List ℕ
 users_file lines read = if has_marker lines then flat_map line_bytes (users_part lines) else read
 
--- the text of a line, without the LF that ends it
+-- a line without the LF that ends it
 abbrev pub line_text : List ℕ → List ℕ
 line_text line = slice_index_or (pieces_of line) 0 []
 
--- What stands next in a text is taken off, and this is the rest. Of the text so many bytes are within the limit, and so
--- many of the rest. A line ends with an LF unless nothing stands behind it.
+-- The next item of a text, followed by `rest`. `room` bytes of the text and `left` bytes of the rest are within the
+-- limit. A line ends with an LF unless the text ends.
 abbrev pub IsNext : NextLine → List ℕ → ℕ → List ℕ → ℕ → List ℕ → Type 0
 IsNext Whole line room text left rest =
     (lines_of room text ≡ Some (line_text line) ∷ lines_of left rest)
@@ -71,7 +70,7 @@ IsNext Whole line room text left rest =
 IsNext Cut line room text left rest = (lines_of room text ≡ None ∷ []) × (left ≡ 0)
 IsNext End line room text left rest = text ≡ []
 
--- what stands next in a text is taken off, and what an input has left is the rest
+-- the next item of a text was read, and the rest remains in the input
 pub record TakesLine (found : NextLine) (line : List ℕ) (room : ℕ) (text : List ℕ) (left : ℕ)
     (remaining : Option (List ℕ)) : Type 0 where
   pub rest : List ℕ
@@ -79,19 +78,19 @@ pub record TakesLine (found : NextLine) (line : List ℕ) (room : ℕ) (text : L
   pub parts : text ≡ line ++ rest
   pub next : IsNext found line room text left rest
 
--- a line has bytes, the LF among them, and nothing has none
+-- A line has bytes, with its LF. The end has none.
 abbrev pub HasLine : NextLine → List ℕ → Type 0
 HasLine Whole line = 0 < length line
 HasLine Cut line = 0 < length line
 HasLine End line = line ≡ []
 
--- a whole line takes some of the bytes that are within the limit
+-- A whole line uses at least one byte within the limit.
 abbrev pub HasRoom : NextLine → ℕ → ℕ → Type 0
 HasRoom Whole room left = left < room
 HasRoom Cut room left = left ≤ room
 HasRoom End room left = left ≤ room
 
--- the bytes of a text that are within the limit are read, and whether it goes on is told
+-- The bytes of a text within the limit are read, and `is_cut` says whether the text continues.
 pub record IsReadTo (room : ℕ) (text read : List ℕ) (is_cut : Bool) : Type 0 where
   pub read_is : read ≡ take room text
   pub cut_is : is_cut ≡ nat_lt room (length text)

@@ -1,10 +1,10 @@
 use thiserror::Error;
 use token_file::FileFault;
 
-/// Why an input is read no further.
+/// The reason why an input is not read further.
 #[derive(Clone, Copy, Debug, PartialEq, Eq, Error)]
 pub enum InputFault {
-    /// An allocation was refused.
+    /// The allocator refused the memory.
     #[error("out of memory")]
     Memory,
     /// The reader failed.
@@ -12,10 +12,10 @@ pub enum InputFault {
     CannotRead,
 }
 
-/// Why the users file of an input isn't taken.
+/// The reason why the users file of an input is not accepted.
 #[derive(Clone, Copy, Debug, PartialEq, Eq, Error)]
 pub enum UsersFault {
-    /// An allocation was refused.
+    /// The allocator refused the memory.
     #[error("out of memory")]
     Memory,
     /// The file has a fault.

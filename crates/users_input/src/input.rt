@@ -8,7 +8,7 @@ use field_text::cut_at;
 use std::alloc::Global;
 use std::io::{BufRead, BufReader, Error, ErrorKind, Read};
 
-/// The text of a line, without the LF that ends it.
+/// Returns a line without the LF that ends it.
 pub fn text_of(line: &[u8]) -> &[u8]
     ensures { result.now ≡ line_text line.now }
 {
@@ -18,14 +18,14 @@ pub fn text_of(line: &[u8]) -> &[u8]
     }
 }
 
-/// Whether this is the text of the line behind the users file.
+/// Returns whether a line's text is the `%%` after the users file.
 pub(crate) fn is_marker(text: &[u8]) -> bool
     ensures { result ≡ is_mark text.now }
 {
     text == b"%%".as_slice()
 }
 
-/// What a failed read is.
+/// Returns the fault for a failed read.
 fn input_fault(error: &Error) -> InputFault {
     match error.kind() {
         ErrorKind::OutOfMemory => InputFault::Memory,
@@ -33,20 +33,20 @@ fn input_fault(error: &Error) -> InputFault {
     }
 }
 
-/// What stands next in an input.
+/// The next item of an input.
 #[derive(Clone, Copy, Debug, PartialEq, Eq)]
 pub enum NextLine {
     /// A line.
     Whole,
-    /// A line that goes on past the limit.
+    /// A line that continues past the limit.
     Cut,
-    /// Nothing.
+    /// The end of the input.
     End,
 }
 
-/// A reader that tells whether it can give a whole line without reading on.
+/// A reader that can tell whether its buffer has a whole line.
 pub trait HoldsLine {
-    /// Whether it holds an LF that it has not given yet.
+    /// Returns whether the buffer has an LF.
     fn holds_line(&self) -> bool;
 }
 
@@ -56,25 +56,25 @@ impl<R: Read> HoldsLine for BufReader<R> {
     }
 }
 
-/// A text that is read of an input up to its limit.
+/// A text of an input, up to its limit.
 #[derive(Debug, Drop)]
 pub struct LimitedText {
     /// The bytes within the limit.
     pub bytes: Vec<u8>,
-    /// Whether the input goes on past the limit.
+    /// Whether the input continues past the limit.
     pub is_cut: bool,
 }
 
-/// What is left of an input.
+/// The unread part of an input.
 #[derive(Drop)]
 pub struct Input<B> {
     pub reader: B,
-    /// How many bytes of it are within the limit.
+    /// The number of its bytes within the limit.
     pub room: u32,
 }
 
 impl<B: BufRead> Input<B> {
-    /// The input that a reader gives, which is read no further than one byte past the limit.
+    /// Returns the input of a reader. At most `limit` bytes and one more are read.
     pub fn new(reader: B, limit: u32) -> Self
         ensures reader { result.reader ≡ reader }
         ensures room { result.room ≡ limit }
@@ -85,7 +85,7 @@ impl<B: BufRead> Input<B> {
         }
     }
 
-    /// How many bytes of it are within the limit.
+    /// Returns the number of unread bytes within the limit.
     pub fn room(&self) -> u32
         ensures value { result ≡ self.now.room }
         ensures range { result < 2 ^ 32 }
@@ -93,8 +93,9 @@ impl<B: BufRead> Input<B> {
         self.room
     }
 
-    /// Takes the bytes up to the next LF off, or all where there is none, and tells whether they are within the
-    /// limit. Where the input fails, `line` is what was read of them.
+    /// Reads the bytes up to the next LF, or all bytes without one. Returns whether they are within the limit.
+    ///
+    /// If the input fails, `line` has the bytes read before.
     fn take_line(&mut self, line: &mut Vec<u8>) -> Result<bool, InputFault>
         ensures line { OnOk result (IfSome (B.remaining self.old.reader)
             (λ text. line.new.items ≡ take_through 10 text)) }
@@ -119,7 +120,7 @@ impl<B: BufRead> Input<B> {
         Ok(true)
     }
 
-    /// Takes the next line off, with the LF that ends it. Where the input fails, `line` is what was read of it.
+    /// Reads the next line, with the LF that ends it. If the input fails, `line` has the bytes read before.
     pub fn next_line(&mut self, line: &mut Vec<u8>) -> Result<NextLine, InputFault>
         ensures taken { IfOk result (λ next. IfSome (B.remaining self.old.reader) (λ text.
             TakesLine next line.new.items self.old.room text self.new.room (B.remaining self.new.reader))) }
@@ -138,7 +139,7 @@ impl<B: BufRead> Input<B> {
             Ok(NextLine::Cut)
         }
     }
-    /// All that is left of it.
+    /// Reads the rest of the input.
     pub fn read_all(mut self, alloc: Global) -> Result<LimitedText, InputFault>
     where
         B: Drop,

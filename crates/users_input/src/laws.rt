@@ -6,9 +6,9 @@ ghost use Rattle.users_input.specs.declared.fault.InputFault.TheVariants.{Cannot
 ghost use Rattle.users_input.specs.declared.input.NextLine.TheVariants.{Cut, End, Whole};
 ghost use Rattle.users_input.specs.declared.users.Stage.TheVariants.{Failed, Rest, Users};
 
-/// Some inputs: their lines, and their two parts.
+/// Worked cases. The lines of inputs, and their two parts.
 pub fn inputs_are_worked()
-    // the lines that are read up to a limit, of which a line that goes on past it is none
+    // the lines up to a limit; a line that continues past it is None
     ensures whole { lines_of 6 (codes "ab\ncde") ≡ Some (codes "ab") ∷ Some (codes "cde") ∷ [] }
     ensures cut { lines_of 5 (codes "ab\ncde") ≡ Some (codes "ab") ∷ None ∷ [] }
     ensures cut_behind_lf { lines_of 3 (codes "ab\ncde") ≡ Some (codes "ab") ∷ None ∷ [] }
@@ -17,7 +17,7 @@ pub fn inputs_are_worked()
     ensures nothing { lines_of 0 [] ≡ [] }
     ensures nothing_read { lines_of 0 (codes "a") ≡ None ∷ [] }
 
-    // the users file, and what stands behind the first `%%`
+    // the users file, and the lines after the first `%%`
     ensures users { users_file (lines_of 99 text_of_two_parts) text_of_two_parts ≡ codes "a\nb\n" }
     ensures rest { rest_part (lines_of 99 text_of_two_parts)
         ≡ Some (codes "c") ∷ Some (codes "%%") ∷ Some (codes "d") ∷ [] }
@@ -38,8 +38,7 @@ pub fn inputs_are_worked()
         ≡ (4, Some (codes "a")) ∷ (5, Some []) ∷ (6, None) ∷ [] }
 {}
 
-/// What is promised of the next line of an input holds of the least that keeps it, and each part of it is broken by the
-/// least that keeps all others.
+/// Counterexamples: each promise of the next line of an input fails for a minimal one.
 pub fn promises_can_be_broken()
     ensures takes { TakesLine Whole (codes "a\n") 5 (codes "a\nb") 3 (Some (codes "b")) }
     ensures takes_cut { TakesLine Cut (codes "a") 1 (codes "ab") 0 (Some (codes "b")) }
@@ -75,7 +74,7 @@ pub fn promises_can_be_broken()
     ensures not_filled { IsFilled Users [] → ⊥ }
 {}
 
-/// What is left of a users file and of the lines behind it, at each stage of the pull.
+/// Worked cases. The rest of a users file, and the lines after it, at each stage of the reading.
 pub fn stages_are_worked()
     ensures users { users_left Users 99 (codes "a\n") (codes "b\n%%\nc") ≡ codes "a\nb\n" }
     ensures users_pulled { users_left Rest 99 (codes "a") (codes "b\n") ≡ codes "a" }

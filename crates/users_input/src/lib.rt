@@ -1,5 +1,6 @@
-//! An input of two parts: a users file, and behind the first line that is `%%` the lines of a command. It is read up
-//! to a limit of bytes, and no line before it is asked for.
+//! An input of two parts: a users file, and the lines of a command.
+//!
+//! The first line that is `%%` separates them. The input is read up to a limit of bytes, one line at a time.
 //!
 //! ```rust
 //! use token_file::read_book;

@@ -2,17 +2,17 @@ ghost use Rattle.std.specs.Prelude.{◌≡◌};
 
 use std::io::{self, ErrorKind, Read};
 
-/// How often in a row an interrupted read is tried again.
+/// The maximum number of consecutive repetitions of an interrupted read.
 const MAX_TRIES: u32 = 64;
 
-/// A reader that tries an interrupted read again, at most 64 times in a row.
+/// A reader that repeats an interrupted read, at most 64 times in a row.
 #[derive(Drop)]
 pub struct Retrying<R> {
     reader: R,
 }
 
 impl<R: Read> Retrying<R> {
-    /// Tries interrupted reads of this reader again.
+    /// Returns a reader that repeats the interrupted reads of `reader`.
     pub fn new(reader: R) -> Self
         ensures { result.reader ≡ reader }
     {

@@ -10,32 +10,32 @@ use std::alloc::Global;
 use std::io::BufRead;
 use token_file::{FileFault, LineFault, Pulled, Source};
 
-/// How far the users file of an input is read.
+/// The stage of the reading of a users file.
 #[derive(Clone, Copy, Debug, PartialEq, Eq)]
 pub(crate) enum Stage {
-    /// Lines of it may follow.
+    /// More lines of the file may follow.
     Users,
-    /// The line `%%` was taken off, or the input ended before one.
+    /// The line `%%` was read, or the input ended without one.
     Rest,
     /// The input failed.
     Failed(InputFault),
 }
 
-/// The users file of an input, as a source. It ends before the first line that is `%%`, and what follows that
-/// line is left unread.
+/// The users file of an input, as a source. It ends before the first line that is `%%`, and reads nothing after that
+/// line.
 #[derive(Drop)]
 pub struct UsersFile<B> {
     input: Input<B>,
-    /// What is not yet pulled of the line that was taken off last, or what was read of a line until the input
-    /// failed.
+    /// The part of the last line that was not pulled yet, or, after a failure of the input, the part of a line read
+    /// before.
     line: Vec<u8>,
-    /// How many lines within the limit were taken off.
+    /// The number of lines within the limit that were read.
     taken: u64,
     stage: Stage,
     ghost counted: { taken + input.room < 2 ^ 33 },
 }
 
-/// Removes so many bytes from the front.
+/// Removes the first `count` bytes.
 fn remove_front(bytes: &mut Vec<u8>, count: usize)
     requires { count ≤ length bytes.old.items }
     ensures { bytes.new.items ≡ drop count bytes.old.items }
@@ -45,7 +45,7 @@ fn remove_front(bytes: &mut Vec<u8>, count: usize)
     bytes.truncate(len - count);
 }
 
-/// Moves as many bytes as both have room for from the front of the line to the front of the buffer.
+/// Moves a prefix of `line` into a prefix of `buffer`, as long as both allow. Returns its length.
 fn move_front(line: &mut Vec<u8>, buffer: &mut [u8]) -> usize
     ensures count { result ≡ min (length line.old.items) (length buffer.old) }
     ensures moved { take result buffer.new ≡ take result line.old.items }
@@ -58,7 +58,7 @@ fn move_front(line: &mut Vec<u8>, buffer: &mut [u8]) -> usize
     count
 }
 
-/// What follows a line that was taken off, which is cleared where it is `%%`.
+/// Returns the stage after `line` was read. Clears a line that is `%%`.
 fn stage_behind(line: &mut Vec<u8>) -> Stage
     ensures marked { is_mark (line_text line.old.items) ≡ true
         → (result ≡ Stage.Rest) × (line.new.items ≡ []) }
@@ -78,7 +78,7 @@ impl<B: BufRead + Drop> UsersFile<B> {
     ghost use Rattle.users_input.specs.Input.{lines_of};
     ghost use Rattle.users_input.specs.Users.{HasRest, IsFilled, is_failed, rest_behind, users_text};
 
-    /// The users file at the front of an input.
+    /// Returns the users file at the start of an input.
     pub fn new(alloc: Global, input: Input<B>) -> Self
         ensures left { ⟦<UsersFile<B> as Source>⟧.left result
             ≡ option_map (users_text input.room) (B.remaining input.reader) }
@@ -93,7 +93,7 @@ impl<B: BufRead + Drop> UsersFile<B> {
         }
     }
 
-    /// Takes the next line off the input, of which nothing is left to be pulled.
+    /// Reads the next line of the input, after the last one was pulled.
     fn take_next(&mut self)
         requires stage { self.old.stage ≡ Stage.Users }
         requires line { self.old.line.items ≡ [] }
@@ -120,7 +120,7 @@ impl<B: BufRead + Drop> UsersFile<B> {
         }
     }
 
-    /// Takes the next line off where nothing is left to be pulled, and lines may follow.
+    /// Reads the next line if the last one was pulled and more lines may follow.
     fn fill(&mut self)
         ensures left { Keeps (⟦<UsersFile<B> as Source>⟧.left self.old)
             (⟦<UsersFile<B> as Source>⟧.left self.new) }
@@ -139,7 +139,7 @@ impl<B: BufRead + Drop> UsersFile<B> {
         }
     }
 
-    /// Why the file isn't taken, where this is the fault that its reading ended with.
+    /// Returns the reason why the file is not accepted, if `fault` ended its reading.
     pub fn fault(&self, fault: FileFault) -> UsersFault
         ensures { (result ≡ UsersFault.Memory) ⊎ (result ≡ UsersFault.File fault) }
     {
@@ -151,7 +151,7 @@ impl<B: BufRead + Drop> UsersFile<B> {
         }
     }
 
-    /// The rest of the input, and the number of its first line. What is left of the users file is passed over.
+    /// Returns the rest of the input, and the number of its first line. Skips the rest of the users file.
     pub fn into_rest(mut self) -> Result<(Input<B>, u64), InputFault>
         ensures { IfOk result (λ found. IfSome (⟦<UsersFile<B> as Source>⟧.behind self)
             (λ rest. HasRest rest found.1 found.0.room (B.remaining found.0.reader))) }
@@ -169,7 +169,7 @@ impl<B: BufRead + Drop> UsersFile<B> {
                 Stage::Failed(fault) => return Err(fault),
             }
         }
-        // No memory holds so many lines.
+        // No memory holds this many lines.
         Err(InputFault::Memory)
     }
 }
