@@ -1,8 +1,9 @@
 #!/usr/bin/env bash
 # Asks the nodes of a cluster one line, a node after the other until one has decided, and prints the last answer.
 #
-#   ask.sh LINE ADDRESS:PORT..     status 0 for OK, 1 for NO, 2 where no node answered or the words are wrong
+#   ask.sh LINE|- ADDRESS:PORT..     status 0 for OK, 1 for NO, 2 where no node answered or the words are wrong
 #
+# With - the line is the first one of standard input: the words of a command are seen by every user of the machine.
 # It does what ask.py does, which says how. dd takes a datagram whole; bash's own read would take its first byte and
 # lose the rest. An LF or a byte 0 of a datagram is read as a question mark, which no answer has.
 set -u -o pipefail
@@ -35,7 +36,7 @@ ask() {
 }
 
 usage() {
-    echo 'usage: ask.sh LINE ADDRESS:PORT..' >&2
+    echo 'usage: ask.sh LINE|- ADDRESS:PORT..' >&2
     exit 2
 }
 
@@ -44,6 +45,7 @@ for node in "${@:2}"; do
     [[ $node =~ ^[0-9]+(\.[0-9]+){3}:[0-9]{1,5}$ ]] || usage
 done
 line=$1 answer=
+[ "$line" != - ] || IFS= read -r line || [ -n "$line" ] || line=
 if [[ $line =~ ^(CHECK( [^ ]+){3}|RESYNC( [^ ]+){4})$ ]]; then
     line="${line%% *} $(od -An -N10 -tx1 /dev/urandom | tr -d ' \n') ${line#* }"
 fi

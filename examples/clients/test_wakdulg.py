@@ -6,6 +6,7 @@ only those in which nobody answers have short pauses.
 """
 import socket
 import sys
+import threading
 import time
 import unittest
 from concurrent.futures import ThreadPoolExecutor
@@ -96,6 +97,18 @@ class Tests(unittest.TestCase):
         self.assertEqual(cluster.check("ann", "123456").factor, 3)
         self.assertLess(time.monotonic() - begin, 20)
 
+    def test_who_never_took_the_line_leaves_no_doubt(self):
+        gone, good = FakeNode([]), FakeNode(["NO {} INVALID"])
+        gone.stop()
+        self.assertEqual(str(self.refusal(self.cluster(gone, good))), "INVALID")
+        self.assertEqual(str(self.refusal(self.cluster(gone), wakdulg.Undecided)), "SILENT")
+
+    def test_who_took_the_line_and_then_was_gone_leaves_a_doubt(self):
+        node, good = FakeNode([]), FakeNode(["NO {} INVALID"])
+        node.replies = [[lambda sender, nonce: threading.Thread(target=node.stop).start()]]
+        self.assertEqual(str(self.refusal(self.cluster(node, good))), "INVALID (in doubt)")
+        self.assertEqual(len(node.heard), 1)
+
     def test_answers_about_the_node_go_on(self):
         for reason in wakdulg.OF_THE_NODE:
             busy, good = FakeNode(["NO {} " + reason]), FakeNode(["OK {} 3"])
@@ -106,7 +119,7 @@ class Tests(unittest.TestCase):
         busy, gone = FakeNode(["NO {} BUSY"]), FakeNode([])
         cluster = self.cluster(busy, gone)
         gone.stop()
-        self.assertEqual(str(self.refusal(cluster, wakdulg.Undecided)), "BUSY (in doubt)")
+        self.assertEqual(str(self.refusal(cluster, wakdulg.Undecided)), "BUSY")
 
     def test_silence_of_all_ends_in_time(self):
         nodes = [FakeNode([]) for _ in range(3)]

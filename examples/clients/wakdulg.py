@@ -9,7 +9,7 @@
 Only a call that returns lets a user in. One call is one submission: its line has one random nonce, and is the same at
 each node that is asked. A node that says nothing is sent the line again from the same socket, and then the next node is
 asked; so it is after TIMEOUT, BUSY and CLOCK, which are about the node. Every other answer decides. A call has sockets
-of its own, and may be made by any number of threads at once. docs/clients.md says why each of these things is so.
+of its own, and may be made by any number of threads at once. docs/reference/clients.md says why each of these things is so.
 """
 import hashlib
 import ipaddress
@@ -79,8 +79,9 @@ def is_answer(data, nonce):
 
 
 def hear(node, line, pauses=PAUSES, deadline=float("inf")):
-    """The answer of a node to a line, or None. A connected socket hears no other, and tells where nobody is there."""
-    nonce, begin = (line.split(b" ") + [b""])[1], time.monotonic()
+    """Returns the answer of a node to a line; None if there is none; b"" if there is none and no node took the line. A
+    connected socket hears no other, and tells where nobody is there."""
+    nonce, begin, sent = (line.split(b" ") + [b""])[1], time.monotonic(), 0
     with socket.socket(socket.AF_INET, socket.SOCK_DGRAM) as client:
         try:
             client.connect(node)
@@ -89,6 +90,7 @@ def hear(node, line, pauses=PAUSES, deadline=float("inf")):
                 if time.monotonic() >= end:
                     break
                 client.send(line)
+                sent += 1
                 while (left := end - time.monotonic()) > 0:
                     client.settimeout(left)
                     try:
@@ -97,9 +99,12 @@ def hear(node, line, pauses=PAUSES, deadline=float("inf")):
                         break
                     if is_answer(data, nonce):
                         return data
+        except ConnectionRefusedError:
+            # It is about the first datagram, if no second one went out: so the node has none.
+            sent = 0 if sent == 1 else sent
         except OSError:
             pass
-    return None
+    return None if sent else b""
 
 
 def new_nonce():
@@ -142,7 +147,7 @@ class Cluster:
     def answers(self, node):
         """Whether this node answers. That says nothing of a majority."""
         nonce = new_nonce()
-        return hear(node, b"CHECK %b %b 000000 -" % (nonce, nonce), self.pauses) is not None
+        return bool(hear(node, b"CHECK %b %b 000000 -" % (nonce, nonce), self.pauses))
 
     def order(self, user):
         """The nodes as they are asked: the user's own first, for that one knows the token's drift; silent ones last."""
@@ -157,8 +162,8 @@ class Cluster:
         line, deadline = b" ".join([word, new_nonce(), *fields]), time.monotonic() + self.total
         refusal, in_doubt = Undecided(SILENT), False
         for node in self.order(user):
-            if (data := self._hear(node, line, deadline)) is None:
-                in_doubt = True
+            if not (data := self._hear(node, line, deadline)):
+                in_doubt = in_doubt or data is None
                 continue
             said, _, reason, *rest = data.decode().split(" ")
             if said == "OK":
@@ -171,9 +176,9 @@ class Cluster:
         raise refusal
 
     def _hear(self, node, line, deadline):
-        """The answer of a node, and who was silent for all of its time."""
+        """What `hear` returns. Keeps in mind who was silent for all of its time."""
         if time.monotonic() >= deadline:
-            return None
+            return b""
         try:
             data = hear(node, line, self.pauses, deadline)
         except OSError as fault:

@@ -1,8 +1,9 @@
 """Access-Requests of FreeRADIUS (its module rlm_python3) as submissions to the nodes of a cluster.
 
-User-Password is the code, or a password with the code after it: the last DIGITS characters are the code, 6 where the
-environment of the RADIUS server doesn't say so. NODES there has the nodes, as `127.0.0.1:7101,127.0.0.1:7102`. The
-folder of wakdulg.py stands in python_path, as that of this file.
+The environment of the RADIUS server has NODES, as `127.0.0.1:717,127.0.0.1:718`. User-Password is the code, of DIGITS
+digits or 6. With PASSWORDS=yes a password may stand before the code, which the node checks: then no row of the users
+file may have `+`, at which a node takes any password. The folder of wakdulg.py stands in python_path, as that of this
+file.
 """
 import os
 import re
@@ -11,31 +12,41 @@ import radiusd
 import wakdulg
 
 DIGITS = int(os.environ.get("DIGITS", "6"))
+PASSWORDS = os.environ.get("PASSWORDS", "no") == "yes"
 # A request has to be answered within max_request_time, and the access device asks again after some seconds.
 CLUSTER = wakdulg.Cluster(os.environ["NODES"], total=6.0)
 NEXT_CODE = (("Reply-Message", "Give the next code."),)
 
 
 def decide(user, given):
-    """What a call returned or raised."""
-    parts = re.fullmatch("(.*?)([0-9]{%d})" % DIGITS, given, re.ASCII | re.DOTALL)
+    """Returns what a call returned or raised."""
+    parts = re.fullmatch("([!-~]*?)([0-9]{%d})" % DIGITS, given, re.ASCII)
     if not parts:
         return wakdulg.BadField("no code")
+    if not re.fullmatch("[!-~]{1,64}", user, re.ASCII):
+        return wakdulg.BadField("not a user name")
+    if parts[1] and not PASSWORDS:
+        return wakdulg.BadField("not a password")
     try:
         return CLUSTER.check(user, parts[2], parts[1] or None)
     except wakdulg.Refused as refusal:
         return refusal
 
 
+def only(pairs, name):
+    """Returns the value of an attribute that a request has once, else an empty text."""
+    values = [value for each, value in pairs if each == name]
+    return values[0] if len(values) == 1 else ""
+
+
 def authenticate(pairs):
-    """FreeRADIUS calls this with the attributes of a request."""
-    given = dict(pairs)
-    user = given.get("User-Name", "")
-    outcome = decide(user, given.get("User-Password", ""))
-    radiusd.radlog(radiusd.L_AUTH, wakdulg.log_line(given.get("Calling-Station-Id"), user, outcome))
+    """Decides on a request with these attributes. FreeRADIUS takes an exception for RLM_MODULE_FAIL, which refuses."""
+    user = only(pairs, "User-Name")
+    outcome = decide(user, only(pairs, "User-Password"))
+    radiusd.radlog(radiusd.L_AUTH, wakdulg.log_line(only(pairs, "Calling-Station-Id"), user, outcome))
     if isinstance(outcome, wakdulg.Accepted):
         return radiusd.RLM_MODULE_OK
     if isinstance(outcome, wakdulg.Undecided):
         # Then nothing is said to the access device, which asks its other RADIUS server.
-        return radiusd.RLM_MODULE_FAIL
+        return radiusd.RLM_MODULE_NOTFOUND
     return radiusd.RLM_MODULE_REJECT, NEXT_CODE if outcome.in_doubt else (), ()

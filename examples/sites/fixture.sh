@@ -6,8 +6,9 @@
 #   make_root                     makes a Debian of its own in $root, over that of CHROOT, else by debootstrap
 #   find_programs                 sets oathd and oathtool to program files
 #   make_cluster                  makes in $work: key, users (u1 to u99, an event token each with the secret of RFC
-#                                 4226; pin with the password hunter2; clock1 and clock2, time tokens), and three
-#                                 databases; and starts the nodes
+#                                 4226; pin with the password hunter2; plus with the password +; eight of 8 digits;
+#                                 clock1, clock2 and clock3, time tokens, the last one with the password watchword),
+#                                 and three databases; and starts the nodes
 #   start_node I; kill_node I     starts node I and waits until it answers; ends it at once
 #   begin STEP                    names what comes next
 #   same WHAT WANTED GOT          ends the script where both differ
@@ -76,11 +77,19 @@ need_root() {
     [ "$(id -u)" = 0 ] || { echo "$site: needs root" >&2; exit 77; }
 }
 
+# Whether this process has another mount namespace than the one that started it, and than process 1. No variable of the
+# environment says so: one that is left over would have the script mount over the machine's own /etc.
+is_inside() {
+    local own
+    own=$(readlink /proc/$$/ns/mnt)
+    [ "$own" != "$(readlink /proc/$PPID/ns/mnt)" ] && [ "$own" != "$(readlink /proc/1/ns/mnt)" ]
+}
+
 enter_namespace() {
     need_root
-    if [ -z "${INSIDE:-}" ]; then
+    if ! is_inside; then
         rm -rf "$work"
-        INSIDE=yes exec unshare --mount "$0"
+        exec unshare --mount "$0"
     fi
     step='a mount namespace'
     mount -t tmpfs -o mode=700 none "$work"
@@ -94,7 +103,7 @@ make_root() {
         begin 'debootstrap'
         logs=("$work/debootstrap.log")
         suite=${SUITE:-$(. /etc/os-release; echo "$VERSION_CODENAME")}
-        debootstrap --include=systemd,dbus,man-db,bash-completion "$suite" "$base" \
+        debootstrap --include=systemd,dbus,man-db,bash-completion,gunicorn,python3-flask "$suite" "$base" \
             "${MIRROR:-http://deb.debian.org/debian}" > "$work/debootstrap.log"
     fi
     step='a Debian of its own'
@@ -159,7 +168,10 @@ make_cluster() {
         {
             for user in {1..99}; do echo "HOTP u$user - $secret"; done
             echo "HOTP pin hunter2 $secret"
+            echo "HOTP plus + $secret"
+            echo "HOTP/E/8 eight - $secret"
             for user in clock1 clock2; do echo "HOTP/T30 $user - $secret"; done
+            echo "HOTP/T30 clock3 watchword $secret"
         } > "$work/users"
         for node in 1 2 3; do
             "$oathd" init "$work/node$node.db" "$work/users" --node $node --moment 0
