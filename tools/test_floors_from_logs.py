@@ -159,6 +159,7 @@ class Faults(Case):
     def test_lines_that_an_end_counts(self):
         answers = accepted("ann", 5) + "refused %s NO n2 THROTTLED 5 user=\"ann\"\nrefused %s NO - BADLINE\n" % (FROM, FROM)
         self.counters(*self.logs("heard member=2\n" + answers + "silent member=2\nend received=9 replied=3\n"))
+        self.counters(*self.logs(accepted("ann", 5) + "oathd: store: Disk\n  node1.db\n" + start(1, 2)))
         self.assertIn("log.1 line 5: ", self.refused("Lines", *self.logs(answers + "end received=9 replied=4\n")))
 
     def test_users_files(self):

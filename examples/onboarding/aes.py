@@ -79,8 +79,8 @@ def decipher_block(keys, block):
 
 
 def decipher_cbc(key, data):
-    """Returns the plain text of an initialization vector and blocks after it, without the padding that XML Encryption has:
-    the last byte says how many there are. Raises ValueError if the lengths or that byte are wrong."""
+    """Returns the plain text of an initialization vector and the blocks after it, without the padding: the last byte is
+    how many bytes it has (XML Encryption, section 5.2). Raises ValueError if a length or that byte is wrong."""
     if len(key) not in (16, 24, 32) or len(data) < 32 or len(data) % 16:
         raise ValueError("the key has %d bytes and the value %d" % (len(key), len(data)))
     keys = expand(key)

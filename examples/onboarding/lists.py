@@ -8,7 +8,8 @@ from tokens import HASHES, KINDS, Fault, Token, read_number, read_secret, read_w
 
 FIELDS = ("serial", "user", "secret", "type", "digits", "period", "hash", "counter")
 # What the programs call these fields. LinOTP has a prefix before its names.
-NAMES = {"tokenserialnumber": "serial", "username": "user", "user.username": "user", "count": "counter", "isactive": "active"}
+NAMES = {"tokenserialnumber": "serial", "username": "user", "user.username": "user", "count": "counter",
+         "isactive": "active"}
 
 
 def text_of(data, source):
@@ -56,7 +57,8 @@ def token_of(cells, places, place, form, defaults):
         place, read_secret(told("secret"), form, place), read_word(KINDS, told("type") or defaults.kind, place, "type"),
         serial=told("serial"), user=told("user") or None, digits=number("digits", defaults.digits),
         period=number("period", defaults.period),
-        hash=read_word(HASHES, told("hash"), place, "hash") if told("hash") else defaults.hash, counter=number("counter", 0))
+        hash=read_word(HASHES, told("hash"), place, "hash") if told("hash") else defaults.hash,
+        counter=number("counter", 0))
 
 
 def read_csv(data, source, words, defaults):
@@ -68,7 +70,7 @@ def read_csv(data, source, words, defaults):
         line, header = next(lines, (1, []))
         places = places_of(header, dict(words.column), "%s line %d" % (source, line))
     if "secret" not in places:
-        raise Fault("%s line 1" % source, "NoColumn", "no column is named secret: --column secret=NAME or --columns LIST")
+        raise Fault("%s line 1" % source, "NoColumn", "no column is named secret: --column secret=NAME")
     for line, cells in lines:
         try:
             found.append(token_of(cells, places, "%s line %d" % (source, line), words.secrets, defaults))
@@ -93,8 +95,8 @@ def owner_of(told, place):
     if not told.get("serial"):
         raise Fault(place, "NoSerial", "it names no serial number")
     is_active = str(told.get("active", "true")).lower() in ("true", "1", "") and not told.get("revoked")
-    counter = str(told.get("counter") or "0")
-    return str(told["serial"]), Owner(place, str(told.get("user") or ""), read_number(counter, place, "counter"), is_active)
+    counter = read_number(str(told.get("counter") or "0"), place, "counter")
+    return str(told["serial"]), Owner(place, str(told.get("user") or ""), counter, is_active)
 
 
 def entries_of(text, source):
@@ -116,7 +118,7 @@ def entries_of(text, source):
     except json.JSONDecodeError as fault:
         raise Fault("%s line %d" % (source, fault.lineno), "NotJson", fault.msg) from None
     except (KeyError, TypeError, ValueError):
-        raise Fault(source, "NoTokens", "it has no list of tokens at result.value.data or result.value.tokens") from None
+        raise Fault(source, "NoTokens", "it has no list at result.value.data or result.value.tokens") from None
 
 
 def read_owners(data, source):

@@ -15,7 +15,7 @@ import aes
 from tokens import HASHES, Fault, Token, read_number, read_word
 
 CIPHERS = {"aes128-cbc": 16, "aes192-cbc": 24, "aes256-cbc": 32}
-MACS = {"hmac-sha1": "sha1", "hmac-sha224": "sha224", "hmac-sha256": "sha256", "hmac-sha384": "sha384", "hmac-sha512": "sha512"}
+MACS = {"hmac-" + name: name for name in ("sha1", "sha224", "sha256", "sha384", "sha512")}
 KINDS = {"hotp": "hotp", "totp": "totp"}
 MOST_ROUNDS, DEEPEST = 10_000_000, 64
 
@@ -137,7 +137,7 @@ class Keys:
         if length is None:
             raise Fault(self.place(value.line), "UnknownCipher", "%r" % (method.algorithm() if method else ""))
         if length != len(key):
-            raise Fault(self.place(value.line), "BadKey", "the cipher takes %d bytes, the key has %d" % (length, len(key)))
+            raise Fault(self.place(value.line), "BadKey", "the cipher takes %d bytes, it has %d" % (length, len(key)))
         try:
             return aes.decipher_cbc(key, self.bytes_of(value.find("cipherdata", "ciphervalue"), value))
         except ValueError as fault:

@@ -1,4 +1,4 @@
-"""Tokens, as files of other programs name them, and their rows in a users file (docs/formats.md, "A users file")."""
+"""Tokens, as files of other programs name them, and their rows in a users file (docs/reference/formats.md)."""
 import base64
 import binascii
 import re
@@ -7,7 +7,7 @@ from dataclasses import dataclass
 # What stands in a users file before a field, and the types that its rows have.
 BLANKS = re.compile(rb"[ \t\r]+")
 TYPE = re.compile(rb"HOTP(?:/E(?:/[678])?)?|HOTP/T(?:30|60)(?:/[678](?:/SHA(?:256|512))?)?")
-KINDS = {"hotp": "hotp", "hmac": "hotp", "event": "hotp", "hotp/e": "hotp", "totp": "totp", "time": "totp", "timebased": "totp"}
+KINDS = {"hotp": "hotp", "hmac": "hotp", "event": "hotp", "totp": "totp", "time": "totp", "timebased": "totp"}
 HASHES = {"sha1": "SHA1", "sha256": "SHA256", "sha512": "SHA512"}
 NO_COUNTER = 2 ** 62
 
@@ -40,7 +40,8 @@ class Token:
 
     def row(self, password):
         """Returns the row, in the form that `oathd export` writes, after a remark with the serial number."""
-        fields = [self.type_word(), self.user, password, self.secret.hex()] + [str(self.counter)] * (self.kind == "hotp")
+        fields = [self.type_word(), self.user, password, self.secret.hex()]
+        fields += [str(self.counter)] if self.kind == "hotp" else []
         remark = "# %s\n" % self.serial if self.serial and self.serial != self.user else ""
         return (remark + "\t".join(fields) + "\n").encode()
 
@@ -49,12 +50,12 @@ class Token:
         user = (self.user or "").encode()
         faults = [
             ("NoUser", not self.user, "no file says whose token %s is" % (self.serial or "this")),
-            ("BadName", re.search(r"[\s\x00-\x1f\x7f]", self.user or ""), "a user's name has no blanks: %r" % self.user),
+            ("BadName", re.search(r"[\s\x00-\x1f\x7f]", self.user or ""), "a name has no blanks: %r" % self.user),
             ("NameTooLong", len(user) > 64, "a user's name has at most 64 bytes: %r" % self.user),
             ("BadSerial", not self.serial.isprintable(), "the serial number isn't printable: %r" % self.serial),
             ("BadSecret", not 1 <= len(self.secret) <= 128, "a secret has 1 to 128 bytes: %d" % len(self.secret)),
             ("BadDigits", self.digits not in (6, 7, 8), "a code has 6 to 8 digits: %d" % self.digits),
-            ("BadPeriod", self.kind == "totp" and self.period not in (30, 60), "a step has 30 or 60 seconds: %d" % self.period),
+            ("BadPeriod", self.kind == "totp" and self.period not in (30, 60), "30 or 60 seconds: %d" % self.period),
             ("BadHash", self.kind == "hotp" and self.hash != "SHA1", "an event token has SHA-1: %s" % self.hash),
             ("BadCounter", not 0 <= self.counter <= NO_COUNTER, "a counter is 0 to 2^62: %d" % self.counter),
         ]

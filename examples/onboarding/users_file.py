@@ -88,7 +88,7 @@ def lock_beside(path):
 
 
 def ask_oathd(oathd, text, cluster):
-    """Has oathd read the text of a users file, by standard input, and returns the fingerprint, if there is a cluster file."""
+    """Has oathd read the text of a users file by standard input. Returns the fingerprint if there is a cluster file."""
     words = [oathd, "check", "/dev/stdin", "--cluster", cluster] if cluster else [oathd, "lines"]
     done = subprocess.run(words, input=text, capture_output=True)
     if done.returncode:
