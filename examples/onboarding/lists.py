@@ -20,13 +20,16 @@ def text_of(data, source):
         raise Fault("%s line %d" % (source, line), "NotText", "it is not UTF-8") from None
 
 
-def read_cells(text, delimiter):
+def read_cells(text, delimiter, source):
     """Yields each line that isn't empty and is no remark: its number and its cells, without blanks around them."""
-    reader, line = csv.reader(io.StringIO(text), delimiter=delimiter), 1
-    for cells in reader:
-        if any(cells) and not cells[0].startswith("#"):
-            yield line, [cell.strip() for cell in cells]
-        line = reader.line_num + 1
+    reader, line = csv.reader(io.StringIO(text, newline=""), delimiter=delimiter, strict=True), 1
+    try:
+        for cells in reader:
+            if any(cells) and not cells[0].startswith("#"):
+                yield line, [cell.strip() for cell in cells]
+            line = reader.line_num + 1
+    except csv.Error as fault:
+        raise Fault("%s line %d" % (source, line), "NotCsv", str(fault)) from None
 
 
 def places_of(header, named, place):
@@ -63,7 +66,7 @@ def token_of(cells, places, place, form, defaults):
 
 def read_csv(data, source, words, defaults):
     """Returns the tokens of a CSV file, with a fault in place of each line that can't be read, and no notes."""
-    lines, found = read_cells(text_of(data, source), words.delimiter), []
+    lines, found = read_cells(text_of(data, source), words.delimiter, source), []
     if words.columns:
         places = {field: at for at, field in enumerate(words.columns) if field in FIELDS}
     else:
@@ -103,7 +106,7 @@ def entries_of(text, source):
     """Yields the entries of a list with their places: CSV with a header, or JSON as LinOTP and privacyIDEA give it."""
     if not text.lstrip().startswith(("{", "[")):
         header = None
-        for line, cells in read_cells(text, ";" if ";" in text.split("\n")[0] else ","):
+        for line, cells in read_cells(text, ";" if ";" in text.split("\n")[0] else ",", source):
             if header:
                 yield "%s line %d" % (source, line), dict(zip(header, cells))
             header = header or cells
@@ -117,7 +120,7 @@ def entries_of(text, source):
             yield "%s entry %d" % (source, number), dict(entry)
     except json.JSONDecodeError as fault:
         raise Fault("%s line %d" % (source, fault.lineno), "NotJson", fault.msg) from None
-    except (KeyError, TypeError, ValueError):
+    except (KeyError, TypeError, ValueError, RecursionError):
         raise Fault(source, "NoTokens", "it has no list at result.value.data or result.value.tokens") from None
 
 

@@ -5,6 +5,7 @@ OATHD and OATHTOOL are the programs, else ./oathd and ./oathtool of the reposito
 """
 import fcntl
 import os
+import shutil
 import stat
 import subprocess
 import sys
@@ -196,6 +197,14 @@ class Csv(Case):
         self.refused("NoColumn", "csv", SAMPLES / "vendor.csv")
         self.refused("NoColumn", "csv", SAMPLES / "vendor.csv", "--column", "secret=Key")
         self.refused("NotText", "csv", self.put("v.csv", b"secret\n\xff\n"))
+        self.assertIn("line 2: ", self.refused("NotCsv", "csv", self.put("v.csv", 'secret,user\n"31"x,bob\n')))
+        self.refused("NotCsv", "csv", self.put("v.csv", "secret\n%s\n" % ("3" * 200_000)))
+
+    def test_words(self):
+        for words in ("--columns", "serial,sceret"), ("--column", "secret"), ("--column", "key=Seed"), ("--delimiter", "--"):
+            self.assertEqual(self.run_it("csv", SAMPLES / "vendor.csv", *words)[2], 2)
+        printed = self.done("csv", self.put("v.csv", "31;x;bob;hotp\n"), "--delimiter", ";", "--columns", "secret,-,user,type")
+        self.assertTrue(printed.startswith("added bob: HOTP/E/6, 1 bytes, "))
 
 
 class Owners(Case):
@@ -221,6 +230,7 @@ class Owners(Case):
         self.refused("NoSerial", *words, self.put("o.csv", "user\nbob\n"))
         self.refused("NotJson", *words, self.put("o.json", "{"))
         self.refused("NoTokens", *words, self.put("o.json", "{}"))
+        self.refused("NoTokens", *words, self.put("o.json", "[" * 100_000 + "]" * 100_000))
 
 
 class Phone(Case):
@@ -233,6 +243,7 @@ class Phone(Case):
         for issuer, account in ("a:b", "c"), ("a", "b:c"), ("", "c"):
             self.assertRaises(Fault, phone.uri_of, token, issuer, account)
 
+    @unittest.skipUnless(shutil.which("qrencode"), "needs qrencode")
     def test_a_new_phone(self):
         picture = self.folder / "q.png"
         uri = self.done("phone", "bob", "--issuer", "Site", "--uri", "--png", picture).splitlines()[-1]
@@ -244,6 +255,7 @@ class Phone(Case):
         self.done("phone", "carol", "--issuer", "Site", "--terminal", "--type", "hotp", "--digits", "8")
         self.assertEqual(self.rows()["carol"][::2], ("HOTP/E/8", "0"))
 
+    @unittest.skipUnless(shutil.which("qrencode"), "needs qrencode")
     def test_faults_leave_no_picture(self):
         picture = self.folder / "q.png"
         self.refused("DuplicateUser", "phone", "ann", "--issuer", "Site", "--png", picture)
