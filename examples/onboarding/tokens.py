@@ -1,4 +1,4 @@
-"""Tokens, as files of other programs name them, and their rows in a users file (docs/reference/formats.md, "A users file")."""
+"""Tokens, as files of other programs name them, and their rows in a users file (docs/reference/formats.md)."""
 import base64
 import binascii
 import re
