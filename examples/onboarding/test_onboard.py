@@ -159,7 +159,7 @@ class Csv(Case):
         printed = self.done("csv", SAMPLES / "vendor.csv", *self.WORDS, "--owners", SAMPLES / "owners.csv",
                             "--cluster", self.cluster)
         self.assertRegex(printed, "(?s)^added bob: HOTP/E/6, 20 bytes, .*vendor.csv line 2\n.*\nfingerprint [0-9a-f]{16}\n$")
-        self.assertEqual(self.rows()["bob"], ("HOTP/E/6", RFC_SECRET, "0"))
+        self.assertEqual(self.rows()["bob"], ("HOTP/E/6", b"123456789012345678A0", "0"))
         self.assertEqual(self.rows()["dave"][0], "HOTP/T30/8")
         self.assertTrue(self.users.read_bytes().startswith(b"# remark\nHOTP\tann\t-\t00ff\t7\n# 3000000001\n"))
 
