@@ -197,7 +197,7 @@ impl<S: Alter> SqlStore<S> {
     /// # Errors
     ///
     /// - Returns `AlreadyThere` if the store is of version 2, for any node.
-    /// - Returns `Unusable` if the tables are anything else.
+    /// - Returns `Unusable` if the tables are neither of version 2 nor of such a store of version 1.
     /// - Returns `Memory` or `Disk` if the allocator or the database fails.
     pub fn migrate(
         mut conn: Connection<S>,
