@@ -9,7 +9,7 @@
 Only a call that returns lets a user in. One call is one submission: its line has one random nonce, and is the same at
 each node that is asked. A node that says nothing is sent the line again from the same socket, and then the next node is
 asked; so it is after TIMEOUT, BUSY and CLOCK, which are about the node. Every other answer decides. A call has sockets
-of its own, and may be made by any number of threads at once. docs/clients.md says why each of these things is so.
+of its own, and may be made by any number of threads at once. docs/reference/clients.md says why each of these things is so.
 """
 import hashlib
 import ipaddress

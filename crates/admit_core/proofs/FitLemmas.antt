@@ -99,7 +99,7 @@ in_range_member p k (suc n) a =
 
 -- ---- factors from one number on and below another
 
--- a number is in the range of the list, and below 2 ^ 62, exactly where it is a factor below
+-- a number is in the range of the list and below 2 ^ 62 exactly if it is a factor below `end`
 below : (first end m : ℕ) → first ≤ m → m < first + (end - first) → nat_lt m (2 ^ 62) ≡ true → IsFactorBelow first end m
 below first end m low high t = record { from = low; to = omega arith; factor = ltb-true m (2 ^ 62) t }
 

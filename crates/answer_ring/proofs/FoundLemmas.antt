@@ -49,7 +49,7 @@ module _ (kept : List KeptAnswer) (places : List ℕ) (index : IsIndex kept plac
         | inr above ↦ not_tied_above _ (ends.above i above place.1)
       ])
 
-  -- a later place than that of the last equal one is to another client or line
+  -- a place after the last equal answer is for another client or line
   later_is_other : (last : ℕ) → end ≡ suc last → answer_order (indexed_answer kept places last) sought ≡ Equal
       → (q : ℕ) → get_or places last 0 < q → q < length kept
       → is_answer_to sought.client sought.line (answer_at kept q) ≡ false

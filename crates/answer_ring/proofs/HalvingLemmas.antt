@@ -20,7 +20,7 @@ below_then_less {R = R} o x y z h less =
     ] refl h
 
 module _ (kept : List KeptAnswer) (places : List ℕ) (index : IsIndex kept places) (sought : KeptAnswer) (middle : ℕ) (within : middle < length places) where
-  -- up to the middle all are at most the one sought where the middle one is
+  -- if the middle answer is at most `sought`, all answers up to it are
   pub at_most_up_to : is_gt (answer_order (indexed_answer kept places middle) sought) ≡ false → (i : ℕ) → i < middle + 1
       → is_gt (answer_order (indexed_answer kept places i) sought) ≡ false
   at_most_up_to h i lt =
@@ -29,7 +29,7 @@ module _ (kept : List KeptAnswer) (places : List ℕ) (index : IsIndex kept plac
         | inr after ↦ (let e : i ≡ middle = omega arith in ap (λ (m : ℕ). is_gt (answer_order (indexed_answer kept places m) sought)) e ∙ h)
       ]
 
-  -- from the middle on all are above it where the middle one is
+  -- if the middle answer is above `sought`, all answers from it on are
   pub above_from : is_gt (answer_order (indexed_answer kept places middle) sought) ≡ true → (i : ℕ) → middle ≤ i → i < length places
       → is_gt (answer_order (indexed_answer kept places i) sought) ≡ true
   above_from h i le lt =
@@ -38,7 +38,7 @@ module _ (kept : List KeptAnswer) (places : List ℕ) (index : IsIndex kept plac
         | inr after ↦ (let e : i ≡ middle = omega arith in ap (λ (m : ℕ). is_gt (answer_order (indexed_answer kept places m) sought)) e ∙ h)
       ]
 
-  -- up to the middle all are below it where the middle one is
+  -- if the middle answer is below `sought`, all answers up to it are
   pub less_up_to : answer_order (indexed_answer kept places middle) sought ≡ Less → (i : ℕ) → i < middle + 1
       → answer_order (indexed_answer kept places i) sought ≡ Less
   less_up_to h i lt =
@@ -57,7 +57,7 @@ halved size left some few half le =
           (omega arith, omega (arith, twice)))
     ]
 
--- so it is empty after as many comparisons as it can be halved
+-- the range is empty after at most `most` comparisons, each of which halves it
 pub halved_again : (most size count next : ℕ) → next ≡ count + 1 → 0 < size → size < 2 ^ (most - count) → (half : ℕ) → half ≤ size / 2
     → (next ≤ most) × (half < 2 ^ (most - next))
 halved_again most size count next is_next some few half le =

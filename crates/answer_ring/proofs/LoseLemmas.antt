@@ -1,4 +1,4 @@
--- The index when the oldest answer has gone.
+-- The index after the oldest answer was removed.
 use Rattle.std.proofs.Common.{◌≡◌, ◌≢◌, ℕ, ◌+◌, ◌-◌, ◌<◌, ◌≤◌, Bool, false, eqb, eqb-true, eq-eqb, List, ◌++◌, append-nil, length, map, take, take_all, drop, Some, None, inl, inr, sym, ap, ap₂, ◌∙◌, get_or, Less, arith, length-drop}
 use Rattle.std.specs.List.{position, position_or_len, refill, remove}
 use Rattle.std.proofs.lemmas.Bool.{both_ways, cases_lt, cases_order, cond_below}
@@ -40,7 +40,7 @@ module _ (kept : List KeptAnswer) (places : List ℕ) (index : IsIndex kept plac
   length_left : length left ≡ length rest
   length_left = length-map rest (λ (p : ℕ). p - 1)
 
-  -- no other place is that of the oldest
+  -- the oldest answer has exactly one place
   above_zero : (i : ℕ) → i < length places → i ≢ at → 0 < get_or places i 0
   above_zero i lt other =
       elim (cases_lt 0 (get_or places i 0)) [
@@ -136,7 +136,7 @@ no_position p xs none i lt =
       | inr after ↦ absurd (none-some (position_or_len p xs) (sym none ∙ sym (cond_below (position_or_len p xs) (length xs) (Some (position_or_len p xs)) None (omega arith))))
     ]
 
--- the oldest place goes where it is found
+-- the oldest place is removed at its position
 pub loses_found : (places : List ℕ) (at : ℕ) → Some at ≡ position (λ (p : ℕ). eqb p 0) places
     → IsIndexOfRest places (map (λ (p : ℕ). p - 1) (remove places at))
 loses_found places at found kept index some =

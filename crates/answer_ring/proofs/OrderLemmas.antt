@@ -19,7 +19,7 @@ tied_then Less p = refl
 tied_then Equal p = refl
 tied_then Greater p = refl
 
--- two are to the same client and line where the order doesn't tell them apart
+-- two answers are to the same client and line if the order finds them equal
 pub tied_answers : (a b : KeptAnswer) → is_answer_to b.client b.line a ≡ is_eq (answer_order a b)
 unfolding answer_order
 tied_answers a b =

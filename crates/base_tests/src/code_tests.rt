@@ -7,8 +7,9 @@ use secret_text::read_hex;
 /// The hash, the key, the message and the MAC of a test case.
 type Case = (Hash, &'static [u8], &'static [u8], &'static [u8]);
 
-/// The test cases of RFC 2202 (SHA-1: 1, 2 and 6) and RFC 4231 (SHA-256 and SHA-512: 1), and keys as long
-/// as a block and one byte longer, whose MACs are OpenSSL's.
+/// The test cases: of RFC 2202 1, 2 and 6 by SHA-1, of RFC 4231 1 by SHA-256 and SHA-512.
+///
+/// Further cases have keys of one block and of one byte more. OpenSSL computed their MACs.
 const CASES: &[Case] = &[
     (
         Hash::Sha1,
@@ -81,7 +82,7 @@ c3dfb449d01f4c9ca316b6b8d6a6299bad883d0bffe11c88c60d7daed6feeb48",
     ),
 ];
 
-/// Whether a case has this MAC, also by a key that is set up for two messages.
+/// Returns whether a case has its MAC, also by a key that is set up once for two messages.
 fn has_mac(case: &Case) -> bool {
     let (hash, key, message, want) = *case;
     let mac = hmac(hash, key, message);
@@ -103,7 +104,7 @@ fn macs_of_the_standards(rt: HostRuntime) {
 /// The secret of RFC 4226, Appendix D, and of RFC 6238, Appendix B, for each hash.
 const SECRET: &[u8; 64] = b"1234567890123456789012345678901234567890123456789012345678901234";
 
-/// Whether a code under the secret is this one, also by a key that is set up once.
+/// Returns whether the code of `counter` under the secret is `want`, also by a key that is set up once.
 fn has_code(keyed: &Codes, counter: u64, want: &[u8]) -> bool {
     let Some(factor) = Factor::new(counter) else {
         return false;
@@ -139,12 +140,12 @@ const MOMENTS: &[Moment] = &[
     (20000000000, b"65353130", b"77737706", b"47863826"),
 ];
 
-/// Whether the code of a factor by a hash is this one.
+/// Returns whether the code of a factor by a hash is `want`.
 fn is_code(hash: Hash, secret: &[u8], factor: Factor, want: &[u8]) -> bool {
     code(hash, secret, factor, Digits::Eight).as_slice() == want
 }
 
-/// Whether a moment has these codes.
+/// Returns whether a moment has its codes.
 fn has_codes(moment: &Moment) -> bool {
     let (seconds, sha1, sha256, sha512) = *moment;
     if seconds >= MOMENTS_END {
@@ -173,6 +174,6 @@ fn truncation(rt: HostRuntime) {
         0x8e, 0x94, 0x5b, 0x55, 0x5a,
     ];
     let number = Mac::new(&digest).map(|mac| truncate(&mac));
-    // whose last six digits are 872921
+    // The last six digits are 872921.
     assert!(rt; number == Some(1_357_872_921));
 }

@@ -1,4 +1,4 @@
-//! Users files, floors files, and the bytes of a datagram.
+//! Users files, floors files, and the bytes of a datagram. A floor is the first free factor of a token at a node.
 
 use floor_store::{Proposal, Span};
 use floors_file::{read_floors, write_floors};
@@ -13,10 +13,10 @@ use token_file::{
 use vote_core::Message;
 use vote_wire::{ClusterKey, read_message, write_message};
 
-/// A row with all parts of a type, and two fields that are not looked at.
+/// A row with all parts of a type, and two fields that the reader ignores.
 const WHOLE_TYPE: &[u8] = b"HOTP/T60/8/SHA256 gold pw 3132333435363738393031323334353637383930 x y";
 
-/// Users files with the moments of their imports, and the first free factors of their tokens.
+/// Users files with the moments of their imports, and the floors of their tokens.
 const FILES: &[(&[u8], u64, &[u64])] = &[
     (b"", 0, &[]),
     (
@@ -78,7 +78,7 @@ const FILES: &[(&[u8], u64, &[u64])] = &[
     ),
 ];
 
-/// What a source gives at a moment, with a skew of 1; nothing where the moment is none.
+/// Reads a book from a source at a moment, with a skew of 1. Returns None if the moment is out of range.
 fn read_at<S: Source>(
     alloc: Global,
     source: &mut S,
@@ -91,7 +91,7 @@ fn read_at<S: Source>(
     Some(read_book(alloc, source, settings, moment))
 }
 
-/// Whether these are the first free factors.
+/// Returns whether the floors are `want`.
 fn are(floors: &[Next], want: &[u64]) -> bool {
     for (floor, value) in floors.iter().zip(want) {
         if floor.value() != *value {
@@ -101,7 +101,7 @@ fn are(floors: &[Next], want: &[u64]) -> bool {
     floors.len() == want.len()
 }
 
-/// A reader that gives a text, at most some bytes at once.
+/// A reader that returns a text, in pieces of at most `size` bytes.
 #[derive(Drop)]
 struct Pieces<'a> {
     text: &'a [u8],
@@ -115,10 +115,10 @@ impl Read for Pieces<'_> {
     }
 }
 
-/// The sizes of the pieces in which each file is handed in, of which the last is the whole file.
+/// The sizes of the pieces in which the reader returns each file. The last size is above each file's length.
 const SIZES: [usize; 4] = [1, 7, 4096, 65_536];
 
-/// What a file that is handed in by pieces of a size gives at a moment.
+/// Reads a book at a moment, from a file in pieces of the given size.
 fn read_pieces(
     alloc: Global,
     text: &[u8],
@@ -128,7 +128,7 @@ fn read_pieces(
     read_at(alloc, &mut FromRead::new(Pieces { text, size }), moment)
 }
 
-/// Whether two books have the same tokens in the same order.
+/// Returns whether two books have the same tokens in the same order.
 fn are_same(one: &Book, other: &Book) -> bool {
     if one.len() != other.len() {
         return false;
@@ -144,7 +144,7 @@ fn are_same(one: &Book, other: &Book) -> bool {
     true
 }
 
-/// Whether a users file in pieces of a size has these first free factors, and the tokens of the whole file.
+/// Returns whether a users file in pieces of the given size has the floors `want`, and the tokens of the whole file.
 fn has_floors(alloc: Global, file: &[u8], size: usize, moment: u64, want: &[u64]) -> bool {
     let Some(Ok((whole, _))) = read_at(alloc, &mut FromRead::new(file), moment) else {
         return false;
@@ -157,7 +157,7 @@ fn has_floors(alloc: Global, file: &[u8], size: usize, moment: u64, want: &[u64]
     }
 }
 
-/// A file gives the same tokens and first free factors in pieces of any size.
+/// A file has the same tokens and floors in pieces of any size.
 #[test]
 fn users_rows(rt: HostRuntime) {
     for (file, moment, want) in FILES {
@@ -167,7 +167,7 @@ fn users_rows(rt: HostRuntime) {
     }
 }
 
-/// Whether a file has one token, of 60 seconds, eight digits, SHA-256, and this password.
+/// Returns whether a file has one token, of 60 seconds, eight digits, SHA-256, and the given password.
 fn has_whole_type(alloc: Global, file: &[u8], password: &[u8]) -> bool {
     let Some(Ok((book, _))) = read_at(alloc, &mut FromRead::new(file), 0) else {
         return false;
@@ -212,7 +212,7 @@ const REFUSED: &[(&[u8], u32, LineFault)] = &[
     ),
 ];
 
-/// Whether a file is refused so in pieces of each size.
+/// Returns whether a file is refused at the given line for the given fault, in pieces of each size.
 fn is_refused(alloc: Global, file: &[u8], line: u32, kind: LineFault) -> bool {
     for size in SIZES {
         match read_pieces(alloc, file, size, 0) {
@@ -223,7 +223,7 @@ fn is_refused(alloc: Global, file: &[u8], line: u32, kind: LineFault) -> bool {
     true
 }
 
-/// A file has the same fault in pieces of any size; a line of 4,097 bytes without an end is too long, a comment too.
+/// A file has the same fault in pieces of any size. A line of 4,097 bytes without an end is too long, as is a comment.
 #[test]
 fn refused_rows(rt: HostRuntime) {
     for (file, line, kind) in REFUSED {
@@ -236,7 +236,7 @@ fn refused_rows(rt: HostRuntime) {
     assert!(rt; !is_refused(rt.alloc(), &comment[..4096], 1, LineFault::LineTooLong));
 }
 
-/// The fault of a users file at moment 0.
+/// Returns the fault of a users file at moment 0, or None.
 fn fault_of<S: Source>(alloc: Global, source: &mut S) -> Option<FileFault> {
     match read_at(alloc, source, 0) {
         Some(Err(fault)) => Some(fault),
@@ -244,7 +244,7 @@ fn fault_of<S: Source>(alloc: Global, source: &mut S) -> Option<FileFault> {
     }
 }
 
-/// A users file of this many rows.
+/// Returns a users file of the given number of rows.
 fn rows(alloc: Global, count: u32) -> Option<Vec<u8>> {
     let mut text = Vec::new(alloc);
     for number in 0..count {
@@ -259,7 +259,7 @@ fn rows(alloc: Global, count: u32) -> Option<Vec<u8>> {
     Some(text)
 }
 
-/// The place of the last of 10,000 tokens.
+/// Returns the place of the last of 10,000 tokens.
 fn last_place(alloc: Global) -> Option<u32> {
     let text = rows(alloc, 10_000)?;
     match read_at(alloc, &mut FromRead::new(text.as_slice()), 0)? {
@@ -268,7 +268,7 @@ fn last_place(alloc: Global) -> Option<u32> {
     }
 }
 
-/// The fault of a row too many.
+/// Returns the fault of one row too many.
 fn last_fault(alloc: Global) -> Option<FileFault> {
     let text = rows(alloc, 10_001)?;
     fault_of(alloc, &mut FromRead::new(text.as_slice()))
@@ -284,7 +284,7 @@ fn most_tokens(rt: HostRuntime) {
     assert!(rt; last_fault(rt.alloc()) == Some(want));
 }
 
-/// A reader that is interrupted this often, gives its text, and then fails.
+/// A reader that is interrupted the given number of times, returns its text, and fails after it.
 #[derive(Drop)]
 struct Broken<'a> {
     interrupted: u32,
@@ -304,21 +304,21 @@ impl Read for Broken<'_> {
     }
 }
 
-/// What a pull gives after this many interruptions.
+/// Returns the result of a pull after the given number of interruptions.
 fn pulled_after(interrupted: u32) -> Pulled {
     let text = b"x".as_slice();
     let mut source = FromRead::new(Broken { interrupted, text });
     source.pull(&mut [0; 4])
 }
 
-/// 64 interrupted reads in a row are passed over, and 65 are not.
+/// A source retries after 64 interrupted reads in a row, and fails after 65.
 #[test]
 fn interrupted_reads(rt: HostRuntime) {
     assert!(rt; pulled_after(64) == Pulled::Bytes(1));
     assert!(rt; pulled_after(65) == Pulled::Failed);
 }
 
-/// Texts of a reader that fails after them, with their first faults: one of a line that was read before decides.
+/// Texts of a reader that fails after them, with their first faults. A fault in a line read earlier decides.
 const FAILED: &[(&[u8], u32, LineFault)] = &[
     (b"", 1, LineFault::Read),
     (b"HOTP silver - 31\nHOTP gold", 2, LineFault::Read),
@@ -362,7 +362,7 @@ fn file_faults(rt: HostRuntime) -> Result<(), AllocError> {
     Ok(())
 }
 
-/// Whether the one token of a users file and its first free factor are written so.
+/// Returns whether the one token of a users file and its floor are written as `want`.
 fn is_written(alloc: Global, file: &[u8], want: &[u8]) -> bool {
     let Some(Ok((book, floors))) = read_at(alloc, &mut FromRead::new(file), 0) else {
         return false;
@@ -377,8 +377,8 @@ fn is_written(alloc: Global, file: &[u8], want: &[u8]) -> bool {
     }
 }
 
-/// Rows as they are written: a type has its digits always, a secret is in lower case, and the row of a time token has
-/// four fields.
+/// Rows as they are written. A type always has its digits. A secret is in lower case. A time token's row has four
+/// fields.
 #[test]
 fn written_rows(rt: HostRuntime) {
     assert!(rt;
@@ -397,7 +397,7 @@ fn written_rows(rt: HostRuntime) {
     );
 }
 
-/// A floors file is read, and written as it stood.
+/// A floors file is read, and written with the same bytes.
 #[test]
 fn reads_and_writes_floors(rt: HostRuntime) {
     let text = b"floors 1 2 3 7 100 2\na 5\nb 4611686018427387904\n";
@@ -413,14 +413,14 @@ fn reads_and_writes_floors(rt: HostRuntime) {
     assert!(rt; written.as_slice() == text.as_slice());
 }
 
-/// An Ask from 1 to 2 for token 0, factors 1 to 1, by proposal 0 of boot 2, and its tag under 32 zeros.
+/// The Ask from 1 to 2 for token 0, factors 1 to 1, by proposal 0 of boot 2, with its tag under 32 zeros.
 const ASK: [u8; 59] = [
     0x4f, 0x56, 2, 1, 1, 2, 0, 0, 0, 0, 1, 0, 0, 0, 0, 0, 0, 0, 2, 0, 0, 0, 0, 0, 0, 0, 0, 0, 0, 0,
     0, 0, 0, 0, 1, 0, 0, 0, 0, 0, 0, 0, 1, 0xc2, 0x16, 0x72, 0x14, 0xab, 0x2f, 0x54, 0x75, 0x82,
     0xf0, 0x53, 0xde, 0xc2, 0x7d, 0xf8, 0x9a,
 ];
 
-/// Whether the Ask is written so under a key, and read of these bytes.
+/// Returns whether the Ask is written as these bytes under a key, and read from them.
 fn is_datagram(key: &ClusterKey) -> Option<bool> {
     let ask = Message::Ask {
         proposal: Proposal::new(1, 2, 0)?,
@@ -431,7 +431,7 @@ fn is_datagram(key: &ClusterKey) -> Option<bool> {
     Some(is_written && read_message(key, &ASK) == Some((1, 2, ask)))
 }
 
-/// An Ask is these bytes under its key, which is read in hexadecimal, and no datagram under another one.
+/// An Ask has these bytes under its key, which is read in hexadecimal. It is no datagram under another key.
 #[test]
 fn ask_under_a_key(rt: HostRuntime) {
     let key = ClusterKey::read(&[b'0'; 64]);

@@ -1,6 +1,6 @@
-//! The tests of the crates on which a node rests, by their public calls alone: `hmac_core`, `otp_core`, `field_text`,
-//! `secret_text`, `token_file`, `floors_file`, `floor_store`, `vote_wire` and `answer_ring`. They stand apart, since a
-//! crate is proved anew with its tests.
+//! The tests of the crates below a node, by their public calls alone: `hmac_core`, `otp_core`, `field_text`,
+//! `secret_text`, `token_file`, `floors_file`, `floor_store`, `vote_wire` and `answer_ring`. They are a crate of their
+//! own, since a crate is proved again with its tests.
 #![tactic(auto)]
 
 #[cfg(test)]

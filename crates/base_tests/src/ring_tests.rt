@@ -1,9 +1,9 @@
-//! The last answers, given again.
+//! The last answers, which are returned again.
 
 use answer_ring::{Answers, MAX_ANSWER_LEN, MAX_LINE_LEN, answer_again, keep};
 use std::alloc::Global;
 
-/// Whether the answer to a client's line is this one, where there is one, or there is none.
+/// Returns whether the answer to a client's line is `answer`, or missing if `answer` is None.
 fn is_given(answers: &Answers, client: u64, line: &[u8; 8], answer: Option<&[u8; 8]>) -> bool {
     match (answer_again(answers, client, line), answer) {
         (Some(found), Some(answer)) => found == answer.as_slice(),
@@ -12,7 +12,7 @@ fn is_given(answers: &Answers, client: u64, line: &[u8; 8], answer: Option<&[u8;
     }
 }
 
-/// The client and the line of a number, whose answer is the number. Each line comes again after 15,000 numbers.
+/// Returns the client and the line of a number, whose answer is the number. Each line repeats after 15,000 numbers.
 fn line_of(number: u64) -> (u64, [u8; 8]) {
     (number / 5 % 3000, (number % 5).to_be_bytes())
 }
@@ -25,7 +25,7 @@ fn fill(answers: &mut Answers) {
     }
 }
 
-/// Whether the last 1,024 of them alone are given again.
+/// Returns whether exactly the last 1,024 lines of `fill` have an answer.
 fn are_the_last(answers: &Answers) -> bool {
     for number in 0..10240u64 {
         let (client, line) = line_of(number);
@@ -42,7 +42,7 @@ fn are_the_last(answers: &Answers) -> bool {
     true
 }
 
-/// Whether the longest line is given its longest answer again, and the newest of two answers stands.
+/// Returns whether the longest line keeps its longest answer, which is the newer of two.
 fn keeps_the_longest(answers: &mut Answers) -> bool {
     let line = [b'a'; MAX_LINE_LEN];
     let answer = [b'b'; MAX_ANSWER_LEN];
@@ -54,7 +54,7 @@ fn keeps_the_longest(answers: &mut Answers) -> bool {
     }
 }
 
-/// Whether answers are kept so, and none after they are cleared.
+/// Returns whether a ring keeps the last answers, and none after it is cleared.
 fn keeps(alloc: Global) -> Option<bool> {
     let mut answers = Answers::new(alloc).ok()?;
     fill(&mut answers);

@@ -1,4 +1,4 @@
-//! Stores in memory, and on a fuse.
+//! Stores in memory, and stores with a fuse. A floor is the first free factor of a token at a node.
 
 ghost use Rattle.std.specs.Prelude.{◌<◌, length};
 
@@ -6,13 +6,13 @@ use floor_store::{FloorStore, FuseStore, MemStore, Pass, Proposal, Row, Span, St
 use otp_core::{Factor, Next};
 use std::alloc::{AllocError, Global};
 
-/// A store of two tokens.
+/// Returns a store of two tokens.
 fn stored(alloc: Global) -> Option<MemStore> {
     let floors = [Next::new(0)?, Next::new(7)?];
     MemStore::new(alloc, &floors).ok()
 }
 
-/// Whether each call does what the trait says of it, at the first of two tokens.
+/// Returns whether each call on the first of two tokens has the effect that the trait promises.
 fn keeps<S: FloorStore>(store: &mut S, row: Row, pass: Option<Pass>) -> Option<bool> {
     if store.tokens() != 2 || store.is_broken() {
         return None;
@@ -25,7 +25,7 @@ fn keeps<S: FloorStore>(store: &mut S, row: Row, pass: Option<Pass>) -> Option<b
     Some(is_kept && raised == 1 && store.boot().ok()? == 1)
 }
 
-/// The same of a fresh store, with a grant and a pass.
+/// Returns whether the calls on a fresh store have their effects, for a row with a grant and a pass.
 fn keeps_a_grant(alloc: Global) -> Option<bool> {
     let proposal = Proposal::new(2, 1, 3)?;
     let span = Span::new(Factor::new(7)?, Factor::new(8)?)?;
@@ -40,7 +40,7 @@ fn each_call_in_memory(rt: HostRuntime) {
     assert!(rt; keeps_a_grant(rt.alloc()) == Some(true));
 }
 
-/// The faults of a put, of its commit, of a raise of the boot, of a second put, and of the two reads.
+/// Returns the faults of six calls: a put, its commit, a raise of the boot, a second put, and the two reads.
 fn faults<S: FloorStore>(store: &mut S, first: Row, second: Row) -> [Option<StoreFault>; 6]
     requires { 0 < length (S.held store.old).content.rows }
 {
@@ -54,7 +54,7 @@ fn faults<S: FloorStore>(store: &mut S, first: Row, second: Row) -> [Option<Stor
     ]
 }
 
-/// The first free factor of the first token, and the boot.
+/// Returns the floor of the first token, and the boot.
 fn held(store: &MemStore) -> Option<(u64, u64)> {
     if store.tokens() == 0 {
         return None;
@@ -62,8 +62,8 @@ fn held(store: &MemStore) -> Option<(u64, u64)> {
     Some((store.row(0).ok()?.next().value(), store.boot().ok()?))
 }
 
-/// The first of six calls that fails, where this many writes pass, and what the mended store holds then. All after it
-/// fail too.
+/// Returns the first of six calls that fails if `writes` writes pass, and the content of the mended store. All later
+/// calls fail too.
 fn blown(alloc: Global, writes: u64, after: bool) -> Option<(usize, (u64, u64))> {
     let (first, second) = (Row::opening(Next::new(1)?), Row::opening(Next::new(2)?));
     let mut fuse = FuseStore::new(stored(alloc)?, writes, after);
@@ -84,7 +84,7 @@ fn blown(alloc: Global, writes: u64, after: bool) -> Option<(usize, (u64, u64))>
     Some((place, held(&fuse.mend())?))
 }
 
-/// Each of four writes fails, with its change lost or kept: the first call that fails, and what is left.
+/// The four writes, each of which fails with its change lost or kept: the first call that fails, and the content left.
 const WRITES: &[(u64, bool, usize, (u64, u64))] = &[
     (0, false, 0, (0, 0)),
     (0, true, 0, (1, 0)),

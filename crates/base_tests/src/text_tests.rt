@@ -1,4 +1,4 @@
-//! Numbers and secrets as text, and what no text shows.
+//! Numbers and secrets as text, and the parts that no text shows.
 
 ghost use Rattle.std.specs.Prelude.{◌≡◌, Ok};
 
@@ -11,7 +11,7 @@ use std::alloc::AllocError;
 use token_file::{Kind, Password, Token};
 use vote_wire::ClusterKey;
 
-/// Texts, with their numbers where they are some.
+/// Texts with the numbers that they spell, or None.
 const NUMBERS: &[(&[u8], Option<u64>)] = &[
     (b"0", Some(0)),
     (b"007", Some(7)),
@@ -47,7 +47,7 @@ const BASE32: &[(&[u8], &[u8])] = &[
     (b"12345678901234567890", b"GEZDGNBVGY3TQOJQGEZDGNBVGY3TQOJQ"),
 ];
 
-/// Whether a secret of these bytes was read.
+/// Returns whether a secret of the given bytes was read.
 fn is_secret(read: Result<Secret, SecretFault>, bytes: &[u8]) -> bool {
     match read {
         Ok(secret) => secret.as_slice() == bytes,
@@ -55,7 +55,7 @@ fn is_secret(read: Result<Secret, SecretFault>, bytes: &[u8]) -> bool {
     }
 }
 
-/// Writes a secret, and reads what it wrote.
+/// Writes a secret, and reads the text again.
 fn written_and_read(secret: &Secret) -> Result<Secret, SecretFault>
     ensures { result ≡ Ok secret.now }
 {
@@ -64,7 +64,7 @@ fn written_and_read(secret: &Secret) -> Result<Secret, SecretFault>
     read_base32(&write_base32(secret))
 }
 
-/// Whether a secret of these bytes is written so, and read again.
+/// Returns whether a secret of the given bytes is written as `text`, and read again.
 fn is_written(bytes: &[u8], text: &[u8]) -> bool {
     match Secret::new(bytes) {
         Some(secret) => {
@@ -112,7 +112,7 @@ fn silver() -> Option<Token> {
 /// The token's password and secret, as text and as the numbers of its bytes.
 const HIDDEN: &[&str] = &["hunter", "104, 117, 110", "1234567890", "49, 50, 51"];
 
-/// Whether a text has nothing of them.
+/// Returns whether a text has none of the hidden parts.
 fn hides(shown: &str) -> bool {
     for hidden in HIDDEN {
         if shown.contains(hidden) {
@@ -122,7 +122,7 @@ fn hides(shown: &str) -> bool {
     shown.contains("password: Equal(..)") && shown.contains("secret: Secret(..)")
 }
 
-/// What shows a token has no byte of its password and none of its secret, and what shows a key has none of it.
+/// The text of a token has no byte of its password or its secret. The text of a key has no byte of it.
 #[test]
 fn shown_secrets(rt: HostRuntime) -> Result<(), AllocError> {
     let token = silver();

@@ -12,7 +12,7 @@ use Rattle.std.proofs.NetLemmas.Sockets.{read_socket_v4_complete, read_socket_v4
 use Rattle.std.proofs.NetLemmas.Theorems.{parse-socket_v4_text}
 use Rattle.cluster_file.specs.Address.{Address, IsAddress, address_of, address_text, address_value, address_with}
 
--- whether one of others passes, where they are seen as something else
+-- an item of a mapped list passes if the image of an item does
 pub any_of_map : {A B : Type 0} (p : B → Bool) (f : A → B) (xs : List A) → list_any p (map f xs) ≡ list_any (λ x. p (f x)) xs
 any_of_map p f [] = refl
 any_of_map p f (x ∷ xs) = ap (λ b. p (f x) || b) (any_of_map p f xs)

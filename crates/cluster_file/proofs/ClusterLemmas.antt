@@ -42,7 +42,7 @@ le_from_test a b h = grind arith
 lt_from_test : (a b : ℕ) → nat_le a b ≡ false → b < a
 lt_from_test a b h = grind arith
 
--- ---- numbers, lives and addresses
+-- ---- numbers, incarnations and addresses
 
 new_said : {A B : Type 0} (before : Option A) (said : Result B LineFault) (end : B) → unless_given before said ≡ Ok end → said ≡ Ok end
 new_said None said end e = e

@@ -9,7 +9,7 @@ use Rattle.cluster_file.specs.ClusterFile.{after_lines, at_line}
 use Rattle.cluster_file.specs.Fields.{◌>>=◌}
 use Rattle.cluster_file.specs.Said.{Said, after_fields, nothing_said}
 
--- the next line, before what is behind it
+-- the next line, followed by the others
 next_line : (lines : List (List ℕ)) (number : ℕ) (line : List ℕ) → number < length lines → line ≡ get_or lines number line
     → drop number lines ≡ line ∷ drop (number + 1) lines
 next_line lines number line within is =
@@ -20,7 +20,7 @@ pub at_number : (lines : List (List ℕ)) (number place : ℕ) (line : List ℕ)
     → (number < length lines) × (line ≡ get_or lines number line)
 at_number lines number place line e within is = (omega arith, rw e is)
 
--- so many lines are read, and said this
+-- the first `number` lines are read as `said`
 pub record HasSaid (lines : List (List ℕ)) (said : Said) (number : ℕ) : Type 0 where
   pub so_far : after_lines 1 nothing_said lines ≡ after_lines (number + 1) said (drop number lines)
 

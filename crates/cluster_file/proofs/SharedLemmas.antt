@@ -22,7 +22,7 @@ use Rattle.cluster_file.proofs.AddressLemmas.{address_same}
 abbrev pub has_no_end : List ℕ → Bool
 has_no_end text = list_all (λ byte. not (is_line_end byte)) text
 
--- a line and what is behind it are one way only
+-- a text splits in one way into a line and its rest
 pub cut_same : (a b r s : List ℕ) → has_no_end a ≡ true → has_no_end b ≡ true → a ++ 10 ∷ r ≡ b ++ 10 ∷ s → (a ≡ b) × (r ≡ s)
 cut_same [] [] r s h k e = (refl, cc)
 cut_same [] (y ∷ b) r s h k e =
@@ -36,7 +36,7 @@ cut_same (x ∷ a) (y ∷ b) r s h k e =
     let rest = cut_same a b r s (and_parts (not (is_line_end x)) (has_no_end a) h).1 (and_parts (not (is_line_end y)) (has_no_end b) k).1 cc in
     (cc, rest.1)
 
--- what stands behind the same front
+-- the rest after a common prefix
 pub behind_same : (front a b : List ℕ) → front ++ a ≡ front ++ b → a ≡ b
 behind_same [] a b e = e
 behind_same (x ∷ front) a b e = behind_same front a b cc
@@ -59,7 +59,7 @@ no_end_word word h =
     let inner = and_parts (nat_le 1 (length word)) (nat_le (length word) 64) outer.0 in
     inner_joined (word ∷ []) (record { some = le_from_test 1 (length word) inner.0; visible = outer.1 }, tt)
 
--- a line of a word and a text, and what is behind it, are one way only
+-- a text splits in one way into a line of a word and a text, and its rest
 word_same : (word a b r s : List ℕ) → has_no_end a ≡ true → has_no_end b ≡ true → word_line word a ++ r ≡ word_line word b ++ s → (a ≡ b) × (r ≡ s)
 unfolding word_line
 word_same word a b r s h k e =
@@ -103,7 +103,7 @@ no_end_address address fits =
     no_end_append (ipv4_text address.octets ++ codes ":") (decimal address.port) colon
     (no_end_decimal address.port (let small : address.port < 2 ^ 16 = fits.port in omega arith))
 
--- the line of a member, by what stands before the address
+-- the line of a member, split before the address
 member_parts : (number : ℕ) (member : Address) (rest tail : List ℕ)
     → (member_line number member ++ rest) ++ tail ≡ (codes "member " ++ decimal number ++ 32 ∷ []) ++ (address_text member ++ 10 ∷ (rest ++ tail))
 unfolding member_line

@@ -13,7 +13,7 @@ use Rattle.cluster_file.specs.Address.{Address, address_value}
 use Rattle.cluster_file.specs.Check.{is_kind, kind_count}
 use Rattle.cluster_file.specs.Shared.{member_line, members_text}
 
--- one text, and then another
+-- one text, followed by another
 pub append_more : (old middle new : Option (List ℕ)) (front back : List ℕ) → Appends old middle front → Appends middle new back
     → Appends old new (front ++ back)
 append_more None middle new front back h k = tt
@@ -21,7 +21,7 @@ append_more (Some x) None new front back h k = absurd h
 append_more (Some x) (Some y) None front back h k = absurd k
 append_more (Some x) (Some y) (Some z) front back h k = k ∙ ap (λ l. l ++ back) h ∙ append_assoc x front back
 
--- the texts of so many items, and the text of the next
+-- the texts of the items up to a place, followed by the text of the item there
 pub append_item : {X : Type 0} (text_of : X → List ℕ) (items : List X) (place : ℕ) (item : X) (old middle new : Option (List ℕ))
     → place < length items → item ≡ get_or items place item
     → Appends old middle (flat_map text_of (take place items)) → Appends middle new (text_of item)
@@ -60,7 +60,7 @@ append_member members place member old middle new number within is next h k =
     ∙ ap (λ n. members_text 1 front ++ member_line n (address_value member)) counted in
     subst (Appends old new) (sym texts) (append_more old middle new (members_text 1 front) (member_line number (address_value member)) h k)
 
--- the same, where the member was read by its place
+-- the same, if the member was read by its place
 pub append_member_at : (members : List SocketAddrV4) (place : ℕ) (default : SocketAddrV4) (old middle new : Option (List ℕ)) (number : ℕ)
     → place < length members → number ≡ place + 1
     → Appends old middle (members_text 1 (map address_value (take place members)))

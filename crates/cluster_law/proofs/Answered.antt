@@ -49,9 +49,9 @@ among (Answer u ∷ hs) zero t h = record { place = zero; is_there = same u t h 
     same u t h = cc
 among (Answer u ∷ hs) (suc k) t h = let r = among hs k t h in record { place = suc r.place; is_there = r.is_there }
 
--- ---- a deed
+-- ---- an action
 
--- it was offered, or it waits
+-- the answer was offered, or it waits
 abbrev Lives : Scene → Told → Type 0
 Lives scene t = IsIn (Answer t) scene.offered ⊎ HasYetToOffer t (scene.sites t.node)
 
@@ -119,7 +119,7 @@ deed_lives setting e d scene t h =
     (cases_Bool (eqb t.node (node_of_deed d))))
     h
 
--- ---- deeds
+-- ---- actions
 
 -- its process ended in one of these, before which it waited
 record Lost (setting : Setting) (e : ℕ) (ds : List Deed) (scene : Scene) (t : Told) : Type 0 where
@@ -151,7 +151,7 @@ fate_of setting e (d ∷ ds) scene t h =
     inr is)
     (deed_lives setting e d scene t h)
 
--- what a deed makes waits
+-- an answer that an action makes waits
 made_at : (setting : Setting) (e : ℕ) (d : Deed) (a : Site) (k : ℕ) (t : Told) → slice_get (answers_made setting e d a) k ≡ Some t → (t.node ≡ node_of_deed d) × HasYetToOffer t (site_after setting e d a)
 made_at setting e (Opens i) a k t h = absurd (none-some t h)
 made_at setting e (FailsToOpen i raised) a k t h = absurd (none-some t h)

@@ -1,4 +1,4 @@
--- There are deeds for any turns.
+-- There are actions for any turns.
 use Rattle.std.proofs.Common.{◌≡◌, ℕ, zero, suc, ◌%◌, Bool, true, false, cond, List, [], ◌∷◌, ◌++◌, map, take, Some, None, refl, ap, ◌∙◌, eqb}
 use Rattle.std.proofs.lemmas.Bool.{cond-true, eq-eqb}
 use Rattle.std.proofs.lemmas.List.{map-append}
@@ -46,7 +46,7 @@ take_same f zero xs = refl
 take_same f (suc n) [] = refl
 take_same f (suc n) (x ∷ xs) = ap (λ ys. f x ∷ ys) (take_same f n xs)
 
--- deeds that take these
+-- the actions that take the given inputs
 abbrev takes : ℕ → List Input → List Deed
 takes node inputs = map (λ (input : Input). Takes node input) inputs
 

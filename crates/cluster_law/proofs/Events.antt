@@ -1,4 +1,4 @@
--- Batches that go on come to the run over their events.
+-- Batches after which the run continues equal the run over their events.
 use Rattle.std.proofs.Common.{◌≡◌, ℕ, List, [], ◌∷◌, ◌++◌, map, Option, Some, None, refl, sym, ap, ◌∙◌, subst}
 use Rattle.std.proofs.lemmas.List.{append-nil, append_assoc}
 use Rattle.std.proofs.lemmas.Option.{none-some}
@@ -98,7 +98,7 @@ received_append (x ∷ xs) ys k = received_append xs ys (received_with x k)
 
 -- ---- batches
 
--- a run does what another did, after so many datagrams
+-- after `k` datagrams a run does what another run did
 pub record DoesAfter (k : ℕ) (a b : Run) : Type 0 where
   pub does : Does a b
   pub count : a.tally.received ≡ k
@@ -121,7 +121,7 @@ went_on : (m : Member) (xs : List (List Receipt)) (a : Run) (o : Option ServeFau
 went_on m xs a None e h = e
 went_on m xs a (Some fault) e h = absurd (none-some fault (sym h ∙ ap (λ (z : Run). z.end) (stays_ended m xs a fault e) ∙ e))
 
--- the batches up to the one that ended the run, and those behind it
+-- the batches up to the one that ended the run, and the later batches
 pub record Ends (m : Member) (xs : List (List Receipt)) (k : ℕ) (a b : Run) : Type 0 where
   pub gone : List (List Receipt)
   pub later : List (List Receipt)
@@ -170,7 +170,7 @@ batches_end m (x ∷ xs) k a b h = end_step m x xs k a b h (λ k2 a2 b2 h2. batc
 pub all_end : (m : Member) (xs : List (List Receipt)) (s : NodeState) → Ends m xs 0 (run_at s) (run_at s)
 all_end m xs s = batches_end m xs 0 (run_at s) (run_at s) (record { does = record { node = refl; offers = refl }; count = refl })
 
--- where all of them are served
+-- the claim if all batches are served
 pub all_done : (m : Member) (xs : List (List Receipt)) (s : NodeState) → (run_with_batches m xs (run_at s)).end ≡ None
     → DoesAfter (received_after (receipts_in xs) 0) (run_with_batches m xs (run_at s)) (run_with_events m (events_of_turns m.key 0 (receipts_in xs)) (run_at s))
 all_done m xs s end =

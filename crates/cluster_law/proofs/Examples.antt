@@ -1,4 +1,4 @@
--- What the datagrams of the worked histories of three nodes say, and when they were offered.
+-- The content of the datagrams in the worked histories of three nodes, and the places of their offers.
 use Rattle.std.proofs.Common.{◌≡◌, ℕ, zero, suc, List, [], ◌∷◌, Some, refl, arith, ap, sym, ◌∙◌}
 use Rattle.std.specs.Prelude.{slice_get, take}
 use Rattle.admit_core.specs.Fit.{code_at}
@@ -14,7 +14,7 @@ use Rattle.oath_node.specs.Hosted.{envelope_at}
 use Rattle.cluster_law.specs.Examples.{ask, bytes_of, grant, grant_before_its_offer, granted_by_two, three_nodes}
 use Rattle.cluster_law.specs.Lives.{Answer, Deed, Handout, Post, WasOffered, scene_after, scene_after_deed, scene_of}
 
--- what was offered before the deed of that number
+-- the outputs offered before the action of the given number
 abbrev pub offered_before : List Deed → ℕ → List Handout
 offered_before history event = (scene_of three_nodes (take event history)).offered
 
@@ -48,7 +48,7 @@ pub said : (bytes : List ℕ) (known envelope : Envelope) → envelope_at three_
     → envelope_at three_nodes.key bytes ≡ Some envelope → known ≡ envelope
 said bytes known envelope knows reads = same_some known envelope (sym knows ∙ reads)
 
--- who sent what is handed out; an answer has no sender
+-- the sender of an output; an answer has no sender
 abbrev sender_of : Handout → ℕ
 sender_of (Post envelope) = envelope.sender
 sender_of (Answer told) = 0
@@ -60,11 +60,11 @@ only : {A : Type 0} (x y : A) (place : ℕ) → slice_get (x ∷ []) place ≡ S
 only x y zero e = cc
 only x y (suc place) e = absurd cc
 
--- nothing was offered, so not this
+-- the envelope is not among no outputs
 pub nothing_offered : (envelope : Envelope) → WasOffered [] envelope → ⊥
 nothing_offered envelope was = none (Post envelope) was.place was.is_there
 
--- the Ask alone was offered, so not the Grant
+-- the Grant is not among the outputs if only the Ask was offered
 pub ask_alone_offered : WasOffered (Post ask ∷ []) grant → ⊥
 ask_alone_offered was =
     let same : Post ask ≡ Post grant = only (Post ask) (Post grant) was.place was.is_there in

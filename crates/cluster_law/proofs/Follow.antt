@@ -1,4 +1,4 @@
--- Each deed is an event of the world.
+-- Each action is an event of the world.
 use Rattle.std.proofs.Common.{◌≡◌, ℕ, zero, suc, ◌+◌, ◌≤◌, ◌⊎◌, inl, inr, ⊎_elim, Bool, true, false, not, ◌&&◌, ◌||◌, cond, List, [], ◌∷◌, ◌++◌, map, Option, Some, None, refl, sym, ap, ◌∙◌, subst, arith, eqb, get_or, leb, length, ltb}
 use mathlib.Core.Path.{fun_ext}
 use Rattle.std.specs.List.{slice_get}
@@ -20,7 +20,7 @@ use Rattle.cluster_law.specs.Promises.{HasAct, IsActOf, IsEventOf, nothing}
 
 -- ---- What a scene is in a world
 
--- the world has sent it, or told it
+-- the world has sent the datagram, or replied the answer
 abbrev pub IsKnown : World → Handout → Type 0
 IsKnown w (Post envelope) = (k : ℕ) × (slice_get w.sent k ≡ Some envelope)
 IsKnown w (Answer told) = (k : ℕ) × (slice_get w.told k ≡ Some told)
@@ -29,7 +29,7 @@ abbrev pub IsSiteIn : World → Site → NodeState → Type 0
 IsSiteIn w (Down c) x = (x.content ≡ c) ⊎ (x ≡ opened_node c)
 IsSiteIn w (Up s waiting) x = (x ≡ s) × Each (IsKnown w) waiting
 
--- of a node whose store is gone the rows that it had stay, and a boot that it never used
+-- a node that lost its store keeps its rows in the world, with a boot that it never used
 abbrev pub IsGone : Site → NodeState → Type 0
 IsGone (Down c) x = (x.content.rows ≡ c.rows) × (x.content.boot ≤ c.boot + 1)
 IsGone (Up s waiting) x = ⊥
@@ -83,7 +83,7 @@ site_set : (P : ℕ → Site → NodeState → Type 0) (i : ℕ) (a : Site) (sit
 site_set P i a sites nodes here h j =
     cond_both (eqb j i) a (sites j) (λ s. P j s (nodes j)) (λ q. subst (λ m. P m a (nodes m)) (sym (eqb-true j i q)) here) (λ _. h j)
 
--- one store more is gone, or one less
+-- one more or one less store is lost
 lost_set : (w : World) (i : ℕ) (a : Site) (x : NodeState) (lost : ℕ → Bool) (sites : ℕ → Site) (nodes : ℕ → NodeState) → IsGone a x → ((j : ℕ) → IsSiteAt w (lost j) (sites j) (nodes j))
     → (j : ℕ) → IsSiteAt w (with_node i lost j) (with_site i a sites j) (with_state i x nodes j)
 lost_set w i a x lost sites nodes here h j =
@@ -94,7 +94,7 @@ remade_set : (w : World) (i : ℕ) (a : Site) (x : NodeState) (lost : ℕ → Bo
 remade_set w i a x lost sites nodes here h j =
     elim (eqb j i) as (λ b. IsSiteAt w (not b && lost j) (cond b a (sites j)) (cond b x (nodes j))) [ true ↦ here | false ↦ h j ]
 
--- a node whose store is there
+-- a node that has its store
 abbrev pub IsStored : Scene → World → ℕ → Type 0
 IsStored scene w i = (scene.lost i ≡ false) × (has_store w i ≡ true)
 
@@ -125,7 +125,7 @@ state_at i x nodes = cond-true (eqb i i) x (nodes i) (eq-eqb i i refl)
 
 -- ---- the world at a member
 
--- a member whose store isn't gone has it; there is no node 0
+-- a member that did not lose its store has it; there is no node 0
 pub has_it : (w : World) (i : ℕ) → w.lost i ≡ false → is_member w.n i ≡ true → has_store w i ≡ true
 has_it w i kept member = ap (λ b. not b && is_member w.n i) kept ∙ member
 
@@ -315,9 +315,9 @@ restart_matches setting e i a scene w stored m here =
       notes = m.notes;
     })
 
--- ---- a deed
+-- ---- an action
 
--- the event of a deed at a member whose site was this
+-- the event of an action at a member with the given site
 abbrev pub IsFull : List ℕ → Deed → Site → WorldEvent → Type 0
 IsFull key (Opens i) (Down c) event = (event ≡ nothing) ⊎ (event ≡ Restart i)
 IsFull key (Opens i) (Up s waiting) event = event ≡ nothing
@@ -349,7 +349,7 @@ full_is_event key (StopsIn i true input) (Up s waiting) event h = inr h
 full_is_event key (Loses i) old event h = inr h
 full_is_event key (Remakes i boot floors) old event h = inr h
 
--- the answers that a deed at that site makes
+-- the answers that an action at the given site makes
 abbrev pub answers_made : Setting → ℕ → Deed → Site → List Told
 answers_made setting e (Takes i input) (Up s waiting) = map (told_reply e i) (made_by_input setting i input s).replies
 answers_made setting e (Takes i input) (Down c) = []
@@ -361,7 +361,7 @@ answers_made setting e (StopsIn i kept input) old = []
 answers_made setting e (Loses i) old = []
 answers_made setting e (Remakes i boot floors) old = []
 
--- the event of a deed at a site, and the scene after it
+-- the event of an action at a site, and the scene after it
 record Follows (setting : Setting) (e : ℕ) (deed : Deed) (old : Site) (scene : Scene) (w : World) : Type 0 where
   event : WorldEvent
   is_full : IsFull setting.key deed old event
@@ -505,7 +505,7 @@ loses setting e i a scene w stored m here =
       told = ap (λ (z : World). z.told) is ∙ sym (append-nil w.told);
     }
 
--- where a store may be made anew in the scene, it may be in the world, to be open in the next boot
+-- if a replacement store may be created in the scene, it may be in the world, with the next boot
 remade_may : (setting : Setting) (scene : Scene) (w : World) (i boot : ℕ) (floor : ℕ → ℕ) → Matches setting scene w → (w.nodes i).content.rows ≡ (content_at (scene.sites i)).rows → (w.nodes i).content.boot ≤ (content_at (scene.sites i)).boot + 1
     → may_be_remade setting scene i boot floor ≡ true → may_be_anew w i (boot + 1) floor ≡ true
 remade_may setting scene w i boot floor m sized near can =
@@ -557,7 +557,7 @@ remakes setting e i boot floors (Down c) scene w m gone may =
       told = ap (λ (z : World). z.told) is ∙ sym (append-nil w.told);
     }
 
--- what a deed finds that can be
+-- the premise of an action that is possible
 abbrev IsReady : Setting → Scene → World → Deed → Site → Type 0
 IsReady setting scene w (Remakes i boot floors) a = IsGone a (w.nodes i) × (may_be_anew w i (boot + 1) (floor_in floors) ≡ true)
 IsReady setting scene w deed a = IsStored scene w (node_of_deed deed) × IsSiteIn w a (w.nodes (node_of_deed deed))
@@ -608,7 +608,7 @@ at_site setting e (StopsIn i true input) (Up s waiting) scene w m ready g = cut_
 at_site setting e (Loses i) a scene w m ready g = loses setting e i a scene w ready.0 m ready.1
 at_site setting e (Remakes i boot floors) a scene w m ready g = remakes setting e i boot floors a scene w m ready.0 ready.1
 
--- nothing may be the event of any deed
+-- `nothing` may be the event of any action
 may_be_nothing : (key : List ℕ) (deed : Deed) → IsEventOf key deed nothing
 may_be_nothing key (Opens i) = inl refl
 may_be_nothing key (FailsToOpen i raised) = inl refl
@@ -620,13 +620,13 @@ may_be_nothing key (StopsIn i true input) = inl refl
 may_be_nothing key (Loses i) = inl refl
 may_be_nothing key (Remakes i boot floors) = inl refl
 
--- what is so where a deed takes a store away or makes one anew
+-- `P` of the event of an action that loses or replaces a store
 abbrev pub OfStore : (WorldEvent → Type 0) → Deed → Type 0
 OfStore P (Loses i) = P (Lost i)
 OfStore P (Remakes i boot floors) = P (Anew i (boot + 1) floors)
 OfStore P _ = Unit {0}
 
--- what is so of each act, each stop that keeps its change, each restart and that is so of the event of a deed
+-- a claim that holds of each act, stop that keeps its change, restart and `OfStore` holds of an action's event
 pub of_event : (P : WorldEvent → Type 0) (key : List ℕ) (deed : Deed) (x : WorldEvent) → IsEventOf key deed x → ((act : Act) → P (Happens act)) → ((act : Act) → P (Cut true act)) → ((i : ℕ) → P (Restart i)) → OfStore P deed → P x
 of_event P key (Opens i) x is act cut restart store = ⊎_elim (λ (q : x ≡ nothing). subst P (sym q) (restart 0)) (λ (q : x ≡ Restart i). subst P (sym q) (restart i)) is
 of_event P key (FailsToOpen i raised) x is act cut restart store = ⊎_elim (λ (q : x ≡ nothing). subst P (sym q) (restart 0)) (λ (q : x ≡ Restart i). subst P (sym q) (restart i)) is
@@ -640,16 +640,16 @@ of_event P key (StopsIn i true input) x is act cut restart store =
 of_event P key (Loses i) x is act cut restart store = ⊎_elim (λ (q : x ≡ nothing). subst P (sym q) (restart 0)) (λ (q : x ≡ Lost i). subst P (sym q) store) is
 of_event P key (Remakes i boot floors) x is act cut restart store = ⊎_elim (λ (q : x ≡ nothing). subst P (sym q) (restart 0)) (λ (q : x ≡ Anew i (boot + 1) floors). subst P (sym q) store) is
 
--- where a deed can be it is what its site says, and elsewhere nothing
+-- the event of a possible action is as its site says; an impossible action has the event `nothing`
 abbrev pub IsOneAt : Setting → Deed → Scene → Bool → WorldEvent → Type 0
 IsOneAt setting deed scene true event = IsFull setting.key deed (scene.sites (node_of_deed deed)) event
 IsOneAt setting deed scene false event = event ≡ nothing
 
--- the answers that a deed makes
+-- the answers that an action makes
 abbrev pub answers_by : Setting → ℕ → Deed → Scene → List Told
 answers_by setting e deed scene = cond (can_be setting scene deed) (answers_made setting e deed (scene.sites (node_of_deed deed))) []
 
--- the event of a deed, and the scene after it
+-- the event of an action, and the scene after it
 pub record IsFollowed (setting : Setting) (e : ℕ) (deed : Deed) (scene new : Scene) (w : World) (made : List Told) (can : Bool) : Type 0 where
   pub event : WorldEvent
   pub is_event : IsEventOf setting.key deed event

@@ -18,19 +18,19 @@ use Rattle.cluster_law.specs.Lives.{Deed, Handout, Post, Answer, Scene, Setting,
 use Rattle.cluster_law.specs.Promises.{HasEvent, IsEventOf, IsExplained, IsRunOf, IsToldAmong}
 use Rattle.cluster_law.proofs.Follow.{IsKnown, IsOneAt, Matches, all_there, answers_by, follows, same_next}
 
--- the answers that these deeds make
+-- the answers that the actions make
 abbrev pub answers_in : Setting → ℕ → List Deed → Scene → List Told
 answers_in setting e [] scene = []
 answers_in setting e (d ∷ ds) scene = answers_by setting e d scene ++ answers_in setting (suc e) ds (scene_after_deed setting e d scene)
 
--- each event is that of its deed where it stands
+-- each event is the event of the action at its place
 abbrev pub AreOnes : Setting → ℕ → List Deed → Scene → List WorldEvent → Type 0
 AreOnes setting e [] scene [] = Unit {0}
 AreOnes setting e [] scene (x ∷ xs) = ⊥
 AreOnes setting e (d ∷ ds) scene [] = ⊥
 AreOnes setting e (d ∷ ds) scene (x ∷ xs) = IsOneAt setting d scene (can_be setting scene d) x × AreOnes setting (suc e) ds (scene_after_deed setting e d scene) xs
 
--- the events of these deeds, and the world after each of them
+-- the events of the actions, and the world after each of them
 record Runs (setting : Setting) (e : ℕ) (deeds : List Deed) (scene : Scene) (w : World) : Type 0 where
   events : List WorldEvent
   number : length events ≡ length deeds

@@ -51,7 +51,7 @@ ground_deed key config next drift results p moment (Loses i) e is g =
 ground_deed key config next drift results p moment (Remakes i boot floors) e is g =
     ⊎_elim (λ (q : e ≡ nothing). absurd (subst (λ x. Ground config next drift results p moment (Some x)) q g).0) (λ (q : e ≡ Anew i (boot + 1) floors). absurd (subst (λ x. Ground config next drift results p moment (Some x)) q g).0) is
 
--- what stands in a front part stands in the whole
+-- an item of a prefix is an item of the whole list
 taken_there : {A : Type 0} (P : Option A → Type 0) (n : ℕ) (xs : List A) (k : ℕ) → (P None → ⊥) → P (slice_get (take n xs) k) → P (slice_get xs k)
 taken_there P zero xs k empty p = absurd (empty p)
 taken_there P (suc n) [] k empty p = absurd (empty p)
@@ -94,7 +94,7 @@ same_drift setting history events node token drift (p ∷ ps) h =
     ap (λ m. drift_after setting.config events node token (cond own (drift_by setting.config.limits (slice_get setting.config.book p.token) m p.hi) drift) ps) h.0
     ∙ same_drift setting history events node token (cond own (drift_of_pass setting history p) drift) ps h.1
 
--- the acceptances since a store was made anew are of those of the whole history
+-- the acceptances since a replacement of the store are among the acceptances of the whole history
 since_each : (P : Acceptance → Type 0) (node : ℕ) (notes : List Note) → Each P (passes_in notes) → Each P (passes_since node notes)
 since_each P node [] h = tt
 since_each P node (x ∷ notes) h =

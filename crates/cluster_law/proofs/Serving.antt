@@ -1,4 +1,4 @@
--- A process among all that happens, by itself: its site, and what its turns come to.
+-- A process in a history, by itself: its site, and the result of its turns.
 use Rattle.std.proofs.Common.{◌≡◌, ℕ, suc, ◌≤◌, ⊎_elim, Bool, true, false, not, ◌&&◌, ◌||◌, cond, List, [], ◌∷◌, ◌++◌, length, map, take, Option, Some, None, refl, sym, ap, ◌∙◌, subst, eqb}
 use Rattle.std.proofs.lemmas.Bool.{cond_both, cond-true, cond-false, cases_Bool, eq-eqb, eqb-true, ne_eqb}
 use Rattle.std.proofs.lemmas.List.{append-nil, append_assoc, map-append}
@@ -22,7 +22,7 @@ use Rattle.cluster_law.specs.Processes.{AreServing, IsEndedNode, IsFailedNode, I
 use Rattle.cluster_law.proofs.Calls.{put_out}
 use Rattle.cluster_law.proofs.Events.{Does, all_done, all_end, append_events, events_add, events_do, receipts_do, receipts_end}
 
--- ---- a node's site is its own deeds'
+-- ---- a node's site depends on its own actions alone
 
 pub deed_at : (setting : Setting) (e node : ℕ) (d : Deed) (scene : Scene) → (node ≡ node_of_deed d → can_be setting scene d ≡ true)
     → (scene_after_deed setting e d scene).sites node ≡ cond (eqb node (node_of_deed d)) (site_after setting e d (scene.sites node)) (scene.sites node)
@@ -43,7 +43,7 @@ deed_at setting e node d scene can =
     (λ _. sym (cond-false (eqb node i) (site_after setting e d (scene.sites node)) (scene.sites node) q)))
     (cases_Bool (eqb node i))
 
--- where a store is there, what leaves it there can be
+-- while a node has its store, an action that keeps the store is possible
 pub can_there : (setting : Setting) (scene : Scene) (node : ℕ) (d : Deed) → has_store setting scene node ≡ true → LeavesStore node d → node ≡ node_of_deed d → can_be setting scene d ≡ true
 can_there setting scene node (Opens i) store leaves own = subst (λ m. has_store setting scene m ≡ true) own store
 can_there setting scene node (FailsToOpen i raised) store leaves own = subst (λ m. has_store setting scene m ≡ true) own store
@@ -79,9 +79,9 @@ site_is_own setting e node (d ∷ ds) scene store leave =
     site_is_own setting (suc e) node ds (scene_after_deed setting e d scene) (store_left setting e node d scene store leave.0) leave.1
     ∙ ap (λ s. own_site setting node (suc e) ds s) (deed_at setting e node d scene (can_there setting scene node d store leave.0))
 
--- ---- a process that goes on
+-- ---- a process that continues
 
--- from any run of which so much is offered, and the rest waits
+-- the claim for any run with the offered outputs, of which the rest waits
 record GoesOn (setting : Setting) (node e : ℕ) (ds : List Deed) (s : NodeState) (waiting : List Handout) (done : List PortEvent) (r : Run) : Type 0 where
   left : List Handout
   site : own_site setting node e ds (Up s waiting) ≡ Up r.node left
@@ -103,7 +103,7 @@ step_entries setting e i made waiting done entries is =
     ∙ append_assoc done (map f waiting) (map f hs)
     ∙ ap (λ xs. done ++ xs) (sym (map-append f waiting hs))
 
--- what is said of the rest after one deed, which left this site and offered this
+-- the claim for the rest after one action, which left the site and offered the outputs
 record GoesThen (setting : Setting) (node e : ℕ) (ds : List Deed) (a : Site) (out : List Handout) (done : List PortEvent) (r : Run) : Type 0 where
   left : List Handout
   site : own_site setting node (suc e) ds a ≡ Up r.node left
@@ -213,7 +213,7 @@ same_member setting node process m =
     ∙ ap (λ x. record { config = setting.config; key = x; place = process.voter.place }) k
     ∙ ap (λ x. record { config = setting.config; key = setting.key; place = x }) p
 
--- the run of a process is that of its node
+-- the run of a process is the run of its node
 over_member : {S : Type 0} (held : S → Held) (setting : Setting) (node : ℕ) (old : Hosted S) (batches : List (List Receipt)) → IsMemberIn setting node old
     → run_of held old batches ≡ run_with_batches (member_in setting node) batches (run_at (state_of held old))
 over_member held setting node old batches m = ap (λ n. run_with_batches n batches (run_at (state_of held old))) (same_member setting node old m)
@@ -261,7 +261,7 @@ ends_node held setting node old new entries batches m received stands =
 
 -- ---- a call that a fault of the node ended
 
--- one deed more
+-- one more action
 own_stop : (setting : Setting) (node e : ℕ) (ds : List Deed) (a : Site) (s : NodeState) (waiting : List Handout) → own_site setting node e ds a ≡ Up s waiting → own_site setting node e (ds ++ Stops node ∷ []) a ≡ Down s.content
 unfolding own_site
 own_stop setting node e [] a s waiting is =
@@ -318,7 +318,7 @@ fails_node held setting node old new entries batches fault content m received f 
     ∙ ap (λ es. (run_with_events (member_of old) (take among.count es) (run_of held old f.before)).node.content) events
     ∙ ap (λ z. (run_with_events z (take among.count (events_after setting.key before f.last)) (run_of held old f.before)).node.content) (same_member setting node old m)
     ∙ ap (λ r. (run_with_events n (take among.count (events_after setting.key before f.last)) r).node.content) is in
-    -- what was offered
+    -- the outputs offered until now
     let kept : (run_with_receipts f.last (run_of held old f.before)).entries ≡ entries = same_Some (run_with_receipts f.last (run_of held old f.before)).entries entries f.fails.kept in
     let does : Does (run_with_receipts f.last run) (run_with_events n (events_of_turns setting.key 0 before) (run_at state)) =
     receipts_do f.last run (run_with_events n (events_of_turns setting.key 0 before) (run_at state)) done.does in

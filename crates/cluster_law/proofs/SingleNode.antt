@@ -24,12 +24,12 @@ use Rattle.cluster_law.proofs.Serving.{deed_at}
 unkept : (s : Server) → s.front.answers ≡ [] → restarted_server s ≡ s
 unkept s none = ap (λ a. record { floors = s.floors; front = record { results = s.front.results; drifts = s.front.drifts; answers = a } }) (sym none)
 
--- the server of the world, and that of the history
+-- the server of the world equals the server of the history
 abbrev SameServer : Site → Server → Server → Type 0
 SameServer (Down c) sw sh = restarted_server sw ≡ restarted_server sh
 SameServer (Up s waiting) sw sh = sw ≡ sh
 
--- the answers and the servers after a deed
+-- the answers and the servers after an action
 record Step (setting : Setting) (e : ℕ) (d : Deed) (a : Site) (x : WorldEvent) (sw sh : Server) : Type 0 where
   answers : answers_to_event setting.config e x sw ≡ answers_to_deed setting.config e d a sh
   same : SameServer (site_after setting e d a) (server_after_event setting.config x sw) (server_after_deed setting.config d a sh)
@@ -122,7 +122,7 @@ cut_step setting e i (Datagram from bytes) act s waiting sw sh own is same =
     (record { answers = refl; same = ap (λ z. restarted_server z) (restart_here i sw own) ∙ ap (λ z. restarted_server z) same }))
     is
 
--- what takes an input where no process is
+-- an action that takes an input while no process runs
 lost : (setting : Setting) (e i : ℕ) (input : Input) (c : Content) (sw sh : Server) → SameServer (Down c) sw sh → Step setting e (Takes i input) (Down c) nothing sw sh
 lost setting e i (Line client moment text) c sw sh same = record { answers = refl; same = same }
 lost setting e i Time c sw sh same = record { answers = refl; same = same }
@@ -161,7 +161,7 @@ step setting e (Loses i) (Up s waiting) x sw sh own full keeps same = subst (λ 
 step setting e (Remakes i boot floors) (Down c) x sw sh own full keeps same = subst (λ z. Step setting e (Remakes i boot floors) (Down c) z sw sh) (sym full) (record { answers = refl; same = same })
 step setting e (Remakes i boot floors) (Up s waiting) x sw sh own full keeps same = subst (λ z. Step setting e (Remakes i boot floors) (Up s waiting) z sw sh) (sym full) (record { answers = refl; same = same })
 
--- ---- all deeds
+-- ---- all actions
 
 cancel : {A : Type 0} (xs ys zs : List A) → xs ++ ys ≡ xs ++ zs → ys ≡ zs
 cancel [] ys zs e = e
@@ -182,7 +182,7 @@ stranger_to_one n j one out =
     (λ (q : is_member n j ≡ false). q)
     (cases_Bool (is_member n j))
 
--- what is a deed of the one node can be while its store is there
+-- an action of the single node is possible while its store exists
 of_one : (setting : Setting) (scene : Scene) (d : Deed) → has_store setting scene 1 ≡ true → is_of_one d ≡ true → (eqb 1 (node_of_deed d) ≡ true) × (can_be setting scene d ≡ true)
 of_one setting scene (Opens i) store is = (is, subst (λ m. has_store setting scene m ≡ true) (eqb-true 1 i is) store)
 of_one setting scene (FailsToOpen i raised) store is = (is, subst (λ m. has_store setting scene m ≡ true) (eqb-true 1 i is) store)
@@ -215,7 +215,7 @@ deed_none : (setting : Setting) (e : ℕ) (d : Deed) (scene : Scene) → can_be 
 unfolding scene_after_deed
 deed_none setting e d scene out = cond-false (can_be setting scene d) (scene_at setting e d (scene.sites (node_of_deed d)) scene) scene out
 
--- where the one store is gone nothing more can be
+-- without the single store no action is possible
 gone_store : (setting : Setting) (scene : Scene) (i : ℕ) → nodes_of setting ≡ 1 → scene.lost 1 ≡ true → has_store setting scene i ≡ false
 gone_store setting scene i one gone =
     ⊎_elim
@@ -287,7 +287,7 @@ RestIs setting b q e ds =
     (scene : Scene) (w : World) (sw sh : Server) → Matches setting scene w → AreGenuine setting e ds scene → Lone b q w sw → SameServer (scene.sites 1) sw sh
     → answers_in setting e ds scene ≡ answers_to_deeds setting e ds (scene.sites 1) sh
 
--- a deed, and the rest
+-- an action, and the rest
 deed_is : (setting : Setting) (b q e : ℕ) (d : Deed) (ds : List Deed) (scene : Scene) (w : World) (sw sh : Server) → nodes_of setting ≡ 1 → scene.lost 1 ≡ false → Matches setting scene w → AreGenuine setting (suc e) ds (scene_after_deed setting e d scene) → SameServer (scene.sites 1) sw sh
     → (f : IsFollowed setting e d scene (scene_after_deed setting e d scene) w (answers_by setting e d scene) (can_be setting scene d))
     → LoneStep b q w (world_after_event setting.config e f.event w) (server_after_event setting.config f.event sw) (answers_to_event setting.config e f.event sw)
@@ -350,7 +350,7 @@ deeds_are law setting b q e (d ∷ ds) one low few = λ scene w sw sh m g h same
     deed_is setting (b + 1) (q + 1) e d ds scene w sw sh one kept m g.1 same f k
     (deeds_are law setting (b + 1) (q + 1) (suc e) ds one (omega (arith, low)) (omega (arith, few))) (is_of_one d) refl)
 
--- ---- what is offered is a part of what is made
+-- ---- the offered answers are a sublist of the made answers
 
 part_all : (xs : List Told) → IsPartOf xs xs
 part_all [] = tt
@@ -401,7 +401,7 @@ waiting_at (Up s waiting) = answers_among waiting
 abbrev Offered : List Handout → Site → List Told → Type 0
 Offered hs a all = IsPartOf (answers_among hs ++ waiting_at a) all
 
--- nothing is offered, and nothing made
+-- no answer is offered or made
 stays_part : (hs : List Handout) (a : Site) (all : List Told) → Offered hs a all → Offered (hs ++ []) a (all ++ [])
 stays_part hs a all h =
     subst (λ xs. IsPartOf (answers_among xs ++ waiting_at a) (all ++ [])) (sym (append-nil hs)) (subst (λ xs. IsPartOf (answers_among hs ++ waiting_at a) xs) (sym (append-nil all)) h)

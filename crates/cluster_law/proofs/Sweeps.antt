@@ -81,7 +81,7 @@ offer_same setting e (Remakes i boot floors) a b is h = absurd (false≢true is)
 abbrev Stored : Setting → List ℕ → Scene → Type 0
 Stored setting live x = (j : ℕ) → is_live live j ≡ true → has_store setting x j ≡ true
 
--- a deed that takes something leaves the stores there
+-- an action that takes an input; it keeps the stores
 abbrev IsTake : Deed → Type 0
 IsTake d = (i : ℕ) × (input : Input) × (d ≡ Takes i input)
 
@@ -343,7 +343,7 @@ turns_beside setting live (j ∷ js) e e' w scene deeds b are t =
 
 -- ---- a sweep
 
--- a process runs where a store is
+-- a process runs only where a store is
 site_holds : (w : World) (b : Bool) (a : Site) (s : NodeState) (waiting : List Handout) (x : NodeState) → a ≡ Up s waiting → IsSiteAt w b a x → (b ≡ false) × Holds a x
 site_holds w false a s waiting x up h =
     let here : IsSiteAt w false (Up s waiting) x = subst (λ z. IsSiteAt w false z x) up h in

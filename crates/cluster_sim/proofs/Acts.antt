@@ -29,7 +29,7 @@ down e i x moment (Denied nonce reason) w h = refl
 down e i x moment (Wrong nonce reason token) w h = sym (cond-false (is_running w i) _ _ h)
 down e i x moment (Fitting nonce t span drift) w h = sym (cond-false (may_begin w i t span.lo span.hi) _ _ (ap (λ b. b && (ltb t (length (w.nodes i).content.rows) && (leb (row (w.nodes i).content t).next span.lo && ((eqb span.hi span.lo || eqb span.hi (span.lo + 1)) && ltb (length (w.nodes i).voter.pending) 32)))) h))
 
--- an event at a node: what it is where the node runs, and that it is nothing where it doesn't
+-- the effect of an event at a running node; at a stopped node it has none
 gated : (config : Config) (e i : ℕ) (x : NodeEvent) (w : World) (V : Cluster)
     → (is_running (cluster_of w) i ≡ true → (w.nodes i).running ≡ true → cluster_of (world_with_made e i (made_while_running config (place_at w i) x (w.nodes i)) w) ≡ V)
     → (is_running (cluster_of w) i ≡ false → cluster_of w ≡ V)

@@ -1,4 +1,4 @@
--- The Asks of a round: each other live member grants.
+-- The Asks of a round: each live member except the sender grants.
 use Rattle.std.proofs.Common.{◌≡◌, ℕ, suc, ◌+◌, ◌<◌, ◌≤◌, ⊎_elim, true, false, cond, ◌&&◌, List, [], ◌∷◌, ◌++◌, length, map, Option, Some, None, refl, sym, ap, ◌∙◌, subst, arith, eqb, leb}
 use Rattle.std.specs.List.{filter, slice_get}
 use Rattle.std.proofs.lemmas.Bool.{cond_both, cond-true, cond-false, ne_eqb, le-leb, and_from, and_parts, and_right, both_ways, cases_Bool}
@@ -34,7 +34,7 @@ abbrev pub Distinct : List ℕ → Type 0
 Distinct [] = Unit {0}
 Distinct (g ∷ gs) = Each (Differs g) gs × Distinct gs
 
--- ---- nothing told, kept, counted or drifted
+-- ---- no reply, kept answer, result or drift is new
 
 pub record Silent (live : List ℕ) (w v : World) : Type 0 where
   pub n : v.n ≡ w.n

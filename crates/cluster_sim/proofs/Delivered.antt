@@ -44,7 +44,7 @@ handed_is again key w sent k d same spelled e x is =
 
 -- ---- noise
 
--- bytes that say an envelope of the node that they come from are not handed in
+-- bytes of an envelope whose sender is the receiver itself are no event
 pub noise_own : (from : ℕ) (o : Option Envelope) → is_from from o ≡ true → noise_event from o ≡ None
 noise_own from o own = cond-true (is_from from o) None (Some (Peer from o)) own
 

@@ -34,7 +34,7 @@ abbrev Keeps : Config → List WorldEvent → ℕ → ℕ → ℤ → Option Beg
 Keeps config events token hi drift None = ⊥
 Keeps config events token hi drift (Some b) = drift ≡ drift_by config.limits (slice_get config.book token) (moment_in (slice_get events b.event)) hi
 
--- the proposal of a number below this one is on record, and keeps its drift so
+-- the proposal with a number below `n` is on record, and keeps the drift
 abbrev KeptBelow : Config → List WorldEvent → (ProposalRecord → Option Begun) → ℕ → ℕ → ℕ → Keeping
 KeptBelow config events begun i boot n seq token hi drift = (seq < n) × Keeps config events token hi drift (begun (named i boot seq))
 
@@ -264,7 +264,7 @@ opening_drifts (suc k) floor = each_append (λ (r : RowRecord). r.drift ≡ pos 
 opening_drift : (k : ℕ) (floor : ℕ → ℕ) (t : ℕ) → (get_or (opening_rows k floor) t no_row).drift ≡ pos 0
 opening_drift k floor t = each_get_or (λ (r : RowRecord). r.drift ≡ pos 0) (opening_rows k floor) t no_row (opening_drifts k floor) refl
 
--- after the note on a store that was made anew, which has no drift
+-- after the note on a replacement store, which has no drift
 noted_anew : (config : Config) (events : List WorldEvent) (h : List Note) (e i boot k : ℕ) (floor : ℕ → ℕ) (j : ℕ) (x : NodeState) → (eqb i j ≡ false → Drifted config events h j x) → (eqb i j ≡ true → x ≡ opening_node boot k floor)
     → Drifted config events (note_anew e i ∷ h) j x
 noted_anew config events h e i boot k floor j x other own = record {

@@ -28,7 +28,7 @@ unfolding world_after_restart vote_restart back
 restart_same None w = refl
 restart_same (Some i) w = push cluster_of (has_store w i) (back i w) w ∙ ap (λ z. cond (has_store w i) z (cluster_of w)) (back_same i w)
 
--- ---- stores that are lost and made anew
+-- ---- lost and replaced stores
 
 lost_to : (i : ℕ) (w : World) → World
 lost_to i w = record w {

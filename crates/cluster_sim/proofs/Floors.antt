@@ -1,4 +1,4 @@
--- First free factors that are in range, list by list.
+-- Floors in range, list by list.
 use Rattle.std.proofs.Common.{◌≡◌, ℕ, zero, suc, ◌+◌, ◌-◌, ◌<◌, ◌≤◌, ⊎_elim, List, [], ◌∷◌, ◌++◌, length, get_or, map, take, Bor, refl, sym, ap, ◌∙◌, subst, arith}
 use Rattle.std.specs.Global.{Vec}
 use Rattle.std.proofs.lemmas.Bool.{cases_lt}
@@ -12,7 +12,7 @@ use Rattle.vote_core.proofs.Basics.{Each, each_append, each_get}
 use Rattle.std.proofs.Math.Seq.{take-suc, take-length}
 use Rattle.cluster_sim.specs.World.{floor_at}
 
--- what stands at a place of a list doesn't rest on what stands for nothing
+-- the item at a place of a list doesn't depend on the default
 same_item : {A : Type 0} (xs : List A) (k : ℕ) (c d : A) → k < length xs → get_or xs k c ≡ get_or xs k d
 same_item xs k c d h = same_Some (get_or xs k c) (get_or xs k d) (sym (slice_get-get_or xs k c h) ∙ slice_get-get_or xs k d h)
 
@@ -82,7 +82,7 @@ next_events key xs k x h is new old =
     map_snoc f [] y = refl
     map_snoc f (u ∷ ys) y = ap (λ l. f u ∷ l) (map_snoc f ys y)
 
--- an event that makes no store anew
+-- an event that creates no replacement store
 pub not_anew : (key : List ℕ) (x : WorldEvent) → ((node boot : ℕ) (floors : Bor (List ℕ)) → x ≡ AnewEvent node boot floors → ⊥) → HasFloorsInRange (event_of key x)
 not_anew key (HappensEvent act) h = tt
 not_anew key (CutEvent kept act) h = tt

@@ -24,7 +24,7 @@ use Rattle.cluster_sim.proofs.VoteGates.{gate_by, GateStep, put_gate, message_ga
 use Rattle.cluster_sim.proofs.Sizes.{Sized}
 use Rattle.cluster_sim.proofs.Runs.{next_sized, start_sized}
 
--- the gates of the tokens of a book are those of these results
+-- the gates of the tokens of a book are the gates after the given results
 abbrev GatedAt : ℕ → (ℕ → List Result) → NodeState → Type 0
 GatedAt tokens rs x = (t : ℕ) → t < tokens → (row x.content t).gate ≡ gate_after (rs t)
 
@@ -182,7 +182,7 @@ opening_clear (suc k) floor = each_append (λ (r : RowRecord). r.gate ≡ clear_
 opening_gate : (k : ℕ) (floor : ℕ → ℕ) (t : ℕ) → (get_or (opening_rows k floor) t no_row).gate ≡ clear_gate
 opening_gate k floor t = each_get_or (λ (r : RowRecord). r.gate ≡ clear_gate) (opening_rows k floor) t no_row (opening_clear k floor) refl
 
--- a store that is made anew has no results, and clear gates
+-- a replacement store has no results, and clear gates
 anew_gated : GateLaw → (tokens e i boot : ℕ) (floor : ℕ → ℕ) (w : World) → Gated tokens w → Gated tokens (world_after_anew e i boot floor w)
 unfolding world_after_anew
 anew_gated law tokens e i boot floor w h =

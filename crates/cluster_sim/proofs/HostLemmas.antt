@@ -22,7 +22,7 @@ of_set P (a ∷ xs) zero y old new (suc j) x e = old (suc j) x e (λ s. absurd (
 of_set P (a ∷ xs) (suc k) y old new zero x e = old zero x e (λ s. absurd (omega (arith, s)))
 of_set P (a ∷ xs) (suc k) y old new (suc j) x e = of_set (λ i z. P (suc i) z) xs k y (λ i z f ne. old (suc i) z f (λ s. ne (omega (arith, s)))) new j x e
 
--- the nodes whose stores are gone, but for one, are no more than those
+-- one change of a node; at the other nodes no new store is kept
 pub hosts_set : (config : Config) (key : List ℕ) (n k : ℕ) (old lost : ℕ → Bool) (nodes : ℕ → NodeState) (hosts : List (Hosted Content)) (x : NodeState) (h : Hosted Content)
     → ((j : ℕ) → j ≢ k → lost (suc j) ≡ false → old (suc j) ≡ false) → AreHosts config key n old nodes hosts → IsHost config key (record { me = suc k; n = n }) x h
     → AreHosts config key n lost (with_state (suc k) x nodes) (set hosts k h)
@@ -53,7 +53,7 @@ member_outputs config key n i nodes e m = cond-true (is_member n i) _ no_outputs
 pub outside_outputs : (config : Config) (key : List ℕ) (n i : ℕ) (nodes : ℕ → NodeState) (e : NodeEvent) → is_member n i ≡ false → outputs_at config key n nodes i e ≡ no_outputs
 outside_outputs config key n i nodes e m = cond-false (is_member n i) _ no_outputs m
 
--- a member was handed an event
+-- a member took an event
 pub asked_in : (config : Config) (key : List ℕ) (n k : ℕ) (lost : ℕ → Bool) (nodes : ℕ → NodeState) (e : NodeEvent) (hosts : List (Hosted Content)) (h : Hosted Content) (o : Option OutputsRecord)
     → is_member n (suc k) ≡ true → AreHosts config key n lost nodes hosts → IsHanded config key (record { me = suc k; n = n }) (nodes (suc k)) e h o
     → IsAsked config key n lost nodes (suc k) e (set hosts k h) o
@@ -71,15 +71,15 @@ asked_out config key n i lost nodes e hosts outside are = record {
   put_out = outside_outputs config key n i nodes e outside;
 }
 
--- what stands at a place
+-- the item at a place
 pub here : {X : Type 0} (xs : List X) (k : ℕ) (d : X) → k < length xs → slice_get xs k ≡ Some (get_or xs k d)
 here [] k d h = absurd (omega (arith, h))
 here (x ∷ xs) zero d h = refl
 here (x ∷ xs) (suc k) d h = here xs k d (omega (arith, h))
 
--- ---- stores that are gone
+-- ---- lost stores
 
--- one change of a node whose store is there leaves the losses as they are
+-- a change of a node that has its store keeps the losses
 pub losses_set : (tokens i : ℕ) (x : NodeState) (w : World) (j : JournalRecord) → w.lost i ≡ false → ((k : ℕ) → IsLossOf tokens (used_in j.losses k) (w.lost k) (w.nodes k))
     → (k : ℕ) → IsLossOf tokens (used_in j.losses k) (w.lost k) (with_state i x w.nodes k)
 losses_set tokens i x w j there h k =
@@ -89,7 +89,7 @@ losses_set tokens i x w j there h k =
     kept None at l = l
     kept (Some used) at l = absurd (true≢false (sym l.0 ∙ at))
 
--- whether a store is gone is what the journal has of it
+-- a store is lost exactly if the journal says so
 pub store_there : (tokens : ℕ) (o : Option ℕ) (lost : Bool) (x : NodeState) → IsLossOf tokens o lost x → is_some o ≡ false → lost ≡ false
 store_there tokens None lost x h at = h
 store_there tokens (Some used) lost x h at = absurd (true≢false at)
@@ -98,7 +98,7 @@ pub store_gone : (tokens : ℕ) (o : Option ℕ) (lost : Bool) (x : NodeState) �
 store_gone tokens None lost x h at = absurd (true≢false (sym at))
 store_gone tokens (Some used) lost x h at = h.0
 
--- what is so of a member and false of no member, of one whose store is there
+-- a node that did not lose its store has one exactly if it is a member
 pub has_it : (w : World) (i : ℕ) → w.lost i ≡ false → is_member w.n i ≡ has_store w i
 has_it w i at = ap (λ b. not b && is_member w.n i) (sym at)
 

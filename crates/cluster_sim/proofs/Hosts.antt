@@ -44,7 +44,7 @@ unfolding made_by_event
 spent_made config place x e h s =
     cond_both x.running (made_while_running config place e x) (quiet_made x) (λ (m : Made). m ≡ quiet_made (stopped_node x)) (λ _. spent_event config place x e h s) (λ stop. halted_same x stop)
 
--- where it is what it makes of nothing
+-- an event that sends and replies nothing
 as_quiet : (config : Config) (key : List ℕ) (place : PlaceRecord) (x y : NodeState) (e : NodeEvent) (new : Hosted Content) → made_by_event config place e x ≡ quiet_made y → IsHost config key place y new → IsHanded config key place x e new None
 as_quiet config key place x y e new same h = record {
   left = subst (λ (m : Made). IsHost config key place m.state new) (sym same) h;

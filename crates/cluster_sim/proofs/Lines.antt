@@ -22,7 +22,7 @@ use Rattle.cluster_sim.proofs.Drifted.{drifts_before}
 use Rattle.cluster_sim.proofs.Runs.{proposed}
 use Rattle.cluster_sim.proofs.Gates.{Gated, all_gated, open_by_list}
 
--- the drifts of the nodes, by what is told of them
+-- the drifts of the nodes are the given ones
 abbrev DriftsAre : Config → World → (ℕ → ℕ → ℤ) → Type 0
 DriftsAre config w drifts = (i t : ℕ) → t < length config.book → (row (w.nodes i).content t).drift ≡ drifts i t
 

@@ -66,7 +66,7 @@ line_boot config client moment text x =
 
 -- ---- the world
 
--- there is the node alone, to which nothing was ever sent, and it is a state of the server; its boot is at most this one
+-- the world has a single node, to which nothing was ever sent; the node is a state of the server, with boot `b` at most
 pub record Lone (b q : ℕ) (w : World) (s : Server) : Type 0 where
   pub alone : w.n ≡ 1
   pub here : w.lost 1 ≡ false
@@ -147,7 +147,7 @@ says_lone law config b q e i client moment text w s few h =
     (made_lone b (q + 1) e made w t.server told h.alone h.here h.unsaid a.state boot a.sends (ap (λ l. map (told_reply e 1) l) a.replies))))
     (λ out. outside_step config e i (Some v) w (λ z. LoneStep b (q + 1) w z s []) h.alone out (still b q w s h))
 
--- what leaves a lone node as it is, but for whose floor is told next
+-- an output that leaves a single node unchanged, except for its next turn
 record IsUnseen (o : Made) (c : Content) (seq : ℕ) (answers : List KeptAnswer) : Type 0 where
   turn : ℕ
   state : o.state ≡ lone c seq turn answers
@@ -270,7 +270,7 @@ no_loss : (i : ℕ) (w : World) → w.n ≡ 1 → eqb i 1 ≡ false → world_af
 unfolding world_after_loss
 no_loss i w alone out = cond-false (has_store w i) _ w (no_store w i alone out)
 
--- and none is made anew for a node that isn't lost
+-- a node that is not lost gets no replacement store
 no_anew : (e i boot : ℕ) (floor : ℕ → ℕ) (w : World) → w.n ≡ 1 → w.lost 1 ≡ false → world_after_anew e i boot floor w ≡ w
 unfolding world_after_anew
 no_anew e i boot floor w alone here =
@@ -287,7 +287,7 @@ gone_store w i h =
     ⊎_elim (λ (at : eqb i 1 ≡ true). and_left (not (w.lost i)) (is_member w.n i) (ap not (ap w.lost (eqb-true i 1 at) ∙ h.lost)))
     (λ (out : eqb i 1 ≡ false). no_store w i h.alone out) (cases_Bool (eqb i 1))
 
--- it was a majority, so none is made anew
+-- the lost node was a majority, so it gets no replacement store
 gone_for_good : (w : World) (i boot : ℕ) (floor : ℕ → ℕ) → Gone w → may_be_anew w i boot floor ≡ false
 gone_for_good w i boot floor h =
     and_right (is_member w.n i && w.lost i) _ (and_left (ltb (size w.n w.lost) (majority_of w.n)) _

@@ -1,4 +1,4 @@
--- Stores that are lost and made anew, as the functions of a simulation see them.
+-- Lost and replaced stores, in the functions of a simulation.
 use Rattle.std.proofs.Common.{◌≡◌, ◌≢◌, ℕ, zero, suc, ◌+◌, ◌-◌, ◌<◌, ◌≤◌, Bool, true, false, true≢false, not, cond, ◌&&◌, ◌||◌, ⊎_elim, List, [], ◌∷◌, ◌++◌, length, get_or, take, map, Option, Some, None, refl, sym, ap, ◌∙◌, subst, arith, eqb, leb, ltb, set, Equal, Greater}
 use Rattle.std.specs.Prelude.{Result, Ok, Err, is_some}
 use Rattle.std.proofs.Math.Seq.{take-suc, take-length}
@@ -69,7 +69,7 @@ greatest_with k lost f there = sym (cond-false (lost (suc k)) (greatest k lost f
 pub greatest_gone : (k gone : ℕ) (lost : ℕ → Bool) (f : ℕ → ℕ) (best : ℕ) → k + 1 ≡ gone → best ≡ greatest k (with_node gone lost) f → best ≡ greatest (k + 1) (with_node gone lost) f
 greatest_gone k gone lost f best at is = is ∙ greatest_skip k (with_node gone lost) f (ap (λ b. b || lost (suc k)) (eq-eqb (suc k) gone (one_more k ∙ at)))
 
--- another one whose store is gone
+-- one more node that lost its store
 pub greatest_lost : (config : Config) (key : List ℕ) (w : World) (s : SimulationRecord) (k gone : ℕ) (f : ℕ → ℕ) (best : ℕ) → IsRun config key w s → is_some (used_in s.journal.losses (k + 1)) ≡ true
     → best ≡ greatest k (with_node gone w.lost) f → best ≡ greatest (k + 1) (with_node gone w.lost) f
 greatest_lost config key w s k gone f best h at is =
@@ -80,7 +80,7 @@ greatest_lost config key w s k gone f best h at is =
     or_true true b q = refl
     or_true false b q = q
 
--- one whose store is there
+-- one more node that has its store
 pub greatest_there : (config : Config) (key : List ℕ) (w : World) (s : SimulationRecord) (k gone t next : ℕ) (host : Hosted Content) (best new : ℕ) → IsRun config key w s → k < length s.nodes → host ≡ get_or s.nodes k host
     → (k + 1 ≡ gone → ⊥) → is_some (used_in s.journal.losses (k + 1)) ≡ false → next ≡ (row host.store t).next → new ≡ greater next best
     → best ≡ greatest k (with_node gone w.lost) (λ i. (row (w.nodes i).content t).next) → new ≡ greatest (k + 1) (with_node gone w.lost) (λ i. (row (w.nodes i).content t).next)
@@ -178,7 +178,7 @@ lost_run config key w hosts j k i used host least at within is member found boot
       };
     })
 
--- what names no member, or one whose store is gone already
+-- a loss at no member, or at a node that has no store
 pub unlost_run : (config : Config) (key : List ℕ) (w : World) (s : SimulationRecord) (i : ℕ) → has_store w i ≡ false → IsRun config key w s → IsRun config key (world_after_loss i w) s
 unfolding world_after_loss
 unlost_run config key w s i out h = subst (λ (x : World). IsRun config key x s) (sym (cond-false (has_store w i) _ w out)) h
@@ -236,9 +236,9 @@ same_most : (tokens : ℕ) (a b f : ℕ → ℕ) → ((t : ℕ) → t < tokens �
 same_most zero a b f h = refl
 same_most (suc t) a b f h = ap (λ n. leb n (f t) && all_most t a f) (h t (omega arith)) ∙ ap (λ c. leb (b t) (f t) && c) (same_most t a b f (λ u lt. h u (omega (arith, lt))))
 
--- ---- a store made anew
+-- ---- a replacement store
 
--- what a node's store says that is gone
+-- the content of a lost store
 pub record IsGone (config : Config) (w : World) (i used : ℕ) : Type 0 where
   pub lost : w.lost i ≡ true
   pub boot : (w.nodes i).content.boot ≡ used + 1
@@ -279,7 +279,7 @@ pub unmade_run : (config : Config) (key : List ℕ) (w : World) (s : SimulationR
 unfolding world_after_anew
 unmade_run config key w s e i boot floor fails h = subst (λ (x : World). IsRun config key x s) (sym (cond-false (may_be_anew w i boot floor) _ w fails)) h
 
--- what names no member, or one whose store is there
+-- a replacement at no member, or at a node that has its store
 pub no_anew_out : (w : World) (i boot : ℕ) (floor : ℕ → ℕ) → is_member w.n i ≡ false → may_be_anew w i boot floor ≡ false
 no_anew_out w i boot floor out = and_left (is_member w.n i && w.lost i) _ (and_left (is_member w.n i) (w.lost i) out)
 

@@ -38,7 +38,7 @@ no_space (b ∷ bs) h = ((λ e. letter b (h zero 0 (omega arith)) e), no_space b
     letter : (b : ℕ) → IsAsciiAlphanumeric b → b ≡ 32 → ⊥
     letter b h e = ⊎_elim (λ x. ⊎_elim (λ (y : IsInRange 48 57 b). absurd (omega (arith, y.0, e))) (λ (y : IsInRange 65 90 b). absurd (omega (arith, y.0, e))) x) (λ (y : IsInRange 97 122 b). absurd (omega (arith, y.0, e))) h
 
--- what stands before and after the first space
+-- the texts before and after the first space
 same_parts : (a b x y : List ℕ) → HasNoSpace a → HasNoSpace b → a ++ 32 ∷ x ≡ b ++ 32 ∷ y → (a ≡ b) × (x ≡ y)
 same_parts [] [] x y h k e = (refl, ap (λ l. drop 1 l) e)
 same_parts [] (c ∷ b) x y h k e = absurd (k.0 (sym (ap (λ (l : List ℕ). get_or l 0 0) e)))

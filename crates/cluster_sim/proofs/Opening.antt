@@ -60,7 +60,7 @@ of_snoc P [] y old new (suc j) x e = absurd (none-some x e)
 of_snoc P (a ∷ xs) y old new zero x e = old zero x e
 of_snoc P (a ∷ xs) y old new (suc j) x e = of_snoc (λ i z. P (suc i) z) xs y (λ i z f. old (suc i) z f) new j x e
 
--- so many nodes are open
+-- `count` nodes are open
 pub record AreOpen (config : Config) (key : List ℕ) (lists : List (Vec ℕ)) (count : ℕ) (hosts : List (Hosted Content)) : Type 0 where
   pub size : length hosts ≡ count
   pub hosts_are : AreHosts config key (length lists) (opening_world config (first_start (floor_lists lists))).lost (opening_world config (first_start (floor_lists lists))).nodes hosts

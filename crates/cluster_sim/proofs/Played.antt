@@ -37,7 +37,7 @@ one_played config e (suc k) m (y ∷ xs) w x is at = one_played config (suc e) k
     later : (e k m : ℕ) → m ≡ e + suc k → m ≡ suc e + k
     later e k m h = omega (arith, h)
 
--- a simulation after so many of these events
+-- a simulation after `k` of the events
 abbrev pub IsPlayed : Config → List ℕ → List WorldEvent → World → ℕ → SimulationRecord → Type 0
 IsPlayed config key xs w k s = IsRun config key (world_after_events config 0 (take k xs) w) s
 

@@ -208,7 +208,7 @@ silent : (config : Config) (place : PlaceRecord) (x : NodeState) (from : ℕ) (r
 unfolding made_by_event made_while_running
 silent config place x from r s = cond_both x.running (made_by_datagram config place from r x) (quiet_made x) (λ (m : Made). m ≡ quiet_made x) (λ _. s place x) (λ _. refl)
 
--- where the store is gone nothing happens
+-- without its store nothing happens at a node
 pub gone_run : (config : Config) (key : List ℕ) (e i : ℕ) (o : Option NodeEvent) (w : World) (b : Bool) (s : SimulationRecord) → w.lost i ≡ true → IsRun config key w s
     → IsRun config key (told_world b w (world_after_turn config e i o w)) s
 unfolding world_after_turn
@@ -278,7 +278,7 @@ unfolding world_after_act
 act_turn config key e x a w b s result is h =
     subst (λ (o : Option NodeEvent). OnOk result (IsRun config key (told_turn b e (acting_node a) o config w) s)) is h
 
--- an act at a node whose store is gone
+-- an act at a node that lost its store
 pub act_gone : (config : Config) (key : List ℕ) (e : ℕ) (a : Act) (w : World) (b : Bool) (s : SimulationRecord) → w.lost (acting_node a) ≡ true → IsRun config key w s → IsRun config key (told_act b e a config w) s
 unfolding world_after_act
 act_gone config key e a w b s gone h = gone_run config key e (acting_node a) (node_event_of w.sent a) w b s gone h

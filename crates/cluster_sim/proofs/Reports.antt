@@ -105,7 +105,7 @@ next_honest events e w h = record { nodes = λ i. next_event events w.history e 
 
 -- ---- an event at a node
 
--- what is kept where the event is done, and where the node stops inside it
+-- the claims kept by a whole event, and by an event inside which the node stops
 record Halves (events : List WorldEvent) (e : ℕ) (Premise : Type 0) (w new : World) : Type 0 where
   nodes : (i : ℕ) → NodeKept events new.history (suc e) i (new.nodes i)
   old_told : Each (ToldBacked events (passes_in new.history)) w.told
@@ -263,7 +263,7 @@ restart_honest events e (Some i) w h =
     })
     (λ _. h)
 
--- ---- stores that are lost and made anew
+-- ---- lost and replaced stores
 
 loss_honest : (events : List WorldEvent) (e i : ℕ) (w : World) → Honest events e w → Honest events e (world_after_loss i w)
 unfolding world_after_loss
@@ -276,7 +276,7 @@ loss_honest events e i w h =
     })
     (λ _. h)
 
--- nothing is begun or accepted where a store is made anew
+-- nothing begins or is accepted when a store is replaced
 noted_anew : (events : List WorldEvent) (h : List Note) (e i j : ℕ) (x : NodeState) → NodeKept events h e j x → NodeKept events (note_anew e i ∷ h) (suc e) j x
 noted_anew events h e i j x k = record { owners = k.owners; owned = k.owned; answers = answers_later events (passes_in h) [] e j x.answers k.answers }
 

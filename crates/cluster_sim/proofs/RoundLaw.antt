@@ -82,7 +82,7 @@ pub record RoundDone (config : Config) (live : List ℕ) (e end : ℕ) (l : Roun
 
 -- ---- a round in which nothing is proposed
 
--- what a line makes of a node where nothing is proposed
+-- the effect of a line on a node that proposes nothing
 record Plain (w : World) (l : RoundLine) (o : Made) (bytes : List ℕ) : Type 0 where
   sends : o.sends ≡ []
   pass : o.pass ≡ None

@@ -42,7 +42,7 @@ round_is_acts config live n w l =
     acts_append (deliveries (is_between live) (length w.sent) _) (deliveries (is_between live) _ _)
     (deliveries_are_acts (is_between live) (length w.sent) _) (deliveries_are_acts (is_between live) _ _)
 
--- and whatever has happened
+-- the datagrams stay spelled after any acts
 pub spelled_on : (config : Config) (n m : ℕ) (xs : List WorldEvent) (w : World) → AreActs xs → m ≡ length xs + n → StaySpelled config n w → StaySpelled config m (world_after_events config n xs w)
 spelled_on config n m xs w acts is h =
     subst (λ j. StaySpelled config j (world_after_events config n xs w)) (sym is) (λ ys more. subst AreSpelled (run_append config xs ys n w) (h (xs ++ ys) (acts_append xs ys acts more)))
@@ -139,7 +139,7 @@ between_handed config key live k w s d at inside h to is =
 
 -- ---- all datagrams from a number on
 
--- those below number k were handed on, of what was sent in this world
+-- the envelopes below number `k` were delivered, of the envelopes sent in the world `w`
 pub record AreHandedTo (config : Config) (key : List ℕ) (live : List ℕ) (first n : ℕ) (w : World) (k next : ℕ) (s : SimulationRecord) : Type 0 where
   pub now : World
   pub run : IsRun config key now s

@@ -99,7 +99,7 @@ result_is w i t lt = get_or-map-range_with_len (λ u. results_in w.history i u) 
 
 -- ---- the results of a node, as a list by token
 
--- each node has as many rows as before
+-- each node has its old number of rows
 abbrev pub SameRows : World → World → Type 0
 SameRows w v = (j : ℕ) → length (v.nodes j).content.rows ≡ length (w.nodes j).content.rows
 

@@ -1,4 +1,4 @@
--- In every cluster of voters each node keeps as many rows as it had.
+-- In every cluster of voters each node keeps its number of rows.
 use Rattle.std.proofs.Common.{◌≡◌, ℕ, ℤ, ◌^◌, true, false, cond, List, length, Option, Some, None, refl, ◌∙◌, eqb, leb, ltb}
 use Rattle.std.specs.List.{slice_get}
 use Rattle.std.proofs.lemmas.Bool.{cond_both}
@@ -76,7 +76,7 @@ tell_size place told c v = refl
 
 -- ---- worlds
 
--- each node has so many rows
+-- each node has `k` rows
 abbrev pub Sized : ℕ → Cluster → Type 0
 Sized k w = (i : ℕ) → length (w.nodes i).content.rows ≡ k
 

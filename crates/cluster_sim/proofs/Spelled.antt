@@ -1,4 +1,4 @@
--- Whatever happens, each datagram that a node sends is in the peer format.
+-- Each datagram that a node sends is in the peer format, in every history.
 use Rattle.std.proofs.Common.{true≢false, ◌≡◌, ◌≢◌, ℕ, zero, suc, ◌+◌, ◌-◌, ◌^◌, ◌<◌, ◌≤◌, Bool, true, false, ◌&&◌, ◌||◌, cond, not, ⊎_elim, List, [], ◌∷◌, ◌++◌, length, map, Option, Some, None, refl, sym, ap, ◌∙◌, subst, arith, eqb, leb, ltb, take, ℤ}
 use Rattle.std.specs.Prelude.{filter}
 use Rattle.std.specs.List.{slice_get}
@@ -292,7 +292,7 @@ IsSpelled l = HasSpelling l.sender l.receiver l.message
 abbrev pub IsFineNode : NodeState → Type 0
 IsFineNode x = IsFine x.content x.voter
 
--- a node whose store is gone may be past the last boot
+-- a node that lost its store may be past the last boot
 pub record IsFineWorld (w : World) : Type 0 where
   pub few : w.n ≤ 9
   pub nodes : (i : ℕ) → w.lost i ≡ false → IsFineNode (w.nodes i)
@@ -305,7 +305,7 @@ set_fine i x lost nodes hx h j at = cond_both (eqb j i) x (nodes j) IsFineNode (
 set_tokens : (i : ℕ) (x : NodeState) (nodes : ℕ → NodeState) → length x.content.rows ≤ 10000 → ((j : ℕ) → length (nodes j).content.rows ≤ 10000) → (j : ℕ) → length (with_state i x nodes j).content.rows ≤ 10000
 set_tokens i x nodes hx h j = cond_both (eqb j i) x (nodes j) (λ (y : NodeState). length y.content.rows ≤ 10000) (λ _. hx) (λ _. h j)
 
--- a node whose store is there is fine
+-- a node that has its store is fine
 there : (i : ℕ) (w : World) → IsFineWorld w → has_store w i ≡ true → IsFineNode (w.nodes i)
 there i w h b = h.nodes i (not-true (w.lost i) (and_parts (not (w.lost i)) (is_member w.n i) b).0)
 
@@ -379,7 +379,7 @@ restart_fine (Some i) w h =
     record { few = h.few; nodes = set_fine i x w.lost w.nodes f h.nodes; tokens = set_tokens i x w.nodes f.tokens h.tokens; sent = h.sent }))
     (λ _. h)
 
--- ---- stores that are lost and made anew
+-- ---- lost and replaced stores
 
 loss_fine : (i : ℕ) (w : World) → IsFineWorld w → IsFineWorld (world_after_loss i w)
 unfolding world_after_loss
@@ -489,7 +489,7 @@ pub record IsFineStart (config : Config) (start : Start) : Type 0 where
   pub floors : (i t : ℕ) → start.opening.floor i t ≤ 2 ^ 62
   pub old : Each IsSpelled start.opening.old
 
--- that of nodes that open for the first time
+-- the start of nodes that open for the first time
 pub first_fine : (config : Config) (floors : List (List ℕ)) → length config.book ≤ 10000 → length floors ≤ 9 → ((i t : ℕ) → floor_at floors i t ≤ 2 ^ 62) → IsFineStart config (first_start floors)
 first_fine config floors few n h = record { tokens = few; nodes = n; boots = λ i. omega arith; floors = h; old = tt }
 
@@ -507,7 +507,7 @@ spelled_in_range grounds config start events h range k =
 pub all_spelled : GroundLaw → (config : Config) (start : Start) (events : List WorldEvent) → IsFineStart config start → HaveFloorsInRange events → AreSpelledAlong config events (opening_world config start)
 all_spelled grounds config start events h range = spelled_in_range grounds config start events h (in_range events range)
 
--- and so are all that come after, if no store is made anew in them
+-- after further events in range the world stays spelled
 pub then_spelled : GroundLaw → (config : Config) (start : Start) (events more : List WorldEvent) → IsFineStart config start
     → HaveFloorsInRange events → AreInRange more → AreSpelledAlong config (events ++ more) (opening_world config start)
 then_spelled grounds config start events more h range later =

@@ -10,7 +10,7 @@ pub one_more : (began : ℕ) (starts : List StartRecord) (s : StartRecord) (p : 
 one_more began [] s p = refl
 one_more began (x ∷ starts) s p = one_more (cond (same_proposal p x.proposal) x.event began) starts s p
 
--- of the starts up to this one
+-- the starts up to number `k`
 up_to : (starts : List StartRecord) (k : ℕ) (d : StartRecord) (p : ProposalRecord) → k < length starts
     → start_event (take (suc k) starts) p ≡ cond (same_proposal p (get_or starts k d).proposal) (get_or starts k d).event (start_event (take k starts) p)
 up_to starts k d p h = ap (λ l. start_event l p) (take-suc starts k d h) ∙ one_more 0 (take k starts) (get_or starts k d) p

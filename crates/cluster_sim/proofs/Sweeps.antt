@@ -80,7 +80,7 @@ pub record OfTick (tokens : ℕ) (B : ℕ → ℕ) (i : ℕ) (l : Envelope) : Ty
   pub other : l.receiver ≢ i
   pub fits : FloorFits tokens B l.message
 
--- what the message says has come to node j
+-- the content of the message has reached node `j`
 abbrev pub ReachedBy : World → ℕ → Message → Type 0
 ReachedBy v j (Ask p t span) = Unit {0}
 ReachedBy v j (Grant p t span) = Unit {0}

@@ -52,7 +52,7 @@ Asked events i client line nonce (Some b) = IsAskedIn i client line nonce (slice
 abbrev pub OwnerKept : List WorldEvent → (ProposalRecord → Option Begun) → ℕ → ℕ → ℕ → Owner → Type 0
 OwnerKept events begun i boot seq o = (o.seq < seq) × Asked events i o.client o.line o.nonce (begun (named i boot o.seq))
 
--- an OK to this client and line is that of an earlier pass of the node
+-- an OK to the client and line is the OK of an earlier pass of the node
 pub record Backed (events : List WorldEvent) (passes : List Acceptance) (e i client : ℕ) (line text : List ℕ) : Type 0 where
   pub place : ℕ
   pub pass : Acceptance

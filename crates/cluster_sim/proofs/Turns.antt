@@ -178,7 +178,7 @@ less_all zero (suc m) h = absurd (omega (arith, h))
 less_all (suc r) zero h = less_zero r
 less_all (suc r) (suc m) h = less_all r m (omega (arith, h))
 
--- after so many more ticks none is left
+-- no proposal is left after the given number of further ticks
 abbrev Left : ℕ → List Ballot → Type 0
 Left zero qs = qs ≡ []
 Left (suc m) qs = Each (λ (q : Ballot). 8 ≤ q.age + suc m) qs
@@ -202,7 +202,7 @@ left_step (suc (suc m)) qs h =
 left_eight : (qs : List Ballot) → Left 8 qs
 left_eight qs = each_all (λ (q : Ballot). 8 ≤ q.age + 8) (λ q. omega arith) qs
 
--- ---- in as many ticks as there are tokens, each has its turn
+-- ---- one tick for each token: each token has its turn
 
 -- token t has its turn in the next r ticks, from turn c on
 abbrev Due : ℕ → ℕ → ℕ → ℕ → Type 0

@@ -1,4 +1,4 @@
--- In a round each letter is handed on in the order of sending until none is left: there is one such list of events.
+-- A round delivers each letter in the order of sending until none remains: there is exactly one such list of events.
 use Rattle.std.proofs.Common.{◌≡◌, ℕ, zero, suc, ◌+◌, ◌<◌, ◌≤◌, ⊎_elim, Bool, true, false, cond, List, [], ◌∷◌, ◌++◌, length, drop, Option, Some, None, refl, sym, ap, ◌∙◌, subst, arith}
 use Rattle.std.specs.List.{slice_get}
 use Rattle.std.proofs.lemmas.Bool.{cond_both, cases_lt}
@@ -30,7 +30,7 @@ unsent_run config test (l ∷ ls) k e w h =
     (λ _. ap (λ v. world_after_events config (suc e) rest v) (unsent_one config e k l.receiver w h) ∙ unsent_run config test ls (suc k) (suc e) w (omega (arith, h)))
     (λ _. unsent_run config test ls (suc k) e w (omega (arith, h)))
 
--- letter number k, where it was sent, is the first of those from k on
+-- letter number k, if it was sent, is the first of the letters from k on
 head_is : (xs more : List Envelope) (k : ℕ) (d : Envelope) (ds : List Envelope) → k < length xs → drop k (xs ++ more) ≡ d ∷ ds → slice_get xs k ≡ Some d
 head_is [] more k d ds lt h = absurd (omega (arith, lt))
 head_is (x ∷ xs) more zero d ds lt h = ap first h
@@ -56,7 +56,7 @@ tail_is (x ∷ xs) (suc k) d ds h = tail_is xs k d ds h
 abbrev AllHanded : Config → (Envelope → Bool) → ℕ → ℕ → World → List Envelope → Type 0
 AllHanded config test k e w ds = drop k (world_after_events config e (deliveries test k ds) w).sent ≡ ds
 
--- with nothing left none is delivered_event on
+-- without a remaining letter nothing is delivered
 none_left : (config : Config) (test : Envelope → Bool) (k e : ℕ) (w : World) (ds : List Envelope) → length w.sent ≤ k → AllHanded config test k e w ds → ds ≡ []
 none_left config test k e w ds h q = sym q ∙ ap (λ (z : World). drop k z.sent) (unsent_run config test ds k e w h) ∙ drop_all k w.sent h
 

@@ -48,7 +48,7 @@ hands config e k l w at member up hears =
     ∙ acts config e j (Peer l.sender (Some l)) w member up
     ∙ ap (λ o. world_with_made e j o w) (cond-true (is_heard config (place_at w j) l.sender l) (made_by_vote x.owners None (on_message (place_at w j) l.sender l.message x.content x.voter) x) (quiet_made x) hears)
 
--- whose store is there is a member
+-- a node that has its store is a member
 pub is_in : (w : World) (i : ℕ) → has_store w i ≡ true → is_member w.n i ≡ true
 is_in w i h = (and_parts (not (w.lost i)) (is_member w.n i) h).1
 

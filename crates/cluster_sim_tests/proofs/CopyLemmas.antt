@@ -4,7 +4,7 @@ use Rattle.std.specs.Global.{Vec}
 use Rattle.std.specs.List.{slice_get}
 use Rattle.std.proofs.lemmas.Option.{none-some, same_Some}
 
--- so many lists, each of them this one
+-- `count` lists, each of which equals `floors`
 pub record AreCopies (floors : List ℕ) (count : ℕ) (lists : List (Vec ℕ)) : Type 0 where
   pub size : length lists ≡ count
   pub same : (k : ℕ) (list : Vec ℕ) → slice_get lists k ≡ Some list → list.items ≡ floors

@@ -1,4 +1,4 @@
-//! Whole scripts, with what each comes to.
+//! Whole scripts, each with its report.
 
 ghost use Rattle.std.specs.Prelude.{◌≡◌, ℕ, IfOk, Some, length, slice_get};
 ghost use Rattle.std.specs.Global.{Vec};
@@ -12,14 +12,13 @@ use vote_wire::ClusterKey;
 /// The token of RFC 4226, Appendix D.
 const SILVER: &[u8] = b"HOTP silver - 3132333435363738393031323334353637383930";
 
-/// An acceptance of the one token: the events in which it began and ended, the node, and the ends of its
-/// factors.
+/// An acceptance of the one token: its first and last event, the node, and its first and last factor.
 type Pass = (u64, u64, u8, u64, u64);
 
 /// An answer: the event, the node, the client and the text.
 type Text = (u64, u8, u64, &'static [u8]);
 
-/// What a report tells.
+/// The content of a report.
 struct Told {
     passes: &'static [Pass],
     answers: &'static [Text],
@@ -45,7 +44,7 @@ const FIRST_AT_2: WorldEvent<'static> = WorldEvent::Happens(Act::Client {
 /// A tick of node 1.
 const TICK_OF_1: WorldEvent<'static> = WorldEvent::Happens(Act::Tick { node: 1 });
 
-/// The same list for each of the given number of nodes.
+/// Returns the same list for each of `n` nodes.
 fn lists_of(alloc: Global, floors: &[Next], n: usize) -> Result<Vec<Vec<Next>>, AllocError>
     ensures len { IfOk result (λ lists. length lists.items ≡ n) }
     ensures same { IfOk result (λ lists. (k : ℕ) (list : Vec ℕ) → slice_get lists.items k ≡ Some list
@@ -58,8 +57,9 @@ fn lists_of(alloc: Global, floors: &[Next], n: usize) -> Result<Vec<Vec<Next>>, 
     Ok(lists)
 }
 
-/// What a script comes to at this many fresh nodes with the one token, under 32 zeros, with a look-ahead of 5, a skew
-/// of 1, a range of 9 and no drift.
+/// Returns the report of a script at `n` fresh nodes with the one token and a key of 32 zeros.
+///
+/// The look-ahead is 5, the skew 1 and the range 9. Drift is off.
 fn report_of(alloc: Global, n: usize, events: &[WorldEvent<'_>]) -> Option<Report> {
     if n < 1 || n > 9 {
         return None;
@@ -75,7 +75,7 @@ fn report_of(alloc: Global, n: usize, events: &[WorldEvent<'_>]) -> Option<Repor
     run_world(alloc, &book, settings, &key, &lists, events).ok()
 }
 
-/// What rounds among these live members of three come to after some events, in the same way.
+/// Returns the report of rounds among the live members of three nodes, after some events.
 fn report_of_rounds(
     alloc: Global,
     before: &[WorldEvent<'_>],
@@ -93,7 +93,7 @@ fn report_of_rounds(
     run_rounds(alloc, &book, settings, &key, &lists, before, live, lines).ok()
 }
 
-/// Whether these were accepted.
+/// Returns whether the passes are `want`.
 fn are_passes(passes: &[WorldPass], want: &[Pass]) -> bool {
     for (pass, &(began, ended, node, lo, hi)) in passes.iter().zip(want) {
         if pass.began != began || pass.ended != ended || pass.node != node || pass.token != 0 {
@@ -106,7 +106,7 @@ fn are_passes(passes: &[WorldPass], want: &[Pass]) -> bool {
     passes.len() == want.len()
 }
 
-/// Whether these answers were given.
+/// Returns whether the answers are `want`.
 fn are_answers(answers: &[WorldAnswer], want: &[Text]) -> bool {
     for (answer, &(event, node, client, text)) in answers.iter().zip(want) {
         if answer.event != event || answer.node != node || answer.client != client {
@@ -119,7 +119,7 @@ fn are_answers(answers: &[WorldAnswer], want: &[Text]) -> bool {
     answers.len() == want.len()
 }
 
-/// Whether a report tells this, and nothing else.
+/// Returns whether a report has the content `told`, and nothing else.
 fn tells(report: &Option<Report>, told: &Told) -> bool {
     let Some(report) = report else {
         return false;
@@ -129,12 +129,12 @@ fn tells(report: &Option<Report>, told: &Told) -> bool {
         && report.sent() == told.sent
 }
 
-/// Whether a script comes to this at this many nodes.
+/// Returns whether the report of a script at `n` nodes has the content `told`.
 fn comes_to(alloc: Global, n: usize, events: &[WorldEvent<'_>], told: &Told) -> bool {
     tells(&report_of(alloc, n, events), told)
 }
 
-/// Two submissions of one code at two nodes: one is accepted.
+/// Two submissions of one code at two nodes: exactly one is accepted.
 #[test]
 fn two_submissions(rt: HostRuntime) {
     let events = [
@@ -155,7 +155,7 @@ fn two_submissions(rt: HostRuntime) {
     assert!(rt; comes_to(rt.alloc(), 3, &events, TOLD));
 }
 
-/// Of four nodes two grant one submission, and two the other: none is accepted.
+/// Two of four nodes grant one submission, and the other two the other. No submission is accepted.
 #[test]
 fn split_two_to_two(rt: HostRuntime) {
     let events = [
@@ -182,7 +182,9 @@ fn split_two_to_two(rt: HostRuntime) {
     assert!(rt; comes_to(rt.alloc(), 4, &events, TOLD));
 }
 
-/// Whether two submissions come to this where node 3 stops inside the step in which it grants, and is asked again.
+/// Returns whether the report of two submissions is `told`, if node 3 stops inside the step in which it grants.
+///
+/// Node 3 receives the Ask a second time.
 fn stops_in_its_grant(alloc: Global, kept: bool, told: &Told) -> bool {
     let act = Act::Deliver { node: 3, k: 1 };
     let events = [
@@ -197,7 +199,7 @@ fn stops_in_its_grant(alloc: Global, kept: bool, told: &Told) -> bool {
     comes_to(alloc, 3, &events, told)
 }
 
-/// What it wrote may be kept or lost.
+/// The stopped node's write may be kept or lost.
 #[test]
 fn stop_after_the_commit(rt: HostRuntime) {
     const TOLD: &Told = &Told {
@@ -241,7 +243,7 @@ fn old_grants(rt: HostRuntime) {
     assert!(rt; comes_to(rt.alloc(), 3, &events, TOLD));
 }
 
-/// Nothing comes: after eight ticks the line is given up.
+/// Nothing arrives: the node gives the line up after eight ticks.
 #[test]
 fn eight_ticks(rt: HostRuntime) {
     let events = [
@@ -280,8 +282,10 @@ fn second_factor_elsewhere(rt: HostRuntime) {
     assert!(rt; comes_to(rt.alloc(), 3, &events, TOLD));
 }
 
-/// What comes of a store of node 2 that is lost and made anew with this first free factor, after node 1 accepted factor
-/// 0: node 3 asks it for factor 1.
+/// Returns whether a report is `told`: node 2 gets a replacement store with the floor `next`.
+///
+/// A floor is the first free factor of a token at a node. Node 1 accepted factor 0 before. Node 3 then asks node 2 for
+/// factor 1.
 fn made_anew_from(alloc: Global, next: u64, told: &Told) -> bool {
     let Some(next) = Next::new(next) else {
         return false;
@@ -309,7 +313,7 @@ fn made_anew_from(alloc: Global, next: u64, told: &Told) -> bool {
     comes_to(alloc, 3, &events, told)
 }
 
-/// Its node grants what lies above all that the others had, and a store that would begin below isn't made.
+/// A replaced store grants factors above all floors of the other nodes. A store with a lower floor is not created.
 #[test]
 fn lost_store_made_anew(rt: HostRuntime) {
     const GRANTED: &Told = &Told {
@@ -326,7 +330,7 @@ fn lost_store_made_anew(rt: HostRuntime) {
     assert!(rt; made_anew_from(rt.alloc(), 0, NOT_MADE));
 }
 
-/// Node 1 is lost, and a tick of node 2 levels the floors of the other two, which serve on.
+/// Node 1 is lost. A tick of node 2 levels the floors of the other two nodes, which continue to serve.
 #[test]
 fn rounds_after_a_loss(rt: HostRuntime) {
     let before = [
@@ -357,7 +361,7 @@ fn rounds_after_a_loss(rt: HostRuntime) {
     assert!(rt; tells(&report_of_rounds(rt.alloc(), &before, &[2, 3], LINES), TOLD));
 }
 
-/// What is shown of a line for a round has no byte of it.
+/// The debug text of a line for a round has no byte of the line.
 #[test]
 fn round_line_hides_its_text(rt: HostRuntime) -> Result<(), AllocError> {
     let line = RoundLine {

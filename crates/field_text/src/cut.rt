@@ -3,7 +3,7 @@ ghost use Rattle.std.specs.List.{slice_split};
 ghost use Rattle.std.specs.Option.{option_map};
 ghost use Rattle.field_text.specs.Cut.{halves_of};
 
-/// The place of the first of a mark.
+/// Returns the place of the first `mark`, or None if there is none.
 fn place_of(text: &[u8], mark: u8) -> Option<usize>
     ensures place { result ≡ position (λ b. b == mark) text.now }
     ensures within { IfSome result (λ place. place < length text.now) }
@@ -11,7 +11,7 @@ fn place_of(text: &[u8], mark: u8) -> Option<usize>
     text.iter().position(|&byte| byte == mark)
 }
 
-/// What stands before the first of a mark and what behind it, or `None` where the mark is not there.
+/// Returns the parts before and after the first `mark`, or None if there is none.
 pub fn cut_at(text: &[u8], mark: u8) -> Option<(&[u8], &[u8])>
     ensures halves { option_map (λ x. record { before = x.0.now; behind = x.1.now }) result ≡ halves_of mark text.now }
     ensures some { IfSome result (λ x. slice_split (λ b. b == mark) text.now

@@ -5,15 +5,15 @@ ghost use Rattle.field_text.specs.Number.{number_of};
 
 use std::str;
 
-/// Whether a text has nothing but decimal digits.
+/// Returns whether `text` has decimal digits alone.
 fn is_all_digits(text: &[u8]) -> bool
     ensures { result ≡ list_all is_ascii_digit text.now }
 {
     text.iter().all(|byte| byte.is_ascii_digit())
 }
 
-/// The number that is written so in decimal digits, with leading zeros or without, or `None` where the text
-/// is empty, has anything but digits (a sign, a space), or is 2^64 or more.
+/// Returns the number of decimal digits, with or without leading zeros. Returns None if `text` is empty, has anything
+/// but digits (a sign, a space), or is 2^64 or more.
 pub fn read_number(text: &[u8]) -> Option<u64>
     ensures { result ≡ number_of text.now }
 {

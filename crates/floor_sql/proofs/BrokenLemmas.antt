@@ -63,7 +63,7 @@ token_holds = record {
   last = refl;
 }
 
--- those of no token hold what they are made of
+-- the tables without a token hold the content that they are made of
 pub none_holds : (boot : ℕ) → Holds (tables_at boot []) (small_content boot) []
 unfolding value_cmp lib.Ieee.is_nan lib.Ieee.lt
 none_holds boot = record {
@@ -74,7 +74,7 @@ none_holds boot = record {
   last = refl;
 }
 
--- where no row stands there are no passes
+-- without a row there are no passes
 pub count_of_none : (passes : List PassRecord) → IsPermutation (pass_rows 1 passes) [] → length passes ≡ 0
 count_of_none passes h =
     let lengths : 0 ≡ length (pass_rows 1 passes) = length_permutation _ _ h in

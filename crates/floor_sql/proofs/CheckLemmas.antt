@@ -110,7 +110,7 @@ at_place ops i op got =
           let here : get_or ops i d ≡ op = cc in is ∙ here,
     )
 
--- where the root asks whether two sides are equal, they are the key and the number
+-- if the root compares two sides for equality, they are the key and the number
 pub checks_found : (ops : List Op) (roots : List ℕ) (root left right : ℕ) (top : Op) → roots ≡ root ∷ []
     → terms_in ops roots ≡ id_checks → root < length ops → top ≡ get_or ops root top → top ≡ Binary (Compare Eq bytes) left right
     → (left < length ops) × (right < length ops) × ((d : Op) → d ≡ get_or ops left d → d ≡ Column 1 0)
@@ -128,7 +128,7 @@ checks_found ops roots root left right top one is low place equality =
     let b = at_place ops right (Literal (Int (pos 1))) (ap (slice_get ops) (sym r) ∙ it.3.number) in
     (a.0, b.0, a.1, b.1)
 
--- the nodes are those of the test
+-- the nodes are the nodes of the check
 pub checks_made : (ops : List Op) (roots : List ℕ) (root left right : ℕ) (top key number : Op) → roots ≡ root ∷ []
     → root < length ops → top ≡ get_or ops root top → top ≡ Binary (Compare Eq bytes) left right
     → left < length ops → key ≡ get_or ops left key → key ≡ Column 1 0

@@ -64,12 +64,12 @@ length_set [] i v = refl
 length_set (x ∷ xs) zero v = refl
 length_set (x ∷ xs) (suc i) v = ap suc (length_set xs i v)
 
--- what the change makes of tables that hold the one content and so many passes
+-- the effect of the change on tables that hold the content `c` and `count` passes
 abbrev pub Alters : (Database → Database → Type 0) → Content → ℕ → Content → List PassRecord → Type 0
 Alters IsChange c count after more = (old new : Database) (passes : List PassRecord) → old.schema ≡ floor_schema → Holds old.trees c passes → length passes ≡ count → IsChange old new
     → (new.schema ≡ floor_schema) × Holds new.trees after (passes ++ more)
 
--- a row stays where its table stays
+-- a row stays if its table stays
 pub row_stays : (old new : List Row) (key : ℕ) (columns : Row → Row) (values : Row) → new ≡ old → HasRow old key columns values → HasRow new key columns values
 row_stays old new key columns values same it = subst (λ rows. HasRow rows key columns values) (sym same) it
 

@@ -60,7 +60,7 @@ leaves_mirror g conn mirror count kept law c it =
 abbrev pub stored : {S : Type 0} → Held S → Content → List Put → ℕ → Option StoreFault → SqlHeld S
 stored conn mirror staged count fault = record { conn = conn; mirror = mirror; staged = staged; passes = count; fault = fault }
 
--- where nothing waits for a commit the tables hold the mirror
+-- without waiting puts the tables hold the mirror
 pub idle_kept : {S : Type 0} (g : Ghosts S) (conn : Held S) (mirror : Content) (staged : List Put) (count : ℕ) (fault : Option StoreFault)
     → IsStaged g conn mirror staged count fault → staged ≡ [] → IsKept g conn mirror count fault
 idle_kept g conn mirror staged count fault it none =
@@ -172,7 +172,7 @@ makes_all base count staged (Some boot) next old new passes schema holds counted
     let content : with_next_boot c ≡ with_boot (Some boot) c = ap (λ (n : ℕ). with_boot (Some n) c) (sym number) in
     (made.0, subst₂ (λ (d : Content) (l : List PassRecord). Holds new.trees d l) content (append-nil all) made.1)
 
--- A write of all that waits, with the number of the boot where one is given.
+-- A write of all waiting puts, with the boot if it is Some.
 module _ {S : Type 0} (g : Ghosts S) (old new : Held S) (base mirror : Content) (staged : List Put) (count : ℕ) (boot : Option ℕ) (kept : IsKept g old base count None)
     (replayed : mirror ≡ with_puts base staged) (next : ForSome boot (λ b. b ≡ mirror.boot + 1))
     (s : Survives (state g old) (state g new) (MayCommit (MakesAll count staged boot) (state g old))) where
@@ -238,7 +238,7 @@ module _ {S : Type 0} (g : Ghosts S) (old new : Held S) (base mirror : Content) 
         let plain = subst (λ (c : Content). IsKept g new c (count + length (passes_in staged)) None) (after_is ∙ sym made) kept_after in
         idle_staged g new now left_staged total None (subst (λ (n : ℕ). IsKept g new now n None) (sym counted) plain) none
 
-    -- the passes that waited are behind the others
+    -- the passes that waited follow the others
     pub done_audit : (now : Content) (left_staged : List Put) (total : ℕ) (was : Option StoreFault) → now ≡ with_boot boot mirror → left_staged ≡ [] → HasCleanDisk (state g new)
         → (all : List PassRecord) → HasAudit g (stored old mirror staged count was) all → HasAudit g (stored new now left_staged total was) all
     done_audit now left_staged total was made none clean all had =
@@ -264,7 +264,7 @@ pub rows_with_boot : (boot : Option ℕ) (c : Content) → length (with_boot boo
 rows_with_boot None c = refl
 rows_with_boot (Some boot) c = refl
 
--- where nothing was put a commit does nothing
+-- without waiting puts a commit does nothing
 pub idle_commits : {S A : Type 0} (g : Ghosts S) (conn : Held S) (mirror : Content) (staged : List Put) (count : ℕ) (was : Option StoreFault) (a : A) → was ≡ None
     → IsKept g conn mirror count None → IsSettledWhileOpen g conn
     → CommitsAll {A = A} {E = StoreFault} (sql_held g) (stored conn mirror staged count was) (stored conn mirror staged count was) (Ok a)

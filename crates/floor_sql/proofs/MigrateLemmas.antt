@@ -90,7 +90,7 @@ version_added old mid last new tokens it made added raised =
       drift = λ token low. subst (λ (rows : List Row). HasRow rows token drift_columns (drift_values token (pos 0))) (sym (raised.others 3 (λ (e : 3 ≡ 0). omega arith))) (added.drift token low);
     }
 
--- the content of the old tables is that of the new ones
+-- the old tables and the new ones have the same content
 pub migrated : (old new : Database) (node tokens : ℕ) → IsUndrifted old node tokens → AddsVersion tokens old new → Migrates node tokens old new
 migrated old new node tokens it added =
     let c = it.0 in

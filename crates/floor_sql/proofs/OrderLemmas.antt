@@ -50,11 +50,11 @@ number_of row = number_in (column row 0)
 abbrev hit : ℕ → Row → ℕ
 hit m row = if nat_eq (number_of row) m then 1 else 0
 
--- the row is that of one of these passes, of which the first has this number
+-- the row is of one of the passes, of which the first has number `n`
 abbrev IsAmong : ℕ → List PassRecord → Row → Type 0
 IsAmong n passes row = (i : ℕ) × (p : PassRecord) × (slice_get passes i ≡ Some p) × (row ≡ pass_values (i + n) p)
 
--- the numbers rise from this one on
+-- the numbers rise from `low` on
 abbrev Rises : ℕ → List Row → Type 0
 Rises low [] = ⊤
 Rises low (row ∷ rows) = (low ≤ number_of row) × Rises (number_of row) rows
@@ -92,7 +92,7 @@ rows_rise n (p ∷ passes) = (omega arith, above n (suc n) (pass_rows (suc n) pa
     above low high [] le up = tt
     above low high (row ∷ rows) le up = let first = up.0 in (omega arith, up.1)
 
--- where none has the lowest number, they rise from the next
+-- if no row has the lowest number, the numbers rise from the next one
 rises_past : (n : ℕ) (rows : List Row) → Rises n rows → count n rows ≡ 0 → Rises (suc n) rows
 rises_past n [] up none = tt
 rises_past n (row ∷ rows) up none =
@@ -238,7 +238,7 @@ in_order trees passes rows a held =
 
 -- ---- the rows that were given so far
 
--- the row that comes next is that of the next pass
+-- the row that follows is the row of the next pass
 next_row : (n : ℕ) (so_far audit : List PassRecord) (given tail : List Row) (row : Row) → map pass_shown given ≡ pass_rows n so_far
     → map pass_shown ((given ++ row ∷ []) ++ tail) ≡ pass_rows n audit
     → (p : PassRecord) × (slice_get audit (length so_far) ≡ Some p) × (pass_shown row ≡ pass_values (length so_far + n) p)

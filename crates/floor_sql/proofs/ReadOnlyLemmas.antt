@@ -40,7 +40,7 @@ module _ {S : Type 0} {g : Ghosts S} where
             (λ _ db none. none) (λ _ db none. none) one.crash two.crash;
       }
 
-  -- a read that went on, told by another value
+  -- a read that succeeded, with another value
   pub reads_on : {A B : Type 0} {old new : Held S} {a : A} {b : B} → ReadsOnly g old new (Ok a)
       → ReadsOnly g old new (Ok b)
   reads_on it = record { read = it.read; left = it.left; failure = tt; idle = it.idle; crash = it.crash }

@@ -94,7 +94,7 @@ staged_put g conn mirror after staged more_staged count fault more n put it coun
       omega (arith, passes, counted, one),
     )
 
--- its pass waits behind the others
+-- the put's pass waits after the others
 pub audit_put : {S : Type 0} (g : Ghosts S) (conn : Held S) (mirror after : Content) (staged more_staged : List Put) (count : ℕ) (fault : Option StoreFault) (put : Put) (all : List PassRecord)
     → more_staged ≡ staged ++ put ∷ [] → after ≡ with_row mirror put.token put.row put.pass → HasAudit g (stored conn mirror staged count fault) all
     → HasAudit g (stored conn after more_staged count fault) (all ++ option_to_list put.pass)
@@ -124,14 +124,14 @@ has_self_in count puts old new can made =
     let c = with_puts can.content puts in
     record { schema = now.0; node = now.1.node; tokens = length c.rows; boot = c.boot; held = now.1.self }
 
--- where the rows of the puts are missing or doubled, a row is
+-- if a row of a put is missing or doubled, a row that the write changes is
 pub lacks_row : (trees : Trees) (puts : List Put) (boot : Option ℕ) → ¬ HasRows trees puts → LacksRow trees puts boot
 lacks_row trees puts None lacks = lacks
 lacks_row trees puts (Some boot) lacks = λ rows one. lacks rows
 
 module _ {S A : Type 0} (g : Ghosts S) (old mid new : SqlHeld S) (made : Content) (works : old.fault ≡ None) (still : mid.fault ≡ None)
     (conn : mid.conn ≡ old.conn) (put : mid.mirror ≡ made) (tokens : length made.rows ≡ length old.mirror.rows) where
-  -- the put that fills the list is made in memory, and then written with the others
+  -- the put that fills the list changes the mirror, and is written with the others
   pub puts_through : (r : Result A StoreFault) → Writes (sql_held g) mid new mid.mirror r → PutsContent (sql_held g) old new made r
   puts_through r w = record {
     makes = record {

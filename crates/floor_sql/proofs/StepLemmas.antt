@@ -63,7 +63,7 @@ module _ {S : Type 0} {g : Ghosts S} where
             (λ _ db none. none) (λ _ db none. none) one.crash two.crash;
       }
 
-  -- a step that went on, told by another value
+  -- a step that succeeded, with another value
   pub goes_on : {A B : Type 0} {old new : Transaction S} {a : A} {b : B} → StepsInside g old new (Ok a)
       → StepsInside g old new (Ok b)
   goes_on it = record {
@@ -74,7 +74,7 @@ module _ {S : Type 0} {g : Ghosts S} where
     crash = it.crash;
   }
 
-  -- a step that was refused, told by another type
+  -- a step that was refused, with another type of value
   was_refused : {A B : Type 0} (old new : Transaction S) (e : Refusal) (r : Result B Refusal) → IsErrAnd r (λ x. x ≡ e)
       → StepsInside g {A = A} old new (Err e) → StepsInside g old new r
   was_refused old new e (Ok b) is it = absurd is

@@ -1,4 +1,4 @@
--- Where a table is just as wanted it is read, and no refusal of the connection is one of a table.
+-- A usable table is read. The connection refuses no query because of the table.
 use Rattle.std.proofs.Common.{◌≡◌, ◌≢◌, inl, inr, ℕ, pos, if◌then◌else◌, Bool, true, false, cond, List, [], ◌∷◌, ◌++◌, map, filter, find, Option, Some, None, refl, sym, ap, subst, ◌∙◌}
 use Rattle.std.specs.List.Sorted.{IsPermutation}
 use Rattle.sqlite_trees.specs.declared.error.StoreError.{StoreError}
@@ -119,7 +119,7 @@ pub filter_same : {X : Type 0} (p q : X → Bool) → ((x : X) → p x ≡ q x) 
 filter_same p q same [] = refl
 filter_same p q same (x ∷ xs) = ap (λ b. cond b (x ∷ filter p xs) (filter p xs)) (same x) ∙ ap (λ ys. cond (q x) (x ∷ ys) ys) (filter_same p q same xs)
 
--- where one row alone passes the test, the query shows that one
+-- if exactly one row passes the test, the query shows it
 pub only_shown : (filter_by project : List Term) (params : Row) (tree : ℕ) (trees : Trees) (rows : List Row) (found : Row) → overlay trees [] tree ≡ trees tree
     → IsAnswer (query_over tree filter_by project) (overlay trees []) params rows → filter (picks filter_by params) (trees tree) ≡ found ∷ []
     → rows ≡ eval_all project (params ∷ found ∷ []) ∷ []

@@ -1,4 +1,4 @@
--- Why a write of a store is refused: where the row that it changes is there once, for no cause of a table.
+-- The reasons why a write of a store is refused: if exactly one row has the key, the reason is not the table.
 use Rattle.std.proofs.Common.{◌≡◌, ◌≢◌, ℕ, pos, ◌∷◌, length, Ok, Err, inl, inr, refl, ap, ◌∙◌}
 use Rattle.sqlite.specs.declared.types.Value.TheVariants.{Int}
 use Rattle.sqlite.specs.declared.error.Error.{Error}

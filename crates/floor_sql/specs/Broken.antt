@@ -16,11 +16,11 @@ use Rattle.floor_sql.specs.Stored.{drift_row, floor_row, self_row}
 
 -- ---- connections
 
--- a database that is told from others by how many rows each of its tables has
+-- a database in which each table has the given number of rows
 abbrev pub small_db : ℕ → Database
 small_db rows = record { schema = floor_schema; trees = λ tree. replicate rows [] }
 
--- an open connection outside a transaction, which shows one such database, and has last committed another
+-- an open connection outside a transaction, which shows the database `small_db now` and has committed the other
 abbrev pub small_state : ℕ → ℕ → State
 small_state now committed = record {
   now = small_db now;
@@ -38,49 +38,49 @@ small_state now committed = record {
   IsShielded = Unit {0};
 }
 
--- the same, shut by a fault
+-- the same connection, closed by a fault
 abbrev pub shut_state : ℕ → ℕ → State
 shut_state now committed = record (small_state now committed) { is_open = false }
 
--- such a connection, which shows the one database, and has last committed the other
+-- an open connection outside a transaction, which shows `now` and has last committed `committed`
 abbrev pub showing : Database → Database → State
 showing now committed = record (small_state 0 0) { now = now; committed = committed }
 
--- the change makes two rows of each table
+-- the change leaves two rows in each table
 abbrev pub IsSecond : Database → Database → Type 0
 IsSecond old new = new ≡ small_db 2
 
--- the value that is read is 1, whatever the tables
+-- the value is 1, for any tables
 abbrev pub IsOne : Database → ℕ → Type 0
 IsOne db value = value ≡ 1
 
--- the refusal by this fault
+-- the refusal with the given fault
 abbrev pub refused : StoreFault → Refusal
 refused fault = record { 0 = fault }
 
 -- ---- tables
 
--- trees of which the first three have these rows
+-- trees of which the first three have the given rows
 abbrev pub later_trees : List Row → List Row → List Row → Trees
 later_trees floor pass drift zero = floor
 later_trees floor pass drift (suc zero) = pass
 later_trees floor pass drift (suc (suc zero)) = drift
 later_trees floor pass drift (suc (suc (suc tree))) = []
 
--- trees of which the first four have these rows
+-- trees of which the first four have the given rows
 abbrev pub trees_of : List Row → List Row → List Row → List Row → Trees
 trees_of self floor pass drift zero = self
 trees_of self floor pass drift (suc tree) = later_trees floor pass drift tree
 
--- the tables of node 1 without a token, at that boot, with these passes
+-- the tables of node 1 without a token, at the given boot, with the given passes
 abbrev pub tables_at : ℕ → List Row → Trees
 tables_at boot passes = trees_of (self_row 1 0 boot ∷ []) [] passes []
 
--- they are those of a database
+-- a database with the same tables
 abbrev pub db_at : ℕ → List Row → Database
 db_at boot passes = record { schema = floor_schema; trees = tables_at boot passes }
 
--- the tables of a store of version 2 have these rows, and those of version 1
+-- the tables of a store of version 2 with the given rows, and the tables of version 1
 abbrev pub db_of : List Row → List Row → List Row → List Row → Database
 db_of self floor pass drift = record { schema = floor_schema; trees = trees_of self floor pass drift }
 
@@ -96,28 +96,28 @@ version_row version node tokens boot =
 abbrev pub old_db_at : ℕ → List Row → Database
 old_db_at boot passes = old_db_of (version_row 1 1 0 boot ∷ []) [] passes
 
--- the tables of node 1 with one token, which has this row and this drift, at boot 4
+-- the tables of node 1 with one token at boot 4, which has the given row and drift
 abbrev pub token_db_of : RowRecord → ℤ → Database
 token_db_of row steps = db_of (self_row 1 1 4 ∷ []) (floor_row 0 row ∷ []) [] (drift_row 0 steps ∷ [])
 
--- the same, where its first free factor is 9
+-- the same tables, with the floor 9 and the drift 0
 abbrev pub token_db : Database
 token_db = token_db_of (free_row 9) (pos 0)
 
--- the same, of version 1
+-- the same tables, of version 1
 abbrev pub old_token_db : Database
 old_token_db = old_db_of (version_row 1 1 1 4 ∷ []) (floor_row 0 (free_row 9) ∷ []) []
 
 -- ---- contents and puts
 
--- no token, at that boot
+-- the content without a token, at the given boot
 abbrev pub small_content : ℕ → Content
 small_content boot = record { rows = []; boot = boot; last = None }
 
--- one token with this row, at boot 4
+-- the content of one token with the given row, at boot 4
 abbrev pub token_content : RowRecord → Content
 token_content row = record { rows = row ∷ []; boot = 4; last = None }
 
--- this row of the token is put, and this pass
+-- a put of the given row of the token, with the given pass
 abbrev pub put_of : ℕ → RowRecord → Option PassRecord → Put
 put_of token row pass = record { token = token; row = row; pass = pass }

@@ -1,4 +1,4 @@
--- What the calls of a store over SQLite do, beside what any store's do.
+-- The effects of the calls of a store over SQLite, beside the effects that any store has.
 use Rattle.std.specs.Prelude.{◌≡◌, ℕ, ◌+◌, ◌<◌, ◌≤◌, pos, false, List, [], ◌∷◌, ◌++◌, length, find, None, Some, Result, IsSome, OnOk}
 use Rattle.sqlite.specs.declared.types.Value.TheVariants.{Int}
 use Rattle.sqlite.specs.Store.{Ghosts}
@@ -19,26 +19,26 @@ use Rattle.floor_sql.specs.declared.put.Put.{Put}
 use Rattle.floor_sql.specs.Held.{SqlHeld, HasTables, HasSame, sql_held}
 
 module _ {S : Type 0} (g : Ghosts S) where
-  -- A connection that was read and no more: outside a transaction, with the tables that it had.
+  -- a connection after reads alone: outside a transaction, with its old tables
   pub record KeepsTables (old new : sql.Held S) : Type 0 where
     pub idle : new.in_transaction ≡ false
     pub read : HasCleanDisk (sql.state g new) → IsRead (sql.state g old) (sql.state g new)
     pub survives : Survives (sql.state g old) (sql.state g new) (λ _. ⊥)
 
-  -- A connection that is handed back beside a refusal: outside a transaction, with the tables that it had while it is
-  -- open. A stop leaves what it left before, or what the refused call was to commit.
+  -- A connection returned beside a refusal: outside a transaction, with its old tables while it is open. A stop leaves
+  -- what it left before, or what the refused call was to commit.
   pub record HandsBack (old new : sql.Held S) (Commit : Trees → Type 0) : Type 0 where
     pub idle : new.in_transaction ≡ false
     pub tables : HasCleanDisk (sql.state g new) → HasSame (sql.state g old) (sql.state g new)
     pub survives : Survives (sql.state g old) (sql.state g new) Commit
 
-  -- a store that works, in which nothing waits for a commit, and of which a stop leaves just its content
+  -- a store without a fault and without waiting puts, of which a stop leaves exactly its content
   pub record IsSound (store : SqlHeld S) : Type 0 where
     pub works : store.fault ≡ None
     pub idle : store.staged ≡ []
     pub settled : IsSettled (sql_held g store)
 
-  -- a new store of this node at this boot, with these first free factors, made in one commit
+  -- a new store of `node` at `boot`, with the given floors, created in one commit
   pub record IsMade (old : sql.Held S) (node boot : ℕ) (floors : List ℕ) (store : SqlHeld S) : Type 0 where
     pub content : store.mirror ≡ opening_content_at boot floors
     pub no_passes : store.passes ≡ 0
@@ -48,14 +48,14 @@ module _ {S : Type 0} (g : Ghosts S) where
     pub survives :
         Survives (sql.state g old) (sql.state g store.conn) (MayCommit (Opens node boot floors) (sql.state g old))
 
-  -- the store of this node with so many tokens that the tables of a connection hold
+  -- the store of `node` with `tokens` tokens that the tables of a connection hold
   pub record IsOpened (old : sql.Held S) (node tokens : ℕ) (store : SqlHeld S) : Type 0 where
     pub content : HasCleanDisk (sql.state g store.conn)
         → HasTables (sql.state g old).now node tokens store.mirror store.passes
     pub sound : IsSound store
     pub kept : KeepsTables old store.conn
 
-  -- a read of the audit list: a store that is not broken keeps its content and its tables
+  -- a read of the audit list: a store without a fault keeps its content and its tables
   pub record ReadsAudit {A : Type 0} (old new : SqlHeld S) (result : Result A StoreFault) : Type 0 where
     pub intact : OnOk result ((old.fault ≡ None) × (new.fault ≡ None))
     pub stays : IsSome old.fault → new ≡ old
@@ -63,12 +63,12 @@ module _ {S : Type 0} (g : Ghosts S) where
     pub tables : HasCleanDisk (sql.state g new.conn) → HasSame (sql.state g old.conn) (sql.state g new.conn)
     pub survives : Survives (sql.state g old.conn) (sql.state g new.conn) (λ _. ⊥)
 
--- A put waits for its commit, and the connection is as it was; the one that fills the list is committed too.
+-- A put waits for its commit, and the connection is unchanged. The put that fills the list is committed.
 pub record Stages {S : Type 0} (old new : SqlHeld S) (put : Put) : Type 0 where
   pub waits : length old.staged + 1 < 80 → (new.conn ≡ old.conn) × (new.staged ≡ old.staged ++ put ∷ [])
   pub commits : 80 ≤ length old.staged + 1 → new.staged ≡ []
 
--- the tables are those of a store of version 2, and name this node
+-- the tables are of a store of version 2, and name `node`
 pub record IsOfNode (db : Database) (node : ℕ) : Type 0 where
   pub schema : db.schema ≡ floor_schema
   pub found : Row

@@ -1,4 +1,4 @@
--- What a store over SQLite holds, and its rule.
+-- The content of a store over SQLite, and its invariant.
 use Rattle.std.specs.Prelude.{◌≡◌, ℕ, ◌+◌, ◌^◌, ◌<◌, ◌≤◌, false, List, ◌++◌, length, Option, None, Some, IsTrue, refl, slice_get}
 use Rattle.std.specs.Option.{ForSome}
 use Rattle.std.specs.Coded.{Coded, code_by, coded×, coded_ℕ, coded_list, coded_option}
@@ -20,13 +20,13 @@ use Rattle.floor_sql.specs.Stored.{Holds}
 use Rattle.floor_sql.specs.contracts.put.Put as put
 use Rattle.floor_sql.specs.declared.put.Put.{Put}
 
--- what contracts see of a store over SQLite
+-- the contract's view of a store over SQLite
 pub record SqlHeld (S : Type 0) : Type 0 where
   pub conn : sql.Held S
-  -- what it holds, and what of it waits for the commit
+  -- the content, and the puts that wait for their commit
   pub mirror : Content
   pub staged : List Put
-  -- how many passes were last committed
+  -- the number of committed passes
   pub passes : ℕ
   pub fault : Option StoreFault
 
@@ -39,7 +39,7 @@ held_code {S} store =
     (λ h. (h.conn, (h.mirror, (h.staged, (h.passes, h.fault)))))
     (λ p. record { conn = p.0; mirror = p.1.0; staged = p.1.1.0; passes = p.1.1.1.0; fault = p.1.1.1.1 }) (λ _. refl)
 
--- outside a transaction the tables are those of a store, with this content and so many passes
+-- outside a transaction the tables are of a store, with the content `c` and `count` passes
 pub record Mirrors (s : State) (c : Content) (count : ℕ) : Type 0 where
   pub schema : s.now.schema ≡ floor_schema
   pub passes : List PassRecord
@@ -47,7 +47,7 @@ pub record Mirrors (s : State) (c : Content) (count : ℕ) : Type 0 where
   pub counted : length passes ≡ count
   pub settled : s.now ≡ s.committed
 
--- While the disk is honest and the connection is open, its tables hold the mirror.
+-- while the disk is honest and the connection is open, its tables hold the mirror
 pub record IsKept {S : Type 0} (g : Ghosts S) (conn : sql.Held S) (mirror : Content) (passes : ℕ) (fault : Option
     StoreFault) : Type 0 where
   pub idle : conn.in_transaction ≡ false
@@ -57,8 +57,8 @@ pub record IsKept {S : Type 0} (g : Ghosts S) (conn : sql.Held S) (mirror : Cont
   pub numbers : passes ≤ 2 ^ 62
   pub failing : ForSome fault (λ e. IsTrue (is_failure e))
 
--- While the disk is honest and the connection is open, its tables hold the content to which the staged puts make the
--- mirror.
+-- While the disk is honest and the connection is open, its tables hold a base content. The mirror is the base after the
+-- staged puts.
 pub record IsStaged {S : Type 0} (g : Ghosts S) (conn : sql.Held S) (mirror : Content) (staged : List Put) (passes : ℕ)
     (fault : Option StoreFault) : Type 0 where
   pub base : Content
@@ -67,18 +67,18 @@ pub record IsStaged {S : Type 0} (g : Ghosts S) (conn : sql.Held S) (mirror : Co
   pub known : (i : ℕ) (put : Put) → slice_get staged i ≡ Some put → put.token < length base.rows
   pub room : passes + length (passes_in staged) ≤ 2 ^ 62
 
--- outside a transaction the tables hold the content to which the staged puts make the mirror, with so many passes
+-- outside a transaction the tables hold a base content and `count` passes; the mirror is the base after the staged puts
 pub record MirrorsLast (s : State) (mirror : Content) (staged : List Put) (count : ℕ) : Type 0 where
   pub base : Content
   pub replayed : mirror ≡ with_puts base staged
   pub tables : Mirrors s base count
 
--- a store fails once, since it is broken from then on
+-- the number of failures: one at most, since it breaks the store
 abbrev pub failures_of : Option StoreFault → ℕ
 failures_of None = 0
 failures_of (Some e) = 1
 
--- an opening after a stop may find tables that hold this content
+-- an opening after a stop may find tables with the content `c`
 pub record Leaves {S : Type 0} (g : Ghosts S) (conn : sql.Held S) (c : Content) : Type 0 where
   pub clean : HasCleanDisk (sql.state g conn)
   pub trees : Trees
@@ -86,7 +86,7 @@ pub record Leaves {S : Type 0} (g : Ghosts S) (conn : sql.Held S) (c : Content) 
   pub passes : List PassRecord
   pub holds : Holds trees c passes
 
--- What is to be seen of a store: it holds its mirror, and is clean where its connection is.
+-- the view of a store: its content is the mirror, and it is clean if the disk of its connection is clean
 abbrev pub sql_held : {S : Type 0} → Ghosts S → SqlHeld S → Held
 sql_held g store = record {
   content = store.mirror;
@@ -96,7 +96,7 @@ sql_held g store = record {
   leaves = Leaves g store.conn;
 }
 
--- the tables of a database are those of a store of this node with so many tokens, with this content and so many passes
+-- the tables of a database are of a store of `node` with `tokens` tokens, the content `c` and `count` passes
 pub record HasTables (db : Database) (node tokens : ℕ) (c : Content) (count : ℕ) : Type 0 where
   pub schema : db.schema ≡ floor_schema
   pub passes : List PassRecord
@@ -105,7 +105,7 @@ pub record HasTables (db : Database) (node tokens : ℕ) (c : Content) (count : 
   pub of_tokens : length c.rows ≡ tokens
   pub counted : length passes ≡ count
 
--- the connection has the tables that it had
+-- while the connection is open, it has its old tables
 pub record HasSame (old new : State) : Type 0 where
   pub now : IsTrue new.is_open → new.now ≡ old.now
   pub committed : IsTrue new.is_open → new.committed ≡ old.committed
@@ -116,7 +116,7 @@ pub record HasCommitted {S : Type 0} (g : Ghosts S) (store : SqlHeld S) (passes 
   pub replayed : store.mirror ≡ with_puts base store.staged
   pub holds : Holds (sql.state g store.conn).committed.trees base passes
 
--- all passes of a store, in order: the committed ones, and behind them those that wait for their commit
+-- all passes of a store, in order: the committed ones, followed by the passes that wait for their commit
 pub record HasAudit {S : Type 0} (g : Ghosts S) (store : SqlHeld S) (all : List PassRecord) : Type 0 where
   pub passes : List PassRecord
   pub committed : HasCommitted g store passes

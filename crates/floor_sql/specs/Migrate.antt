@@ -1,4 +1,4 @@
--- How the tables of version 1 become those of version 2.
+-- The upgrade of the tables of version 1 to version 2.
 use Rattle.std.specs.Prelude.{◌≡◌, ◌<◌, ℕ, pos, false, List, length, slice_get, Some, None}
 use Rattle.std.specs.List.{last_or}
 use Rattle.sqlite.specs.Store.{Ghosts}
@@ -15,19 +15,19 @@ use Rattle.floor_sql.specs.Usable.{IsNode, HasUsableVersion, HasUsableFloor, Has
 
 -- ---- the tables of version 1
 
--- no token of these rows has a drift
+-- each of the rows has the drift 0
 abbrev pub AreUndrifted : List RowRecord → Type 0
 AreUndrifted rows = (token : ℕ) (row : RowRecord) → slice_get rows token ≡ Some row → row.drift ≡ pos 0
 
--- the table of floors has rows of so many tokens
+-- the table `floor` has rows of `tokens` tokens
 pub record HasUndrifted (trees : Trees) (tokens : ℕ) : Type 0 where
   pub rows : List RowRecord
   pub counted : length rows ≡ tokens
   pub floors : HoldsFloors trees rows
   pub undrifted : AreUndrifted rows
 
--- The tables are those of a store of version 1 of this node with so many tokens. They hold this content, in which no
--- token has a drift, and have these passes in order.
+-- The tables are of a store of version 1 of `node` with `tokens` tokens. They hold the content `c`, in which each drift
+-- is 0, and the passes in order.
 pub record HoldsUndrifted (db : Database) (node tokens : ℕ) (c : Content) (passes : List PassRecord) : Type 0 where
   pub schema : db.schema ≡ undrifted_schema
   pub floors : HoldsFloors db.trees c.rows
@@ -37,11 +37,11 @@ pub record HoldsUndrifted (db : Database) (node tokens : ℕ) (c : Content) (pas
   pub pass : HoldsPasses db.trees passes
   pub last : c.last ≡ last_or None passes
 
--- they hold some content
+-- the tables hold some content
 abbrev pub IsUndrifted : Database → ℕ → ℕ → Type 0
 IsUndrifted db node tokens = (c : Content) × (passes : List PassRecord) × HoldsUndrifted db node tokens c passes
 
--- a store of version 1 of this node with so many tokens, with values in range: what `migrate` takes
+-- the tables that `migrate` accepts: a store of version 1 of `node` with `tokens` tokens and values in range
 pub record IsUsableUndrifted (db : Database) (node tokens : ℕ) : Type 0 where
   pub schema : db.schema ≡ undrifted_schema
   pub of_node : IsNode node
@@ -51,7 +51,7 @@ pub record IsUsableUndrifted (db : Database) (node tokens : ℕ) : Type 0 where
 
 -- ---- the change
 
--- the row of `self` is of version 2, and the other tables are as they were
+-- the row of `self` is of version 2, and the other tables are unchanged
 pub record RaisesVersion (old new : Database) : Type 0 where
   pub schema : new.schema ≡ floor_schema
   pub was : HasVersion old floor_schema 1
@@ -59,7 +59,7 @@ pub record RaisesVersion (old new : Database) : Type 0 where
       ≡ put_row (self_row was.node was.tokens was.boot) (without_rowid (pos 1) (rows_of tables.self old.trees))
   pub others : OthersStay tables.self old.trees new.trees
 
--- the table of drifts is there, with none for each of so many tokens, and the version is raised
+-- the table `drift` has the drift 0 for each of `tokens` tokens, and the version is raised
 pub record AddsVersion (tokens : ℕ) (old new : Database) : Type 0 where
   pub schema : new.schema ≡ floor_schema
   pub was : HasVersion old undrifted_schema 1
@@ -68,8 +68,8 @@ pub record AddsVersion (tokens : ℕ) (old new : Database) : Type 0 where
   pub pass : rows_of tables.pass new.trees ≡ rows_of tables.pass old.trees
   pub drift : (token : ℕ) → token < tokens → HoldsDrift new.trees token (pos 0)
 
--- The content of a store of version 1 of this node with so many tokens is that of a store of version 2. All drifts are
--- 0, and the rows of floors and passes are the same, one by one.
+-- The content of a store of version 1 is the content of a store of version 2, for `node` with `tokens` tokens. All
+-- drifts are 0. The rows of `floor` and `pass` are the same, one by one.
 pub record Migrates (node tokens : ℕ) (old new : Database) : Type 0 where
   pub content : Content
   pub passes : List PassRecord
@@ -80,7 +80,7 @@ pub record Migrates (node tokens : ℕ) (old new : Database) : Type 0 where
   pub floor : rows_of tables.floor new.trees ≡ rows_of tables.floor old.trees
   pub pass : rows_of tables.pass new.trees ≡ rows_of tables.pass old.trees
 
--- a connection whose tables were migrated in one commit, outside a transaction
+-- a connection outside a transaction, whose tables were migrated in one commit
 pub record IsMigrated {S : Type 0} (g : Ghosts S) (node tokens : ℕ) (old new : sql.Held S) : Type 0 where
   pub idle : new.in_transaction ≡ false
   pub tables : HasCleanDisk (sql.state g new) → Commits (Migrates node tokens) (sql.state g old) (sql.state g new)

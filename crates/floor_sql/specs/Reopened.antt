@@ -1,4 +1,4 @@
--- What a stop leaves of a store in files, and what the next opening finds there.
+-- The content that a stop leaves of a store in files, and that the next opening finds.
 use Rattle.std.specs.Prelude.{◌≡◌, ℕ, IsTrue}
 use Rattle.sqlite_disk.specs.declared.Disk.{Ghosts}
 use Rattle.sqlite_wal.specs.Recovery.{Image}
@@ -13,17 +13,17 @@ use Rattle.floor_sql.specs.Calls.{IsOpened}
 use Rattle.floor_sql.specs.Held.{SqlHeld, sql_held}
 
 module _ {D E : Type 0} {g : Ghosts D} {h : Ghosts E} where
-  -- A stop of a store in two files, which leaves them with this content, and the store that is opened on them then.
+  -- a stop of a store in two files with the content `left`, and the store that is opened on this content
   pub record IsNextLife (store : SqlHeld (FileStore D g)) (left : Image)
       (again : SqlHeld (FileStore E h)) : Type 0 where
-    -- so far the disk had returned what was written
+    -- until the stop the disk returned what was written
     pub clean : HasCleanDisk (file_state store.conn)
-    -- what each connection keeps: its files recover to databases alone
+    -- the invariants of each connection: its files recover to databases alone
     pub numbered : IsTrue (view store.conn.store).is_numbered
     pub databases : sql.AreDatabases (recovers store.conn.store)
-    -- the disk may leave this
+    -- the disk may leave this content
     pub may : (state store.conn.store).may_leave left
-    -- a connection finds it, with no transaction open, and the store is opened over that
+    -- a connection without an open transaction finds the content, and the store is opened over the connection
     pub conn : sql.Held (FileStore E h)
     pub found : FindsIn left (file_state conn)
     pub fresh : Opens (file_state conn)
@@ -32,7 +32,7 @@ module _ {D E : Type 0} {g : Ghosts D} {h : Ghosts E} where
     pub opened : IsOpened over_files conn node tokens again
     pub honest : HasCleanDisk (file_state again.conn)
 
-  -- The content that is found is one that the stop could leave; where the store was settled it is its content.
+  -- the stop could leave the content that is found; of a settled store this is its content
   pub record FindsWhatIsLeft (store : SqlHeld (FileStore D g)) (again : SqlHeld (FileStore E h)) : Type 0 where
     pub left : ∥ (sql_held over_files store).leaves again.mirror ∥₁
     pub settled : IsSettled (sql_held over_files store) → again.mirror ≡ store.mirror

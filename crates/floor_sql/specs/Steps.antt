@@ -1,8 +1,8 @@
--- What the calls on a connection do, each said once.
+-- The effects of the calls on a connection, each defined once.
 --
--- Each record below is read as a sentence about one call: `Changes g old new IsChange Lacks result` says that the call
--- which took a transaction from `old` to `new` and answered `result` makes `IsChange` of the tables. What is said of
--- values holds while the disk has returned what was written.
+-- A record below is a sentence about one call. `Changes g old new IsChange Lacks result` is about a call that took a
+-- transaction from `old` to `new` and returned `result`. It says that the call made the change `IsChange` to the
+-- tables. The claims about values hold while the disk returns what was written.
 use Rattle.std.specs.Prelude.{◌≡◌, Result, IsTrue, IfOk, IfErr, OnOk, OnErr, false}
 use Rattle.sqlite.specs.Store.{Ghosts}
 use Rattle.sqlite.specs.Effect.{Database}
@@ -19,11 +19,11 @@ use Rattle.floor_sql.specs.Stored.{Commits, MayCommit}
 module _ {S : Type 0} (g : Ghosts S) where
   -- ---- in a transaction
 
-  -- A step of a transaction, whatever it changes: nothing is committed.
+  -- a step of a transaction with any change: it commits nothing
   pub record StepsInside {A : Type 0} (old new : Transaction S) (result : Result A Refusal) : Type 0 where
     -- it is the transaction of the same connection
     pub same_reference : new.conn.ghost_name ≡ old.conn.ghost_name
-    -- after Ok the transaction goes on
+    -- after Ok the transaction continues
     pub goes : HasCleanDisk (state g new.conn.now) → OnOk result (IsTrue (state g new.conn.now).in_transaction)
     -- the last commit stays
     pub kept : HasCleanDisk (state g new.conn.now) → KeepsCommit (state g old.conn.now) (state g new.conn.now)
@@ -32,7 +32,7 @@ module _ {S : Type 0} (g : Ghosts S) where
     -- a stop leaves what a stop before it could leave
     pub crash : Survives (state g old.conn.now) (state g new.conn.now) (λ _. ⊥)
 
-  -- A step that changes the tables.
+  -- a step that changes the tables
   pub record Changes {A : Type 0} (old new : Transaction S) (IsChange : Database → Database → Type 0)
       (Lacks : Database → Type 0) (result : Result A Refusal) : Type 0 where
     -- it is a step
@@ -46,11 +46,11 @@ module _ {S : Type 0} (g : Ghosts S) where
 
   -- ---- outside of a transaction
 
-  -- A read, whatever it reads: the tables stay.
+  -- a read of any kind: the tables stay
   pub record ReadsOnly {A : Type 0} (old new : Held S) (result : Result A Refusal) : Type 0 where
-    -- after Ok the database is as it was
+    -- after Ok the database is unchanged
     pub read : HasCleanDisk (state g new) → OnOk result (IsRead (state g old) (state g new))
-    -- it is as it was, or as it was last committed
+    -- the database is unchanged, or as last committed
     pub left : HasCleanDisk (state g new) → IsLeft (state g old) (state g new)
     -- the error is one that breaks a store
     pub failure : IfErr result (λ e. IsTrue (is_failure e.0))
@@ -59,18 +59,18 @@ module _ {S : Type 0} (g : Ghosts S) where
     -- a stop leaves what a stop before it could leave
     pub crash : Survives (state g old) (state g new) (λ _. ⊥)
 
-  -- A read of the tables.
+  -- a read of the tables
   pub record ReadsTables {A : Type 0} (old new : Held S) (IsRight : Database → A → Type 0)
       (IsUsable : Database → Type 0) (result : Result A Refusal) : Type 0 where
     -- it is a read
     pub only : ReadsOnly old new result
     -- the value is right for the tables
     pub value : HasCleanDisk (state g new) → IfOk result (IsRight (state g old).now)
-    -- after `Unusable` they are not usable
+    -- after `Unusable` the tables were not usable
     pub unusable : HasCleanDisk (state g new) → IfErr result (λ e. e.0 ≡ Unusable → ¬ IsUsable (state g old).now)
 
-  -- A change that is made in one transaction, whole or not at all, behind any reads. `fault` is the fault that an error
-  -- tells, and `Stays` says what is left then: with nothing read before, the tables as last committed.
+  -- A change in one transaction, whole or not at all, after any reads. `fault` is the fault of an error. `Stays` is the
+  -- effect of a call with an error: if it read nothing before, the tables are as last committed.
   pub record Transacts {A E : Type 0} (fault : E → StoreFault) (old new : Held S)
       (IsChange : Database → Database → Type 0) (Stays : State → State → Type 0) (Lacks : Database → Type 0)
       (result : Result A E) : Type 0 where
@@ -78,7 +78,7 @@ module _ {S : Type 0} (g : Ghosts S) where
     pub idle : new.in_transaction ≡ false
     -- after Ok the change is committed
     pub ok : HasCleanDisk (state g new) → OnOk result (Commits IsChange (state g old) (state g new))
-    -- after Err that is left
+    -- after Err `Stays` holds
     pub err : HasCleanDisk (state g new) → OnErr result (Stays (state g old) (state g new))
     -- the error is one that breaks a store
     pub failure : IfErr result (λ e. IsTrue (is_failure (fault e)))

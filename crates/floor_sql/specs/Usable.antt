@@ -1,4 +1,4 @@
--- Which tables are those of a store, with values in range: the ones that `open` takes.
+-- The tables that `open` accepts: the tables of a store, with values in range.
 use Rattle.std.specs.Prelude.{◌≡◌, ℕ, ℤ, pos, ◌^◌, ◌<◌, ◌≤◌, List, [], ◌∷◌, filter, slice_get, length, Some}
 use Rattle.std.specs.Option.{ForSome}
 use Rattle.sqlite.specs.declared.types.Value.TheVariants.{Int}
@@ -37,24 +37,24 @@ pub record IsGrant (grant : ProposalRecord × SpanRecord) : Type 0 where
   pub proposal : IsProposal grant.0
   pub span : IsSpanOfFactors grant.1
 
--- the values of a row of floors, the drift aside
+-- the values of a row of `floor`, without the drift
 pub record IsRow (row : RowRecord) : Type 0 where
   pub next : IsNext row.next
   pub grant : ForSome row.grant IsGrant
   pub gate : IsGate row.gate.fails row.gate.until
 
--- the values of a row of passes
+-- the values of a row of `pass`
 pub record IsAudit (pass : PassRecord) : Type 0 where
   pub whole : IsPass pass
   pub span : IsSpanOfFactors (span_of pass.lo pass.hi)
 
--- those of all of them
+-- the values of all rows of `pass`
 abbrev pub AreAudit : List PassRecord → Type 0
 AreAudit passes = (i : ℕ) (pass : PassRecord) → slice_get passes i ≡ Some pass → IsAudit pass
 
 -- ---- tables
 
--- one row of the table and no other has this key, and these are its columns
+-- exactly one row of the table has the given key, with the given columns
 pub record HasOnly (rows : List Row) (key : ℕ) (columns : Row → Row) (values : Row) : Type 0 where
   pub found : Row
   pub only : filter (has_rowid (pos key)) rows ≡ found ∷ []
@@ -71,13 +71,13 @@ pub record HasUsableNode (db : Database) : Type 0 where
   pub of_node : node_in found ≡ Int (pos node)
   pub range : IsNode node
 
--- the one row of `self` is of this version and of this node, with so many tokens and a boot in range
+-- the one row of `self` is of the given version, node and number of tokens, with a boot in range
 pub record HasUsableVersion (trees : Trees) (version node tokens : ℕ) : Type 0 where
   pub boot : ℕ
   pub range : IsCount boot
   pub only : HasOnly (rows_of tables.self trees) 1 self_columns (version_values version node tokens boot)
 
--- it is of some node and number of tokens in range
+-- the one row of `self` is of a node and a number of tokens in range
 pub record HasUsableSelf (trees : Trees) (version : ℕ) : Type 0 where
   pub node : ℕ
   pub of_node : IsNode node
@@ -85,13 +85,13 @@ pub record HasUsableSelf (trees : Trees) (version : ℕ) : Type 0 where
   pub of_tokens : tokens ≤ 10000
   pub self : HasUsableVersion trees version node tokens
 
--- the token has one row of floors, with values in range
+-- the token has one row in `floor`, with values in range
 pub record HasUsableFloor (trees : Trees) (token : ℕ) : Type 0 where
   pub row : RowRecord
   pub range : IsRow row
   pub only : HasOnly (rows_of tables.floor trees) token floor_columns (floor_values token row)
 
--- the token has one row of drifts, with a drift in range
+-- the token has one row in `drift`, with a drift in range
 pub record HasUsableDrift (trees : Trees) (token : ℕ) : Type 0 where
   pub steps : ℤ
   pub range : IsDrift steps
@@ -102,14 +102,14 @@ pub record HasUsableRow (trees : Trees) (token : ℕ) : Type 0 where
   pub floor : HasUsableFloor trees token
   pub drift : HasUsableDrift trees token
 
--- the passes have the numbers 1, 2, 3 and so on, with values in range
+-- the passes have the numbers 1, 2, 3 and so on, and values in range
 pub record HasUsablePasses (trees : Trees) : Type 0 where
   pub passes : List PassRecord
   pub ranges : AreAudit passes
   pub room : length passes ≤ 2 ^ 62
   pub holds : HoldsPasses trees passes
 
--- a store of this node with so many tokens
+-- a store of `node` with `tokens` tokens
 pub record IsUsable (db : Database) (node tokens : ℕ) : Type 0 where
   pub schema : db.schema ≡ floor_schema
   pub of_node : IsNode node

@@ -1,4 +1,4 @@
-//! What follows of a store over its lives.
+//! The laws of a store across stops, and the worked cases and counterexamples of its definitions.
 
 ghost use Rattle.std.specs.Prelude.{◌≡◌, ◌≢◌, ℕ, ℤ, ◌+◌, length, pos, false, true, List, [], ◌∷◌, None, Some, Ok, Err, IsTrue, ⊤};
 ghost use Rattle.sqlite_disk.specs.declared.Disk.{Ghosts};
@@ -35,16 +35,15 @@ ghost use Rattle.floor_sql.specs.Reopened.{IsNextLife, FindsWhatIsLeft};
 use sqlite::Alter;
 use sqlite_disk::Disk;
 
-/// What a stop leaves of a store in files is what the next opening finds, whatever the two disks are.
+/// Durability: an opening finds what a stop left of a store in files, on any two disks.
 pub fn stores_are_opened_again<D: Disk, E: Disk>()
     ensures { (store : SqlHeld (FileStore D D.Disk)) (left : Image) (again : SqlHeld (FileStore E E.Disk))
         → IsNextLife store left again → FindsWhatIsLeft store again }
 {}
 
-/// What is promised of connections and tables holds of the least that keeps it, and each field is broken by the least
-/// that keeps all others.
+/// Counterexamples: each promise of connections and tables fails for a minimal one.
 pub fn promises_can_be_broken()
-    // a query, a refusal, and a commit
+    // A query, a refusal, and a commit.
     ensures read { IsRead (small_state 1 1) (small_state 1 1) }
     ensures read_is_open { IsRead (small_state 1 1) (shut_state 1 1) → ⊥ }
     ensures read_now { IsRead (small_state 1 1) (small_state 2 1) → ⊥ }
@@ -69,7 +68,7 @@ pub fn promises_can_be_broken()
     ensures may_commit_change { MayCommit (λ old new. ⊥) (small_state 1 1) (small_db 2).trees → ⊥ }
     ensures may_commit_trees { (rows : ℕ) → MayCommit IsSecond (small_state 1 1) (small_db (rows + 3)).trees → ⊥ }
 
-    // rows
+    // Rows.
     ensures shows { ShowsNode (Int (pos 1) ∷ Int (pos 2) ∷ Int (pos 3) ∷ []) 2 3 }
     ensures shows_id { ShowsNode (Int (pos 2) ∷ Int (pos 2) ∷ Int (pos 3) ∷ []) 2 3 → ⊥ }
     ensures shows_version { ShowsNode (Int (pos 1) ∷ Int (pos 1) ∷ Int (pos 3) ∷ []) 2 3 → ⊥ }
@@ -87,7 +86,7 @@ pub fn promises_can_be_broken()
     ensures holds_row_floor { HoldsRow (trees_of [] [] [] (drift_row 0 (pos 0) ∷ [])) 0 (free_row 9) → ⊥ }
     ensures holds_row_drift { HoldsRow (trees_of [] (floor_row 0 (free_row 9) ∷ []) [] []) 0 (free_row 9) → ⊥ }
 
-    // tables of no token
+    // Tables without a token.
     ensures holds { Holds (tables_at 4 []) (small_content 4) [] }
     ensures holds_rows { Holds (trees_of (self_row 1 1 0 ∷ []) [] [] []) (opening_content (9 ∷ [])) [] → ⊥ }
     ensures holds_self { Holds (tables_at 5 []) (small_content 4) [] → ⊥ }
@@ -130,7 +129,7 @@ pub fn promises_can_be_broken()
     ensures foreign_filled { IsForeign no_schema → ⊥ }
     ensures foreign_other { IsForeign first_schema → ⊥ }
 
-    // ranges
+    // Ranges.
     ensures nodes { IsNode 1 × IsNode 9 }
     ensures node_0 { IsNode 0 → ⊥ }
     ensures node_10 { IsNode 10 → ⊥ }
@@ -153,8 +152,7 @@ pub fn promises_can_be_broken()
     ensures audit_span { IsAudit (record old_pass { lo = 5; hi = 7 }) → ⊥ }
 {}
 
-/// What is promised of a call on a connection, whatever it is over: each field is broken by the least change of the
-/// connection, or by the least answer, that keeps all others.
+/// Counterexamples: each promise of a call on a connection, over any store of bytes, fails for a minimal one.
 pub fn calls_can_be_broken<S: Alter>()
     ensures reads { (conn : Conn S) → ReadsOnly S.Store {A = ℕ} conn conn (Ok 0) }
     ensures reads_read { (conn : Conn S) → HasCleanDisk (state S.Store conn) → conn.schema ≡ floor_schema
@@ -242,8 +240,7 @@ pub fn calls_can_be_broken<S: Alter>()
         → IsMigrated S.Store 1 0 conn (record conn { step_limit = Some 7 }) → ⊥ }
 {}
 
-/// What is promised of a step of a transaction, whatever it is over: each field is broken by the least change of the
-/// connection, or by the least answer, that keeps all others.
+/// Counterexamples: each promise of a step of a transaction, over any store of bytes, fails for a minimal one.
 pub fn steps_can_be_broken<S: Alter>()
     ensures steps { (tx : Transaction S) → IsTrue (state S.Store tx.conn.now).in_transaction
         → StepsInside S.Store {A = ℕ} tx tx (Ok 0) }
@@ -268,10 +265,9 @@ pub fn steps_can_be_broken<S: Alter>()
         → Changes S.Store {A = ℕ} tx tx (λ old new. ⊤) (λ db. ⊥) (Err (refused Unusable)) → ⊥ }
 {}
 
-/// What is promised of the tables that an opening and a migration take holds of the least that keeps it, and each field
-/// is broken by the least that keeps all others.
+/// Counterexamples: each promise of the tables that an opening and a migration accept fails for a minimal one.
 pub fn tables_can_be_broken()
-    // one row and no other
+    // One row and no other.
     ensures only { HasOnly (drift_row 5 (pos 3) ∷ drift_row 6 (pos 3) ∷ []) 5 drift_columns (drift_values 5 (pos 3)) }
     ensures only_none { HasOnly [] 5 drift_columns (drift_values 5 (pos 3)) → ⊥ }
     ensures only_two { HasOnly (drift_row 5 (pos 3) ∷ drift_row 5 (pos 3) ∷ []) 5 drift_columns
@@ -279,7 +275,7 @@ pub fn tables_can_be_broken()
     ensures only_shows { (steps : ℕ) → HasOnly (drift_row 5 (pos steps) ∷ []) 5 drift_columns
         (drift_values 5 (pos (steps + 1))) → ⊥ }
 
-    // the node that tables name
+    // The node that the tables name.
     ensures names { HasUsableNode (db_at 4 []) }
     ensures names_schema { HasUsableNode (old_db_of (self_row 1 0 4 ∷ []) [] []) → ⊥ }
     ensures names_nowhere { HasUsableNode (db_of [] [] [] []) → ⊥ }
@@ -294,7 +290,7 @@ pub fn tables_can_be_broken()
     ensures of_node_at_version_1 { IsOfNode (db_of (version_row 1 1 0 4 ∷ []) [] [] []) 1 → ⊥ }
     ensures of_another_node { IsOfNode (db_at 4 []) 2 → ⊥ }
 
-    // the row of `self`
+    // The row of `self`.
     ensures version { HasUsableVersion (tables_at 4611686018427387903 []) 2 1 0 }
     ensures version_boot { (more : ℕ) → HasUsableVersion (tables_at (more + 4611686018427387904) []) 2 1 0 → ⊥ }
     ensures version_1 { (boot : ℕ) → HasUsableVersion (tables_at boot []) 1 1 0 → ⊥ }
@@ -305,7 +301,7 @@ pub fn tables_can_be_broken()
     ensures own_row_of_tokens { (boot : ℕ) → HasUsableSelf (trees_of (self_row 1 10001 boot ∷ []) [] [] []) 2 → ⊥ }
     ensures own_row_version { (boot : ℕ) → HasUsableSelf (tables_at boot []) 1 → ⊥ }
 
-    // the rows of a token
+    // The rows of a token.
     ensures floor { HasUsableFloor token_db.trees 0 }
     ensures floor_range { (more : ℕ)
         → HasUsableFloor (trees_of [] (floor_row 0 (free_row (more + 4611686018427387905)) ∷ []) [] []) 0 → ⊥ }
@@ -317,7 +313,7 @@ pub fn tables_can_be_broken()
     ensures token_floor { HasUsableRow (trees_of [] [] [] (drift_row 0 (pos 0) ∷ [])) 0 → ⊥ }
     ensures token_drift { HasUsableRow (trees_of [] (floor_row 0 (free_row 9) ∷ []) [] []) 0 → ⊥ }
 
-    // the passes
+    // The passes.
     ensures passes { HasUsablePasses (tables_at 4 (pass_row 1 old_pass ∷ [])) }
     ensures passes_range { (boot : ℕ)
         → HasUsablePasses (tables_at boot (pass_row 1 (record old_pass { token = 10000 }) ∷ [])) → ⊥ }
@@ -325,7 +321,7 @@ pub fn tables_can_be_broken()
         → ⊥ }
     ensures passes_numbers { (boot : ℕ) → HasUsablePasses (tables_at boot (pass_row 2 old_pass ∷ [])) → ⊥ }
 
-    // a whole store, of version 2 and of version 1
+    // A whole store, of version 2 and of version 1.
     ensures usable { IsUsable token_db 1 1 }
     ensures usable_schema { IsUsable (record (db_at 4 []) { schema = undrifted_schema }) 1 0 → ⊥ }
     ensures usable_of_node { IsUsable (db_of (self_row 10 0 4 ∷ []) [] [] []) 10 0 → ⊥ }
@@ -340,8 +336,7 @@ pub fn tables_can_be_broken()
     ensures old_usable_passes { (boot : ℕ) → IsUsableUndrifted (old_db_at boot (pass_row 2 old_pass ∷ [])) 1 0 → ⊥ }
 {}
 
-/// What is promised of a migration holds of the least that keeps it, and each field is broken by the least that keeps
-/// all others.
+/// Counterexamples: each promise of a migration fails for a minimal one.
 pub fn migrations_can_be_broken()
     ensures undrifted { HoldsUndrifted old_token_db 1 1 (token_content (free_row 9)) [] }
     ensures undrifted_schema { HoldsUndrifted (record (old_db_at 4 []) { schema = floor_schema }) 1 0
@@ -373,7 +368,7 @@ pub fn migrations_can_be_broken()
         (db_at boot (pass_row 2 new_pass ∷ pass_row 1 old_pass ∷ [])) → ⊥ }
 {}
 
-/// What waits for a commit, worked: contents after puts, in order, and the passes among them.
+/// Worked cases. Contents after puts, and the passes among the puts.
 pub fn puts_are_worked()
     ensures none { with_puts (small_content 4) [] ≡ small_content 4 }
     ensures two { with_puts (two_rows (free_row 9) (free_row 9) None)
@@ -389,10 +384,9 @@ pub fn puts_are_worked()
     ensures failures { failures_of None ∷ failures_of (Some Disk) ∷ [] ≡ 0 ∷ 1 ∷ [] }
 {}
 
-/// What is promised of what a store's tables hold holds of the least that keeps it, and each field is broken by the
-/// least that keeps all others.
+/// Counterexamples: each promise of the content of a store's tables fails for a minimal one.
 pub fn stores_can_be_broken<S: Alter>()
-    // the tables hold a content, or one and what waits for its commit
+    // The tables hold a content, or an earlier content and the waiting puts.
     ensures mirrors { Mirrors (showing (db_at 4 []) (db_at 4 [])) (small_content 4) 0 }
     ensures mirrors_schema { Mirrors (showing (old_db_of (self_row 1 0 4 ∷ []) [] [])
         (old_db_of (self_row 1 0 4 ∷ []) [] [])) (small_content 4) 0 → ⊥ }
@@ -408,7 +402,7 @@ pub fn stores_can_be_broken<S: Alter>()
     ensures last_tables { (boot : ℕ) → MirrorsLast (showing (db_at boot []) (db_at boot [])) (small_content boot) [] 1
         → ⊥ }
 
-    // the audit list
+    // The audit list.
     ensures committed { (store : SqlHeld S) → HasCommitted S.Store store [] → store.mirror.boot ≡ 4
         → HasCommitted S.Store (record store { mirror = small_content 5 }) [] → ⊥ }
     ensures committed_holds { (store : SqlHeld S) → HasCommitted S.Store store []
@@ -418,7 +412,7 @@ pub fn stores_can_be_broken<S: Alter>()
     ensures audit_waiting { (store : SqlHeld S) → HasCommitted S.Store store [] → store.staged ≡ []
         → HasAudit S.Store store (old_pass ∷ []) → ⊥ }
 
-    // the rows that a write changes
+    // The rows that a write changes.
     ensures rows { HasRows token_db.trees (put_of 0 (free_row 10) None ∷ []) }
     ensures rows_none { HasRows (tables_at 4 []) [] }
     ensures rows_floor { (next : ℕ) → HasRows (trees_of [] [] [] (drift_row 0 (pos 0) ∷ []))
@@ -434,7 +428,7 @@ pub fn stores_can_be_broken<S: Alter>()
     ensures can_put_token { (boot : ℕ) → CanPut (db_at boot []) 0 (put_of 0 (free_row 10) None ∷ []) → ⊥ }
 {}
 
-/// Which fault of a store a refusal of the connection is.
+/// Worked cases. The store's fault for each error of the connection.
 pub fn refusals_are_worked()
     ensures memory { fault_of (SqliteFailure OutOfMemory) ≡ Memory }
     ensures disk { fault_of (SqliteFailure SystemIoFailure) ≡ Disk }
@@ -442,10 +436,9 @@ pub fn refusals_are_worked()
     ensures text { (fault : CompileError) → fault_of (SqlInputError fault) ≡ Unusable }
 {}
 
-/// What is promised of what a write makes of the tables holds of the least that keeps it, and each field is broken by
-/// the least that keeps all others.
+/// Counterexamples: each promise of a write to the tables fails for a minimal one.
 pub fn writes_can_be_broken()
-    // the row of a token, and its drift
+    // The row of a token, and its drift.
     ensures updated { IsUpdated 0 (floor_row 0 (free_row 10)) token_db (token_db_of (free_row 10) (pos 0)) }
     ensures updated_schema { IsUpdated 0 (floor_row 0 (free_row 10)) token_db
         (record (token_db_of (free_row 10) (pos 0)) { schema = undrifted_schema }) → ⊥ }
@@ -459,7 +452,7 @@ pub fn writes_can_be_broken()
     ensures drifted_drift { IsDrifted 0 (pos 1) token_db token_db → ⊥ }
     ensures drifted_others { (steps : ℤ) → IsDrifted 0 steps token_db (token_db_of (free_row 10) steps) → ⊥ }
 
-    // all that waits, and the boot
+    // All waiting puts, and the boot.
     ensures made { MakesPuts 0 (put_of 0 (free_row 10) None ∷ []) token_db (token_db_of (free_row 10) (pos 0)) }
     ensures made_schema { (boot : ℕ) → MakesPuts 0 [] (db_at boot [])
         (record (db_at boot []) { schema = undrifted_schema }) → ⊥ }

@@ -1,4 +1,4 @@
-//! The tables of version 1, and what makes those of version 2 of them.
+//! The upgrade of the tables of version 1 to version 2.
 
 ghost use Rattle.std.specs.Prelude.{◌≡◌, ◌<◌, ◌≤◌, ℕ, false, IsTrue};
 ghost use Rattle.sqlite.specs.Held.{state};
@@ -20,7 +20,7 @@ use floor_store::StoreFault;
 use otp_core::Drift;
 use sqlite::{Alter, Connection, Transaction};
 
-/// Reads the rows of floors of so many tokens.
+/// Checks the rows of `floor` of `tokens` tokens.
 fn check_floors<S: Alter>(conn: &mut Connection<S>, tokens: u32) -> Result<(), Refusal>
     requires { HasCleanDisk (state S.Store conn.old) → IsOfStore conn.old.schema }
     ensures { ReadsTables S.Store conn.old conn.new (λ db _. HasUndrifted db.trees tokens)
@@ -32,7 +32,7 @@ fn check_floors<S: Alter>(conn: &mut Connection<S>, tokens: u32) -> Result<(), R
     Ok(())
 }
 
-/// Reads the tables of a store of version 1, of this node with so many tokens.
+/// Checks the tables of a store of version 1, of `node` with `tokens` tokens.
 fn check_tables<S: Alter>(conn: &mut Connection<S>, node: u8, tokens: u32) -> Result<(), Refusal>
     requires { tokens ≤ 10000 }
     ensures { ReadsTables S.Store conn.old conn.new (λ db _. IsUndrifted db node tokens)
@@ -50,7 +50,7 @@ fn check_tables<S: Alter>(conn: &mut Connection<S>, node: u8, tokens: u32) -> Re
     Ok(())
 }
 
-/// Makes the row of `self` one of version 2.
+/// Sets the version in the row of `self` to 2.
 fn update_version<S: Alter>(tx: &mut Transaction<'_, S>) -> Result<(), Refusal>
     requires inside { HasCleanDisk (state S.Store tx.old.conn.now)
         → IsTrue (state S.Store tx.old.conn.now).in_transaction }
@@ -62,7 +62,7 @@ fn update_version<S: Alter>(tx: &mut Transaction<'_, S>) -> Result<(), Refusal>
     Ok(())
 }
 
-/// Adds the table of drifts, with none for each of so many tokens, and raises the version.
+/// Adds the table `drift`, with the drift 0 for each of `tokens` tokens, and raises the version.
 fn add_version<S: Alter>(tx: &mut Transaction<'_, S>, tokens: u32) -> Result<(), Refusal>
     requires inside { HasCleanDisk (state S.Store tx.old.conn.now)
         → IsTrue (state S.Store tx.old.conn.now).in_transaction }
@@ -77,7 +77,7 @@ fn add_version<S: Alter>(tx: &mut Transaction<'_, S>, tokens: u32) -> Result<(),
     Ok(())
 }
 
-/// Makes the tables of version 1 those of version 2, in one transaction.
+/// Upgrades the tables of version 1 to version 2, in one transaction.
 fn write_version<S: Alter>(conn: &mut Connection<S>, tokens: u32) -> Result<(), Refusal>
     requires idle { conn.old.in_transaction ≡ false }
     requires there { HasCleanDisk (state S.Store conn.old)
@@ -96,7 +96,7 @@ fn write_version<S: Alter>(conn: &mut Connection<S>, tokens: u32) -> Result<(), 
     }
 }
 
-/// Makes a store of version 1, of this node with so many tokens, one of version 2.
+/// Upgrades a store of `node` with `tokens` tokens from version 1 to version 2.
 pub fn migrate_tables<S: Alter>(
     conn: &mut Connection<S>,
     node: u8,

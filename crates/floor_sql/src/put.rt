@@ -4,10 +4,10 @@ ghost use Rattle.std.specs.Option.{option_to_list};
 use floor_store::{Pass, Row};
 use otp_core::Next;
 
-/// So many puts wait for their commit at most: the one that fills the list is committed with the others.
+/// The maximum number of puts that wait for their commit. The put that reaches it commits them all.
 pub const MAX_STAGED: usize = 80;
 
-/// A put: the row of a token and, where one is given, a pass.
+/// A put: the row of a token and an optional pass.
 #[derive(Clone, Copy, Debug)]
 pub struct Put {
     pub token: u32,
@@ -15,7 +15,7 @@ pub struct Put {
     pub pass: Option<Pass>,
 }
 
-/// How many passes a put with this one appends.
+/// Returns the number of passes that a put with `pass` appends.
 pub fn pass_count(pass: &Option<Pass>) -> u64
     ensures value { result ≡ length (option_to_list pass.now) }
     ensures in_range { result ≤ 1 }
@@ -27,7 +27,7 @@ pub fn pass_count(pass: &Option<Pass>) -> u64
 }
 
 impl Default for Put {
-    /// The put that begins the row of the first token.
+    /// Returns a put of token 0 with floor 0, without a pass.
     fn default() -> Self {
         Put {
             token: 0,

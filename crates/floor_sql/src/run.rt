@@ -1,4 +1,4 @@
-//! One statement of a transaction.
+//! Runs one statement of a transaction.
 
 ghost use Rattle.std.specs.Prelude.{Ok, Err, IsTrue, IfOk, IfErr, OnOk};
 ghost use Rattle.sqlite.specs.Values.{bound};
@@ -12,7 +12,7 @@ use floor_store::StoreFault;
 use sqlite::types::ValueRef;
 use sqlite::{Alter, Transaction};
 
-/// Runs a statement in a transaction.
+/// Runs a statement in a transaction, and returns the number of rows that it changed.
 pub fn run<S: Alter>(
     tx: &mut Transaction<'_, S>,
     sql: &str,
@@ -31,7 +31,12 @@ pub fn run<S: Alter>(
     Ok(count)
 }
 
-/// Runs a statement in a transaction that changes just one row; `Unusable` where it changed another number.
+/// Runs a statement in a transaction that must change exactly one row.
+///
+/// # Errors
+///
+/// - Returns the fault of the connection if the statement fails.
+/// - Returns `Unusable` if the statement changed another number of rows.
 pub fn change_one<S: Alter>(
     tx: &mut Transaction<'_, S>,
     sql: &str,

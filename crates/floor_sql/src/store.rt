@@ -19,15 +19,17 @@ use sqlite::{Alter, Connection};
 use std::alloc::Global;
 use std::marker::Model;
 
-/// A store in tables of SQLite, with a mirror of what it holds. What is put waits in memory for its commit, which
-/// writes all of it in one transaction. A call that fails breaks the store, but for `Spent`: from then on each call but
-/// `tokens`, `is_broken` and `close` answers that fault, until the connection is opened again.
+/// A store in tables of SQLite, with a mirror of their content in memory.
+///
+/// Puts wait in memory. A commit writes all of them in one transaction. A call that fails breaks the store, unless it
+/// returns `Spent`. Then each call except `tokens`, `is_broken` and `close` returns the same fault, until the
+/// connection is opened again.
 #[derive(Drop)]
 pub struct SqlStore<S: Alter> {
     conn: Connection<S>,
     mirror: Mirror,
     staged: ArrayVec<Put, MAX_STAGED>,
-    // the committed passes, and those among the staged puts
+    // The numbers of committed passes and of passes among the staged puts.
     passes: u64,
     staged_passes: u64,
     fault: Option<StoreFault>,
@@ -69,10 +71,15 @@ impl<S: Alter> SqlStore<S> {
     ghost use Rattle.floor_sql.specs.Usable.{HasUsableNode, HasUsablePasses, IsNode, IsUsable};
     ghost use Rattle.floor_sql.specs.Calls.{HandsBack, IsMade, IsOfNode, IsOpened, KeepsTables, ReadsAudit};
 
-    /// Makes the store of this node with these first free factors, at boot 0, in a database that has no table.
-    /// The connection stands outside a transaction and has no limit on its steps. Beside a refusal it
-    /// is handed back: `AlreadyThere` if a table with the name of one of a store's is there,
-    /// `Unusable` if none is and something else is.
+    /// Creates the store of `node` with the given floors, at boot 0, in a database without a table.
+    ///
+    /// The connection must be outside a transaction and have no limit on its steps. Returns it beside an error.
+    ///
+    /// # Errors
+    ///
+    /// - Returns `AlreadyThere` if the database has a table with the name of one of a store's tables.
+    /// - Returns `Unusable` if the database has any other table, index or view.
+    /// - Returns `Memory` or `Disk` if the allocator or the database fails.
     pub fn init(
         alloc: Global,
         conn: Connection<S>,
@@ -96,7 +103,7 @@ impl<S: Alter> SqlStore<S> {
         SqlStore::init_at(alloc, conn, node, 0, floors)
     }
 
-    /// Makes it at another boot, below 2^62, as the store that takes the place of a lost one.
+    /// Creates a store as `init` does, but at the given boot, below 2^62: the replacement of a lost store.
     pub fn init_at(
         alloc: Global,
         mut conn: Connection<S>,
@@ -119,7 +126,7 @@ impl<S: Alter> SqlStore<S> {
         ensures refused { IfErr result (λ e. HandsBack S.Store conn e.0
             (MayCommit (Opens node boot floors.now) (state S.Store conn))) }
     {
-        // Outside a transaction the connection sees what was last committed.
+        // Outside a transaction the connection shows the last commit.
         let _ = conn.is_autocommit();
         if has_own_table(conn.schema()) {
             return Err((conn, StoreFault::AlreadyThere));
@@ -143,9 +150,14 @@ impl<S: Alter> SqlStore<S> {
         }
     }
 
-    /// Opens the store of this node with so many tokens that the tables of a connection hold. The
-    /// connection stands outside a transaction and has no limit on its steps. Beside a refusal it is
-    /// handed back.
+    /// Opens the store of `node` with `tokens` tokens, from the tables of a connection.
+    ///
+    /// The connection must be outside a transaction and have no limit on its steps. Returns it beside an error.
+    ///
+    /// # Errors
+    ///
+    /// - Returns `Unusable` if the tables are not of such a store, or a value is out of range.
+    /// - Returns `Memory` or `Disk` if the allocator or the database fails.
     pub fn open(
         alloc: Global,
         mut conn: Connection<S>,
@@ -160,13 +172,13 @@ impl<S: Alter> SqlStore<S> {
         ensures failure { IfErr result (λ e. IsTrue (is_failure e.1)) }
         ensures refused { IfErr result (λ e. HandsBack S.Store conn e.0 (λ _. ⊥)) }
     {
-        // Outside a transaction the connection sees what was last committed.
+        // Outside a transaction the connection shows the last commit.
         let _ = conn.is_autocommit();
         let (mirror, passes) = match read_tables(alloc, &mut conn, node, tokens) {
             Ok(read) => read,
             Err(Refusal(fault)) => return Err((conn, fault)),
         };
-        // It begins with what the tables hold.
+        // The store begins with the content of the tables.
         Ok(SqlStore {
             conn,
             mirror,
@@ -177,10 +189,16 @@ impl<S: Alter> SqlStore<S> {
         })
     }
 
-    /// Makes the store of version 1 of this node with so many tokens, which a connection holds, one of
-    /// version 2: no token has a drift, and all else is kept. The connection stands outside a transaction
-    /// and has no limit on its steps, and is handed back beside a refusal too: `AlreadyThere` at a store
-    /// of version 2, whatever its node, and `Unusable` at anything else.
+    /// Upgrades the store of `node` with `tokens` tokens from version 1 to version 2, and returns the connection.
+    ///
+    /// Each token gets the drift 0. Nothing else changes. The connection must be outside a transaction and have no
+    /// limit on its steps. Returns it beside an error too.
+    ///
+    /// # Errors
+    ///
+    /// - Returns `AlreadyThere` if the store is of version 2, for any node.
+    /// - Returns `Unusable` if the tables are neither of version 2 nor of such a store of version 1.
+    /// - Returns `Memory` or `Disk` if the allocator or the database fails.
     pub fn migrate(
         mut conn: Connection<S>,
         node: u8,
@@ -198,7 +216,7 @@ impl<S: Alter> SqlStore<S> {
         ensures refused { IfErr result (λ e. HandsBack S.Store conn e.0
             (MayCommit (Migrates node tokens) (state S.Store conn))) }
     {
-        // Outside a transaction the connection sees what was last committed.
+        // Outside a transaction the connection shows the last commit.
         let _ = conn.is_autocommit();
         if is_floor_schema(conn.schema()) {
             return match read_own_node(&mut conn) {
@@ -212,9 +230,14 @@ impl<S: Alter> SqlStore<S> {
         }
     }
 
-    /// The number of the node whose store the tables of a connection hold, and the connection. It
-    /// stands outside a transaction and has no limit on its steps, and is handed back beside a
-    /// refusal too: `Unusable` where no node from 1 to 9 is named, or another version.
+    /// Returns the connection, and the number of the node whose store its tables hold.
+    ///
+    /// The connection must be outside a transaction and have no limit on its steps. Returns it beside an error too.
+    ///
+    /// # Errors
+    ///
+    /// - Returns `Unusable` if the tables are not of version 2, or name no node from 1 to 9.
+    /// - Returns `Memory` or `Disk` if the allocator or the database fails.
     pub fn node_of(
         mut conn: Connection<S>,
     ) -> Result<(Connection<S>, u8), (Connection<S>, StoreFault)>
@@ -228,7 +251,7 @@ impl<S: Alter> SqlStore<S> {
         ensures failure { IfErr result (λ e. IsTrue (is_failure e.1)) }
         ensures refused { IfErr result (λ e. HandsBack S.Store conn e.0 (λ _. ⊥)) }
     {
-        // Outside a transaction the connection sees what was last committed.
+        // Outside a transaction the connection shows the last commit.
         let _ = conn.is_autocommit();
         match read_node(&mut conn) {
             Ok(node) => Ok((conn, node)),
@@ -236,7 +259,7 @@ impl<S: Alter> SqlStore<S> {
         }
     }
 
-    /// The connection, as it stands: its tables hold what was last committed, and what waits for its commit is lost.
+    /// Returns the connection. Its tables hold the last commit. Puts that wait for their commit are lost.
     pub fn close(self) -> Connection<S>
         ensures same { result ≡ self.conn }
         ensures tables { HasCleanDisk (state S.Store result) → IsTrue (state S.Store result).is_open
@@ -254,8 +277,13 @@ impl<S: Alter> SqlStore<S> {
         conn
     }
 
-    /// All committed passes, in order of commit. `Unusable` where the table of passes is not as `open`
-    /// takes it.
+    /// Returns all committed passes, in the order of their commits.
+    ///
+    /// # Errors
+    ///
+    /// - Returns the fault that broke the store earlier.
+    /// - Returns `Unusable` if the table `pass` is not as `open` accepts it. This breaks the store.
+    /// - Returns `Memory` or `Disk` if the allocator or the database fails. This breaks the store.
     pub fn passes(&mut self, alloc: Global) -> Result<Vec<Pass>, StoreFault>
         ensures list { HasCleanDisk (state S.Store self.new.conn)
             → IfOk result (λ list. HasCommitted S.Store self.new list.items) }
@@ -276,7 +304,7 @@ impl<S: Alter> SqlStore<S> {
         }
     }
 
-    /// Writes what was put in one transaction with the number of the boot, where one is given, and empties the list.
+    /// Writes the staged puts in one transaction, with `boot` if it is Some, and empties the list.
     fn write(&mut self, boot: Option<u64>) -> Result<(), StoreFault>
         requires works { self.old.fault ≡ None }
         requires next { ForSome boot (λ b. (b ≡ self.old.mirror.boot + 1) × b < 2 ^ 62) }
@@ -323,7 +351,7 @@ impl<S: Alter> FloorStore for SqlStore<S> {
         self.fault.is_some()
     }
 
-    /// The row of a token, as it was last put. It runs no statement.
+    /// Returns the row of a token, as the last put left it. Runs no statement.
     fn row(&self, token: u32) -> Result<Row, StoreFault>
         requires { token < length self.now.mirror.rows }
         ensures reads { Reads (sql_held S.Store self.now)
@@ -336,7 +364,7 @@ impl<S: Alter> FloorStore for SqlStore<S> {
         Ok(self.mirror.row(token))
     }
 
-    /// The number of the boot, as it was last raised. It runs no statement.
+    /// Returns the boot, as the last raise left it. Runs no statement.
     fn boot(&self) -> Result<u64, StoreFault>
         ensures reads { Reads (sql_held S.Store self.now) (λ content boot. boot ≡ content.boot) result }
         ensures range { IfOk result IsCount }
@@ -348,9 +376,15 @@ impl<S: Alter> FloorStore for SqlStore<S> {
         Ok(self.mirror.boot())
     }
 
-    /// Puts the row of a token and, where one is given, the pass. They wait for their commit, and no statement is run,
-    /// but for the put that fills the list. `Unusable` where the number of the pass would be beyond 2^62, or a token
-    /// that the commit of a full list writes has not just one row of floors and one of drifts.
+    /// Puts the row of a token and, if `pass` is Some, the pass.
+    ///
+    /// The put waits for its commit. It runs no statement, unless it fills the list.
+    ///
+    /// # Errors
+    ///
+    /// - Returns the fault that broke the store earlier.
+    /// - Returns `Unusable` if the number of the pass would be beyond 2^62. This breaks the store.
+    /// - Returns `Unusable`, `Memory` or `Disk` as `commit` does, if the put fills the list.
     fn put(&mut self, token: u32, row: Row, pass: Option<Pass>) -> Result<(), StoreFault>
         requires { token < length self.old.mirror.rows }
         ensures puts { Puts (sql_held S.Store) self.old self.new (with_row self.old.mirror token row pass) result }
@@ -371,7 +405,7 @@ impl<S: Alter> FloorStore for SqlStore<S> {
             self.fault = Some(StoreFault::Unusable);
             return Err(StoreFault::Unusable);
         }
-        // There is room: the put that fills the list commits it.
+        // The list has room: the put that fills it commits it.
         if self.staged.try_push(Put { token, row, pass }).is_err() {
             self.fault = Some(StoreFault::Memory);
             return Err(StoreFault::Memory);
@@ -384,8 +418,15 @@ impl<S: Alter> FloorStore for SqlStore<S> {
         Ok(())
     }
 
-    /// Writes what was put in one transaction, and appends its passes in order. Where nothing was put it runs no
-    /// statement. `Unusable` where a token that was put has not just one row of floors and one of drifts.
+    /// Writes the waiting puts in one transaction, and appends their passes in order. Runs no statement without puts.
+    ///
+    /// # Errors
+    ///
+    /// - Returns the fault that broke the store earlier.
+    /// - Returns `Unusable` if a token of a put does not have exactly one row in `floor` and one in `drift`.
+    /// - Returns `Memory` or `Disk` if the allocator or the database fails.
+    ///
+    /// Each error but the first breaks the store.
     fn commit(&mut self) -> Result<(), StoreFault>
         ensures commits { Commits (sql_held S.Store) self.old self.new result }
         ensures breaks { IfErr result (Breaks (sql_held S.Store) self.old self.new) }
@@ -405,8 +446,14 @@ impl<S: Alter> FloorStore for SqlStore<S> {
         self.write(None)
     }
 
-    /// Raises the number of the boot by one, in one transaction with what was put, and answers it. `Unusable` where
-    /// `self` has not just one row, or a token that was put has not just one of floors and one of drifts.
+    /// Raises the boot by one, in one transaction with the waiting puts, and returns it.
+    ///
+    /// # Errors
+    ///
+    /// - Returns the fault that broke the store earlier.
+    /// - Returns `Spent` if the boot is the last one. Nothing changes.
+    /// - Returns `Unusable` if `self` does not have exactly one row, or for a put as `commit` does.
+    /// - Returns `Memory` or `Disk` if the allocator or the database fails.
     fn raise_boot(&mut self) -> Result<u64, StoreFault>
         ensures raises { RaisesBoot (sql_held S.Store) self.old self.new result }
         ensures value { IfOk result (λ boot. HasCleanDisk (state S.Store self.new.conn)

@@ -1,7 +1,6 @@
-//! The texts of the statements. Those of `self`, `floor` and `pass` are understood over version 1 and 2
-//! alike.
+//! The texts of the statements. Statements about `self`, `floor` and `pass` mean the same in versions 1 and 2.
 
-// What makes the tables and their first rows.
+// Statements that create the tables and insert their first rows.
 
 pub const CREATE_SELF: &str =
     "CREATE TABLE self (id INTEGER PRIMARY KEY CHECK (id = 1), version INTEGER NOT NULL, \
@@ -22,7 +21,7 @@ pub const INSERT_SELF: &str =
 pub const INSERT_FLOOR: &str =
     "INSERT INTO floor (token, next, fails, until) VALUES (?1, ?2, 0, 0)";
 
-// What version 2 adds to version 1.
+// Statements that upgrade version 1 to version 2.
 
 pub const CREATE_DRIFT: &str =
     "CREATE TABLE drift (token INTEGER PRIMARY KEY, steps INTEGER NOT NULL) STRICT";
@@ -31,7 +30,7 @@ pub const INSERT_DRIFT: &str = "INSERT INTO drift (token, steps) VALUES (?1, 0)"
 
 pub const UPDATE_VERSION: &str = "UPDATE self SET version = 2 WHERE id = 1";
 
-// What reads them.
+// Statements that read the tables.
 
 pub const SELECT_SELF: &str = "SELECT id, version, node, tokens, boot FROM self WHERE id = 1";
 
@@ -42,7 +41,7 @@ pub const SELECT_DRIFT: &str = "SELECT token, steps FROM drift WHERE token = ?1"
 
 pub const SELECT_PASSES: &str = "SELECT number, token, lo, hi, boot, seq FROM pass ORDER BY number";
 
-// What a put and the raise of a boot write.
+// Statements of a put and of a raise of the boot.
 
 pub const UPDATE_FLOOR: &str =
     "UPDATE floor SET next = ?2, g_node = ?3, g_boot = ?4, g_seq = ?5, g_lo = ?6, g_hi = ?7, \

@@ -38,7 +38,7 @@ pub found_in_map : {A B : Type 0} (p : B → Bool) (f : A → B) (xs : List A) �
 found_in_map p f [] = refl
 found_in_map p f (x ∷ xs) = found_or p f x xs (p (f x)) refl (found_in_map p f xs)
 
--- the first free factor of the row that is found
+-- the floor of the row that is found
 pub floor_found : (user : List ℕ) (rows : List Floor) (row : Option (Bor Floor)) → option_copied row ≡ find (λ row. bytes_eq row.user.now user) rows
     → option_map (λ row. row.now.next) row ≡ floor_in user (map floor_value rows)
 floor_found user rows None is = ap (option_map (λ row. row.next)) (ap (option_map floor_value) is ∙ found_in_map (λ row. bytes_eq row.user user) floor_value rows)

@@ -13,7 +13,7 @@ use Rattle.floors_file.specs.Fields.{◌>>=◌, fields_of}
 use Rattle.floors_file.specs.Floors.{FloorRecord, floor_value}
 use Rattle.floors_file.specs.Reading.{at_line, end_of, ended_head, floors_of, floors_of_lines, head_of, is_memory, next_row, rows_from}
 
--- whether one of others passes, where they are seen as something else
+-- an item of a mapped list passes if the image of an item does
 pub any_of_map : {A B : Type 0} (p : B → Bool) (f : A → B) (xs : List A) → list_any p (map f xs) ≡ list_any (λ x. p (f x)) xs
 any_of_map p f [] = refl
 any_of_map p f (x ∷ xs) = ap (λ b. p (f x) || b) (any_of_map p f xs)
@@ -25,7 +25,7 @@ pub row_then : (tokens : ℕ) (rows : List FloorRecord) (line : List ℕ) (lines
 row_then tokens rows line [] count e = absurd (omega (arith, e))
 row_then tokens rows line (next ∷ lines) count e = refl
 
--- so many rows are read of a text, and this is left of it
+-- the rows `rows` of a text are read, and `rest` is left of it
 pub record HasRead (tokens : ℕ) (text : List ℕ) (rows : List FloorRecord) (rest : List ℕ) : Type 0 where
   pub so_far : rows_from tokens [] (lines_of text) ≡ rows_from tokens rows (lines_of rest)
 
@@ -75,7 +75,7 @@ ended : (lines : List (List ℕ)) (line : HeadLine) (count : ℕ) → length lin
 ended [] line count e = absurd (omega (arith, e))
 ended (next ∷ lines) line count e = refl
 
--- the rows behind a first line that was read
+-- the rows after a first line that was read
 floors_then : (text first rest : List ℕ) (line : HeadLine) → lines_of text ≡ first ∷ lines_of rest → Ok line ≡ head_of (fields_of first)
     → floors_of text ≡ (rows_from line.tokens [] (lines_of rest) >>= λ rows. Ok (record { head = line.head; rows = rows }))
 floors_then text first rest line is e =
@@ -107,7 +107,7 @@ floors_unended text fault is e =
     ap floors_of_lines is
     ∙ ap (λ o. at_line 1 o >>= λ (l : HeadLine). rows_from l.tokens [] [] >>= λ rows. Ok (record { head = l.head; rows = rows })) (sym e)
 
--- the fault of the rows, handed on
+-- the fault of the rows, passed on
 pub bad_rows : {A : Type 0} (text : List ℕ) (result : Result A FloorsFault) (fault : FloorsFault) → IsErrAnd result (λ x. x ≡ fault)
     → (is_memory fault.kind ≡ false → floors_of text ≡ Err (fault.line, fault.kind))
     → IfErr result (λ fault. is_memory fault.kind ≡ false → floors_of text ≡ Err (fault.line, fault.kind))

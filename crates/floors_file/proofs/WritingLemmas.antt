@@ -12,7 +12,7 @@ use Rattle.floors_file.specs.Floors.{floor_value}
 use Rattle.floors_file.specs.Writing.{floor_text, floors_text, head_text, row_text}
 use Rattle.std.proofs.lemmas.Option.{slice_get-get_or, get_or_from_slice_get}
 
--- one text, and then another
+-- one text, followed by another
 pub append_more : (old middle new : Option (List ℕ)) (front back : List ℕ) → Appends old middle front → Appends middle new back
     → Appends old new (front ++ back)
 append_more None middle new front back h k = tt
@@ -20,7 +20,7 @@ append_more (Some x) None new front back h k = absurd h
 append_more (Some x) (Some y) None front back h k = absurd k
 append_more (Some x) (Some y) (Some z) front back h k = k ∙ ap (λ l. l ++ back) h ∙ append_assoc x front back
 
--- the texts of so many items, and the text of the next
+-- the texts of the items up to a place, followed by the text of the item there
 append_item : {X : Type 0} (text_of : X → List ℕ) (items : List X) (place : ℕ) (item : X) (old middle new : Option (List ℕ))
     → place < length items → item ≡ get_or items place item
     → Appends old middle (flat_map text_of (take place items)) → Appends middle new (text_of item)
@@ -31,7 +31,7 @@ append_item text_of items place item old middle new within is h k =
     (ap (λ l. flat_map text_of (take place items) ++ l) (append-nil (text_of (get_or items place item)) ∙ ap text_of (sym is))) in
     subst (Appends old new) (sym texts) (append_more old middle new (flat_map text_of (take place items)) (text_of item) h k)
 
--- the same, where the item was read by its place
+-- the same, if the item was read by its place
 pub append_item_at : {X : Type 0} (text_of : X → List ℕ) (items : List X) (place : ℕ) (default : X) (old middle new : Option (List ℕ))
     → place < length items
     → Appends old middle (flat_map text_of (take place items)) → Appends middle new (text_of (get_or items place default))
@@ -41,7 +41,7 @@ append_item_at text_of items place default old middle new within h k =
     append_item text_of items place item old middle new within
     (sym (get_or_from_slice_get items place item item (slice_get-get_or items place default within))) h k
 
--- the first line, and then the rows
+-- the first line, followed by the rows
 pub floors_written : {E : Type 0} (result : Result (Unit {0}) E) (head : Head) (rows slice : List Floor) (tokens : ℕ) (old middle new : Option (List ℕ))
     → slice ≡ rows → tokens ≡ length rows → Appends old middle (head_text head tokens)
     → OnOk result (Appends middle new (flat_map floor_text slice))

@@ -1,4 +1,4 @@
--- States and hashes are told apart: two blocks by the first word after them, and two hashes by their number.
+-- Two states differ in the first word after their blocks, and two hashes in their number.
 use Rattle.std.proofs.Common.{◌≡◌, ◌≢◌, ◌==◌, ℕ, ◌/◌, List, [], ◌∷◌, if◌then◌else◌, length, slice_index, sym, ap, ◌∙◌, arith}
 use Rattle.sha1.specs.Sha1 as S1
 use Rattle.sha1.specs.declared.Sha1 as D1
@@ -26,11 +26,11 @@ no_two a b apart e = apart (ap number_of e)
 abbrev pub block : ℕ → Hash → List ℕ → List ℕ
 block pad hash key = xor_each pad (block_key (digest_of hash) (block_len_of hash) key)
 
--- 1 where the first word is this one, and 0 elsewhere
+-- 1 if the first word is `word`, else 0
 abbrev begins : ℕ → List ℕ → ℕ
 begins word words = if slice_index words 0 == word then 1 else 0
 
--- the words after two messages that one state has taken
+-- the words after two messages that lead to the same state
 words_of_sha1 : (s : D1.Sha1) (a b : List ℕ) (word : ℕ) → S1.Holds s a → S1.Holds s b
     → begins word (S1.hash_after a (length a / 64)) ≡ begins word (S1.hash_after b (length b / 64))
 unfolding S1.Holds

@@ -7,7 +7,7 @@ use token_file::{FileFault, LineFault};
 use users_input::{Input, InputFault, NextLine, Retrying, text_of};
 use vote_wire::ClusterKey;
 
-/// A reader that fails a number of times in one way, and then gives one byte at a time.
+/// A reader that fails `times` times with `kind`, and afterwards returns one byte at a time.
 #[derive(Drop)]
 struct FailsFirst {
     times: u32,
@@ -30,7 +30,7 @@ impl Read for FailsFirst {
     }
 }
 
-/// A read is tried 65 times where it is interrupted, and once where it fails in another way.
+/// A read is tried 65 times if it is interrupted, and once if it fails in another way.
 #[test]
 fn interrupted_reads_are_tried_again(rt: HostRuntime) {
     for (times, kind, is_read) in [
@@ -45,7 +45,7 @@ fn interrupted_reads_are_tried_again(rt: HostRuntime) {
     }
 }
 
-/// Whether the next line of an input is as wanted, with this text.
+/// Returns whether the next line of an input is `wanted`, with the given text.
 fn is_next<B: io::BufRead>(
     input: &mut Input<B>,
     line: &mut Vec<u8>,
@@ -55,7 +55,7 @@ fn is_next<B: io::BufRead>(
     input.next_line(line) == wanted && text_of(line) == text
 }
 
-/// The lines of an input up to its limit, and what a failed read is.
+/// The lines of an input up to its limit, and the fault of a failed read.
 #[test]
 fn lines_are_taken_in_turn(rt: HostRuntime) -> Result<(), Fail> {
     let mut line = Vec::new(rt.alloc());
@@ -75,7 +75,7 @@ fn lines_are_taken_in_turn(rt: HostRuntime) -> Result<(), Fail> {
     Ok(())
 }
 
-/// A reader that gives a text, at most some bytes at once, and then ends, or fails in a way.
+/// A reader that returns a text in pieces of at most `size` bytes, and afterwards ends or fails with `end`.
 #[derive(Drop)]
 struct Pieces<'a> {
     text: &'a [u8],
@@ -96,7 +96,7 @@ impl Read for Pieces<'_> {
     }
 }
 
-/// How a simulation of three nodes under a key of 32 zeros ends, with a look-ahead of 5 and a range of 9.
+/// Runs a simulation of three nodes under a key of 32 zeros, with a look-ahead of 5 and a range of 9.
 fn simulated<W: Write>(
     alloc: Global,
     reader: &mut Pieces<'_>,
@@ -107,7 +107,7 @@ fn simulated<W: Write>(
     run_sim(alloc, 3, settings, 0, &key, 2000, reader, writer)
 }
 
-/// Whether a simulation prints this, and ends so.
+/// Returns whether a simulation prints `printed` and ends with `end`.
 fn ends_so(alloc: Global, reader: &mut Pieces<'_>, printed: &[u8], end: Result<(), Fault>) -> bool {
     let mut written = Vec::new(alloc);
     simulated(alloc, reader, &mut written) == end && written.as_slice() == printed
@@ -118,11 +118,11 @@ const TWO_ROUNDS: &[u8] = b"HOTP silver - 31323334353637383930313233343536373839
     tick 3\n# node 3 is lost\n\nlive 1 2\nround 1 7 1000 CHECK a silver 755224 -\n\
     round 2 8 1000 CHECK b silver 287082 -\n";
 
-/// What is printed of it.
+/// The output of the two rounds.
 const TWO_PASSES: &[u8] =
     b"pass 1 3 1 0 0 0\npass 4 6 2 0 1 1\nanswer 3 1 7 OK a 0\nanswer 6 2 8 OK b 1\nsent 8\n";
 
-/// Whole inputs, in pieces: what is printed, and the first bad line by its number in the whole input.
+/// Whole inputs, in pieces: their output, and the first bad line by its number in the whole input.
 #[test]
 fn scripts_are_run(rt: HostRuntime) {
     for (text, printed, end) in [
@@ -148,7 +148,7 @@ fn scripts_are_run(rt: HostRuntime) {
     }
 }
 
-/// Readers that fail behind a text, in the users file and behind it.
+/// Readers that fail after a text, in the users file and after it.
 #[test]
 fn failed_reads_are_faults(rt: HostRuntime) {
     let cut = Fault::Users(FileFault {
@@ -175,7 +175,7 @@ fn failed_reads_are_faults(rt: HostRuntime) {
     }
 }
 
-/// A writer that has room for some bytes.
+/// A writer that has room for the given number of bytes.
 #[derive(Drop)]
 struct Full(usize);
 
@@ -194,7 +194,7 @@ impl Write for Full {
     }
 }
 
-/// A writer that fails at any byte of what is printed.
+/// A writer that fails at any byte of the output.
 #[test]
 fn failed_writes_are_faults(rt: HostRuntime) {
     for room in 0..=TWO_PASSES.len() {

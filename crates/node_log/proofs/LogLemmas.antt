@@ -29,14 +29,14 @@ remembers_more (Some front) (Some now) entry before after grows is kept = record
       ∙ ap (λ l. asked_after_all l []) (unsome (front ++ entry ∷ []) now grows ∙ unsome now all e);
 }
 
--- nothing appended, and then a text
+-- nothing appended, followed by a text
 appends_more : (x y z : Option (List ℕ)) (text : List ℕ) → Appends x y [] → Appends y z text → Appends x z text
 appends_more None y z text p q = tt
 appends_more (Some x) None z text p q = absurd p
 appends_more (Some x) (Some y) None text p q = absurd q
 appends_more (Some x) (Some y) (Some z) text p q = q ∙ ap (λ l. l ++ text) (p ∙ append-nil x)
 
--- nothing told, and then something
+-- no line written, followed by a text
 pub tells_more : (a b c : Bool) (x y z : Option (List ℕ)) (text : List ℕ) → Tells a b x y [] → Tells b c y z text → Tells a c x z text
 tells_more a b c x y z text first second = record {
   told = λ goes. let later = second.told goes in let before = first.told later.0 in

@@ -182,7 +182,7 @@ same_standing tokens c seq turn s l h = record {
   wait = λ t _. ap (λ (g : GateRecord). g.until - l.moment) (gate_at c s t h);
 }
 
--- a node that is alone, and goes on running, answers a line as the server does
+-- a single node that continues to run answers a line as the server does
 pub line_alone : GateLaw → FitLaw → (config : Config) (count : ℕ) (x : NodeState) (s : Server) (l : Line) → IsAlone count x s
     → RunsOn (made_by_event config alone_place (Client l.client l.moment l.text) x)
     → ServesAlone count (made_by_event config alone_place (Client l.client l.moment l.text) x) l (service_of config.book config.limits s l)
@@ -199,7 +199,7 @@ line_alone law fits config count x s l h =
     (ruling_alone law config.book config.limits count x.content x.voter.seq x.voter.turn s l rows h.begun by_server
     (ruling_grounds fits config.book config.limits (standing_of s l) l.moment l.text)))
 
--- while numbers are left it goes on running
+-- the node continues to run while numbers are left
 fitting_runs : (c : Content) (seq turn : ℕ) (answers : List KeptAnswer) (client : ℕ) (line nonce : List ℕ) (token lo hi : ℕ) (drift : ℤ) → seq < 2 ^ 62
     → RunsOn (made_by_proposal alone_place client line nonce token lo hi drift (lone c seq turn answers))
 unfolding made_by_proposal

@@ -1,4 +1,4 @@
--- The receives of a batch, one after the other, and what a batch comes to.
+-- The receives of a batch, one after the other, and the outcome of a batch.
 use Rattle.std.proofs.Common.{◌≡◌, ℕ, ◌+◌, ◌*◌, ◌%◌, ◌^◌, ◌<◌, ◌≤◌, Bool, true, false, List, [], ◌∷◌, ◌++◌, length, map, refl, sym, ap, ◌∙◌, subst, arith, length-append}
 use Rattle.std.specs.Prelude.{if◌then◌else◌, nat_eq, Option, Some, None, Result, Ok, Err, OnOk}
 use Rattle.std.specs.Option.{option_map}
@@ -135,7 +135,7 @@ calm_after (x ∷ xs) n t h few =
     calm_after xs (received_with x n) (tally_with x t) h.1
     (let e = calm_datagram x (received_with x n) t h.0 in omega (arith, e))
 
--- the fault that ends a run behind this
+-- the fault that ends a run at the end of a batch
 abbrev pub fault_of : BatchEnd → Option ServeFault
 fault_of ends.More = None
 fault_of ends.Commit = None
@@ -176,7 +176,7 @@ fault_ticks : (b : Bool) → [] ≡ ticks_of (if b then ends.Port else ends.Comm
 fault_ticks true = refl
 fault_ticks false = refl
 
--- the events of a turn are its datagram's, and a tick that is due behind it
+-- the events of a turn are its datagram's, followed by a tick that is due
 pub turn_events : (key : List ℕ) (x : Receipt) (t : Tally)
     → events_of_turn key t.received x ≡ datagram_events key x ++ ticks_of (end_of x t)
 turn_events key (FromPeer from bytes) t = ap (λ (es : List NodeEvent). datagram_events key (FromPeer from bytes) ++ es) (tick_by (nat_eq (t.received % 64) 0))
@@ -248,7 +248,7 @@ going_receipts (x ∷ xs) n run h going =
     let count = received_with x n in
     going_receipts xs count (run_with_receipt x run) h.1 (end_of_datagram x count (tally_with x run.tally) h.0)
 
--- a run goes on with receives behind which no batch ends
+-- a run continues after receives that end no batch
 pub going_end : (member : Member) (xs : List Receipt) (n : ℕ) (run : Run) → GoesOn n xs → run.end ≡ None
     → (run_with_batch member xs run).end ≡ None
 going_end member xs n run h going =
@@ -289,7 +289,7 @@ grows_entries x y xs h =
     subst (Grows (option_map receives_in x) (option_map receives_in y)) (receives_entries xs)
     (grows_receives x y (map entry_of xs) h)
 
--- The events of these receives are taken and committed, and what they made is offered.
+-- The node takes and commits the events of the receives. The port gets their outputs.
 pub record IsCommitted {S : Type 0} (held : S → Held) (old new : Scene S) (batch : List Receipt)
     (asked told : Option (List (Option ℕ))) : Type 0 where
   pub between : Hosted S
@@ -400,7 +400,7 @@ steps_fault {A} held old new batch asked told fault f moments entries received r
           );
     }
 
--- ---- What is gathered, and then settled
+-- ---- a gathered batch that is settled
 
 grows_made : {A : Type 0} (x : Option (List A)) (xs : List A) → Grows x (option_map (λ ys. ys ++ xs) x) xs
 grows_made None xs = tt
@@ -473,7 +473,7 @@ gathers_none held start asked = record {
   takes = takes_none held start.node;
 }
 
--- behind receives that the batch goes on behind
+-- after receives that continue the batch
 pub gathers_more : {S : Type 0} (held : S → Held) (start now : Scene S) (asked told : Option (List (Option ℕ))) (waits : List Item)
     (turns : ℕ) (gathered : Gathered) (g : GathersBatch held start now asked told waits turns (Ok gathered))
     → gathered.end ≡ ends.More → Gathers held start now (g.before ++ g.last ∷ []) asked told waits
@@ -621,7 +621,7 @@ end_with_batch held old mid asked told waits turns end g member run is =
     ∙ ap (λ (t : Tally). fault_of (end_of g.last t)) (ap (tally_after batch) (sym is) ∙ sym g.tally)
     ∙ ap fault_of (sym g.end_is)
 
--- a batch behind which the run goes on
+-- a batch after which the run continues
 pub batch_served : {S : Type 0} (held : S → Held) (old mid new : Scene S) (asked told : Option (List (Option ℕ))) (waits : List Item)
     (turns : ℕ) (gathered : Gathered) → GathersBatch held old mid asked told waits turns (Ok gathered)
     → SettlesBatch held mid new (ticks_of gathered.end) waits (Ok tt) → fault_of gathered.end ≡ None → old.tally.faults < 16
@@ -648,7 +648,7 @@ batch_served held old mid new asked told waits turns gathered gathers s calm few
       clock = tt;
     }
 
--- a batch behind which the run ends by the port
+-- a batch after which the port ends the run
 pub batch_by_port : {S : Type 0} (held : S → Held) (old mid new : Scene S) (asked told : Option (List (Option ℕ))) (waits : List Item)
     (turns : ℕ) (gathered : Gathered) → GathersBatch held old mid asked told waits turns (Ok gathered)
     → SettlesBatch held mid new (ticks_of gathered.end) waits (Ok tt) → gathered.end ≡ ends.Port
@@ -719,7 +719,7 @@ before_clock held old mid new asked told waits turns end g s is =
       replies = λ small. c.replies (omega (arith, e, small)) ∙ ap (λ (n : ℕ). n + reply_count (waits ++ c.items)) e;
     }
 
--- a batch behind which the run ends by the clock
+-- a batch after which the clock ends the run
 pub batch_by_clock : {S : Type 0} (held : S → Held) (old mid new : Scene S) (asked told : Option (List (Option ℕ))) (waits : List Item)
     (turns : ℕ) (gathered : Gathered) → GathersBatch held old mid asked told waits turns (Ok gathered)
     → SettlesBatch held mid new (ticks_of gathered.end) waits (Ok tt) → gathered.end ≡ ends.Clock → old.tally.faults < 16
@@ -752,7 +752,7 @@ batch_by_clock held old mid new asked told waits turns gathered gathers s is few
       };
     }
 
--- a batch that the node answers a fault behind its receives
+-- a batch whose settling the node refuses with a fault
 pub batch_unsettled : {S : Type 0} (held : S → Held) (old mid new : Scene S) (asked told : Option (List (Option ℕ))) (waits : List Item)
     (turns : ℕ) (gathered : Gathered) (fault : NodeFault) → GathersBatch held old mid asked told waits turns (Ok gathered)
     → SettlesBatch held mid new (ticks_of gathered.end) waits (Err fault)
@@ -814,7 +814,7 @@ batch_ungathered held old new asked told waits turns fault g =
 
 -- ---- The commit
 
--- the tick that is due is taken, the commit is answered by Ok, and then all is offered
+-- the node takes the tick that is due, the commit returns Ok, and the port gets all outputs
 pub settles_ok : {S : Type 0} (held : S → Held) (n0 n1 n2 : Hosted S) (e0 e1 e2 : Option (List PortEvent)) (t : Tally)
     (ticks : List NodeEvent) (waits : List Item) (last : Option OutputsRecord) (first second total : ℕ)
     → TakesTick held n0 n1 ticks (Ok last) → CommitsNode {A = Unit {0}} held n1 n2 (Ok tt)

@@ -58,7 +58,7 @@ flat_le : {X Y : Type 0} (f : X → List Y) (k : ℕ) (xs : List X) → ((x : X)
 flat_le f k [] h = omega arith
 flat_le f k (x ∷ xs) h = grind (arith, length-append (f x) (flat_map f xs), flat_le f k xs h, h x)
 
--- ---- the voter's part: so many messages and decisions
+-- ---- the voter's part: the bounds of messages and decisions
 
 abbrev Few : Voted → Type 0
 Few v = length v.sends + length v.decisions ≤ 264
@@ -123,7 +123,7 @@ propose_few place t lo hi drift c v h =
     cond_both (place.n == 1) _ _ Few (λ _. omega arith)
     (λ _. omega (arith, each_few place (Ask (record { node = place.me; boot = c.boot; seq = v.seq }) t (span_of lo hi)) h))
 
--- ---- the node's: so many messages and replies
+-- ---- the node's part: the bounds of messages and replies
 
 abbrev IsBrief : Made → Type 0
 IsBrief m = length m.sends + length m.replies ≤ 264

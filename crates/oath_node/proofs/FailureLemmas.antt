@@ -1,4 +1,4 @@
--- Receives that fail change nothing of a run that goes on.
+-- Receives that fail change nothing of a run that continues.
 use Rattle.std.proofs.Common.{◌≡◌, ℕ, ◌+◌, List, [], ◌∷◌, ◌++◌, length, map, refl, sym, ap, ◌∙◌, subst}
 use Rattle.std.specs.Prelude.{Option, None, Some}
 use Rattle.std.proofs.lemmas.List.{append-nil}
@@ -82,15 +82,15 @@ failure_turn member a b h = record {
   replied = h.replied;
 }
 
--- ---- Whether both go on
+-- ---- Whether both runs continue
 
--- so it is where a run has ended or goes on
+-- the claim holds if the run has ended, and if it continues
 going_by : (e : Option ServeFault) (next a : Run) (P : Run → Type 0) → a.end ≡ e → (P a → a.end ≡ None) → P (while_going e next a)
     → a.end ≡ None
 going_by None next a P is more k = is
 going_by (Some fault) next a P is more k = more k
 
--- a run that goes on at the end went on before
+-- a run that continues at the end also continued before
 was_going : (member : Member) (xs : List Receipt) (a : Run) → (run_with_turns member xs a).end ≡ None → a.end ≡ None
 was_going member [] a h = h
 was_going member (x ∷ xs) a h =

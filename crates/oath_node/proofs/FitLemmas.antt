@@ -51,7 +51,7 @@ token_suits law limits next drift wait moment r token c =
     cond_both (nat_lt 0 wait) (Denied r.nonce (Throttled wait)) (open_ruling limits next drift moment r token c) (Suits token next)
     (λ _. tt) (λ _. open_suits law limits next drift moment r token c)
 
--- a request at a moment in range, where there is room, for a user
+-- a request of a user at a moment in range, if the node has room
 pub request_token : (book : List Credential) (limits : Limits) (s : Standing) (moment : ℕ) (r : Request) (token : ℕ) (c : Credential)
     → moment < 2 ^ 40 → s.is_full ≡ false → place_of r.user book ≡ Some token → slice_get book token ≡ Some c
     → request_ruling book limits s moment r ≡ token_ruling limits (s.next token) (s.drift token) (s.wait token) moment r token c

@@ -74,7 +74,7 @@ reply_count-few [] = omega arith
 reply_count-few (Datagram to bytes ∷ items) = omega (arith, reply_count-few items)
 reply_count-few (Reply client bytes ∷ items) = omega (arith, reply_count-few items)
 
--- one item more is offered
+-- the port gets one more item
 pub offered_more : (x y z : Option (List PortEvent)) (items : List Item) (item : Item)
     → Grows x y (map offer_of items) → Grows y z (offer_of item ∷ []) → Grows x z (map offer_of (items ++ item ∷ []))
 offered_more x y z items item h k =
@@ -99,7 +99,7 @@ err_is (Err made) fault h = ap Err h
 
 -- ---- What waits, offered in order
 
--- these items are offered, and so many of them are replies
+-- the port gets the items, of which the given number are replies
 abbrev pub AreOffered : Option (List PortEvent) → Option (List PortEvent) → List Item → ℕ → Type 0
 AreOffered x y items replies =
     Grows x y (map offer_of items) × (replies ≤ reply_count items) × (reply_count items < 2 ^ 64 → replies ≡ reply_count items)

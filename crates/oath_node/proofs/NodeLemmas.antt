@@ -108,7 +108,7 @@ node_stopped held book limits key old new event fault tokens h = record {
   owned = λ e. absurd cc;
 }
 
--- it is a node still, stopped where there was a fault
+-- the node is still a node, and stopped if there was a fault
 node_then : {S : Type 0} (held : S → Held) (book : List Credential) (limits : Limits) (key : List ℕ) (old new : Parts S) (event : NodeEvent) (result : Result OutputsRecord NodeFault)
     → IsNode held (node_of book limits key old true) → StepsBy held book limits key old new event result
     → IsNode held (node_of book limits key new (is_ok result))
@@ -122,7 +122,7 @@ few_made held book limits key old new event out place few h clean =
     subst (λ (o : OutputsRecord). length o.items ≤ 264) (sym (h.made clean).told)
     (outputs_few key (config_of book limits) old.voter.place (state_in held old) event place few)
 
--- where no failure was counted, it was none
+-- if no failure was counted, the call met none
 fails_without : {S : Type 0} (held : S → Held) (old new : Hosted S) (event : NodeEvent) (fault : NodeFault) → FailsBy held old new event fault
     → (held new.store).failures ≡ (held old.store).failures → (fault ≡ Stopped) ⊎ (fault ≡ Spent)
 fails_without held old new event (Store fault) h same = absurd (omega (arith, h.counted, same))

@@ -1,4 +1,4 @@
--- Batches come to what their turns come to one by one.
+-- A batch has the outcome of its turns one by one.
 use Rattle.std.proofs.Common.{◌≡◌, ◌≢◌, ℕ, ◌+◌, ◌%◌, ◌≤◌, Bool, true, eq-eqb, arith, List, [], ◌∷◌, ◌++◌, length, map, refl, sym, ap, ◌∙◌, subst}
 use Rattle.std.specs.Prelude.{false, nat_eq, Option, None, Some}
 use Rattle.std.proofs.lemmas.Bool.{false≢true}
@@ -92,7 +92,7 @@ with_batch member xs a b h =
     (with_events member (events_of_turns member.key a.tally.received xs) (run_with_receipts xs a) (run_with_receipts xs b)
     (with_receipts xs a b h))
 
--- ---- A receive before an event, or behind it
+-- ---- A receive before an event, or after it
 
 tally_order : (x : Receipt) (n : ℕ) (t : Tally) → tally_with x (with_replies n t) ≡ with_replies n (tally_with x t)
 tally_order (FromPeer from bytes) n t = refl
@@ -194,7 +194,7 @@ turn_going member x n a h =
     run_with_events-end member (events_of_turn member.key (run_with_receipt x a).tally.received x) (run_with_receipt x a)
     ∙ end_of_datagram x n (tally_with x a.tally) h
 
--- turns behind which no batch ends come to the batch of them, and go on
+-- turns that end no batch have the outcome of the batch of them, and the run continues
 turns_going : (member : Member) (xs : List Receipt) (a : Run) → GoesOn a.tally.received xs → a.end ≡ None
     → ComesToTheSame (run_with_turns member xs a) (run_with_batch member xs a) × ((run_with_turns member xs a).end ≡ None)
 turns_going member [] a h going = (comes a, going)
@@ -229,7 +229,7 @@ receipts-append : (xs ys : List Receipt) (a : Run) → run_with_receipts (xs ++ 
 receipts-append [] ys a = refl
 receipts-append (x ∷ xs) ys a = receipts-append xs ys (run_with_receipt x a)
 
--- the turns of a batch come to the batch
+-- the turns of a batch have the outcome of the batch
 turns_batch : (member : Member) (xs : List Receipt) (x : Receipt) (a : Run) → GoesOn a.tally.received xs → a.end ≡ None
     → ComesToTheSame (run_with_turns member (xs ++ x ∷ []) a) (run_with_batch member (xs ++ x ∷ []) a)
 turns_batch member xs x a h going =
@@ -316,7 +316,7 @@ next_few xs n true is other few = absurd (false≢true (sym other))
 next_few xs n false is other few =
     let unequal : (n + 1) % 64 ≢ 0 = λ h. false≢true (sym is ∙ eq-eqb ((n + 1) % 64) 0 h) in omega (arith, unequal, few)
 
--- behind fewer than 64 receipts in a row no batch ends
+-- fewer than 64 receipts in a row end no batch
 going_few : (xs : List Receipt) (n : ℕ) → GoesOn n xs → length xs + n % 64 ≤ 63
 going_few [] n h = omega arith
 going_few (FromPeer from bytes ∷ xs) n h =

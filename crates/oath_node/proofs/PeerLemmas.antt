@@ -34,7 +34,7 @@ spelled_fits place tokens from sender to (Grant p t span) h s r lt = (lt, h.1.sp
 spelled_fits place tokens from sender to (Deny p t next) h s r lt = (lt, h.1.of_node ∙ r)
 spelled_fits place tokens from sender to (Floor t next) h s r lt = lt
 
--- what may be handed in is heard
+-- the node hears a message that a caller may pass
 pub heard : (book : List Credential) (limits : Limits) (place : PlaceRecord) (tokens from sender to : ℕ) (m : Message) → tokens ≡ length book
     → IsHeardAs place tokens from sender to m → is_heard (config_of book limits) place from (envelope sender to m) ≡ true
 heard book limits place tokens from sender to m size h =
@@ -46,7 +46,7 @@ heard book limits place tokens from sender to m size h =
     (and_from _ _ (not_from_false (sender == place.me) (ne_eqb sender place.me other))
     (and_from _ _ (and_from _ _ (le-leb 1 sender first) (le-leb sender place.n last)) (lt-ltb (token_of m) (length book) (omega arith)))))
 
--- and what is heard may be handed in
+-- a caller may pass a message that the node hears
 heard_back : (book : List Credential) (limits : Limits) (place : PlaceRecord) (tokens from sender to : ℕ) (m : Message) → tokens ≡ length book
     → HasSpelling sender to m → is_heard (config_of book limits) place from (envelope sender to m) ≡ true → IsHeardAs place tokens from sender to m
 heard_back book limits place tokens from sender to m size spelled e =

@@ -105,7 +105,7 @@ refused_late old new event (node.Store fault) h book limits count server s = let
 refused_late old new event node.Stopped h book limits count server s = absurd (let e : false ≡ true = sym h.0 ∙ s.alone.running in cc)
 refused_late old new event node.Spent h book limits count server s = omega (arith, h.none_left, s.alone.begun)
 
--- a refusal is handed on
+-- a refusal is passed on
 pub handed_on : {A B : Type 0} (r : Result A B) (fault : B) (P : Result A B → Type 0) → IsErrAnd r (λ x. x ≡ fault) → P (Err fault) → P r
 handed_on (Ok value) fault P h p = absurd h
 handed_on (Err x) fault P h p = subst (λ y. P (Err y)) (sym h) p

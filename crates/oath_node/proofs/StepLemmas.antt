@@ -1,4 +1,4 @@
--- A step of the voter, as a step of the machine; and a step of the parts by another name.
+-- A step of the voter, as a step of the machine, and a step of the parts by another name.
 use Rattle.std.proofs.Common.{◌≡◌, ℕ, ℤ, ◌-◌, ◌^◌, ◌<◌, Bool, true, false, List, [], ◌∷◌, ◌++◌, map, Option, Some, None, inl, refl, sym, ap, subst, ◌∙◌, arith}
 use Rattle.std.specs.Prelude.{◌==◌, ◌||◌, ◌⊎◌, nat_le, nat_lt, Result, Ok, Err, OnOk, OnErr}
 use Rattle.std.specs.List.{list_any}
@@ -161,7 +161,7 @@ may_put_err held old new made x y h = record {
   intact = λ _. tt;
 }
 
--- a step that is the same where the store was clean
+-- a step that is the same if the store was clean
 pub steps_same : {S : Type 0} (held : S → Held) (key : List ℕ) (old new : Parts S) (one other : NodeState → Made) (result : Result OutputsRecord NodeFault)
     → ((held old.store).is_clean → one (state_in held old) ≡ other (state_in held old))
     → Steps held key old new one result → Steps held key old new other result
@@ -182,7 +182,7 @@ steps_same held key old new one other (Err fault) same h = record {
   same = h.same;
 }
 
--- a call that changes nothing, where the step changes nothing
+-- a call that changes nothing, if the step changes nothing
 pub steps_told : {S : Type 0} (held : S → Held) (key : List ℕ) (parts : Parts S) (step : NodeState → Made) (out : OutputsRecord) (m : Made)
     → step (state_in held parts) ≡ m → m.state ≡ state_in held parts → out ≡ outputs_of key parts.voter.place m
     → Steps held key parts parts step (Ok out)
@@ -195,7 +195,7 @@ steps_told held key parts step out m is state told = record {
   same = record { place = refl; tokens = refl; boot = refl };
 }
 
--- a call that finds no number, where the step stops the node
+-- a call that finds no number, if the step stops the node
 pub steps_spent : {S : Type 0} (held : S → Held) (key : List ℕ) (parts : Parts S) (step : NodeState → Made)
     → step (state_in held parts) ≡ quiet_made (stopped_node (state_in held parts)) → parts.voter.seq ≡ 2 ^ 62
     → Steps held key parts parts step (Err Spent)

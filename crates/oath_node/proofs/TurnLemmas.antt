@@ -17,7 +17,7 @@ use Rattle.oath_node.proofs.BatchLemmas.{one_more, received_after-append, receiv
 use Rattle.oath_node.proofs.GrowLemmas.{grows_refl, grows_trans}
 use Rattle.oath_node.proofs.TurnStepLemmas.{member_same, same_refl, same_trans}
 
--- After so many turns the scene is that of the run that their batches make.
+-- After `count` turns the scene is the scene of the run over their batches.
 pub record IsSoFar {S : Type 0} (held : S → Held) (old : Hosted S) (first : Option (List PortEvent))
     (asked : Option (List (Option ℕ))) (count : ℕ) (now : Scene S) (told : Option (List (Option ℕ))) : Type 0 where
   pub batches : List (List Receipt)
@@ -71,7 +71,7 @@ run_with_batches-append member [] b run = refl
 run_with_batches-append member (c ∷ bs) b run =
     run_with_batches-append member bs b (while_going run.end (run_with_batch member c run) run)
 
--- a batch of a run that goes on
+-- a batch of a run that continues
 run_with_more : (member : Member) (bs : List (List Receipt)) (b : List Receipt) (run : Run)
     → (run_with_batches member bs run).end ≡ None
     → run_with_batches member (bs ++ b ∷ []) run ≡ run_with_batch member b (run_with_batches member bs run)
@@ -117,7 +117,7 @@ many_with : (bs : List (List Receipt)) (b : List Receipt)
     → length (receipts_in (bs ++ b ∷ [])) ≡ length (receipts_in bs) + length b
 many_with bs b = ap (λ (xs : List Receipt). length xs) (receipts_more bs b) ∙ length-append (receipts_in bs) b
 
--- what becomes of a batch behind what was so far
+-- the outcome of a batch after the turns until now
 ends_so_far : {A S : Type 0} (held : S → Held) (old : Hosted S) (first : Option (List PortEvent)) (asked : Option (List (Option ℕ)))
     (count : ℕ) (now new : Scene S) (batch : List Receipt) (told said : Option (List (Option ℕ))) (result : Result A ServeFault)
     (h : IsSoFar held old first asked count now told) → StepsBatch held now new batch told said result
@@ -306,7 +306,7 @@ by_clock held old first asked count left turns now new told said below sum h b =
           (served_before held old first asked count now then c.before told c.said h c.goes_on c.steps);
     }
 
--- a batch ends the run, which is by the clock where the fault says so
+-- a batch ends the run, by the clock if the fault says so
 pub ends_by_clock : {S : Type 0} (held : S → Held) (old : Hosted S) (first : Option (List PortEvent))
     (asked : Option (List (Option ℕ))) (count left turns : ℕ) (now new : Scene S) (told said : Option (List (Option ℕ)))
     (fault : ServeFault) → turns < 2 ^ 54 → count + left ≡ turns → IsSoFar held old first asked count now told

@@ -44,7 +44,7 @@ pub run_with_events-end : (member : Member) (xs : List NodeEvent) (run : Run) �
 run_with_events-end member [] run = refl
 run_with_events-end member (x ∷ xs) run = run_with_events-end member xs (run_with_event member x run)
 
--- ---- Contents among those of a run
+-- ---- Contents among the contents of a run
 
 pub among_none : (member : Member) (run : Run) (events : List NodeEvent) (content : Content) → content ≡ run.node.content
     → IsAmong member run events content

@@ -1,4 +1,4 @@
-//! A node whose store fails at a write, one write after the other.
+//! A node whose store fails at each of its writes in turn.
 
 use crate::steps::{
     ASK_1_2, ASK_1_3, ASK_2_1, ASK_2_3, DENY_3_2, GRANT_3_1, Out, SILVER, Step, book_of,
@@ -11,10 +11,10 @@ use token_file::Book;
 use vote_core::Place;
 use vote_wire::ClusterKey;
 
-/// A store in memory that fails at some write.
+/// A store in memory that fails at one write.
 type Fuse = FuseStore<MemStore>;
 
-/// A client sends a code to node 1 of three, which node 3 grants.
+/// The steps of node 1 of three: a client sends it a code, which node 3 grants.
 const FIRST: &[Step] = &[
     Step::Line(
         7,
@@ -25,7 +25,7 @@ const FIRST: &[Step] = &[
     Step::Heard(3, &GRANT_3_1, &[Out::Told(7, b"OK a 0")]),
 ];
 
-/// Another client sends it to node 2, which node 3 denies.
+/// The steps of node 2 of three: another client sends it the same code, which node 3 denies.
 const SECOND: &[Step] = &[
     Step::Line(
         8,
@@ -36,14 +36,14 @@ const SECOND: &[Step] = &[
     Step::Heard(3, &DENY_3_2, &[]),
 ];
 
-/// What node 3 hears and answers. Node 1 asks it twice.
+/// The steps of node 3 of three, with two Asks of node 1.
 const THIRD: &[Step] = &[
     Step::Heard(1, &ASK_1_3, &[Out::Sent(1, &GRANT_3_1)]),
     Step::Heard(1, &ASK_1_3, &[Out::Sent(1, &GRANT_3_1)]),
     Step::Heard(2, &ASK_2_3, &[Out::Sent(2, &DENY_3_2)]),
 ];
 
-/// Whether a node answers a tick and a restart as one that its store stopped.
+/// Returns whether a node refuses a tick and a restart, because its store stopped it.
 fn is_stopped(node: &mut Node<'_, Fuse>) -> bool {
     let mut scratch = Scratch::new();
     let ticked = match node.handle(Event::Tick, &mut scratch) {
@@ -55,8 +55,9 @@ fn is_stopped(node: &mut Node<'_, Fuse>) -> bool {
         && node.restart() == Err(NodeFault::Store(StoreFault::Disk))
 }
 
-/// How many steps of node 3 go as they say, before its store fails, and the store as it stands. Nothing, where a step
-/// goes otherwise.
+/// Returns the store after the steps of node 3, and the number of steps that have their outputs before the store fails.
+///
+/// Returns None if a step fails for another reason.
 fn steps_of_third(
     alloc: Global,
     book: &Book,
@@ -82,8 +83,10 @@ fn steps_of_third(
     }
 }
 
-/// The boot of node 3 after all its steps, where the rest of them go over the mended store once a write has failed.
-/// Nothing, where a step goes otherwise, or the fuse blows otherwise than it says.
+/// Returns the boot of node 3 after all its steps.
+///
+/// If a write fails, the remaining steps run over the mended store. Returns None if a step has other outputs, or if
+/// `blows` doesn't say whether a write failed.
 fn boot_of_third(
     alloc: Global,
     book: &Book,
@@ -104,7 +107,7 @@ fn boot_of_third(
     store.boot().ok()
 }
 
-/// The same of a fresh node of the one token.
+/// Returns the boot of a fresh node 3 of the one token, after all its steps.
 fn boot_of_fresh_third(alloc: Global, writes: u64, after: bool, blows: bool) -> Option<u64> {
     let key = zeros()?;
     let (book, floors) = book_of(alloc, SILVER)?;
@@ -112,7 +115,12 @@ fn boot_of_fresh_third(alloc: Global, writes: u64, after: bool, blows: bool) -> 
     boot_of_third(alloc, &book, &key, store, blows)
 }
 
-/// How many writes pass, whether the change of the next one is kept, whether there is a next one, and the last boot.
+/// Runs of node 3, each with four values:
+///
+/// - the number of writes that pass
+/// - whether the change of the next write is kept
+/// - whether there is a next write
+/// - the last boot
 const WRITES: &[(u64, bool, bool, u64)] = &[
     (0, false, true, 1),
     (0, true, true, 2),
@@ -128,9 +136,10 @@ const WRITES: &[(u64, bool, bool, u64)] = &[
     (5, true, false, 2),
 ];
 
-/// Each write of node 3 fails in turn, lost or kept: that of its boot, the put of its Grant, and the commit of each
-/// step. It has no sixth one. It grants the code to node 1 alone in each run, which tells its client so, and node 2
-/// doesn't.
+/// Each write of node 3 fails in turn, lost or kept: its boot, the put of its Grant, and the commit of each step.
+///
+/// There is no sixth write. In each run node 3 grants the code to node 1 alone. Node 1 replies OK to its client, and
+/// node 2 doesn't.
 #[test]
 fn each_write_fails(rt: HostRuntime) {
     assert!(rt; count_of_node(rt.alloc(), 1, 3, FIRST) == Some(2));
@@ -140,7 +149,7 @@ fn each_write_fails(rt: HostRuntime) {
     }
 }
 
-/// Three lines of one batch, with the first three codes of the token. Their outputs are handed out once all is kept.
+/// Takes three lines in one batch, with the first three codes of the token. Returns their outputs after the commit.
 fn take_batch<'b, S: FloorStore>(node: &mut Node<'b, S>) -> Result<[Outputs<'b>; 3], NodeFault> {
     let first = node.take_line(7, 1000, b"CHECK a silver 755224 -")?;
     let second = node.take_line(8, 1000, b"CHECK b silver 287082 -")?;
@@ -149,7 +158,7 @@ fn take_batch<'b, S: FloorStore>(node: &mut Node<'b, S>) -> Result<[Outputs<'b>;
     Ok([first, second, third])
 }
 
-/// The store of a node that is alone, after the batch, and how many outputs were handed out.
+/// Returns the store of a node alone after the batch, and the number of outputs that it returned.
 fn store_of_batch(
     alloc: Global,
     book: &Book,
@@ -169,7 +178,7 @@ fn store_of_batch(
     Some((node.close(), count))
 }
 
-/// The first free factor of the one token, once a node was opened over what the fuse left.
+/// Returns the floor of the one token (its first free factor), after a node was opened over the mended store.
 fn next_after_restart(alloc: Global, book: &Book, key: &ClusterKey, store: Fuse) -> Option<u64> {
     let store = FuseStore::new(store.mend(), 1, false);
     let (store, _) = steps_of_third(alloc, book, key, store, &[])?;
@@ -179,7 +188,7 @@ fn next_after_restart(alloc: Global, book: &Book, key: &ClusterKey, store: Fuse)
     Some(store.row(0).ok()?.next().value())
 }
 
-/// That factor after the batch over a fresh store, and how many outputs were handed out.
+/// Returns the floor after the batch over a fresh store, and the number of outputs that the node returned.
 fn left_by_batch(alloc: Global, writes: u64, after: bool) -> Option<(u64, usize)> {
     let key = zeros()?;
     let (book, floors) = book_of(alloc, SILVER)?;
@@ -188,8 +197,12 @@ fn left_by_batch(alloc: Global, writes: u64, after: bool) -> Option<(u64, usize)
     Some((next_after_restart(alloc, &book, &key, store)?, count))
 }
 
-/// How many writes pass, whether the change of the next one is kept, how many lines of the batch are kept then, and how
-/// many outputs are handed out.
+/// Runs of a batch, each with four values:
+///
+/// - the number of writes that pass
+/// - whether the change of the next write is kept
+/// - the number of lines that are kept
+/// - the number of outputs
 const BATCHES: &[(u64, bool, u64, usize)] = &[
     (1, false, 0, 0),
     (1, true, 1, 0),
@@ -202,8 +215,8 @@ const BATCHES: &[(u64, bool, u64, usize)] = &[
     (5, false, 3, 3),
 ];
 
-/// Each put of a batch of three lines fails in turn, and its commit. The first few of the lines are kept, and no output
-/// is handed out but after the commit.
+/// Each put of a batch of three lines fails in turn, and its commit. A prefix of the lines is kept. The node returns no
+/// output before the commit.
 #[test]
 fn each_write_of_a_batch_fails(rt: HostRuntime) {
     for &(writes, after, kept, count) in BATCHES {

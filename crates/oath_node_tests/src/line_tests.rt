@@ -1,4 +1,4 @@
-//! Lines of a server that is asked one after the other.
+//! The lines of a server that takes them one after the other.
 
 use crate::steps::{SILVER, book_of, settings, zeros};
 use oath_node::{ClientLine, LineServer};
@@ -10,14 +10,14 @@ use vote_wire::ClusterKey;
 /// A line with its client and its moment, and its answer.
 type Row = (u64, u64, &'static [u8], &'static [u8]);
 
-/// One code is taken, and not a second time; one further on in the window is taken.
+/// A code is accepted once. A later code in the window is accepted too.
 const FIRST_PATH: &[Row] = &[
     (7, 100, b"CHECK 1 silver 755224 -", b"OK 1 0"),
     (7, 200, b"CHECK 2 silver 755224 -", b"NO 2 INVALID"),
     (7, 300, b"CHECK 3 silver 969429 -\n", b"OK 3 3"),
 ];
 
-/// An answer is given again to its client and line alone, and a failure closes the token for all clients.
+/// A kept answer is repeated for the same client and line alone. A failure closes the token for all clients.
 const FRESH_TOKEN: &[Row] = &[
     (7, 100, b"CHECK 1 silver 755224 -", b"OK 1 0"),
     (7, 100, b"CHECK 2 silver 755224 -", b"NO 2 INVALID"),
@@ -31,7 +31,7 @@ const FRESH_TOKEN: &[Row] = &[
     (7, 1 << 40, b"CHECK 8 silver 969429 -", b"NO 8 CLOCK"),
 ];
 
-/// Two codes in a row are taken anywhere in the range, and both are used up.
+/// Two codes in a row are accepted anywhere in the range, and both are used up.
 const RESYNCHRONIZATION: &[Row] = &[
     (7, 100, b"RESYNC 4 silver 287922 399871 -", b"NO 4 INVALID"),
     (7, 105, b"RESYNC 5 silver 162583 399871 -", b"OK 5 8"),
@@ -48,7 +48,7 @@ HOTP iron + 3132333435363738393031323334353637383930\n\
 HOTP lead - 3132333435363738393031323334353637383930 4611686018427387904\n\
 HOTP/T30/8 tin - 3132333435363738393031323334353637383930\n";
 
-/// A password that isn't looked at is no failure, and nor is a token with no factor left.
+/// A password that is not checked is no failure. Neither is a token without a factor left.
 const COLUMNS: &[Row] = &[
     (7, 100, b"CHECK 1 silver 755224 -", b"NO 1 PASSWORD"),
     (7, 105, b"CHECK 2 silver 755224 pw", b"OK 2 0"),
@@ -78,7 +78,7 @@ const COLUMNS: &[Row] = &[
     ),
 ];
 
-/// A server over a book, with a look-ahead of 5, a skew of 1 and a range of 9.
+/// Opens a server over a book, with a look-ahead of 5, a skew of 1 and a range of 9.
 fn server_of<'b>(
     alloc: Global,
     book: &'b Book,
@@ -92,7 +92,7 @@ fn server_of<'b>(
     LineServer::new(alloc, book, settings, key, floors).ok()
 }
 
-/// Whether a server answers a line so.
+/// Returns whether a server answers a line as its row says.
 fn answers(server: &mut LineServer<'_>, row: &Row) -> bool {
     let (client, moment, line, want) = *row;
     let line = ClientLine {
@@ -106,7 +106,7 @@ fn answers(server: &mut LineServer<'_>, row: &Row) -> bool {
     }
 }
 
-/// How many lines a server answers as they say, before one that it doesn't.
+/// Returns the number of rows that a server answers as they say, before the first other answer.
 fn count_answers(server: &mut LineServer<'_>, rows: &[Row]) -> usize {
     for (place, row) in rows.iter().enumerate() {
         if !answers(server, row) {
@@ -116,7 +116,7 @@ fn count_answers(server: &mut LineServer<'_>, rows: &[Row]) -> usize {
     rows.len()
 }
 
-/// How many lines a fresh server of these users answers as they say.
+/// Returns the number of rows that a fresh server of the given users answers as they say.
 fn count_of_server(alloc: Global, users: &[u8], rows: &[Row]) -> Option<usize> {
     let key = zeros()?;
     let (book, floors) = book_of(alloc, users)?;
@@ -144,7 +144,7 @@ fn password_column(rt: HostRuntime) {
     assert!(rt; count_of_server(rt.alloc(), USERS, COLUMNS) == Some(11));
 }
 
-/// Whether a server answers this many lines of a user that is unknown, each with a nonce of its own.
+/// Returns whether a server answers `lines` lines of an unknown user, each with its own nonce.
 fn answers_strangers(server: &mut LineServer<'_>, lines: u16) -> bool {
     let mut text = *b"CHECK 0000 nobody 755224 -";
     for number in 0..lines {
@@ -165,7 +165,7 @@ fn answers_strangers(server: &mut LineServer<'_>, lines: u16) -> bool {
     true
 }
 
-/// Whether the first answer is given again after this many other lines, where it is `OK`, or no longer.
+/// Returns whether the answer to the first line, sent again after `lines` other lines, is `again`.
 fn is_kept(server: &mut LineServer<'_>, lines: u16, again: &'static [u8]) -> bool {
     let line = b"CHECK 1 silver 755224 -";
     answers(server, &(7, 100, line, b"OK 1 0"))
@@ -173,7 +173,7 @@ fn is_kept(server: &mut LineServer<'_>, lines: u16, again: &'static [u8]) -> boo
         && answers(server, &(7, 100, line, again))
 }
 
-/// The same of a fresh server.
+/// Returns the result of `is_kept` for a fresh server.
 fn is_kept_afresh(alloc: Global, lines: u16, again: &'static [u8]) -> Option<bool> {
     let key = zeros()?;
     let (book, floors) = book_of(alloc, SILVER)?;
@@ -181,14 +181,14 @@ fn is_kept_afresh(alloc: Global, lines: u16, again: &'static [u8]) -> Option<boo
     Some(is_kept(&mut server, lines, again))
 }
 
-/// The last 1,024 answers are kept: after 1,023 lines the first one is, and after 1,024 it isn't.
+/// A server keeps the last 1,024 answers: the first one is kept after 1,023 further lines, and dropped after 1,024.
 #[test]
 fn kept_answers(rt: HostRuntime) {
     assert!(rt; is_kept_afresh(rt.alloc(), 1023, b"OK 1 0") == Some(true));
     assert!(rt; is_kept_afresh(rt.alloc(), 1024, b"NO 1 INVALID") == Some(true));
 }
 
-/// What is shown of a line has neither its codes nor its password.
+/// The debug text of a line has neither its codes nor its password.
 #[test]
 fn shown_line(rt: HostRuntime) -> Result<(), AllocError> {
     let line = ClientLine {

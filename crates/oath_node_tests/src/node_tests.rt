@@ -9,14 +9,14 @@ use otp_core::Next;
 use std::alloc::Global;
 use vote_core::Place;
 
-/// An Ask of node 1 to node 2 with a byte more.
+/// An Ask of node 1 to node 2 with one byte more.
 const LONGER_ASK: [u8; 60] = [
     0x4f, 0x56, 2, 1, 1, 2, 0, 0, 0, 0, 1, 0, 0, 0, 0, 0, 0, 0, 1, 0, 0, 0, 0, 0, 0, 0, 0, 0, 0, 0,
     0, 0, 0, 0, 0, 0, 0, 0, 0, 0, 0, 0, 0, 0x0c, 0x53, 0x1f, 0xa7, 0x11, 0xe9, 0x66, 0xd0, 0xa9,
     0xbd, 0xa8, 3, 0x85, 0x1c, 0x99, 0x19, 0,
 ];
 
-/// Node 2 of three grants an Ask, and again; from another member, or with a byte more, it is dropped.
+/// Node 2 of three grants an Ask, twice. It drops an Ask from another member, or with one byte more.
 const GRANTED: &[Step] = &[
     Step::Heard(1, &LONGER_ASK, &[]),
     Step::Heard(3, &ASK_1_2, &[]),
@@ -80,7 +80,7 @@ fn gate_survives_restart(rt: HostRuntime) {
     assert!(rt; count_of_node(rt.alloc(), 1, 1, RESTARTED) == Some(4));
 }
 
-/// The code of a time step is taken once, and not in the step after it.
+/// The code of a time step is accepted once, and not in the next step.
 const TIME_STEPS: &[Step] = &[
     Step::Line(
         7,
@@ -96,7 +96,8 @@ const TIME_STEPS: &[Step] = &[
     ),
 ];
 
-/// How many of them go as they say, at a node alone of a time token whose first free factor is 0.
+/// Returns the number of time steps that have their outputs, at a node alone with a time token whose floor (first free
+/// factor) is 0.
 fn count_of_time_steps(alloc: Global) -> Option<usize> {
     let users = b"HOTP/T30 silver - 3132333435363738393031323334353637383930";
     let (place, key, floors) = (Place::new(1, 1)?, zeros()?, [Next::new(0)?]);
@@ -113,7 +114,7 @@ fn time_step_is_taken_once(rt: HostRuntime) {
 /// The names of 33 users.
 const NAMES: &[u8; 33] = b"abcdefghijklmnopqrstuvwxyzABCDEFG";
 
-/// Their users file.
+/// The users file of the 33 users.
 const USERS: &[u8] = b"HOTP a - 31\nHOTP b - 31\nHOTP c - 31\nHOTP d - 31\n\
 HOTP e - 31\nHOTP f - 31\nHOTP g - 31\nHOTP h - 31\nHOTP i - 31\n\
 HOTP j - 31\nHOTP k - 31\nHOTP l - 31\nHOTP m - 31\nHOTP n - 31\n\
@@ -122,7 +123,7 @@ HOTP t - 31\nHOTP u - 31\nHOTP v - 31\nHOTP w - 31\nHOTP x - 31\n\
 HOTP y - 31\nHOTP z - 31\nHOTP A - 31\nHOTP B - 31\nHOTP C - 31\n\
 HOTP D - 31\nHOTP E - 31\nHOTP F - 31\nHOTP G - 31\n";
 
-/// The line of the last of them, and its reply.
+/// The line of the last user, and its reply.
 const BUSY: &[Step] = &[Step::Line(
     7,
     1000,
@@ -130,7 +131,7 @@ const BUSY: &[Step] = &[Step::Line(
     &[Out::Told(7, b"NO 1 BUSY")],
 )];
 
-/// Whether a line begins a proposal.
+/// Returns whether a line begins a proposal.
 fn begins(node: &mut Node<'_, MemStore>, scratch: &mut Scratch, line: &[u8]) -> bool {
     let event = Event::Client {
         client: 7,
@@ -143,7 +144,7 @@ fn begins(node: &mut Node<'_, MemStore>, scratch: &mut Scratch, line: &[u8]) -> 
     }
 }
 
-/// How many users have a line with which a proposal begins, one after the other.
+/// Returns the number of users whose line begins a proposal, in order, before the first one whose line doesn't.
 fn count_begun(node: &mut Node<'_, MemStore>) -> usize {
     let mut scratch = Scratch::new();
     let mut line = *b"CHECK 1 a 517846 -";
@@ -156,12 +157,12 @@ fn count_begun(node: &mut Node<'_, MemStore>) -> usize {
     NAMES.len()
 }
 
-/// Thirty-two submissions wait, and the reply to the next one is that the node is busy.
+/// Returns whether 32 submissions wait, and the node replies BUSY to the next one.
 fn gets_busy(node: &mut Node<'_, MemStore>) -> bool {
     count_begun(node) == 32 && count_steps(node, BUSY) == 1
 }
 
-/// Whether a node of these users gets busy.
+/// Returns whether a fresh node of the 33 users gets busy.
 fn is_busy_at_last(alloc: Global) -> Option<bool> {
     let place = Place::new(1, 3)?;
     let key = zeros()?;

@@ -1,4 +1,4 @@
-//! Steps of a node, each with what it sends and replies, and the bytes of a vote among three.
+//! Steps of a node, each with its outputs, and the bytes of a vote among three.
 
 use floor_store::{FloorStore, MemStore};
 use oath_node::{Event, Item, Node, Outputs, Scratch};
@@ -55,14 +55,14 @@ pub(crate) const ASK_2_3: [u8; 59] = [
     0x48, 0x99, 0x8c, 0xc1, 0xd3, 0x84, 0xa3,
 ];
 
-/// Node 3 denies node 2: its first free factor is 1.
+/// Node 3 denies node 2. The floor of node 3, its first free factor, is 1.
 pub(crate) const DENY_3_2: [u8; 51] = [
     0x4f, 0x56, 2, 3, 3, 2, 0, 0, 0, 0, 2, 0, 0, 0, 0, 0, 0, 0, 1, 0, 0, 0, 0, 0, 0, 0, 0, 0, 0, 0,
     0, 0, 0, 0, 1, 0x49, 0xe4, 0x9e, 0xe2, 0x3e, 0x42, 0x8c, 0x7b, 0x7e, 0x69, 0x1e, 0xe9, 0xb3,
     0x30, 0x92, 7,
 ];
 
-/// What goes out of a node.
+/// An output of a node.
 pub(crate) enum Out {
     /// A datagram to a member.
     Sent(u8, &'static [u8]),
@@ -70,17 +70,17 @@ pub(crate) enum Out {
     Told(u64, &'static [u8]),
 }
 
-/// A step of a node, with all that goes out.
+/// A step of a node, with all its outputs.
 pub(crate) enum Step {
     /// A client's line at a moment.
     Line(u64, u64, &'static [u8], &'static [Out]),
     /// The bytes of a member.
     Heard(u8, &'static [u8], &'static [Out]),
-    /// A restart, by which nothing goes out.
+    /// A restart, which has no outputs.
     Restarts,
 }
 
-/// Whether an item is this one.
+/// Returns whether an item is the output `out`.
 fn is_out(item: &Item, out: &Out) -> bool {
     match (item, out) {
         (Item::Datagram { to, bytes }, Out::Sent(member, sent)) => {
@@ -93,7 +93,7 @@ fn is_out(item: &Item, out: &Out) -> bool {
     }
 }
 
-/// Whether these go out, and nothing else.
+/// Returns whether the outputs are exactly `outs`.
 fn are_out(outputs: &Outputs<'_>, outs: &[Out]) -> bool {
     let mut items = outputs.items();
     for out in outs {
@@ -107,7 +107,7 @@ fn are_out(outputs: &Outputs<'_>, outs: &[Out]) -> bool {
     items.next().is_none()
 }
 
-/// Whether an event has these go out, and nothing else.
+/// Returns whether an event has exactly the outputs `outs`.
 fn takes<S: FloorStore>(
     node: &mut Node<'_, S>,
     scratch: &mut Scratch,
@@ -120,7 +120,7 @@ fn takes<S: FloorStore>(
     }
 }
 
-/// Whether a step goes as it says.
+/// Returns whether a step has the outputs that it names.
 fn goes<S: FloorStore>(node: &mut Node<'_, S>, scratch: &mut Scratch, step: &Step) -> bool {
     match *step {
         Step::Line(client, moment, line, outs) => {
@@ -136,7 +136,7 @@ fn goes<S: FloorStore>(node: &mut Node<'_, S>, scratch: &mut Scratch, step: &Ste
     }
 }
 
-/// How many steps go as they say, before one doesn't.
+/// Returns the number of steps that have their outputs, before the first one that doesn't.
 pub(crate) fn count_steps<S: FloorStore>(node: &mut Node<'_, S>, steps: &[Step]) -> usize {
     let mut scratch = Scratch::new();
     for (place, step) in steps.iter().enumerate() {
@@ -147,23 +147,23 @@ pub(crate) fn count_steps<S: FloorStore>(node: &mut Node<'_, S>, steps: &[Step])
     steps.len()
 }
 
-/// A look-ahead of 5, a skew of 1 and a range of 9.
+/// Returns the settings: a look-ahead of 5, a skew of 1 and a range of 9.
 pub(crate) fn settings() -> Option<Settings> {
     Settings::new(5, 1, 9)
 }
 
-/// The key of a cluster that needs none.
+/// Returns the key of 32 zeros, for a cluster that needs none.
 pub(crate) fn zeros() -> Option<ClusterKey> {
     ClusterKey::new(&[0; 32])
 }
 
-/// The tokens of a users file, and their first free factors.
+/// Reads the tokens of a users file, and their floors.
 pub(crate) fn book_of(alloc: Global, users: &[u8]) -> Option<(Book, Vec<Next>)> {
     let settings = settings()?;
     read_book(alloc, &mut FromRead::new(users), settings, 0).ok()
 }
 
-/// A store in memory with these first free factors.
+/// Creates a store in memory with the given floors.
 pub(crate) fn memory(alloc: Global, floors: &[Next]) -> Option<MemStore> {
     if floors.len() > 10_000 {
         return None;
@@ -171,7 +171,7 @@ pub(crate) fn memory(alloc: Global, floors: &[Next]) -> Option<MemStore> {
     MemStore::new(alloc, floors).ok()
 }
 
-/// The node of these tokens at a place, over a fresh store in memory.
+/// Opens the node of the given tokens at a place, over a fresh store in memory.
 pub(crate) fn opened<'b>(
     alloc: Global,
     book: &'b Book,
@@ -187,7 +187,7 @@ pub(crate) fn opened<'b>(
     Node::open(alloc, book, settings, place, key, store).ok()
 }
 
-/// How many steps of a fresh node of the one token go as they say.
+/// Returns the number of steps of a fresh node of the one token that have their outputs.
 pub(crate) fn count_of_node(alloc: Global, me: u8, n: u8, steps: &[Step]) -> Option<usize> {
     let place = Place::new(me, n)?;
     let key = zeros()?;

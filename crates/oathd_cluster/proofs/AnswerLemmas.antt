@@ -144,7 +144,7 @@ module _ (nodes : ℕ) (all : LinesRead) (number room : ℕ) (left old : Option 
   ends_rounds new h fault.Socket of = writes_first new h
   ends_rounds new h (fault.Node f) of = writes_first new h
 
--- ---- Which faults come behind the users file
+-- ---- the faults after the users file
 
 pub input_behind : (f : InputFault) → IsBehindUsers (input_fault_of f)
 input_behind input.Memory = tt

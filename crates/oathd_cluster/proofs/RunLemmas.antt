@@ -25,7 +25,7 @@ refuses limits moment longest (Some text) left f is h =
 none_first : (lines : LinesRead) (out : Option (List ℕ)) → WritesFirst lines.good out out
 none_first lines out = record { count = 0; writes = nothing_written out }
 
--- a cluster that isn't opened ends so, whatever the lines are
+-- a cluster that isn't opened ends with the fault, for any lines
 pub unopened : (known : Option (List ℕ)) (lines : List ℕ → LinesRead) (f : Fault) (out : Option (List ℕ)) → IsOfOpening f
     → IfSome known (λ text. EndsSo (lines text) (Err f) out out)
 unopened None lines f out h = tt
@@ -37,7 +37,7 @@ unopened (Some text) lines (fault.InputLine n) out h = absurd h
 unopened (Some text) lines fault.Socket out h = none_first (lines text) out
 unopened (Some text) lines (fault.Node f) out h = absurd h
 
--- where the users file is refused nothing is written
+-- a refused users file writes nothing
 pub unread : (known : Option (List ℕ)) (lines : List ℕ → LinesRead) (f : Fault) (out : Option (List ℕ)) → IsOfUsers f
     → IfSome known (λ text. EndsSo (lines text) (Err f) out out)
 unread None lines f out h = tt

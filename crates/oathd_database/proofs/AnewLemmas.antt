@@ -1,4 +1,4 @@
--- A cluster made anew of files that were read after the last acceptance goes on where the former one ended.
+-- A replacement cluster continues where the former one ended, if its files were written after the last acceptance.
 use Rattle.std.proofs.Common.{◌≡◌, ℕ, zero, suc, ◌+◌, ◌/◌, ◌<◌, ◌≤◌, ◌⊎◌, ⊎_elim, Bool, true, false, not, cond, ◌||◌, List, [], ◌∷◌, length, take, get_or, Option, Some, None, refl, sym, ap, subst, ◌∙◌, arith, eqb, leb, ltb}
 use Rattle.std.specs.Prelude.{slice_get, slice_index, option_map}
 use Rattle.std.specs.Option.{option_or}
@@ -81,7 +81,7 @@ anew_fine asked book files none =
     let both = or_none faults (cond (is_enough (members_of files) (length files)) None (Some TooManyLost)) none in
     (files_fine asked false book files 0 files both.0, cond_is (is_enough (members_of files) (length files)) TooManyLost both.1)
 
--- ---- the nodes of files are as many as the files
+-- ---- there is one node of files for each file
 
 past_size : (n x : ℕ) (s : ℕ → Bool) → n < x → size n (λ i. eqb x i || s i) ≡ size n s
 past_size zero x s past = refl
@@ -128,7 +128,7 @@ first_file : (files : List FloorsRecord) → 1 ≤ length files → (file : Floo
 first_file [] some = absurd (omega (arith, some))
 first_file (file ∷ files) some = (file, refl)
 
--- ---- the former life
+-- ---- the former incarnation
 
 module _ (n tokens : ℕ) (opening : Opening) (events : List Event) (former book : List Credential) (files : List FloorsRecord) (members : ℕ)
     (next : Opening) (made : AreMadeAnew n tokens opening events former book files members next) where
@@ -196,7 +196,7 @@ module _ (n tokens : ℕ) (opening : Opening) (events : List Event) (former book
 
   -- ---- the opening
 
-  -- a boot that a former member had is below that of each new one
+  -- a boot that a former member had is below each new boot
   boot_below : (node boot : ℕ) → 1 ≤ node → node ≤ n → node ≤ members → boot ≤ boot_at_last n tokens opening events node → boot < next.boot node
   boot_below node boot first within among had = ⊎_elim there gone (cases_Bool (is_of_files node files))
     where
@@ -232,7 +232,7 @@ module _ (n tokens : ℕ) (opening : Opening) (events : List Event) (former book
             (sent_dated n tokens opening events made.may left.number l left.sent),
       )
 
-  -- ---- the new life
+  -- ---- the new incarnation
 
   pub above : (later : List Event) → AreAbove former book (acceptances n tokens opening events) (acceptances members (length book) next later)
   above later i j a b was now user =

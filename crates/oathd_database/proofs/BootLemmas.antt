@@ -15,7 +15,7 @@ use Rattle.vote_core.specs.declared.message.Message.TheVariants.{Ask, Grant, Den
 use Rattle.vote_core.proofs.Basics.{Each, each_all, each_append, each_flat_map, each_get, each_map, each_weaker}
 use Rattle.vote_core.proofs.Rows.{raise_all_boot}
 
--- what the message says of a proposal is of no later boot than this one of the proposal's node
+-- the proposal that the message names has a boot of its node up to `boot`
 abbrev pub IsOfBoot : (ℕ → ℕ) → Message → Type 0
 IsOfBoot boot (Ask proposal token span) = proposal.boot ≤ boot proposal.node
 IsOfBoot boot (Grant proposal token span) = proposal.boot ≤ boot proposal.node
@@ -45,7 +45,7 @@ of_more one other more (Floor t next) h = tt
 
 -- ---- the steps
 
--- a step that keeps the boot, and sends what is of boots that are there
+-- a step that keeps the boot, and sends messages with boots up to `boot`
 record StepDated (boot : ℕ → ℕ) (c : Content) (s : Voted) : Type 0 where
   same : s.content.boot ≡ c.boot
   sends : Each (SendIsOf boot) s.sends

@@ -49,7 +49,7 @@ stays is_clean trees conn Commit = record {
   crash = λ clean left may. inl may;
 }
 
--- nothing is said of the tables of a disk that fell
+-- the contract claims nothing of tables on a dishonest disk
 pub fallen_sound : (content : Content) → IsSound fallen (store_of content)
 fallen_sound content = record { works = refl; idle = refl; settled = λ other left. absurd (fallen_is small_conn left.clean) }
 
@@ -104,7 +104,7 @@ imported_is limits moment longest book floors text is import =
     let same : import_of book floors ≡ import_of import.book import.floors = cc in
     (sym (ap (λ (i : Import). i.book) same), sym (ap (λ (i : Import). i.floors) same))
 
--- that of one token has one
+-- the import of a users file of one token has one token
 pub one_token : (moment longest : ℕ) (users : List ℕ) → IsOfOne moment longest users → (import : HasImport default_limits moment longest users)
     → length import.book ≡ 1
 one_token moment longest users is import = ap (length {A = Credential}) (imported_is default_limits moment longest one_book (0 ∷ []) users is import).0
@@ -128,7 +128,7 @@ has_one : (before : List Receipt) (last : Receipt) (rest : List Receipt) → len
 has_one [] last rest l = omega (arith, l)
 has_one (receipt ∷ before) last rest l = omega (arith, l)
 
--- so there is no batch where there is no receipt
+-- without a receipt there is no batch
 nothing_handed : (batches : List (List Receipt)) → AreBatches 0 batches → length (receipts_in batches) ≤ 0 → batches ≡ []
 nothing_handed [] formed none = refl
 nothing_handed (batch ∷ batches) formed none =

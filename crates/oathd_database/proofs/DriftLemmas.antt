@@ -1,4 +1,4 @@
--- First free factors of tokens one after the other, later by a drift.
+-- The floors of tokens one after the other, raised by a drift. A floor is the first free factor of a token at a node.
 use Rattle.std.proofs.Common.{◌≡◌, ℕ, ◌+◌, ◌≤◌, List, [], ◌∷◌, ◌++◌, length, take, Some, refl, ap, sym, ◌∙◌, arith}
 use Rattle.std.specs.Prelude.{slice_get}
 use Rattle.std.proofs.lemmas.List.{take_more, take_all, length-take-le}
@@ -34,7 +34,7 @@ drifted_step drift book own place token floor kind chosen before after is of ali
     ∙ drifted_more drift (take place book) (take place own) token floor
     (omega (arith, length-take-le place book (omega (arith, within)), length-take-le place own (omega (arith, inside)))))
 
--- as many as there are tokens
+-- there is one floor for each token
 pub drifted_each : (drift : ℕ) (book : List Credential) (own : List ℕ) → length own ≡ length book → length (drifted_floors drift book own) ≡ length book
 drifted_each drift [] own e = refl
 drifted_each drift (t ∷ book) [] e = absurd (omega (arith, e))

@@ -159,7 +159,7 @@ module _ {S : Type 0} (g : Ghosts S) (serving : Serving) (a : Option (List ℕ))
   has_served (Ok served) (Err fault) is serves = absurd cc
   has_served (Err fault) end is serves = tt
 
--- what follows of a text where there is a result
+-- a claim about a text and a result gives another claim about the text
 pub ok_then : {T E : Type 0} (result : Result T E) (a : Option (List ℕ)) (P : T → List ℕ → Type 0) (Q : List ℕ → Type 0)
     → IfOk result (λ x. IfSome a (P x)) → ((x : T) (text : List ℕ) → P x text → Q text) → IfOk result (λ _. IfSome a Q)
 ok_then (Ok x) a P Q h then = IfSome_then a h (then x)

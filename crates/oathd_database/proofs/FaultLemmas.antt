@@ -1,4 +1,4 @@
--- A fault is handed on.
+-- A fault is passed on.
 use Rattle.std.proofs.Common.{◌≡◌, sym, subst}
 use Rattle.std.specs.Prelude.{Result, Ok, Err, IfErr, IsErrAnd}
 

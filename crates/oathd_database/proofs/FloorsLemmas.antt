@@ -1,4 +1,4 @@
--- Tokens that are told one after the other.
+-- The floors of tokens, one after the other.
 use Rattle.std.proofs.Common.{◌≡◌, ℕ, zero, suc, ◌+◌, ◌<◌, List, [], ◌∷◌, ◌++◌, map, take, length, Option, Some, sym, ap, ◌∙◌, arith}
 use Rattle.std.specs.Prelude.{Result, Ok, Err, IfErr, IfOk, OnOk, slice_get, IfSome}
 use Rattle.std.specs.Io.KnownBytes.{Appends}

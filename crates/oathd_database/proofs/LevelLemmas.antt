@@ -33,7 +33,7 @@ greater_other one other less =
     cond_both (leb one other) other one (λ n. n ≡ other)
     (λ _. refl) (λ q. absurd (omega (arith, leb-false one other q, ltb-true one other less)))
 
--- nothing is told of the row
+-- the files have no floor for the row
 row_untold : (k : ℕ) (floors : List (Option ℕ)) (rows : List RowRecord) → slice_get floors k ≡ Some None
     → levelled_rows (take k floors) rows ≡ levelled_rows (take (suc k) floors) rows
 row_untold k [] rows is = absurd (none-some None is)
@@ -42,7 +42,7 @@ row_untold zero (told ∷ floors) (top ∷ rows) is = ap (λ t. levelled_row t t
 row_untold (suc k) (told ∷ floors) [] is = refl
 row_untold (suc k) (told ∷ floors) (top ∷ rows) is = ap (λ l. levelled_row told top ∷ l) (row_untold k floors rows is)
 
--- a greater first free factor is told
+-- the files have a greater floor
 row_raised : (k floor : ℕ) (floors : List (Option ℕ)) (rows : List RowRecord) → slice_get floors k ≡ Some (Some floor) → k < length rows
     → nat_lt (get_or (levelled_rows (take k floors) rows) k no_row).next floor ≡ true
     → set (levelled_rows (take k floors) rows) k (row_with_next floor (get_or (levelled_rows (take k floors) rows) k no_row))
@@ -55,7 +55,7 @@ row_raised zero floor (told ∷ floors) (top ∷ rows) is within less =
 row_raised (suc k) floor (told ∷ floors) (top ∷ rows) is within less =
     ap (λ l. levelled_row told top ∷ l) (row_raised k floor floors rows is (omega (arith, within)) less)
 
--- what is told is no greater
+-- the floor of the files is no greater
 row_kept : (k floor : ℕ) (floors : List (Option ℕ)) (rows : List RowRecord) → slice_get floors k ≡ Some (Some floor) → k < length rows
     → nat_lt (get_or (levelled_rows (take k floors) rows) k no_row).next floor ≡ false
     → levelled_rows (take k floors) rows ≡ levelled_rows (take (suc k) floors) rows
@@ -164,7 +164,7 @@ module _ {S : Type 0} (held : S → Held) (old now new : S) (floors : List (Opti
         clean = λ clean. so_far.clean (commits.makes.clean clean);
       }
 
--- what is told of a token of a book
+-- the floor of the files for a token of a book
 pub told_there : (files : List FloorsRecord) (book : List Credential) (k : ℕ) (token : Credential) (name : List ℕ) (told : Option ℕ)
     → slice_get book k ≡ Some token → name ≡ token.name → told ≡ greatest_of name files → slice_get (told_by files book) k ≡ Some told
 told_there files book k token name told is named most =

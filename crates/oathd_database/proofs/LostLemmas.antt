@@ -31,7 +31,7 @@ use Rattle.floors_file.specs.Reading.{floors_of}
 use Rattle.oathd_database.specs.Gather.{IsUnreadFile, at_file, files_after}
 use Rattle.oathd_database.specs.Lost.{HasRemade, IsGathered, IsNotRemade, IsUngathered, asked_at, boot_at}
 
--- so many texts are read
+-- the first `number` texts are read
 pub record HasFiles {T : Type 0} (text_of : T → List ℕ) (texts : List T) (files : List FloorsRecord) (number : ℕ) : Type 0 where
   pub so_far : files_after [] (map text_of texts) ≡ files_after files (map text_of (drop number texts))
 
@@ -112,7 +112,7 @@ module _ (limits : Limits) (moment longest : ℕ) (lost : LostNode) (texts : Lis
       made = subst (λ fs. IsMade g conn lost.node (boot_at moment) fs store) same made;
     })
 
--- no more first free factors are gathered than there are tokens
+-- there are no more gathered floors than tokens
 few_gathered : (files : List FloorsRecord) (book : List Credential) (own : List ℕ) → length (gathered_floors files book own) ≤ length book
 few_gathered files [] own = omega arith
 few_gathered files (token ∷ book) [] = omega arith

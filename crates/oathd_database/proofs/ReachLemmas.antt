@@ -204,7 +204,7 @@ place_above from place name (token ∷ book) is = here (bytes_eq token.name name
     here false other behind =
         let on = behind (sym (ap (λ b. cond b (Some from) (place_from (from + 1) name book)) other) ∙ is) in omega (arith, on)
 
--- the row of a token behind the first one
+-- the row of a token after the first one
 told_behind : (from place : ℕ) (name : List ℕ) (book : List Credential) (top : RowRecord) (rows : List RowRecord)
     → ((t : ℕ) → place ≡ from + 1 + t → t < length rows → floor_in name (told_rows book rows) ≡ Some (get_or rows t no_row).next)
     → (t : ℕ) → place ≡ from + t → t < suc (length rows) → place_from (from + 1) name book ≡ Some place
@@ -266,7 +266,7 @@ gathered_at files (first ∷ book) (floor ∷ own) (suc t) y token is each most 
 
 -- ---- together
 
--- what a node is told of rises
+-- the floor of a token at a node only rises while the node keeps its store
 abbrev pub FloorsRise : Type 0
 FloorsRise = (n tokens : ℕ) (opening : Opening) (events : List Event) → MayOpen n tokens opening
     → (node token first later : ℕ) → first ≤ later → KeepsStore events node first later

@@ -9,7 +9,7 @@ use Rattle.token_file.specs.Writing.{row_text}
 use Rattle.floor_store.specs.Records.{PassRecord, RowRecord}
 use Rattle.oathd_database.specs.Text.{WritesToken, audit_text, export_text, pass_line, pass_lines}
 
--- one text, and then another
+-- one text, followed by another
 append_more : (old middle new : Option (List ℕ)) (front back : List ℕ) → Appends old middle front → Appends middle new back
     → Appends old new (front ++ back)
 append_more None middle new front back h k = tt
@@ -28,7 +28,7 @@ lines_more number (first ∷ passes) pass =
     ap (λ l. pass_line number first ++ l) (lines_more (number + 1) passes pass ∙ ap (λ n. pass_lines (number + 1) passes ++ pass_line n pass) same)
     ∙ sym (append_assoc (pass_line number first) (pass_lines (number + 1) passes) (pass_line (number + suc (length passes)) pass))
 
--- the passes up to a place, and then the one there
+-- the passes up to a place, followed by the pass there
 pub append_pass : (passes : List PassRecord) (place : ℕ) (pass : PassRecord) (old middle new : Option (List ℕ))
     → place < length passes → pass ≡ get_or passes place pass
     → Appends old middle (audit_text (take place passes)) → Appends middle new (pass_line (place + 1) pass)
@@ -57,7 +57,7 @@ rows_on (suc place) (first ∷ book) (top ∷ rows) token row is_token is_row =
     ap (λ l. row_text first top.next ++ l) (rows_on place book rows token row is_token is_row)
     ∙ sym (append_assoc (row_text first top.next) (export_text (take place book) (take place rows)) (row_text token row.next))
 
--- the tokens up to a place, and then the one there
+-- the tokens up to a place, followed by the token there
 pub append_token : (book : List Credential) (rows : List RowRecord) (place : ℕ) (old middle new : Option (List ℕ))
     → Appends old middle (export_text (take place book) (take place rows)) → WritesToken book rows place middle new
     → Appends old new (export_text (take (place + 1) book) (take (place + 1) rows))

@@ -69,7 +69,7 @@ module _ (limits : Limits) (moment longest : ℕ) where
   refused_at (Store fault) text book floors h is = record { book = book; floors = floors; imported = h }
   refused_at Socket text book floors h is = absurd is
 
-  -- the same, of whatever fault of a store
+  -- the same, for any fault of a store
   pub refused_so : (a : Option (List ℕ)) (fault : Fault) (book : List Credential) (floors : List ℕ)
       → IfSome a (IsImported limits moment longest book floors) → IsStoreFault fault → IfSome a (IsRefused limits moment longest fault)
   refused_so None fault book floors h is = tt
@@ -94,7 +94,7 @@ module _ {S : Type 0} (g : Ghosts S) (conn : sql.Held S) (node tokens : ℕ) whe
     opened = is;
   }
 
-  -- the store of whatever node is opened
+  -- the store of any node is opened
   pub opened_any : (result : Result (SqlHeld S) Fault) (given : Option ℕ) → given ≡ None
       → IfOk result (IsOpened g conn node tokens) → IfOk result (HasOpened g given tokens)
   opened_any (Err fault) given e is = tt

@@ -1,4 +1,4 @@
-//! The commands over a database in memory: a store is made, exported, served, audited and exported again.
+//! The commands over a database in memory: a store is created, exported, served, audited and exported again.
 
 use datagram_port::{Coming, ListClock, ListPort, PortEntry, Sender};
 use floor_sql::SqlStore;
@@ -31,12 +31,12 @@ impl Database<MemStore> for InMemory {
     }
 }
 
-/// The database of a store that is closed.
+/// Closes a store, and returns its database.
 pub(crate) fn closed(store: SqlStore<MemStore>) -> InMemory {
     InMemory(store.close())
 }
 
-/// The database of a new store of a node with the token.
+/// Creates the store of a node with the token, and returns its database.
 pub(crate) fn made(alloc: Global, node: u8) -> Result<InMemory, Fault> {
     let Ok(conn) = Connection::open_in_memory(alloc) else {
         return Err(Fault::Memory);
@@ -48,7 +48,7 @@ pub(crate) fn made(alloc: Global, node: u8) -> Result<InMemory, Fault> {
     Ok(closed(store))
 }
 
-/// The database of a store, once its rows and then its passes are seen to be written so.
+/// Returns the database of a store, or `CannotWrite` if its rows followed by its passes are not written as `text`.
 fn written(alloc: Global, database: InMemory, text: &[u8]) -> Result<InMemory, Fault> {
     let (users, mut store) = open_store(alloc, SILVER, Settings::default(), None, database)?;
     let mut written = Vec::new(alloc);
@@ -63,7 +63,7 @@ fn written(alloc: Global, database: InMemory, text: &[u8]) -> Result<InMemory, F
     }
 }
 
-/// The database of the store of node 1, which has served these datagrams, and how that ended.
+/// Returns the database of node 1's store after the node served the datagrams of a port, and the end of the turns.
 fn turned(
     alloc: Global,
     database: InMemory,
@@ -82,7 +82,7 @@ fn turned(
     Ok((closed(node.close()), end))
 }
 
-/// Whether what a port was offered, beside what it gave, is this line for client 7.
+/// Returns whether the second entry of a port's record is the datagram `line` to client 7.
 fn is_offered(port: &ListPort<'_>, line: &[u8]) -> bool {
     match port.record() {
         Some([_, PortEntry::Offered { to, bytes }, ..]) => {
@@ -97,7 +97,7 @@ const FRESH: &[u8] = b"HOTP/E/6\tsilver\t-\t313233343536373839303132333435363738
 const USED: &[u8] =
     b"HOTP/E/6\tsilver\t-\t3132333435363738393031323334353637383930\t1\npass 1 0 0 0 1 0\n";
 
-/// Whether a code is accepted once, and stands in the store then.
+/// Returns whether a code is accepted once, and is used up in the store afterwards.
 fn keeps_a_code(alloc: Global) -> Result<bool, Fault> {
     let comings = [Coming::Datagram {
         sender: Sender::Client(7),
@@ -116,14 +116,14 @@ fn keeps_what_it_served(rt: HostRuntime) {
     assert!(rt; keeps_a_code(rt.alloc()) == Ok(true));
 }
 
-/// How the turns of node 1 with no clock end, when this comes and nothing else.
+/// Returns the end of the turns of node 1 without a clock, over a port with the given events.
 fn end_of(alloc: Global, comings: &[Coming<'_>]) -> Result<Served, Fault> {
     let mut port = ListPort::new(alloc, comings);
     let (_database, end) = turned(alloc, made(alloc, 1)?, &mut port, &[], 17)?;
     end
 }
 
-/// The ends of turns that fail.
+/// The faults that end turns.
 #[test]
 fn names_what_ended_the_turns(rt: HostRuntime) {
     let line = [Coming::Datagram {

@@ -1,4 +1,4 @@
-//! A node of three over a database in memory that stops in the midst of a vote.
+//! A node of three over a database in memory that stops during a vote.
 
 use crate::tests::{SILVER, made};
 use arrayvec::ArrayVec;
@@ -15,7 +15,7 @@ use vote_wire::{ClusterKey, MAX_SENT_LEN, write_message};
 /// A datagram.
 type Sent = ArrayVec<u8, MAX_SENT_LEN>;
 
-/// The Ask of a node's first proposal for factor 0, to node 3.
+/// Returns the Ask of a node's first proposal for factor 0, to node 3.
 fn asked(key: &ClusterKey, node: u8) -> Option<Sent> {
     let proposal = Proposal::new(node, 1, 0)?;
     let (token, span) = (0, Span::one(Factor::new(0)?));
@@ -27,7 +27,7 @@ fn asked(key: &ClusterKey, node: u8) -> Option<Sent> {
     Some(write_message(key, node, 3, &ask))
 }
 
-/// The Grant of node 3 to it, or its Deny.
+/// Returns the Grant of node 3 for the Ask of `asked`, or the Deny.
 fn answered(key: &ClusterKey, node: u8, is_granted: bool) -> Option<Sent> {
     let proposal = Proposal::new(node, 1, 0)?;
     let (token, span) = (0, Span::one(Factor::new(0)?));
@@ -48,7 +48,7 @@ fn answered(key: &ClusterKey, node: u8, is_granted: bool) -> Option<Sent> {
     Some(write_message(key, 3, node, &answer))
 }
 
-/// Whether it answers these bytes of a member by those, first of all.
+/// Returns whether the first output for the bytes of a member is the datagram `want` to this member.
 fn replies(node: &mut Node<'_, SqlStore<MemStore>>, from: u8, bytes: &[u8], want: &[u8]) -> bool {
     let mut scratch = Scratch::new();
     let Ok(outputs) = node.handle(Event::Peer { from, bytes }, &mut scratch) else {
@@ -60,7 +60,7 @@ fn replies(node: &mut Node<'_, SqlStore<MemStore>>, from: u8, bytes: &[u8], want
     }
 }
 
-/// Whether it answers the Ask of a member so.
+/// Returns whether the node answers the Ask of a member by a Grant, or by a Deny if `is_granted` is false.
 fn answers(
     node: &mut Node<'_, SqlStore<MemStore>>,
     key: &ClusterKey,
@@ -73,8 +73,9 @@ fn answers(
     replies(node, from, &ask, &want)
 }
 
-/// Nodes 1 and 2 ask for one factor, and node 3 stops when it has heard node 1, once its Grant is committed or before.
-/// Says whether it grants the factor to node 1 alone, by that very Grant.
+/// Returns whether node 3 grants a factor to node 1 alone, by the same Grant each time, although it stops.
+///
+/// Nodes 1 and 2 ask for the factor. Node 3 stops after its Grant to node 1 is committed, or before.
 fn grants_once(
     node: &mut Node<'_, SqlStore<MemStore>>,
     key: &ClusterKey,
@@ -86,7 +87,7 @@ fn grants_once(
         && answers(node, key, 2, false)
 }
 
-/// The same of node 3 of three, over a new database.
+/// Returns the result of `grants_once` for node 3 of three, over a new database.
 fn stops(alloc: Global, is_committed: bool) -> Result<bool, Fault> {
     let settings = Settings::default();
     let (Some(key), Some(place)) = (ClusterKey::new(&[0; 32]), Place::new(3, 3)) else {
@@ -97,7 +98,7 @@ fn stops(alloc: Global, is_committed: bool) -> Result<bool, Fault> {
     Ok(grants_once(&mut node, &key, is_committed))
 }
 
-/// A stop once the Grant is committed, and one before.
+/// A node stops after the Grant is committed, and before.
 #[test]
 fn stops_in_a_vote(rt: HostRuntime) {
     assert!(rt; stops(rt.alloc(), true) == Ok(true));

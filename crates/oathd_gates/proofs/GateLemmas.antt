@@ -16,7 +16,7 @@ use Rattle.oathd_database.specs.Users.{IsImported}
 use Rattle.oathd_database.specs.declared.fault.Fault.{Fault}
 use Rattle.oathd_gates.specs.Gates.{HasToldGates, WritesGate, gate_text, gates_text}
 
--- one text, and then another
+-- one text, followed by another
 append_more : (old middle new : Option (List ℕ)) (front back : List ℕ) → Appends old middle front → Appends middle new back
     → Appends old new (front ++ back)
 append_more None middle new front back h k = tt
@@ -38,7 +38,7 @@ gates_on (suc place) (first ∷ book) (top ∷ rows) token row is_token is_row =
     ap (λ l. gate_text first top.gate ++ l) (gates_on place book rows token row is_token is_row)
     ∙ sym (append_assoc (gate_text first top.gate) (gates_text (take place book) (take place rows)) (gate_text token row.gate))
 
--- the tokens up to a place, and then the one there
+-- the tokens up to a place, followed by the token there
 pub append_gate : (book : List Credential) (rows : List RowRecord) (place : ℕ) (old middle new : Option (List ℕ))
     → Appends old middle (gates_text (take place book) (take place rows)) → WritesGate book rows place middle new
     → Appends old new (gates_text (take (place + 1) book) (take (place + 1) rows))

@@ -63,7 +63,7 @@ printed_more done answer = flat_map-append line_of done (answer ∷ []) ∙ ap (
 
 -- ---- no input has too many lines
 
--- so many lines are answered that each took a byte off the room that there was
+-- `count` lines are answered, each of which used up a byte of the room
 pub record HasAnsweredFew (held : Serving) (room whole : ℕ) : Type 0 where
   pub count : ℕ
   pub server : IsServerAfter held count
@@ -180,7 +180,7 @@ module _ (book : List Credential) (limits : Limits) (answers : List (List ℕ)) 
   ends_failed new h input.Memory = writes_first new h
   ends_failed new h input.CannotRead = (tt, writes_first new h)
 
--- a fault of the input is handed on
+-- a fault of the input is passed on
 pub handed_on : (r : Result Unit Fault) (f : InputFault) (P : Result Unit Fault → Type 0) → IsErrAnd r (λ x. x ≡ input_fault_of f)
     → P (Err (input_fault_of f)) → P r
 handed_on (Ok one) f P h p = absurd h
@@ -195,7 +195,7 @@ nothing_written (Answered answers bad) out = record { count = 0; written = Appen
 memory_ends : (run : Run) (out : Option (List ℕ)) → EndsSo run (Err fault.Memory) out out
 memory_ends run out = nothing_written run out
 
--- whatever the text is
+-- for any text
 pub memory_ends_any : (a : Option (List ℕ)) (run : List ℕ → Run) (out : Option (List ℕ)) → IfSome a (λ text. EndsSo (run text) (Err fault.Memory) out out)
 memory_ends_any None run out = tt
 memory_ends_any (Some text) run out = memory_ends (run text) out
@@ -235,7 +235,7 @@ client_lines_numbered : (number : ℕ) (lines : List TextLine) → client_lines 
 client_lines_numbered number [] = refl
 client_lines_numbered number (line ∷ rest) = ap (with_line number (client_line_at line)) (client_lines_numbered (number + 1) rest)
 
--- what stands behind the users file of a text are its lines of clients
+-- the lines after the users file of a text are its lines of clients
 rest_is_clients : (room room' first : ℕ) (text text' : List ℕ) → numbered first (lines_of room' text') ≡ rest_behind 0 (lines_of room text)
     → client_lines first (lines_of room' text') ≡ clients_of (lines_of room text)
 rest_is_clients room room' first text text' e =
@@ -285,7 +285,7 @@ module _ (setup : Setup) (longest room : ℕ) (a left : Option (List ℕ)) (impo
           last text run (rest_behind 0 (lines_of room text)) refl
           (subst (λ (o : Option (List NumberedLine)). IfSome o (λ rest. HasRest rest first room' b)) s has)
 
--- ---- where the input fails in the midst of the users file
+-- ---- the input fails within the users file
 
 pub input_behind : (f : InputFault) → IsBehindUsers (input_fault_of f)
 input_behind input.Memory = tt

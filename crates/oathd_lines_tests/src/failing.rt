@@ -1,9 +1,9 @@
-//! Readers and writers that say little of their bytes, and fail.
+//! Readers and writers that take or return few bytes, and fail.
 
 use std::cell::Cell;
 use std::io::{self, ErrorKind, Read, Write};
 
-/// A reader that gives a front of a text, at most so many bytes at once, and then fails, where it is to.
+/// A reader that returns a text in pieces of at most `size` bytes, and afterwards fails with `fault` if it is Some.
 #[derive(Drop)]
 pub(crate) struct Front<'a> {
     pub(crate) text: &'a [u8],
@@ -24,7 +24,7 @@ impl Read for Front<'_> {
     }
 }
 
-/// A reader each of whose lines is asked for only when so many bytes were written and flushed.
+/// A reader that returns one line at a time, and fails unless the line's number of bytes was flushed before.
 #[derive(Drop)]
 pub(crate) struct Dialog<'a> {
     pub(crate) lines: &'a [(&'static str, usize)],
@@ -45,8 +45,7 @@ impl Read for Dialog<'_> {
     }
 }
 
-/// A writer that has room for so many bytes, tells how many were written before it was flushed, and how often that was;
-/// its flush may fail.
+/// A writer that has room for `left` bytes, and counts its flushes and the bytes flushed. Its flush may fail.
 #[derive(Drop)]
 pub(crate) struct Room<'a> {
     pub(crate) left: usize,

@@ -9,14 +9,13 @@ use std::test::Fail;
 use token_file::{FileFault, LineFault};
 use vote_wire::ClusterKey;
 
-/// What the usual server makes of an input, under a key of 32 zeros.
+/// Runs the usual server on an input, under a key of 32 zeros.
 fn served<R: Read, W: Write>(alloc: Global, reader: &mut R, writer: &mut W) -> Result<(), Fault> {
     let key = ClusterKey::new(&[0; 32]).unwrap();
     serve_lines(alloc, Settings::default(), 0, &key, 1000, reader, writer)
 }
 
-/// Whether a run over an input that comes in pieces of this size, and then fails where it is to, prints this and ends
-/// so.
+/// Returns whether a run prints `printed` and ends with `end`, over an input in pieces of `size` bytes that may fail.
 fn ends_so(
     alloc: Global,
     text: &str,
@@ -34,7 +33,7 @@ fn ends_so(
     served(alloc, &mut reader, &mut written) == end && written.as_slice() == printed.as_bytes()
 }
 
-/// A run in pieces of any size: the answers before the first bad line, which is named.
+/// A run over pieces of any size prints the answers before the first bad line, and names this line.
 #[test]
 fn answers_lines(rt: HostRuntime) {
     let text = "HOTP silver - 3132333435363738393031323334353637383930\n%%\n\
@@ -54,8 +53,9 @@ fn answers_lines(rt: HostRuntime) {
     }
 }
 
-/// The lines of one token of six digits, and the answers: each failure closes the token for 5 s more than the one
-/// before it, and an acceptance opens it.
+/// The lines of one token of six digits, and the answers.
+///
+/// Each failure closes the token for 5 s more than the last one, and an acceptance opens it.
 const THROTTLED: &[(&str, &str)] = &[
     ("7 100 CHECK 1 silver 000000 -\n", "NO 1 INVALID\n"),
     ("7 104 CHECK 2 silver 755224 -\n", "NO 2 THROTTLED 1\n"),
@@ -97,12 +97,12 @@ fn failures_close_a_token(rt: HostRuntime) -> Result<(), Fail> {
     Ok(())
 }
 
-/// A fault of the users file in this line.
+/// Returns a fault of the users file in the given line.
 fn users_fault(line: u32, kind: LineFault) -> Fault {
     Fault::Users(FileFault { line, kind })
 }
 
-/// After the users file the answers stand, and in its midst the first fault is told.
+/// After the users file a run prints the answers before the fault. Within the users file it reports the first fault.
 #[test]
 fn fails_where_the_reader_does(rt: HostRuntime) {
     let memory = ErrorKind::OutOfMemory;
@@ -133,7 +133,7 @@ fn fails_where_the_reader_does(rt: HostRuntime) {
     }
 }
 
-/// How two lines end over a writer with room for so many bytes.
+/// Returns the end of a run of two lines over a writer with room for `left` bytes, and the number of flushes.
 fn end_in(alloc: Global, left: usize, flush_fails: bool) -> (Result<(), Fault>, u32) {
     let flushed = Cell::new(0);
     let mut writer = Room {
@@ -147,7 +147,7 @@ fn end_in(alloc: Global, left: usize, flush_fails: bool) -> (Result<(), Fault>, 
     (served(alloc, &mut reader, &mut writer), writer.flushes)
 }
 
-/// Answers to lines that came in one piece are flushed together.
+/// Answers to lines that arrive in one piece are flushed together.
 #[test]
 fn fails_where_the_writer_does(rt: HostRuntime) {
     let cannot = Err(Fault::CannotWrite);
@@ -161,7 +161,7 @@ fn fails_where_the_writer_does(rt: HostRuntime) {
     }
 }
 
-/// A line is answered, and the answer flushed, before the next line is asked for.
+/// A server answers a line, and flushes the answer, before it reads the next line.
 #[test]
 fn answers_each_line_as_it_comes(rt: HostRuntime) {
     let flushed = Cell::new(0);

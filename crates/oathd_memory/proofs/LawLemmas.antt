@@ -16,7 +16,7 @@ pub keyed_says : cluster_of keyed_text ≡ Ok keyed_cluster
 unfolding read_socket_v4 read_ipv4 read_port read_octet read_number is_same address_text decode_pairs
 keyed_says = refl
 
--- the cluster that is read, or another where there is a fault
+-- the cluster that is read, or `other` if there is a fault
 abbrev read_or : ClusterRecord → Result ClusterRecord (ℕ × LineFault) → ClusterRecord
 read_or other (Ok cluster) = cluster
 read_or other (Err fault) = other
@@ -24,7 +24,7 @@ read_or other (Err fault) = other
 pub says_one : (text : List ℕ) (a b : ClusterRecord) → cluster_of text ≡ Ok a → cluster_of text ≡ Ok b → a ≡ b
 says_one text a b first second = ap (read_or a) (sym first ∙ second)
 
--- the line that is told, or none
+-- the line of a fault, or 0
 abbrev line_told : Result ClusterRecord (ℕ × LineFault) → ℕ
 line_told (Ok cluster) = 0
 line_told (Err fault) = fault.0
@@ -33,6 +33,6 @@ line_told (Err fault) = fault.0
 pub nothing_says : (cluster : ClusterRecord) → cluster_of [] ≡ Ok cluster → ⊥
 nothing_says cluster says = let line : 1 ≡ 0 = ap line_told says in omega (arith, line)
 
--- and it is told at its first line
+-- the fault is at the first line
 pub told_first : (line : ℕ) (kind : LineFault) → cluster_of [] ≡ Err (line, kind) → 1 ≡ line
 told_first line kind says = ap line_told says

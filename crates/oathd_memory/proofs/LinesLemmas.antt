@@ -45,7 +45,7 @@ run_flushed input run end (Err f) old mid new h k ok fault = elim fault [
   | inr outside ↦ subst (λ (x : Fault). IfSome input (λ text. EndsSo (run text) (Err x) old new)) (sym outside) (unwritten input run old new)
 ]
 
--- what is handed on of a flush
+-- the result of a flush, as a program's result
 abbrev pub handed_on : Result Unit Fault → Result Unit program.Fault
 handed_on (Ok one) = Ok tt
 handed_on (Err fault) = Err (program_fault.Run fault)

@@ -13,11 +13,11 @@ use Rattle.oathd_words.specs.declared.nodes_words.NodesWords.TheVariants.{Given,
 use Rattle.oathd_memory.specs.Check.{IsKeyIn}
 use Rattle.oathd_memory.specs.Nodes.{IsSetup}
 
--- so many nodes that are run with this
+-- the setup of `nodes` nodes
 abbrev setup_with : Limits → ℕ → List ℕ → ℕ → Setup
 setup_with limits moment key nodes = record { nodes = nodes; limits = limits; moment = moment; key = key }
 
--- what a cluster file says is what nodes are run with where it is named
+-- if a cluster file is named, its content is the setup of the nodes
 pub named_setup : (nodes : NodesWords) (path : Bor (List ℕ)) (moment : ℕ) (text : List ℕ) (cluster : Cluster) (key : List ℕ) (count : ℕ)
     → nodes ≡ Named path → cluster_of text ≡ Ok (cluster_value cluster) → IsKeyIn (key_place cluster.key) key → count ≡ length cluster.members.items
     → IsSetup nodes moment text (record { nodes = count; limits = cluster.settings; moment = moment; key = key })

@@ -26,7 +26,7 @@ imported limits moment longest room a left import is book =
     at None h = tt
     at (Some text) h = h
 
--- the input failed behind it
+-- the input failed after the users file
 unread_text : (limits : Limits) (moment longest room : ℕ) (text : List ℕ) (import : Import) (f : InputFault) → import_read limits moment longest room text ≡ Ok import
     → IsUnread limits moment longest room text (input_fault_of f)
 unread_text limits moment longest room text import input.Memory e = tt

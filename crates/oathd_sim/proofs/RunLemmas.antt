@@ -85,7 +85,7 @@ told setup book floors said script lists report is copied same =
     (script_events (record { book = book; limits = setup.limits }) ls setup.key script))) (sym copied)
     ∙ ap Reports (sym same)
 
--- where there is a report, it is what the script tells
+-- a report is the report of the script
 pub told_by : (setup : Setup) (book : List Credential) (floors : List ℕ) (said : Result ScriptRecord ℕ) (script : ScriptRecord)
     (lists : List (List ℕ)) (result : Result ReportValue Fault) → said ≡ Ok script → lists ≡ replicate setup.nodes floors
     → IfOk result (λ report. report ≡ report_of (record { book = book; limits = setup.limits }) (first_start lists)
@@ -198,7 +198,7 @@ pub given_up_is_no_cut : (limits : Limits) (moment longest room : ℕ) (a : Opti
 given_up_is_no_cut limits moment longest room None s x h = tt
 given_up_is_no_cut limits moment longest room (Some text) s x h = given_up_cut_text limits moment longest room text s x h
 
--- whatever the text is
+-- for any text
 pub memory_ends : (a : Option (List ℕ)) (make : List ℕ → Sim) (out : Option (List ℕ)) → IfSome a (λ text. EndsSo (make text) (Err fault.Memory) out out)
 memory_ends None make out = tt
 memory_ends (Some text) make out = Appends-nil out

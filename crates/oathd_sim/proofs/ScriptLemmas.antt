@@ -20,13 +20,13 @@ Said = Result ScriptRecord ℕ
 abbrev failed : ℕ → Said
 failed number = Err number
 
--- what follows on a value, where the same follows on each
+-- two continuations of a value are equal if they are equal for each script
 then_same : (number : ℕ) (value : Option ScriptRecord) (next other : ScriptRecord → Said) → ((script : ScriptRecord) → next script ≡ other script)
     → value_then number value next ≡ value_then number value other
 then_same number None next other h = refl
 then_same number (Some script) next other h = h script
 
--- what follows on a value, where one end gives another
+-- two continuations of a value, one of whose ends gives the other's
 then_end : (n m : ℕ) (value : Option ScriptRecord) (next other : ScriptRecord → Said) (from to : Said)
     → (failed n ≡ from → failed m ≡ to) → ((script : ScriptRecord) → next script ≡ from → other script ≡ to)
     → value_then n value next ≡ from → value_then m value other ≡ to

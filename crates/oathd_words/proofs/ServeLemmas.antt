@@ -16,13 +16,13 @@ use Rattle.oathd_words.specs.declared.store_words.ClusterWords.TheVariants.{Give
 use Rattle.oathd_words.proofs.MembersLemmas.{says_unique}
 use Rattle.oathd_words.proofs.WordsLemmas.{apart}
 
--- a text that is there
+-- the text of an option that has one
 abbrev text_in : Option (List ℕ) → List ℕ
 text_in None = []
 text_in (Some text) = text
 
 module _ (found : Found) where
-  -- where a cluster file is named, the words alone say no cluster, and where none is, no file does
+  -- the words alone name no cluster if they name a cluster file, and no file does if they don't
   pub no_place : (text : List ℕ) (members : List SocketAddrV4) (n : ℕ) → first_value found (codes "cluster") ≡ None
       → Some text ≡ first_value found (codes "members") → AreMembers text members
       → ((place : PlaceRecord) → GivesPlace found place → place.n ≡ n → ⊥) → length members ≡ n
@@ -35,19 +35,19 @@ module _ (found : Found) where
       none place serve.place_given (serve.each ∙ (ap (length {A = SocketAddrV4}) same ∙ count))
   no_place text members n unnamed given are none count (Named node path) asks = let clash = sym unnamed ∙ asks.0 in absurd cc
 
-  -- where the limits are none, nothing is said
+  -- without limits no cluster is asked for
   pub no_limits : first_value found (codes "cluster") ≡ None → ((limits : Limits) → GivesLimits found limits → ⊥)
       → (cluster : ClusterWords) → AsksForCluster found cluster → ⊥
   no_limits unnamed none (Given settings place others key) asks = none settings asks.1.limits_given
   no_limits unnamed none (Named node path) asks = let clash = sym unnamed ∙ asks.0 in absurd cc
 
-  -- where the node is no member's number, no file says it
+  -- if the node is no member's number, no file names it
   pub no_member : (path : List ℕ) → first_value found (codes "cluster") ≡ Some path
       → ((node : ℕ) → GivesMember found (codes "node") node → ⊥) → (cluster : ClusterWords) → AsksForCluster found cluster → ⊥
   no_member path named none (Given settings place others key) asks = let clash = sym named ∙ asks.0 in absurd cc
   no_member path named none (Named node other) asks = none node asks.1
 
-  -- where nothing is said of a cluster, nothing is asked for
+  -- if no cluster is asked for, no action is
   pub no_cluster : ((cluster : ClusterWords) → AsksForCluster found cluster → ⊥) → (action : Action) → AsksForAction (codes "serve") found action → ⊥
   no_cluster none (Init node settings moment) asks = apart (codes "serve") _ _ asks.0 refl (lit< tt)
   no_cluster none (Remake node settings moment former) asks = apart (codes "serve") _ _ asks.0 refl (lit< tt)
@@ -60,7 +60,7 @@ module _ (found : Found) where
   no_cluster none (Gates node) asks = apart (codes "serve") _ _ asks.0 refl (lit< tt)
   no_cluster none (Unlock node user) asks = apart (codes "serve") _ _ refl asks.0 (lit< tt)
 
-  -- where the turns are none
+  -- if `turns_given` is None, no action is asked for
   pub no_turns : turns_given found ≡ None → (action : Action) → AsksForAction (codes "serve") found action → ⊥
   no_turns none (Init node settings moment) asks = apart (codes "serve") _ _ asks.0 refl (lit< tt)
   no_turns none (Remake node settings moment former) asks = apart (codes "serve") _ _ asks.0 refl (lit< tt)

@@ -15,7 +15,7 @@ use Rattle.oathd_words.specs.declared.store_words.Action.{Action}
 use Rattle.oathd_words.specs.declared.store_words.Action.TheVariants.{Init, Remake, Serve, Export, Audit, Migrate, Floors, Level, Gates, Unlock}
 use Rattle.oathd_words.specs.declared.words.Task.TheVariants.{Lines, Sim, Cluster, Store, Check, Secret}
 
--- a number that tells the names of the commands apart
+-- a number that distinguishes the names of the commands
 abbrev mark : List ℕ → ℕ
 mark name = slice_index name 0 * 256 + length name
 
@@ -149,12 +149,12 @@ no_init_node found none (Level node floors) asks = apart (codes "init") _ _ refl
 no_init_node found none (Gates node) asks = apart (codes "init") _ _ asks.0 refl (lit< tt)
 no_init_node found none (Unlock node user) asks = apart (codes "init") _ _ refl asks.0 (lit< tt)
 
--- where there is no result, something is so that follows from what is so there
+-- a claim that holds without a result gives what follows from it
 pub none_then : {A : Type 0} (result : Option A) (P Q : Type 0) → IfNone result P → (P → Q) → IfNone result Q
 none_then None P Q p then = then p
 none_then (Some x) P Q p then = tt
 
--- what holds anyway holds where there is no result
+-- a claim that always holds also holds without a result
 pub where_none : {A : Type 0} (result : Option A) (P : Type 0) → P → IfNone result P
 where_none None P p = p
 where_none (Some x) P p = tt

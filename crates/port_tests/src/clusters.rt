@@ -1,4 +1,4 @@
-//! Whole inputs over loopback sockets, with what each prints and how it ends.
+//! Whole inputs over loopback sockets, with their output and their end.
 
 use oathd_cluster::{Fault, run_cluster};
 use otp_core::Settings;
@@ -11,7 +11,7 @@ use vote_wire::ClusterKey;
 /// A users file of the token of RFC 4226, Appendix D.
 const SILVER: &[u8] = b"HOTP silver - 3132333435363738393031323334353637383930\n";
 
-/// A cluster of the given number of nodes under a key of 32 zeros, with a look-ahead of 5 and a range of 9.
+/// Runs a cluster of `nodes` nodes under a key of 32 zeros, with a look-ahead of 5 and a range of 9.
 fn clustered<N: Net, R: Read, W: Write>(
     alloc: Global,
     net: &N,
@@ -27,13 +27,13 @@ fn clustered<N: Net, R: Read, W: Write>(
     )
 }
 
-/// Whether a fault has this text.
+/// Returns whether a fault has the given text.
 fn has_text(alloc: Global, fault: Fault, text: &str) -> Result<bool, AllocError> {
     Ok(format!(in alloc; "{fault}")?.as_str() == text)
 }
 
-/// Whether a cluster over the users file and these lines prints this, and ends with a fault of this text, or well
-/// where that is empty.
+/// Returns whether a cluster over the users file and `lines` prints `printed`, and fails with `text` or, if `text` is
+/// empty, ends well.
 fn ends_so<N: Net>(
     alloc: Global,
     net: &N,
@@ -51,8 +51,10 @@ fn ends_so<N: Net>(
     Ok(ends && written.as_slice() == printed.as_bytes())
 }
 
-/// A password that one node accepted is refused by another, and the next one is accepted there; a line that has the
-/// form of an answer is bad; and the first line that is none for a node ends it, after the replies to those before.
+/// Checks three cases: one password at two nodes, a line in the form of an answer, and a line for no node.
+///
+/// Node 2 refuses the password that node 1 accepted, and node 3 accepts the next one. A line in the form of an answer
+/// is bad. The first line for no node ends the run, after the replies to the lines before it.
 #[test]
 fn answers_lines(rt: HostRuntime) -> Result<(), Fail> {
     for (nodes, lines, printed, text) in [
@@ -83,7 +85,7 @@ fn answers_lines(rt: HostRuntime) -> Result<(), Fail> {
     Ok(())
 }
 
-/// Of a longer line 512 bytes are sent.
+/// Checks that a cluster sends the first 512 bytes of a longer line.
 #[test]
 fn cuts_a_long_line(rt: HostRuntime) -> Result<(), Fail> {
     let mut long = String::from_str(rt.alloc(), "1 1000 ")?;
@@ -94,7 +96,7 @@ fn cuts_a_long_line(rt: HostRuntime) -> Result<(), Fail> {
     Ok(())
 }
 
-/// The text of each fault.
+/// Checks the text of each fault.
 #[test]
 fn faults_have_texts(rt: HostRuntime) -> Result<(), Fail> {
     for (fault, text) in [

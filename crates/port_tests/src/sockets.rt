@@ -8,7 +8,7 @@ use std::test::Fail;
 use std::time::{Clock as TimeSource, Duration};
 use udp_port::{NoClock, SystemClock, UdpPort, client_number};
 
-/// A socket with an address of its own on this machine, and a short read timeout.
+/// Binds a socket to its own address on this machine, with a read timeout of 50 milliseconds.
 fn socket<R: Net>(net: &R) -> io::Result<UdpSocket> {
     let own = SocketAddrV4::new(Ipv4Addr::LOCALHOST, 0);
     let socket = UdpSocket::bind(net, SocketAddr::V4(own))?;
@@ -16,7 +16,7 @@ fn socket<R: Net>(net: &R) -> io::Result<UdpSocket> {
     Ok(socket)
 }
 
-/// The address of a socket.
+/// Returns the address of a socket.
 fn address(socket: &UdpSocket) -> Result<SocketAddrV4, Fail> {
     match socket.local_addr()? {
         SocketAddr::V4(address) => Ok(address),
@@ -24,7 +24,7 @@ fn address(socket: &UdpSocket) -> Result<SocketAddrV4, Fail> {
     }
 }
 
-/// What a port receives first is this text of this sender.
+/// Returns whether a port receives exactly `text` of `sender` next.
 fn hands_in<P: Port>(port: &mut P, sender: Sender, text: &[u8]) -> bool {
     let mut buffer = [0; 512];
     port.receive(&mut buffer)
@@ -35,8 +35,9 @@ fn hands_in<P: Port>(port: &mut P, sender: Sender, text: &[u8]) -> bool {
         && buffer.starts_with(text)
 }
 
-/// A member's datagram is told from a stranger's, whatever they say, and each gets what is sent to it. A stranger's
-/// answer is passed over.
+/// Checks that a port tells members from strangers by their addresses alone, whatever the datagrams say.
+///
+/// Each of them receives what the port sends to it. The port ignores an answer of a stranger.
 #[test]
 fn tells_members_from_clients(rt: HostRuntime) -> Result<(), Fail> {
     let alloc = rt.alloc();
@@ -64,7 +65,7 @@ fn tells_members_from_clients(rt: HostRuntime) -> Result<(), Fail> {
     Ok(())
 }
 
-/// Of a longer datagram 512 bytes are handed in, and the next datagram is whole.
+/// Checks that a port returns the first 512 bytes of a longer datagram, and the next datagram whole.
 #[test]
 fn cuts_a_long_datagram(rt: HostRuntime) -> Result<(), Fail> {
     let (own, stranger) = (socket(&rt)?, socket(&rt)?);
@@ -80,7 +81,7 @@ fn cuts_a_long_datagram(rt: HostRuntime) -> Result<(), Fail> {
     Ok(())
 }
 
-/// A datagram of 512 bytes goes out whole.
+/// Checks that a port sends a datagram of 512 bytes whole.
 #[test]
 fn sends_a_whole_datagram(rt: HostRuntime) -> Result<(), Fail> {
     let (own, stranger) = (socket(&rt)?, socket(&rt)?);
@@ -93,7 +94,7 @@ fn sends_a_whole_datagram(rt: HostRuntime) -> Result<(), Fail> {
     Ok(())
 }
 
-/// A receive that finds nothing in time is quiet, and so is one after a datagram that found nobody.
+/// Checks that a receive is quiet if nothing arrives in time, even after a datagram to an address without a socket.
 #[test]
 fn is_quiet_where_nothing_comes(rt: HostRuntime) -> Result<(), Fail> {
     let nobody = client_number(address(&socket(&rt)?)?);
@@ -106,7 +107,7 @@ fn is_quiet_where_nothing_comes(rt: HostRuntime) -> Result<(), Fail> {
     Ok(())
 }
 
-/// A poll hands in what is there, and waits for nothing: here over a socket that waits for ever.
+/// Checks that a poll returns a queued datagram and never waits, even over a socket that waits forever.
 #[test]
 fn polls_wait_for_nothing(rt: HostRuntime) -> Result<(), Fail> {
     let any = SocketAddrV4::new(Ipv4Addr::LOCALHOST, 0);
@@ -125,7 +126,7 @@ fn polls_wait_for_nothing(rt: HostRuntime) -> Result<(), Fail> {
     Ok(())
 }
 
-/// Whether a port that says `NO - BADLINE` to whatever it is handed says so to what comes next.
+/// Returns whether a port receives a datagram next, and answers it with `NO - BADLINE`.
 fn refuses<P: Port>(port: &mut P) -> bool {
     let mut buffer = [0; 512];
     match port.receive(&mut buffer) {
@@ -134,8 +135,9 @@ fn refuses<P: Port>(port: &mut P) -> bool {
     }
 }
 
-/// A port answers a line that another sends, and the other no answer. After 64 answers a port is quiet, and then has
-/// the next line.
+/// Checks that a port answers the line of another port, and ignores an answer.
+///
+/// After 64 answers a receive is quiet, and the next receive returns the next line.
 #[test]
 fn answers_no_answer(rt: HostRuntime) -> Result<(), Fail> {
     let (own, other) = (socket(&rt)?, socket(&rt)?);
@@ -155,7 +157,7 @@ fn answers_no_answer(rt: HostRuntime) -> Result<(), Fail> {
     Ok(())
 }
 
-/// A clock that tells this many milliseconds, or fails.
+/// A clock that returns the given number of milliseconds, or fails.
 #[derive(Drop)]
 struct Told(Cell<Option<u64>>);
 
@@ -172,7 +174,7 @@ impl TimeSource for Told {
     }
 }
 
-/// Where datagrams are always there, a receive is quiet where the time says so, and takes none of them.
+/// Checks that a receive is quiet when the clock says so, even if datagrams are queued. It takes none of them.
 #[test]
 fn is_quiet_by_time(rt: HostRuntime) -> Result<(), Fail> {
     let (own, stranger) = (socket(&rt)?, socket(&rt)?);
@@ -201,7 +203,7 @@ fn is_quiet_by_time(rt: HostRuntime) -> Result<(), Fail> {
     Ok(())
 }
 
-/// A moment is below 2^40 seconds, and the system has one.
+/// Checks that a moment is below 2^40 seconds, and that the system has one.
 #[test]
 fn moments_are_in_range(rt: HostRuntime) {
     assert!(rt; SystemClock::new(&rt).moment().unwrap_or(0) > 1_600_000_000);

@@ -21,7 +21,7 @@ fn silver(alloc: Global) -> Result<(Book, Vec<Next>), Fail> {
     }
 }
 
-/// A fresh store in memory.
+/// Creates a fresh store in memory.
 fn store_of(alloc: Global, book: &Book, floors: &[Next]) -> Result<MemStore, Fail> {
     if floors.len() > 10_000 || floors.len() != book.len() {
         return Err("another number of tokens".into());
@@ -29,7 +29,7 @@ fn store_of(alloc: Global, book: &Book, floors: &[Next]) -> Result<MemStore, Fai
     Ok(MemStore::new(alloc, floors)?)
 }
 
-/// Node 1 of the given number of nodes over a store.
+/// Opens node 1 of `nodes` nodes over a store.
 fn first_of<'b, S: FloorStore + Drop>(
     alloc: Global,
     nodes: u8,
@@ -47,7 +47,7 @@ fn first_of<'b, S: FloorStore + Drop>(
     }
 }
 
-/// What five turns of a node alone come to.
+/// Returns the result of five turns of a node alone.
 fn served(
     alloc: Global,
     port: &mut ListPort<'_>,
@@ -63,7 +63,7 @@ fn served(
     }
 }
 
-/// Whether an entry is this datagram to client 7.
+/// Returns whether an entry is the datagram `text` to client 7.
 fn is_answer(entry: Option<&PortEntry>, text: &[u8]) -> bool {
     match entry {
         Some(PortEntry::Offered { to, bytes }) => {
@@ -73,7 +73,7 @@ fn is_answer(entry: Option<&PortEntry>, text: &[u8]) -> bool {
     }
 }
 
-/// Whether a port in memory has received what came, the first cut to 512 bytes, and was offered two answers.
+/// Returns whether a port in memory recorded its datagrams, the first one cut to 512 bytes, and two answers.
 fn has_answered(entries: &[PortEntry]) -> bool {
     let is_cut = match entries.first() {
         Some(PortEntry::Received { bytes, .. }) => bytes.as_slice() == [7; 512].as_slice(),
@@ -85,8 +85,9 @@ fn has_answered(entries: &[PortEntry]) -> bool {
         && is_answer(entries.get(6), b"NO - BADLINE")
 }
 
-/// A long datagram of a member, a right line, a bad one, a receive that fails and a quiet one: each line is answered
-/// once, whether the port takes answers or not.
+/// Checks that a node answers each line once, whether the port takes answers or not.
+///
+/// The turns are a long datagram of a member, a right line, a bad line, a receive that fails and a quiet one.
 #[test]
 fn lines_are_answered_once(rt: HostRuntime) -> Result<(), Fail> {
     let alloc = rt.alloc();
@@ -127,8 +128,9 @@ fn lines_are_answered_once(rt: HostRuntime) -> Result<(), Fail> {
     Ok(())
 }
 
-/// What three lines of a client that come together at once come to, at a node alone whose store lets this many writes
-/// pass: what was served, where no fault ended it, and the writes that passed.
+/// Returns the result of a batch of three lines at a node alone, and the number of writes that passed.
+///
+/// The store lets `writes` writes pass. The result is None if a fault ended the turns.
 fn batch_of_three(
     alloc: Global,
     port: &mut ListPort<'_>,
@@ -143,8 +145,9 @@ fn batch_of_three(
     Ok((end.ok(), node.close().passed()))
 }
 
-/// Three lines that come together are kept by one write of the disk, and answered behind it: where it fails nothing
-/// is answered.
+/// Checks that a node keeps three queued lines by one commit, and answers them after it.
+///
+/// If the commit fails the node answers nothing.
 #[test]
 fn lines_that_come_together_are_kept_at_once(rt: HostRuntime) -> Result<(), Fail> {
     let alloc = rt.alloc();
@@ -157,7 +160,7 @@ fn lines_that_come_together_are_kept_at_once(rt: HostRuntime) -> Result<(), Fail
         line(b"CHECK".as_slice()),
         line(b"CHECK 2 silver 287082 -".as_slice()),
     ];
-    // the boot, two acceptances and their commit
+    // The boot, two acceptances and their commit pass.
     let mut port = ListPort::new(alloc, &comings);
     let (served, passed) = batch_of_three(alloc, &mut port, 4)?;
     assert!(rt;
@@ -171,7 +174,7 @@ fn lines_that_come_together_are_kept_at_once(rt: HostRuntime) -> Result<(), Fail
     let entries = port.record().ok_or("no record")?;
     assert!(rt; entries.len() == 6 && is_answer(entries.get(3), b"OK 1 0"));
     assert!(rt; is_answer(entries.get(5), b"OK 2 1"));
-    // the commit fails
+    // The commit fails.
     let mut port = ListPort::new(alloc, &comings);
     let (served, passed) = batch_of_three(alloc, &mut port, 3)?;
     assert!(rt; served == None && passed == 3);
@@ -179,7 +182,7 @@ fn lines_that_come_together_are_kept_at_once(rt: HostRuntime) -> Result<(), Fail
     Ok(())
 }
 
-/// A pause ends a batch: what comes behind it is kept by a write of its own.
+/// Checks that a pause ends a batch: the node keeps the later lines by another commit.
 #[test]
 fn lines_that_come_apart_are_kept_apart(rt: HostRuntime) -> Result<(), Fail> {
     let alloc = rt.alloc();
@@ -204,7 +207,7 @@ fn lines_that_come_apart_are_kept_apart(rt: HostRuntime) -> Result<(), Fail> {
     Ok(())
 }
 
-/// Whether an entry is a datagram to a member.
+/// Returns whether an entry is a datagram to a member.
 fn is_to_member(entry: &PortEntry) -> bool {
     match entry {
         PortEntry::Offered {
@@ -215,8 +218,9 @@ fn is_to_member(entry: &PortEntry) -> bool {
     }
 }
 
-/// How the given number of turns of node 1 of three ends over a port, and how many ticks they have: at each of them two
-/// datagrams go to members, and at nothing else.
+/// Returns the end of `turns` turns of node 1 of three over a port, and the number of ticks.
+///
+/// A tick sends two datagrams to members, and nothing else sends any.
 fn turns_of_three(
     alloc: Global,
     comings: &[Coming<'_>],
@@ -238,8 +242,9 @@ fn turns_of_three(
     Ok((end, sent / 2))
 }
 
-/// A tick comes after each quiet turn and after each 64th datagram, and none after a fault. The 16th fault in a row
-/// ends a run.
+/// Checks that a tick follows each quiet turn and each 64th datagram, and no fault.
+///
+/// The 16th fault in a row ends a run.
 #[test]
 fn turns_tick_and_end(rt: HostRuntime) -> Result<(), Fail> {
     let bad_line = Coming::Datagram {

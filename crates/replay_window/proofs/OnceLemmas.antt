@@ -182,7 +182,7 @@ above_law window (a ∷ arrivals) =
     ))
     (λ stale. above_law window arrivals)
 
--- ---- lives
+-- ---- incarnations
 
 -- a moment that is admitted is at most so far ahead of the clock
 fresh_is_near : (window : WindowRecord) (now m : ℕ) → is_fresh window now m ≡ true → m ≤ last_at now
@@ -227,7 +227,7 @@ lives_law (life ∷ lives) h =
 
 -- ---- places
 
--- the place of a moment is among those that were seen, or behind them
+-- the place of a moment is a place of a seen moment, or the place after them
 within : (b : Bool) (p n : ℕ) → (b ≡ true → p < n) → unwrap_or (cond b (Some p) None) n ≤ n
 within true p n h = let lt = h refl in omega arith
 within false p n h = omega arith

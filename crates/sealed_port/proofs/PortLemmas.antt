@@ -13,7 +13,7 @@ pub stays : {A : Type 0} (record_of : Option (List A)) → Grows record_of recor
 stays None = tt
 stays (Some entries) = ap (λ l. Some l) (append-nil entries)
 
--- where the clock isn't asked
+-- the claim if the clock isn't asked
 unasked : (moments : Option (List (Option ℕ))) (gate : GateRecord) (entry : PortEvent) → handed_in gate None entry ≡ entry → gate_after gate None entry ≡ gate
     → TakesIn moments moments gate gate entry entry
 unasked moments gate entry handed same = record {
@@ -61,7 +61,7 @@ kept moments gate (Datagram (Peer number) len) buffer e = unasked moments gate (
 kept moments gate QuietReceive buffer e = unasked moments gate (event_of_receive QuietReceive buffer) refl refl
 kept moments gate Fault buffer e = unasked moments gate (event_of_receive Fault buffer) refl refl
 
--- what is from such an address is handed in as it opens
+-- the port returns a datagram from such an address as it opens
 pub taken : (old_clock new_clock : Option (List (Option ℕ))) (gate after : GateRecord) (received : Receive) (buffer : List ℕ) (address len : ℕ) (handed : PortEvent)
     → sealed_from gate received ≡ Some (address, len)
     → ((now : Option ℕ) × Grows old_clock new_clock (now ∷ []) × (handed ≡ handed_line (opened gate now (take len buffer)))

@@ -128,7 +128,7 @@ and_false : (a : Bool) → (a && false) ≡ false
 and_false true = refl
 and_false false = refl
 
--- what was seen is apart from what is opened
+-- a seen request differs from an admitted line
 apart_from_line : (gate : GateRecord) (one : AskedRecord) (line : SealedLine) (address second : ℕ) → IsSeen gate one.client one.moment → is_admitted gate second line ≡ true
     → is_same one (asked_of address line) ≡ false
 apart_from_line gate one line address second seen admitted = elim (bool_cases (eqb one.client line.client)) [

@@ -64,7 +64,7 @@ tag_of_read key bytes text head fits read =
     let body : body_of bytes ≡ body_bytes head text = spelled (body_of bytes) head (AreBytes-take _ bytes fits) o.head_is ∙ ap (body_bytes head) o.text_is in
     o.tagged ∙ ap (λ (b : List ℕ). tag_of key (b ++ [])) body
 
--- the same, where the line was opened from an address
+-- the same, if the line was opened from an address
 opening_is_made : (key : List ℕ) (made : List Making) (client : ℕ) (gate : GateRecord) (now : Option ℕ) (address : ℕ) (bytes : List ℕ) (found : SealedLine) (line : AskedRecord)
     → AreMakings key made → HasKey key client gate → AreBytes bytes → IsUnforged key made [] bytes → opened gate now bytes ≡ Some found → asked_of address found ≡ line → line.client ≡ client
     → LineMade key made gate.node line

@@ -22,7 +22,8 @@ const NOTHING: Received = Received::Datagram {
 /// A node's port over another one, with a gate between them.
 #[derive(Drop)]
 pub struct SealedPort<P: Port + Drop, C: Clock + Drop> {
-    port: P,
+    /// The port below. Tests read what it was offered.
+    pub(crate) port: P,
     clock: C,
     gate: Gate,
 }

@@ -134,11 +134,11 @@ fn seals_an_answer_once(rt: HostRuntime) -> Result<(), Fail> {
     let _line = port.receive(&mut buffer);
     assert!(rt; !port.send(client, b"OK k2 0"));
     assert!(rt; port.send(client, b"OK k1 0"));
-    assert!(rt; offers(port.inner(), Sender::Client(7), &ANSWER));
+    assert!(rt; offers(&port.port, Sender::Client(7), &ANSWER));
     assert!(rt; !port.send(client, b"OK k1 0"));
     assert!(rt; port.send(Sender::Peer(3), b"OV"));
-    assert!(rt; offers(port.inner(), Sender::Peer(3), b"OV"));
+    assert!(rt; offers(&port.port, Sender::Peer(3), b"OV"));
     assert!(rt; port.send(Sender::Client(5), b"NO 1 BUSY"));
-    assert!(rt; offers(port.inner(), Sender::Client(5), b"NO 1 BUSY"));
+    assert!(rt; offers(&port.port, Sender::Client(5), b"NO 1 BUSY"));
     Ok(())
 }

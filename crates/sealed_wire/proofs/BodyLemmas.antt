@@ -50,7 +50,7 @@ kind_takes byte kind e =
       ]
     ]
 
--- ---- what stands at a place
+-- ---- the bytes at a place
 
 AreBytes-drop : (n : ℕ) (bytes : List ℕ) → AreBytes bytes → AreBytes (drop n bytes)
 AreBytes-drop n bytes h i = rw get_or-drop (h (n + i))

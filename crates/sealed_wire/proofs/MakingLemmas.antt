@@ -27,7 +27,7 @@ backs xs ys a b len e =
     let n : length xs ≡ length ys = omega (arith, ap length e, length-append xs a, length-append ys b, len) in
     sym (drop-append_seam xs a) ∙ ap (λ (l : List ℕ). drop (length xs) l) e ∙ ap (λ (k : ℕ). drop k (ys ++ b)) n ∙ drop-append_seam ys b
 
--- a body says its kind, whatever follows
+-- a body determines its kind, with any bytes after it
 same_kind : (one other : Head) (text words back rest : List ℕ) → body_bytes one text ++ back ≡ body_bytes other words ++ rest → one.kind ≡ other.kind
 same_kind one other text words back rest e =
     let at : kind_byte one.kind ≡ kind_byte other.kind = ap (λ (l : List ℕ). byte_at l 3) e in

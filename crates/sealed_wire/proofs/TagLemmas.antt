@@ -33,7 +33,7 @@ pub short_is_untagged : (key bound bytes : List ℕ) → (32 ≤ length bytes �
 short_is_untagged key bound bytes short tagged =
     short (omega (arith, ap length tagged, length-tag_of key (body_of bytes ++ bound), length-drop (length bytes - 32) bytes))
 
--- ---- a body with its tag behind it
+-- ---- a body followed by its tag
 
 body_of-tagged : (body tag : List ℕ) → length tag ≡ 32 → body_of (body ++ tag) ≡ body
 body_of-tagged body tag len =
@@ -89,11 +89,11 @@ unfolding sealed_at
 tagged_is_read key bound bytes tagged =
     rw ((bytes_eq-Decides (tag_at bytes) (tag_of key (body_of bytes ++ bound))).1 tagged) refl
 
--- where it has no head, nothing is read
+-- a body without a head is not read
 pub headless_is_none : (key bound bytes body : List ℕ) → IsTagged key bound bytes → body ≡ body_of bytes → head_at body ≡ None → sealed_at key bound bytes ≡ None
 headless_is_none key bound bytes body tagged is none = tagged_is_read key bound bytes tagged ∙ ap read (sym is) ∙ rw none refl
 
--- where it has a head, that and the text are read
+-- a body with a head is read as the head and the text
 pub read_of : (key bound bytes body : List ℕ) (head : Head) → IsTagged key bound bytes → body ≡ body_of bytes → head_at body ≡ Some head
     → sealed_at key bound bytes ≡ Some (head, text_of body)
 read_of key bound bytes body head tagged is some = tagged_is_read key bound bytes tagged ∙ ap read (sym is) ∙ rw some refl

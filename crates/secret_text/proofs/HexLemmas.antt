@@ -21,7 +21,7 @@ position_from-digits (c ∷ rest) i h =
     ap (λ (b : Bool). cond (not b) (Some i) (position_from is_no_digit (i + 1) rest)) (All-head IsDigit c rest h)
     ∙ position_from-digits rest (i + 1) (All-tail IsDigit c rest h)
 
--- digits, and then a byte that is none
+-- digits, followed by a byte that is no digit
 position_from-bad : (text : List ℕ) (i place : ℕ) → place < length text → is_hex_digit (slice_index text place) ≡ false
     → AllPass is_hex_digit (take place text) → position_from is_no_digit i text ≡ Some (i + place)
 position_from-bad [] i place within bad h = absurd (omega arith)

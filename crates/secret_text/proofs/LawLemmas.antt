@@ -20,7 +20,7 @@ AreBytes-bytes : (bytes : List ℕ) → IsBytes bytes → AreBytes bytes
 AreBytes-bytes [] h = tt
 AreBytes-bytes (b ∷ bytes) h = (h 0, AreBytes-bytes bytes (λ i. h (suc i)))
 
--- the low bits are those of the low part
+-- the low bits are the bits of the low part
 bits_of-rest : (len a : ℕ) → bits_of len a ≡ bits_of len (a % 2 ^ len)
 bits_of-rest len a =
     ap (bits_of len) (sym (div-add-mod' a (2 ^ len))) ∙ bits_of-low len len (a / 2 ^ len) (a % 2 ^ len) (le_refl len)
@@ -51,7 +51,7 @@ bits_of-same (suc len) a b ha hb e =
     sym (div-add-mod' a (2 ^ len)) ∙ ap (λ (n : ℕ). n * 2 ^ len + a % 2 ^ len) high
     ∙ ap (λ (r : ℕ). b / 2 ^ len * 2 ^ len + r) low ∙ div-add-mod' b (2 ^ len)
 
--- two lists that begin with as many elements are equal in both parts
+-- two equal lists whose first parts have the same length are equal in both parts
 split_same : (a b c d : List ℕ) → length a ≡ length b → a ++ c ≡ b ++ d → (a ≡ b) × (c ≡ d)
 split_same a b c d len e = (
   sym (take_at a c (length b) len) ∙ ap (λ (xs : List ℕ). take (length b) xs) e ∙ take_at b d (length b) refl,

@@ -6,8 +6,7 @@ use Rattle.secret_text.specs.Base32.{base32_text, filled_bits, fives_of, padding
 use Rattle.secret_text.specs.Bits.{bits_of, bits_of_each}
 use Rattle.secret_text.proofs.BitsLemmas.{length-bits_of_each, length_of_pair}
 
--- The text has upper case characters, whose bits are the secret's and fewer than five zeros, and then
--- the padding.
+-- The text has upper case characters, followed by the padding. Their bits are the secret's and fewer than five zeros.
 pub record IsCanonical (secret text : List ℕ) : Type 0 where
   pub values : List ℕ
   pub below_32 : AllByRecursion (λ value. value < 32) values
@@ -31,7 +30,7 @@ fives_of-bits (v ∷ values) h =
     ap (λ (n : ℕ). n ∷ fives_of (bits_of_each 5 values)) (five_bits v h.0)
     ∙ ap (λ (ns : List ℕ). v ∷ ns) (fives_of-bits values h.1)
 
--- so many zeros fill the last group
+-- `fill` zeros fill the last group
 fill_len : (m len fill : ℕ) → fill < 5 → 5 * m ≡ len + fill → fill ≡ (5 - len % 5) % 5
 fill_len m len fill few e = omega arith
 
@@ -72,7 +71,7 @@ AreBits-zeros : (n : ℕ) → AreBits (replicate n 0)
 AreBits-zeros zero = tt
 AreBits-zeros (suc n) = (omega arith, AreBits-zeros n)
 
--- five bits are those of their number
+-- five bits are the bits of their number
 bits_of-five : (a b c d e : ℕ) → a < 2 → b < 2 → c < 2 → d < 2 → e < 2
     → bits_of 5 (16 * a + 8 * b + 4 * c + 2 * d + e) ≡ a ∷ b ∷ c ∷ d ∷ e ∷ []
 unfolding bits_of

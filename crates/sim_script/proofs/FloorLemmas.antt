@@ -1,4 +1,4 @@
--- First free factors are read field by field.
+-- Floors are read field by field.
 use Rattle.std.proofs.Common.{◌≡◌, ℕ, ◌+◌, ◌<◌, ◌≤◌, List, [], ◌∷◌, ◌++◌, length, drop, Option, Some, None, ap, ◌∙◌, get_or}
 use Rattle.std.proofs.lemmas.List.{append-nil}
 use Rattle.std.proofs.Math.ListN.{drop_of_length-le}
@@ -6,7 +6,7 @@ use Rattle.sim_script.specs.Script.{◌>>=◌, next_of, nexts_of}
 use Rattle.sim_script.proofs.RoundLemmas.{before_nothing, before_one, members_before}
 use Rattle.sim_script.proofs.TurnLemmas.{next_item}
 
--- so many fields are read, and these are their factors
+-- the first `number` fields are read as the given floors
 pub record HasFloors (fields : List (List ℕ)) (floors : List ℕ) (number : ℕ) : Type 0 where
   pub so_far : nexts_of fields ≡ members_before floors (nexts_of (drop number fields))
 

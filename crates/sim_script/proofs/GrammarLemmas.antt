@@ -44,7 +44,7 @@ cut_again text rest lacks =
     ∙ ap (λ x. Some (record { before = x; behind = drop (length text + 1) whole })) (take-append_seam text (32 ∷ rest))
     ∙ ap (λ x. Some (record { before = text; behind = x })) behind
 
--- the halves at a place where a space stands
+-- the halves at the place of a space
 halves_join : (text : List ℕ) (place : ℕ) → place < length text → get_or text place 0 ≡ 32
     → text ≡ take place text ++ 32 ∷ drop (place + 1) text
 halves_join text place within space =
@@ -173,7 +173,7 @@ act_again line (Deliver node k) h = deliver_again line node k h
 act_again line (Ticks node) h = tick_again line node h
 act_again line (Noise node from bytes) h = noise_again line node from bytes h
 
--- first free factors, field by field
+-- floors, field by field
 next_again : (text : List ℕ) (next : ℕ) → number_of text ≡ Some next → next ≤ 2 ^ 62 → next_of text ≡ Some next
 next_again text next e within =
     ap (λ o. o >>= (λ number. cond (nat_le number (2 ^ 62)) (Some number) None)) e ∙ ap (λ b. cond b (Some next) None) (le-leb next (2 ^ 62) within)
@@ -308,7 +308,7 @@ noise_is line rest act form e =
       is_hex = hex_is second.0.behind bytes.0 bytes.1;
     })
 
--- the word at the front of a line
+-- the word at the start of a line
 worded : (line word rest name : List ℕ) → line ≡ word ++ 32 ∷ rest → bytes_eq word name ≡ true → line ≡ name ++ 32 ∷ rest
 worded line word rest name form same = form ∙ ap (λ w. w ++ 32 ∷ rest) ((bytes_eq-Decides word name).0 same)
 
@@ -443,9 +443,9 @@ event_is line event e =
       ]
     ]
 
--- ---- Lines behind the events
+-- ---- lines after the events
 
--- a line of a word and of something behind it
+-- a line of a word followed by a text
 word_is : {A : Type 0} (line name : List ℕ) (next : List ℕ → Option A) (given : A)
     → (halves_of 32 line >>= (λ halves. cond (bytes_eq halves.before name) (next halves.behind) None)) ≡ Some given
     → (rest : List ℕ) × (line ≡ name ++ 32 ∷ rest) × (next rest ≡ Some given)

@@ -113,7 +113,7 @@ module _ (nodes : ℕ) where
           let more = later round h in
           (round ∷ more.0, (round_is live line round is, more.1), more.2 ∙ ap (of_parts events live) (append_assoc before (round ∷ []) more.0))
 
-  -- ---- Events, and what is behind them
+  -- ---- events, and the lines after them
 
   last_again : (number : ℕ) (before : List Event) (lines : List (List ℕ)) (live : List ℕ) (rounds : List RoundLine) → SayLast nodes lines live rounds
       → told_after nodes number (eventful before) lines ≡ Ok (of_parts before live rounds)

@@ -5,7 +5,7 @@ use Rattle.std.specs.List.{flat_map}
 use Rattle.std.proofs.lemmas.Grind.{flat_map-append}
 use Rattle.std.proofs.lemmas.List.{append-nil, append_assoc, take_more}
 
--- one text, and then another
+-- one text, followed by another
 append_more : (old middle new : Option (List ℕ)) (front back : List ℕ) → Appends old middle front → Appends middle new back
     → Appends old new (front ++ back)
 append_more None middle new front back h k = tt
@@ -13,7 +13,7 @@ append_more (Some x) None new front back h k = absurd h
 append_more (Some x) (Some y) None front back h k = absurd k
 append_more (Some x) (Some y) (Some z) front back h k = k ∙ ap (λ l. l ++ back) h ∙ append_assoc x front back
 
--- the texts of so many items, and the text of the next
+-- the texts of the items up to a place, followed by the text of the item there
 pub append_item : {X : Type 0} (text_of : X → List ℕ) (items : List X) (place : ℕ) (item : X) (old middle new : Option (List ℕ))
     → place < length items → item ≡ get_or items place item
     → Appends old middle (flat_map text_of (take place items)) → Appends middle new (text_of item)

@@ -10,7 +10,7 @@ use Rattle.sim_script.proofs.TurnLemmas.{next_item}
 abbrev pub members_before : List ℕ → Option (List ℕ) → Option (List ℕ)
 members_before live more = option_map (λ others. live ++ others) more
 
--- so many fields are read, and these are their members
+-- the first `number` fields are read as the given members
 pub record HasMembers (nodes : ℕ) (fields : List (List ℕ)) (live : List ℕ) (last number : ℕ) : Type 0 where
   pub so_far : members_above nodes 0 fields ≡ members_before live (members_above nodes last (drop number fields))
 

@@ -5,7 +5,7 @@ use Rattle.std.proofs.Math.ListN.{drop_of_length-le}
 use Rattle.std.proofs.Math.Seq.{drop-cons}
 use Rattle.sim_script.specs.Turns.{state_after, value_then}
 
--- the next item, before what is behind it
+-- the next item, followed by the others
 pub next_item : {X : Type 0} (items : List X) (number : ℕ) (item : X) → number < length items → item ≡ get_or items number item
     → drop number items ≡ item ∷ drop (number + 1) items
 next_item items number item within is =
@@ -19,7 +19,7 @@ at_number items number place item e within is = (omega arith, rw e is)
 module _ {S X : Type 0} (turn : S → X → Option S) where
   -- ---- a loop
 
-  -- so many items are taken, and this is the state
+  -- the first `number` items are taken, and the state is `state`
   pub record HasTaken (start : S) (items : List X) (state : S) (number : ℕ) : Type 0 where
     pub so_far : state_after turn 1 start items ≡ state_after turn (number + 1) state (drop number items)
 
@@ -99,7 +99,7 @@ module _ {S X : Type 0} (turn : S → X → Option S) where
   first_refused start state (item ∷ items) number e =
       first_at start state item items number (turn state item) refl (λ new h. first_refused (start + 1) new items number h) e
 
-  -- what is taken behind a front
+  -- the outcome of the rest after a prefix is taken
   behind_at : (start : ℕ) (taken : Option S) (next other : S → Result S ℕ) (before : S) (end : Result S ℕ)
       → ((new : S) → next new ≡ Ok before → other new ≡ end)
       → value_then start taken next ≡ Ok before → value_then start taken other ≡ end

@@ -115,7 +115,7 @@ first_field_is xs b bs parts is =
 pub start_is : (xs : List ℕ) (n : ℕ) → position_from is_visible 0 xs ≡ Some n → Starts xs n
 start_is xs n e = let h = first_start xs 0 (Some n) e in let same : h.0 ≡ n = omega (arith, h.1) in subst (Starts xs) same h.2
 
--- the first field of a text that begins at n, and what stands after it
+-- the first field of a text that begins at n, and the text after it
 pub field_is : (xs rest : List ℕ) (n k : ℕ) → Starts xs n → rest ≡ drop n xs → k ≡ end_of rest → fields_of xs ≡ take k rest ∷ fields_of (drop k rest)
 field_is xs rest n k s at end =
     let e : end_of (drop n xs) ≡ k = ap end_of (sym at) ∙ sym end in

@@ -15,7 +15,7 @@ use Rattle.token_file.specs.Reading.{CutsOff, Fails, Leads, Progress, initial_pr
 use Rattle.token_file.specs.Source.{OfText}
 use Rattle.token_file.proofs.LinesLemmas.{HasLine, has_line, outcome_of_rest-byte, outcome_of_rest-end, too_long}
 
--- as many floors as tokens, after a line too
+-- there is one floor for each token, also after a line
 abbrev pub IsPaired : Import → Type 0
 IsPaired i = length i.floors ≡ length i.book
 
@@ -48,7 +48,7 @@ same_both : {A : Type 0} (t : Bool) (x y z : A) → x ≡ z → y ≡ z → cond
 same_both true x y z f g = f
 same_both false x y z f g = g
 
--- a byte that is read leads from one state to another where each text goes on so
+-- a byte that is read leads from one state to another, if each text continues so
 pub step : (at : Instant) (p q : Progress) (b : ℕ) → q.room + 1 ≡ p.room
     → ((cut : Option LineFault) (rest : List ℕ) → outcome_of_rest_from cut at p (b ∷ rest) ≡ outcome_of_rest_from cut at q rest) → (IsPaired p.import → IsPaired q.import) → Leads at p (b ∷ []) q
 step at p q b room runs paired = record {
@@ -131,7 +131,7 @@ fails_long at p b fault r is room full e = subst (λ (f : FileFault). Fails at p
   unread = refl;
 }
 
--- one piece, and then another
+-- one piece, followed by another
 pub leads_none : (at : Instant) (p : Progress) → Leads at p [] p
 leads_none at p = record { outcomes = λ cut rest. refl; room = omega arith; paired = λ h. h }
 
@@ -216,7 +216,7 @@ pub text_map : (left : Option (List ℕ)) (P Q : List ℕ → Type 0) → OfText
 text_map None P Q h f = (h.0, f h.0 h.1)
 text_map (Some text) P Q h f = f text h
 
--- the bytes that are left, or none where they aren't told
+-- the bytes that are left, or none if they are unknown
 abbrev Told : Option (List ℕ) → List ℕ → Type 0
 Told None rest = rest ≡ []
 Told (Some ys) rest = rest ≡ ys
@@ -238,7 +238,7 @@ nothing_left None new rest t h e = t
 nothing_left (Some ys) None rest t h e = absurd h
 nothing_left (Some ys) (Some zs) rest t h e = t ∙ h ∙ e
 
--- what was taken of a source so far, by so many pulls, and where it led
+-- the bytes taken of a source by `pulls` pulls, and the state after them
 pub record SoFar (at : Instant) (limit pulls : ℕ) (before now : Option (List ℕ)) (p : Progress) : Type 0 where
   pub taken : List ℕ
   pub consumed : Consumes before now taken

@@ -122,7 +122,7 @@ type_of-type_word Time60 Eight Sha512 h = refl
 
 -- ---- the fields
 
--- a part of a type of so many bytes at most
+-- a part of a type of at most `len` bytes
 record IsTypePart (len : ℕ) (part : List ℕ) : Type 0 where
   bound : length part ≤ len
   visible : list_all is_visible part ≡ true

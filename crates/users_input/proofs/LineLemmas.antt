@@ -1,4 +1,4 @@
--- The first line of a text, and the lines behind it.
+-- The first line of a text, and the lines after it.
 use Rattle.std.proofs.Common.{◌≡◌, ℕ, zero, suc, ◌+◌, ◌-◌, ◌<◌, ◌≤◌, Bool, true, false, cond, nat_lt, List, [], ◌∷◌, ◌++◌, length, take, Some, None, IfSome, Option, refl, sym, ap, subst, ◌∙◌, arith, inl, inr}
 use Rattle.std.specs.Prelude.{◌==◌, ◌⊎◌, slice_index_or}
 use Rattle.std.specs.Io.BufRead.{DropsThrough, take_through, drop_through}
@@ -134,11 +134,11 @@ lines_none room =
     ap (λ (t : List ℕ). lines_between (nat_lt room 0) (pieces_of t)) (take_all room [] (omega arith))
     ∙ ap (λ (c : Bool). lines_between c ([] ∷ [])) (le-ltb room 0 (omega arith))
 
--- behind the limit a text is a line that goes on past it
+-- a text beyond the limit is a line that passes it
 pub lines_past : (b : ℕ) (text : List ℕ) → lines_of 0 (b ∷ text) ≡ None ∷ []
 lines_past b text = lines_cut 0 (b ∷ text) tt (omega arith)
 
--- ---- what stands next
+-- ---- the next line
 
 abbrev IsEndedLine : List ℕ → List ℕ → Type 0
 IsEndedLine line rest = (line ≡ line_text line ++ 10 ∷ []) ⊎ (rest ≡ [])
@@ -202,7 +202,7 @@ next_cut room left text line is past left_is =
     let same = ap (length {A = ℕ}) is in
     (cut_at_limit room text (first_line text) (omega (arith, same, past)), omega (arith, past, left_is))
 
--- what stands next in known bytes is taken off
+-- the next line of known bytes is taken off
 pub takes_whole : (a b : Option (List ℕ)) (room left : ℕ) (line : List ℕ) → IfSome a (λ text. line ≡ take_through 10 text) → DropsThrough a b 10
     → 0 < length line → length line ≤ room → left ≡ room - length line → IfSome a (λ text. TakesLine Whole line room text left b)
 takes_whole None b room left line is rest some within left_is = tt

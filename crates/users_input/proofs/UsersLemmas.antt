@@ -1,4 +1,4 @@
--- The users file of an input, and the lines behind it, as the input is read line by line.
+-- The users file of an input, and the lines after it, as the input is read line by line.
 use Rattle.std.proofs.Common.{inl, inr, ◌≡◌, ℕ, suc, ◌+◌, ◌<◌, ◌≤◌, Bool, true, false, cond, List, [], ◌∷◌, ◌++◌, length, take, drop, min, Option, Some, None, IfSome, refl, drop_of_length-le, take-append-drop, sym, ap, subst, ◌∙◌, arith}
 use Rattle.std.specs.Prelude.{not, ◌||◌, ◌⊎◌}
 use Rattle.std.specs.Option.{option_map}
@@ -17,7 +17,7 @@ use Rattle.users_input.specs.declared.users.Stage.{Stage}
 use Rattle.users_input.specs.declared.users.Stage.TheVariants.{Users, Rest, Failed}
 use Rattle.users_input.proofs.LineLemmas.{lines_none, lines_past}
 
--- nothing stands behind
+-- no line follows
 abbrev no_rest : List NumberedLine
 no_rest = []
 

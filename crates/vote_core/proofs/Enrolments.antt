@@ -112,7 +112,7 @@ new_row t x e r i given floor has within from new =
     (λ _. subst (λ (y : RowRecord). x ≤ y.next) (sym raised) (omega (arith, low, above))) (λ q. absurd (eqb-false i i q refl)))
     (λ q. absurd (false≢true (sym q ∙ has)))
 
--- what is enrolled after a deed was so before, or is new at its node
+-- a token enrolled after an action was enrolled before, or is new at the action's node
 deed_enrolls : (r : Roster) (d : Deed) (j t : ℕ) (P : Type 0) → enrolled_by r d j t ≡ true → (r.enrolled j t ≡ true → P)
     → ((i : ℕ) (given : ℕ → Bool) (floor : ℕ → ℕ) → d ≡ Enrols i given floor → has_store r.cluster i ≡ true → j ≡ i → is_new r i given floor t ≡ true → P) → P
 deed_enrolls r (Proposes i u lo hi drift) j t P h old new = old h

@@ -1,4 +1,4 @@
--- Each message that is sent may be handed to its receiver.
+-- Each message that is sent is one that its receiver may take.
 use Rattle.std.proofs.Common.{◌≡◌, ◌≢◌, ℕ, ℤ, zero, suc, ◌+◌, ◌-◌, ◌^◌, ◌<◌, ◌≤◌, ⊎_elim, true, false, not, ◌&&◌, ◌||◌, cond, List, [], ◌∷◌, length, map, Option, Some, None, refl, sym, ◌∙◌, subst, arith, eqb, leb, ltb}
 use Rattle.std.specs.List.{flat_map, slice_get}
 use Rattle.std.proofs.lemmas.Bool.{cond_both, eqb-true, eqb-false, ltb-true, leb-true, and_parts, or_cases, not-true}
@@ -38,7 +38,7 @@ pub record NodeFits (tokens : ℕ) (content : Content) (voter : VoterState) : Ty
   pub rows : length content.rows ≡ tokens
   pub pending : Each (MayAsk tokens) voter.pending
 
--- a step that keeps that, and whose messages may be handed in
+-- a step that keeps `NodeFits`, and sends messages that their receivers may take
 pub record StepFits (place : PlaceRecord) (tokens : ℕ) (step : Voted) : Type 0 where
   pub node : NodeFits tokens step.content step.voter
   pub sends : Each (Reaches place tokens) step.sends
@@ -65,7 +65,7 @@ members_among (suc n) =
     (each_weaker (Among n) (Among (suc n)) (λ node h. (h.0, omega (arith, h.1))) (members n) (members_among n))
     ((omega arith, omega arith), tt)
 
--- the node may be told by the node at this place
+-- the node may receive from the node at the given place
 abbrev pub Hears : PlaceRecord → ℕ → Type 0
 Hears place node = Among place.n node × (node ≢ place.me)
 
@@ -329,7 +329,7 @@ restart_posts tokens (Some i) w k =
     (λ _. swap_posts tokens i _ w k (record { rows = (k.nodes i).rows; pending = tt })) (λ _. swap_posts tokens i (stopped_member (w.nodes i)) w k (k.nodes i)))
     (λ _. k)
 
--- the members are as many after an act
+-- an act keeps the number of members
 same_n : (tokens event : ℕ) (a : Act) (w : Cluster) → Posts tokens w → Posts tokens (after_act event a w) → Posts tokens (with_sent_of w (after_act event a w))
 same_n tokens event a w k new = record { nodes = new.nodes; sent = subst (λ n. Each (IsDeliverable n tokens) w.sent) (sym (act_n event a w)) k.sent }
 

@@ -14,7 +14,7 @@ use Rattle.vote_core.proofs.Calms.{Leaves, acts_leave, restart_leaves, unsent_le
 use Rattle.vote_core.proofs.Kept.{History, Kept}
 use Rattle.vote_core.proofs.Runs.{Follows, follows_now, follows_on, happens_keeps, happens_n, born_after, all_follow, history_of, start_keeps}
 
--- no member's floor of the token is below x, and no store made anew will have one below
+-- the floor of the token is at least `x` at each member, and on each later replacement store
 pub record Over (t x : ℕ) (w : Cluster) : Type 0 where
   pub rows : (i : ℕ) → 1 ≤ i → i ≤ w.n → x ≤ (row (w.nodes i).content t).next
   pub least : size w.n w.lost < majority_of w.n → (i : ℕ) → w.lost i ≡ true → x ≤ w.least t

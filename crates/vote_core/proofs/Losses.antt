@@ -1,4 +1,4 @@
--- A store that is lost, and one that is made anew, keep what is kept.
+-- A loss and a replacement of a store keep the invariant.
 use Rattle.std.proofs.Common.{◌≡◌, ◌≢◌, ℕ, suc, ◌+◌, ◌<◌, ◌≤◌, ◌⊎◌, inl, inr, ⊎_elim, true, false, not, ◌&&◌, length, Some, refl, sym, ap, ◌∙◌, subst, arith, eqb, leb, ltb}
 use Rattle.std.proofs.lemmas.Bool.{cond_both, cond-true, eqb-true, eqb-false, eq-eqb, ltb-true, leb-true, and_parts, or_cases, not-true, cases_Bool, false≢true}
 use Rattle.std.proofs.lemmas.Option.{none-some}
@@ -11,7 +11,7 @@ use Rattle.vote_core.proofs.Basics.{each_weaker, same_size, one_left, greatest_a
 use Rattle.vote_core.proofs.Kept.{History, Book, Past, Few, Stands, NodeKept, PassKept, At, Kept, Extends, sent_later, pending_later, holds_later, granted_later, granted_stands}
 use Rattle.vote_core.proofs.Worlds.{swap_pass, earlier_boot}
 
--- what a pass keeps, where all that its voters let go stands
+-- a pass stays kept if everything that its voters granted stays granted
 pass_stands : (R : History) (e n : ℕ) (B : Book) (nodes : ℕ → Member) (p : Acceptance) → (k : PassKept R e n B nodes p) → ((g : ℕ) → k.voters g ≡ true → Stands R (suc e) g p.token p.hi) → PassKept R (suc e) n B nodes p
 pass_stands R e n B nodes p k h = record {
   proposal = k.proposal;
@@ -77,7 +77,7 @@ lost_past {R} {e} {tokens} {k} {w} h p b at lost =
     (λ (q : w.lost p.node ≡ true). still_past h p (h.now.book.gone p b at (h.now.at.lost p.node ∙ q)))
     (or_cases (eqb p.node k) (w.lost p.node) (sym (h.then.lost p.node) ∙ lost))
 
--- a node that is left has told its floor
+-- the least floor includes the floor of a node that has its store
 left_below : {R : History} {e tokens k : ℕ} {w : Cluster} → Loss R e tokens k w → (i t hi : ℕ) → 1 ≤ i → i ≤ R.n → R.lost i (suc e) ≡ false → hi < (R.at i t e).next → hi < R.least t (suc e)
 unfolding lossy
 left_below {R} {e} {tokens} {k} {w} h i t hi low high left above =
@@ -88,7 +88,7 @@ left_below {R} {e} {tokens} {k} {w} h i t hi low high left above =
 loss_above : {R : History} {e tokens k : ℕ} {w : Cluster} → Loss R e tokens k w → (g t hi : ℕ) → Stands R e g t hi → hi < (R.at g t (suc e)).next
 loss_above {R} {e} h g t hi s = subst (λ (r : RowRecord). hi < r.next) (sym (loss_at h g t)) s.above
 
--- a proposal is past, or its own node has told its floor
+-- a proposal is past, or the least floor is above its factors
 covered : {R : History} {e tokens k : ℕ} {w : Cluster} → Loss R e tokens k w → (p : ProposalRecord) (b : Begun) → w.begun p ≡ Some b → Past R (suc e) p ⊎ (b.hi < R.least b.token (suc e))
 covered {R} {e} {tokens} {k} {w} h p b at =
     ⊎_elim (λ (lost : R.lost p.node (suc e) ≡ true). inl (lost_past h p b at lost))
@@ -176,9 +176,9 @@ loss_keeps R e tokens k w there now then born others =
     (λ q _. absurd (false≢true (sym q ∙ there)))
     then
 
--- ---- a store that is made anew
+-- ---- a replacement store
 
--- the cluster after a store is made anew
+-- the cluster after a store is replaced
 renewed : ℕ → ℕ → (ℕ → ℕ) → Cluster → Cluster
 renewed k boot floor w = record w {
   nodes = set_node k (opening_member boot (length (w.nodes k).content.rows) floor) w.nodes;

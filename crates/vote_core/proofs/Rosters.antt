@@ -32,7 +32,7 @@ length_is : (xs : List Happening) (e : ℕ) (r : Roster) → length (events_of e
 length_is [] e r = refl
 length_is (x ∷ xs) e r = ap suc (length_is xs (suc e) (after_happening e x r))
 
--- the cluster after so many events
+-- the cluster after the first `k` events
 before_is : (k : ℕ) (xs : List Happening) (e : ℕ) (r : Roster) → (serve e (take k xs) r).cluster ≡ run e (take k (events_of e xs r)) r.cluster
 before_is k xs e r = run_is (take k xs) e r ∙ ap (λ l. run e l r.cluster) (sym (take_is k xs e r))
 

@@ -16,13 +16,13 @@ use Rattle.vote_core.proofs.Frames.{Spared, act_row, raise_row, raised_row, swap
 use Rattle.vote_core.proofs.Rosters.{events_of, run_is}
 use Rattle.vote_core.proofs.Runs.{rows_restart, all_kept}
 
--- ---- what a deed leaves
+-- ---- the effects of an action
 
 or_false : (a b : Bool) → (a || b) ≡ false → (a ≡ false) × (b ≡ false)
 or_false true b h = absurd (false≢true (sym h))
 or_false false b h = (refl, h)
 
--- what is enrolled before a deed is enrolled after it
+-- a token enrolled before an action is enrolled after it
 deed_grows : (r : Roster) (d : Deed) (j u : ℕ) → enrolled_by r d j u ≡ false → r.enrolled j u ≡ false
 deed_grows r (Proposes i t lo hi drift) j u h = h
 deed_grows r (Hears k) j u h = h
@@ -301,7 +301,7 @@ greatest_cases (suc n) lost number =
     (further (greatest_cases n lost number)))
     (cases_lt 0 (number (suc n))))
 
--- what is enrolled at a node stays enrolled through a deed
+-- a token enrolled at a node stays enrolled through an action
 deed_keeps : (r : Roster) (d : Deed) (j u : ℕ) → r.enrolled j u ≡ true → enrolled_by r d j u ≡ true
 deed_keeps r d j u on =
     ⊎_elim (λ (yes : enrolled_by r d j u ≡ true). yes)

@@ -1,5 +1,5 @@
-//! The tests of `vote_core`: votes, by its public calls alone. They stand apart, since a crate is proved anew with its
-//! tests.
+//! The tests of `vote_core`: votes, by its public calls alone. They are a crate of their own, since a crate is proved
+//! again with its tests.
 #![tactic(auto)]
 
 #[cfg(test)]

@@ -64,7 +64,7 @@ eight (a ∷ b ∷ c ∷ d ∷ e ∷ []) fits le = absurd (omega arith)
 eight (a ∷ b ∷ c ∷ d ∷ e ∷ f ∷ []) fits le = absurd (omega arith)
 eight (a ∷ b ∷ c ∷ d ∷ e ∷ f ∷ g ∷ []) fits le = absurd (omega arith)
 
--- the rest of the bytes from a place on, where a number stands there
+-- the rest of the bytes from the place of a number on
 number_there : (bytes : List ℕ) (place next n : ℕ) → AreBytes bytes → next ≡ place + 8 → next ≤ length bytes → number_at bytes place ≡ n → drop place bytes ≡ to_be_bytes w64 n ++ drop next bytes
 number_there bytes place next n fits sum le at =
     let long : 8 ≤ length (drop place bytes) = omega (arith, length-drop place bytes) in

@@ -32,7 +32,7 @@ pub short_is_untagged : (key bytes : List ℕ) → (16 ≤ length bytes → ⊥)
 short_is_untagged key bytes short tagged =
     short (omega (arith, ap length tagged, length-tag_of key (body_of bytes), length-drop (length bytes - 16) bytes))
 
--- ---- a body with its tag behind it
+-- ---- a body followed by its tag
 
 body_of-tagged : (body tag : List ℕ) → length tag ≡ 16 → body_of (body ++ tag) ≡ body
 body_of-tagged body tag len =

@@ -1,4 +1,4 @@
--- Each case meets all but one of what is asked, and that one is refuted.
+-- Each case meets all premises but one, which is refuted.
 use Rattle.std.proofs.Common.{◌≡◌, ◌<◌, ◌≤◌, ⊎_elim, inl, inr, lit<, lit≤, refl, sym, ap, [], ◌∷◌, None, slice_index, arith}
 use Rattle.std.proofs.lemmas.Option.{none-some, same_Some}
 use Rattle.hmac_core.specs.Unfolded.sha1_steps

@@ -1,6 +1,6 @@
 use Rattle.std.proofs.Common.{◌≡◌, length}
 use Rattle.cluster_file.proofs.reading.last_line.Given as goal
 
--- so many lines were yielded
+-- the number of yielded lines
 abbrev pub invariant-loop-line : goal.invariant-loop-line
 invariant-loop-line l = l.number ≡ length l.yielded

@@ -3,7 +3,7 @@ use Rattle.token_file.specs.Fields.{lines_of}
 use Rattle.cluster_file.proofs.ReadingLemmas.{HasSaid}
 use Rattle.cluster_file.proofs.reading.read_lines.Given as goal
 
--- so many lines are read as were yielded, and this is what they said
+-- the yielded lines are read as `l.said`
 abbrev pub invariant-loop-line : goal.invariant-loop-line
 invariant-loop-line l = record {
   count : l.number ≡ length l.yielded;

@@ -56,7 +56,7 @@ only : (told : Told) (place : ℕ) → slice_get (first_ok ∷ []) place ≡ Som
 only told zero e = sym (same_Some first_ok told e)
 only told (suc place) e = absurd (none-some told e)
 
--- what was offered or is lost or waits is the OK
+-- an answer that was offered, is lost or waits is the OK
 is_first : (told : Told) → HasNothing ((scene_of one_node answers_once).sites told.node) → IsOfferedOrEnds one_node answers_once told → told ≡ first_ok
 is_first told none h =
     ⊎_elim
@@ -166,9 +166,9 @@ returns-clause-loss_elsewhere c h = let node : 2 ≡ 1 = h in omega (arith, node
 pub returns-clause-making : goal.returns-clause-making
 returns-clause-making c h = h
 
--- ---- other deeds, lines and factors
+-- ---- other actions, lines and factors
 
--- the process of node 2 would end in the last of these deeds
+-- the process of node 2 would end in the last of the actions
 ends_fourth : (node event : ℕ) → EndsProcess node (slice_get among_strangers event) → event ≡ 4
 ends_fourth node zero h = absurd h
 ends_fourth node (suc zero) h = absurd h

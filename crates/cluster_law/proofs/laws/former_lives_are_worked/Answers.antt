@@ -42,7 +42,7 @@ of_one P one h (suc i) envelope at = absurd (none-some envelope at)
 from_second : IsOther (record { me = 1; n = 3 }) 2
 from_second = record { first = omega arith; last = omega arith; other = λ e. absurd (omega (arith, e)) }
 
--- the old Grant was offered before all
+-- the old Grant was offered before all actions
 grant_came : (envelope : Envelope) → envelope_at three_nodes.key (bytes_of grant) ≡ Some envelope → WasOffered (Post grant ∷ []) envelope
 grant_came envelope reads =
     let there : WasOffered (Post grant ∷ []) grant = record { place = 0; is_there = refl } in
@@ -57,7 +57,7 @@ abbrev grants_in : Handout → ℕ
 grants_in (Post envelope) = grants_of envelope.message
 grants_in (Answer told) = 0
 
--- and where only a Floor was, the Grant wasn't
+-- if only a Floor was offered, the Grant wasn't
 not_there : (k : ℕ) → slice_get (Post old_floor ∷ []) k ≡ Some (Post grant) → ⊥
 not_there zero at = absurd (other (same_Some (Post old_floor) (Post grant) at))
   where

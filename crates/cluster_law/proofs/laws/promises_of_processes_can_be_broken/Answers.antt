@@ -13,7 +13,7 @@ use Rattle.cluster_law.specs.Lives.{Down, Handout, Setting, Site, Takes, Time, U
 use Rattle.cluster_law.specs.Processes.{IsServed, IsStopped, TakesSome, TakesTurns, offer_of_handout}
 use Rattle.cluster_law.proofs.laws.promises_of_processes_can_be_broken.Goals as goal
 
--- ---- openings, and processes that go on
+-- ---- openings, and processes that continue
 
 no_half : (raised : Bool) → site_half_opened raised (content_of_boot 3) ≡ Down (content_of_boot 5) → ⊥
 no_half false e = let boot : 3 ≡ 5 = ap (λ (site : Site). (content_at site).boot) e in omega (arith, boot)

@@ -1,5 +1,5 @@
--- Acts and events are told apart by their kinds, and by the numbers in them. The three runs at the end are computed, the
--- hashes with them.
+-- Acts and events differ in their kinds, or in the numbers in them. The three runs at the end are computed, with their
+-- hashes.
 use Rattle.std.proofs.Common.{◌≡◌, ℕ, zero, suc, ◌⊎◌, ⊎_elim, Bool, true, false, List, [], ◌∷◌, length, Some, refl, ap, sym, subst, ◌∙◌, arith}
 use Rattle.std.specs.List.{slice_get}
 use Rattle.std.specs.Prelude.{codes}
@@ -52,7 +52,7 @@ kind_of (Restart node) = 2
 kind_of (Lost node) = 3
 kind_of (Anew node boot floors) = 4
 
--- its node, or the boot of a store that is made anew
+-- the node of an event, or the boot of a replacement store
 abbrev number_in : WorldEvent → ℕ
 number_in (Happens act) = acting_node act
 number_in (Cut kept act) = acting_node act
@@ -192,7 +192,7 @@ none_by_nothing true false = refl
 none_by_nothing false true = refl
 none_by_nothing false false = refl
 
--- all that was sent are the two Asks, and none is for node 1
+-- only the two Asks were sent, and node 1 receives neither
 none_by_delivery : (a b : Bool) (k : ℕ) → NoneWith a b (Happens (Deliver 1 k))
 unfolding code_at first_words schedule rounds compress hash_after digest_bytes sha1 world_after_events world_after_event world_after_act world_after_turn world_with_made world_after_restart made_by_event made_while_running made_by_datagram made_by_ruling made_by_proposal propose propose_alone propose_among on_ask accept count_grant on_grant raise count_deny on_deny on_floor on_message tick
 none_by_delivery true true zero = refl

@@ -31,7 +31,7 @@ tail_of x y xs ys e = cc
 empty : {A : Type 0} (y : A) (ys : List A) → [] ≡ y ∷ ys → ⊥
 empty y ys e = absurd cc
 
--- the node of the first deed
+-- the node of the first action
 abbrev first_node : List Deed → ℕ
 first_node [] = 0
 first_node (deed ∷ deeds) = node_of_deed deed
@@ -51,7 +51,7 @@ returns-clause-taken_elsewhere c h =
     let node : 3 ≡ 2 = ap (λ deeds. first_node deeds) (tail_of (Takes 1 Time) (Takes 1 Time) (Takes 3 floor_comes ∷ []) h.0 h.1 ∙ then.2) in
     omega (arith, node)
 
--- how many of the first deed are ticks
+-- the number of ticks in the first action
 abbrev first_ticks : List Deed → ℕ
 first_ticks (Takes node Time ∷ deeds) = 1
 first_ticks _ = 0
@@ -64,7 +64,7 @@ returns-clause-steps c = refl
 
 -- ---- turns of one node
 
--- a turn has at least so many deeds
+-- a turn has at least `ticks` actions
 turn_long : (setting : Setting) (live : List ℕ) (ticks first : ℕ) (scene : Scene) (node : ℕ) (deeds : List Deed) → IsTurn setting live ticks first scene node deeds → ticks ≤ length deeds
 turn_long setting live zero first scene node deeds t = omega arith
 turn_long setting live (suc ticks) first scene node deeds t =

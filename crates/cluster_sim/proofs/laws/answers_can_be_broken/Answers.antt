@@ -1,4 +1,4 @@
--- What is told and what was accepted are computed, and differ.
+-- The replies and the acceptances are computed, and differ.
 use Rattle.std.proofs.Common.{◌≡◌, ℕ, zero, suc, ◌<◌, ◌≤◌, true, false, List, [], ◌∷◌, Some, None, refl, arith, ap, sym, ◌∙◌, subst}
 use Rattle.std.specs.Prelude.{codes, slice_get, slice_index}
 use Rattle.std.specs.Fmt.{digits}
@@ -111,7 +111,7 @@ returns-clause-again c h =
     let said : (2 ≡ 1) × (8 ≡ 7) × _ = b.belongs.again late in
     omega (arith, said.0)
 
--- ---- what follows where one acceptance and one reply are all that there is
+-- ---- one acceptance and one reply alone
 
 -- it is the acceptance to which the reply belongs
 abbrev Belongs : List WorldEvent → Acceptance → Told → Type 0

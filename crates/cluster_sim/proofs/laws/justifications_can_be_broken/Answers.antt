@@ -72,7 +72,7 @@ returns-clause-closed c h =
     let is_open : (2 ≡ 0) ⊎ (115 ≤ 114) = e.is_open in
     elim is_open [ inl x ↦ omega (arith, x) | inr x ↦ omega (arith, x) ]
 
--- the clock is three steps behind by then, and the factor is that of the present step
+-- the clock is three steps slow then, and the factor is the current step's
 pub returns-clause-drifted : goal.returns-clause-drifted
 unfolding code_at first_words schedule rounds compress hash_after digest_bytes sha1 world_after_events world_after_event world_after_act world_after_turn world_with_made world_after_restart made_by_event made_while_running made_by_datagram made_by_ruling made_by_proposal propose propose_alone propose_among on_ask accept count_grant on_grant raise count_deny on_deny on_floor on_message tick
 returns-clause-drifted c h =

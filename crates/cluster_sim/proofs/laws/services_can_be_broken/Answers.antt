@@ -87,7 +87,7 @@ returns-clause-served_settled c h = no_majority h.settled
 abbrev AnswerOneLine : List Told → Type 0
 AnswerOneLine answers = AreAnswersTo config first_two 0 (world_of config three []) (server_of first_two (world_of config three [])) one_line answers
 
--- of a report of no events, all that was told are these answers
+-- the given answers are all replies in a report without events
 of_one_line : (answers : List Told) → AreServed config three [] [] first_two one_line answers → AnswerOneLine answers
 unfolding world_after_events
 of_one_line answers h = let e : answers ≡ h.more = h.told in subst AnswerOneLine (sym e) h.are

@@ -5,7 +5,7 @@ use Rattle.cluster_sim.specs.Losses.{AreGreatest}
 use Rattle.cluster_sim.specs.World.{World}
 use Rattle.cluster_sim.proofs.losses.least_of.Given as goal
 
--- those of the tokens so far
+-- the floors of the tokens until now
 abbrev pub invariant-loop-token : goal.invariant-loop-token
 invariant-loop-token l =
     (length l.least.items ≡ l.token)

@@ -5,7 +5,7 @@ use Rattle.cluster_sim.specs.World.{World}
 use Rattle.cluster_sim.proofs.RoundPlay.{AreHandedTo}
 use Rattle.cluster_sim.proofs.rounds.hand_on.Given as goal
 
--- from whatever world it began, the datagrams below this one were handed on
+-- from any first world, the datagrams below number `k` were delivered
 abbrev pub invariant-loop-k : goal.invariant-loop-k
 invariant-loop-k l =
     (config : Config) (world : World) → IsRun config l.key world (record { nodes = l.initial.nodes; journal = l.initial.journal })

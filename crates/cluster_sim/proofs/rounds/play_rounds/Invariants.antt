@@ -5,7 +5,7 @@ use Rattle.cluster_sim.specs.World.{World}
 use Rattle.cluster_sim.proofs.RoundPlay.{AreRoundsTo}
 use Rattle.cluster_sim.proofs.rounds.play_rounds.Given as goal
 
--- from whatever world it began, the lines before this one had their rounds
+-- from any first world, the lines until now had their rounds
 abbrev pub invariant-loop-line : goal.invariant-loop-line
 invariant-loop-line l =
     (config : Config) (world : World) → IsRun config l.key world (record { nodes = l.initial.nodes; journal = l.initial.journal })

@@ -6,7 +6,7 @@ use Rattle.cluster_sim.specs.World.{World}
 use Rattle.cluster_sim.proofs.Played.{IsPlayed}
 use Rattle.cluster_sim.proofs.run.play.Given as goal
 
--- from whatever world it began, so many events have happened
+-- from any first world, the events until now have happened
 abbrev pub invariant-loop-number : goal.invariant-loop-number
 invariant-loop-number l =
     let config : Config = record { book = l.shared.book.now; limits = l.shared.settings } in

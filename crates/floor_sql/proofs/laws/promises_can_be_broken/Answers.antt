@@ -1,4 +1,4 @@
--- Databases are told apart by their rows, and what stands in a table is computed.
+-- The rows of databases distinguish them, and the values in a table are computed.
 use Rattle.std.proofs.Common.{◌≡◌, ◌≢◌, inl, inr, ℕ, ◌+◌, zero, suc, true, false, List, [], ◌∷◌, length, replicate, refl, ap, sym, ◌∙◌, arith}
 use Rattle.std.specs.Prelude.{pos}
 use Rattle.std.proofs.lemmas.List.{length-replicate}
@@ -15,7 +15,7 @@ use Rattle.floor_sql.specs.Broken.{small_content, small_db, tables_at, trees_of}
 use Rattle.floor_sql.specs.Stored.{Holds, drift_row, floor_row, pass_rows, self_row}
 use Rattle.floor_sql.proofs.laws.promises_can_be_broken.Goals as goal
 
--- small databases are told apart by how many rows they have
+-- the number of rows distinguishes small databases
 abbrev rows_in : Database → ℕ
 rows_in db = length (db.trees 0)
 
@@ -110,7 +110,7 @@ returns-clause-tables c = record {
   counted = refl;
 }
 
--- rows of passes are as many as the passes
+-- there is one row for each pass
 pass_rows_are : (number : ℕ) (passes : List PassRecord) → length (pass_rows number passes) ≡ length passes
 pass_rows_are number [] = refl
 pass_rows_are number (pass ∷ passes) = ap suc (pass_rows_are (suc number) passes)
@@ -161,7 +161,7 @@ returns-clause-appended_others c h = let rows = h.others 0 (λ e. omega (arith, 
 pub returns-clause-may_commit : goal.returns-clause-may_commit
 returns-clause-may_commit c = (small_db 2, refl, refl)
 
--- trees of so many rows are those of a database of as many
+-- the trees of a small database determine its number of rows
 rows_are : (rows count : ℕ) (db : Database) → db ≡ small_db count → (small_db rows).trees ≡ db.trees → rows ≡ count
 rows_are rows count db is left =
     let same : replicate rows [] ≡ replicate count [] =

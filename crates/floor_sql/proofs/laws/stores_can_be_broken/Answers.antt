@@ -21,7 +21,7 @@ use Rattle.floor_sql.proofs.laws.stores_can_be_broken.Goals as goal
 pub returns-clause-mirrors : goal.returns-clause-mirrors
 returns-clause-mirrors g c = record { schema = refl; passes = []; holds = none_holds 4; counted = refl; settled = refl }
 
--- the boot of tables of no token is that of the content that they hold
+-- the boot of tables without a token is the boot of the content that they hold
 boot_held : (now : ℕ) (content : Content) (passes : List PassRecord) → Holds (tables_at now []) content passes → now ≡ content.boot
 boot_held now content passes h = (own_row_is 2 1 0 now 2 h.node (length content.rows) content.boot h.self).3
 
@@ -39,7 +39,7 @@ returns-clause-mirrors_count g c = λ boot h.
     let counted : length h.passes ≡ 1 = h.counted in
     omega (arith, none, counted)
 
--- databases of no token are told apart by their boots
+-- the boots of databases without a token distinguish them
 same_boot : (a b : ℕ) → db_at a [] ≡ db_at b [] → a ≡ b
 same_boot a b e = let rows : self_row 1 0 a ∷ [] ≡ self_row 1 0 b ∷ [] = ap (λ (db : Database). db.trees 0) e in cc
 
@@ -101,7 +101,7 @@ returns-clause-audit_waiting g c = λ store was none h.
     let e : old_pass ∷ [] ≡ [] = all ∙ ap passes_in none in
     absurd cc
 
--- the rows of the one put are there once
+-- the single put's token has each of its rows once
 one_put : (trees : Trees) (put : Put) → HasRowOnce trees put.token → (place : ℕ) (other : Put)
     → slice_get (put ∷ []) place ≡ Some other → HasRowOnce trees other.token
 one_put trees put is zero other e =
@@ -115,7 +115,7 @@ once = record { floor = record { found = _; only = refl }; drift = record { foun
 pub returns-clause-rows : goal.returns-clause-rows
 returns-clause-rows g c = one_put token_db.trees (put_of 0 (free_row 10) None) once
 
--- no row is there once
+-- an empty table has no row with the key
 none_once : (key : ℕ) → HasOneRow [] key → ⊥
 none_once key h = let only = h.only in absurd cc
 

@@ -16,7 +16,7 @@ use Rattle.floor_sql.proofs.ContentLemmas.{puts}
 use Rattle.floor_sql.proofs.RowLemmas.{find-put_row}
 use Rattle.floor_sql.proofs.laws.writes_can_be_broken.Goals as goal
 
--- all tables but that of floors stay, and all but that of drifts
+-- all tables but `floor` stay, and all but `drift`
 but_floor : (self old new pass drift : List Row) (tree : ℕ) → tree ≢ 1
     → trees_of self new pass drift tree ≡ trees_of self old pass drift tree
 but_floor self old new pass drift zero differs = refl
@@ -74,7 +74,7 @@ unfolding value_cmp lib.Ieee.is_nan lib.Ieee.lt
 returns-clause-drifted_drift c h =
     let rows : drift_row 0 (pos 0) ∷ [] ≡ drift_row 0 (pos 1) ∷ [] = h.drift in absurd cc
 
--- nor does its row
+-- the token's row in `floor` doesn't stay either
 no_floor_stays : (steps : ℤ) → OthersStay tables.drift token_db.trees (token_db_of (free_row 10) steps).trees → ⊥
 no_floor_stays steps others =
     let rows : floor_row 0 (free_row 10) ∷ [] ≡ floor_row 0 (free_row 9) ∷ [] = others 1 (λ e. omega (arith, e)) in absurd cc

@@ -1,4 +1,4 @@
--- Where no span is found, the columns show no pass that is in range.
+-- If no span is found, the columns show no pass in range.
 use Rattle.std.proofs.Common.{◌≡◌, ℕ, pos, Option, None, refl, sym, subst}
 use Rattle.std.specs.Prelude.{IfSome}
 use Rattle.sqlite.specs.declared.types.Value.TheVariants.{Int}

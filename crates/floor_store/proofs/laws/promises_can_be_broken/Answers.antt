@@ -4,7 +4,7 @@ use Rattle.floor_store.specs.Broken.{booted}
 use Rattle.floor_store.specs.Content.{Content}
 use Rattle.floor_store.proofs.laws.promises_can_be_broken.Goals as goal
 
--- contents without tokens are told apart by their boots
+-- the boots of contents without tokens distinguish them
 same_boot : (a b : ℕ) → booted a ≡ booted b → a ≡ b
 same_boot a b e = ap (λ (content : Content). content.boot) e
 

@@ -1,4 +1,4 @@
--- What the steps come to is computed.
+-- The outcomes of the steps are computed.
 use Rattle.std.proofs.Common.{◌≤◌, ℕ, List, IfOk, refl, ap, arith}
 use Rattle.std.specs.Prelude.{length}
 use Rattle.floor_store.specs.Broken.{small_held}

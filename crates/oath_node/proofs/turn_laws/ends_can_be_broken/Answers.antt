@@ -179,7 +179,7 @@ failure_is (FromClient client bytes moment) e = absurd cc
 failure_is Nothing e = absurd cc
 failure_is Failure e = refl
 
--- a line that the clock told no moment for, and a receive that failed
+-- a line for which the clock had no moment, and a receive that failed
 two_are : (xs : List Receipt) → map entry_of xs ≡ no_line_came ∷ Faulted ∷ [] → moments_in xs ≡ None ∷ []
     → xs ≡ line_without_moment ∷ Failure ∷ []
 two_are [] entries moments = absurd cc
@@ -195,7 +195,7 @@ two_are (x ∷ y ∷ []) entries moments =
     ap (λ (a : Receipt). a ∷ y ∷ []) (line.1 ∙ ap (λ (moment : Option ℕ). FromClient 7 (codes "CHECK") moment) none)
     ∙ ap (λ (b : Receipt). line_without_moment ∷ b ∷ []) failure
 
--- the run that is handed them is ended by the clock
+-- the clock ends the run over the batches
 two_end : (member : Member) (batches : List (List Receipt)) (start : Run) → start.end ≡ None → AreBatches start.tally.received batches
     → receipts_in batches ≡ line_without_moment ∷ Failure ∷ [] → (run_with_batches member batches start).end ≡ Some Clock
 two_end member batches start going formed two =

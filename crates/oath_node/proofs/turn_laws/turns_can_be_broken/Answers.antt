@@ -1,4 +1,4 @@
--- A run of no turns was handed nothing, and stands where it began.
+-- A run of no turns received nothing, and is still at its start.
 use Rattle.std.proofs.Common.{◌≡◌, ◌<◌, ◌≤◌, inl, inr, ℕ, zero, suc, List, [], ◌∷◌, ◌++◌, length, take, Option, Some, Result, Err, refl, ap, sym, subst, ◌∙◌, arith}
 use Rattle.floor_store.specs.Broken.{SmallStore, booted, small_held, store_at}
 use Rattle.floor_store.specs.Content.{Content}
@@ -14,7 +14,7 @@ use Rattle.oath_node.specs.declared.serve_fault.ServeFault.{ServeFault}
 use Rattle.oath_node.specs.declared.turns.Served.{Served}
 use Rattle.oath_node.proofs.turn_laws.turns_can_be_broken.Goals as goal
 
--- contents without tokens are told apart by their boots
+-- the boots of contents without tokens distinguish them
 same_boot : (a b : ℕ) → booted a ≡ booted b → a ≡ b
 same_boot a b e = ap (λ (content : Content). content.boot) e
 
@@ -27,14 +27,14 @@ has_one : (before : List Receipt) (last : Receipt) (rest : List Receipt) → len
 has_one [] last rest l = omega (arith, l)
 has_one (receipt ∷ before) last rest l = omega (arith, l)
 
--- so there is no batch where there is no receipt
+-- without a receipt there is no batch
 nothing_handed : (batches : List (List Receipt)) → AreBatches 0 batches → length (receipts_in batches) ≤ 0 → batches ≡ []
 nothing_handed [] formed none = refl
 nothing_handed (batch ∷ batches) formed none =
     absurd (has_one formed.0.before formed.0.last (receipts_in batches)
     (subst (λ (b : List Receipt). length (b ++ receipts_in batches) ≤ 0) formed.0.is none))
 
--- a run of no turns ends as that of no batch does
+-- a run of no turns ends like a run of no batch
 ends_of : (old new : Hosted SmallStore) (entries : Option (List PortEvent)) (told : Option (List (Option ℕ))) (turns : ℕ)
     (result : Result Served ServeFault) → Serves small_held old new nothing_yet entries nothing_yet told turns result
     → turns < 1 → (small_held new.store).is_clean → EndsSo small_held old new nothing_yet entries [] result
@@ -43,7 +43,7 @@ ends_of old new entries told turns result h few clean =
     let none = nothing_handed h.batches h.formed (omega (arith, few, most)) in
     subst (λ (batches : List (List Receipt)). EndsSo small_held old new nothing_yet entries batches result) none (h.exact clean)
 
--- the node at boot 1 is not that of boot 0
+-- the node at boot 1 differs from the node at boot 0
 not_same : state_of small_held (node_over (store_at 1) []) ≡ state_of small_held (node_over (store_at 0) []) → ⊥
 not_same e = not_first (ap (λ (node : NodeState). node.content) e)
 

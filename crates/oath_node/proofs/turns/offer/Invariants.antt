@@ -4,7 +4,7 @@ use Rattle.oath_node.specs.TurnSteps.{reply_count}
 use Rattle.oath_node.specs.Turns.{offer_of}
 use Rattle.oath_node.proofs.turns.offer.Given as goal
 
--- what was taken so far is offered, and its replies are counted
+-- the port got the items taken until now, and their replies are counted
 abbrev pub invariant-loop-item : goal.invariant-loop-item
 invariant-loop-item g l =
     Grows (g.P.Port.events l.initial.port) (g.P.Port.events l.port) (map offer_of l.yielded)

@@ -19,12 +19,12 @@ first_byte (reply ∷ replies) node nodes first rest e p =
     let byte : first ≡ 48 + reply.node = cc in
     omega (arith, same, byte)
 
--- there is one where there is a node
+-- replies of a node print at least one byte
 has_byte : (replies : List Reply) (node : ℕ) (nodes : List ℕ) → nodes_of replies ≡ node ∷ nodes → [] ≡ printed replies → ⊥
 has_byte [] node nodes e p = absurd cc
 has_byte (reply ∷ replies) node nodes e p = absurd cc
 
--- there is none where there is no node
+-- replies of no node print nothing
 has_none : (replies : List Reply) (first : ℕ) (rest : List ℕ) → nodes_of replies ≡ [] → first ∷ rest ≡ printed replies → ⊥
 has_none [] first rest e p = absurd cc
 has_none (reply ∷ replies) first rest e p = absurd cc
@@ -63,7 +63,7 @@ returns-clause-first_of_two c = record {
 pub returns-clause-first_in_part : goal.returns-clause-first_in_part
 returns-clause-first_in_part c h = one_byte h.writes.replies 50 h.writes.written
 
--- the first reply is that of the first line
+-- the first reply is for the first line
 not_the_second : (count : ℕ) (replies : List Reply)
     → nodes_of replies ≡ map (λ (line : NodeLine). line.node) (take count two_lines) → codes "1 -\n" ≡ printed replies → ⊥
 not_the_second zero replies e p = has_none replies 49 (codes " -\n") e p

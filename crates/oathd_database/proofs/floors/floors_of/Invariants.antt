@@ -3,7 +3,7 @@ use Rattle.floors_file.specs.Floors.{floor_value}
 use Rattle.oathd_database.specs.Floors.{told_rows}
 use Rattle.oathd_database.proofs.floors.floors_of.Given as goal
 
--- the tokens so far are told
+-- the floors of the tokens until now are in the list
 abbrev pub invariant-loop-token : goal.invariant-loop-token
 invariant-loop-token g l =
     let held = g.S.FloorStore.held l.store in

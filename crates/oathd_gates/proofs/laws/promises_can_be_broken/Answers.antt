@@ -15,7 +15,7 @@ use Rattle.oathd_gates.specs.Examples.{gate_with, row_with}
 use Rattle.oathd_gates.specs.Gates.{WritesGate, gate_line, gate_text, gates_text}
 use Rattle.oathd_gates.proofs.laws.promises_can_be_broken.Goals as goal
 
--- one token of a users file, which is that of user `a`
+-- a users file of one token, of user `a`
 abbrev of_one : (users : List ℕ) → IsOfOne 0 11 users → HasImport default_limits 0 11 users
 of_one users is = record { book = one_book; floors = 0 ∷ []; imported = is }
 

@@ -1,4 +1,4 @@
--- The secret's text is computed, and what some first answers print, and where some first bytes of a users file end.
+-- The secret's text, the output of some first answers and the ends of some first bytes of a users file are computed.
 use Rattle.std.proofs.Common.{◌≡◌, ℕ, zero, suc, List, [], ◌∷◌, ◌++◌, length, take, Some, Result, Ok, Err, refl, sym, ap, subst, ◌∙◌, arith, take_all}
 use Rattle.std.proofs.Math.Seq.{take-append_seam}
 use Rattle.std.specs.Prelude.{codes, slice_index}
@@ -62,19 +62,19 @@ returns-clause-read c h = not_second h.1.count h.1.written
 pub returns-clause-read_more : goal.returns-clause-read_more
 returns-clause-read_more c h = not_more h.1.count h.1.written
 
--- the line that is told of a fault
+-- the line of a fault
 abbrev line_told : Result Import (ℕ × LineFault) → ℕ
 line_told (Ok import) = 0
 line_told (Err fault) = fault.0
 
--- what some first bytes of a users file, of which there may be so many, come to where it is cut off behind them
+-- the outcome of the first `n` bytes of a users file, if the text is cut off after them
 abbrev outcome_after : ℕ → ℕ → List ℕ → ℕ → Result Import (ℕ × LineFault)
 outcome_after moment longest text n = outcome_of (Some Read) longest (instant_of default_limits moment) (take n text)
 
 taken_first : (text taken left : List ℕ) → text ≡ taken ++ left → taken ≡ take (length taken) text
 taken_first text taken left parts = sym (take-append_seam taken left) ∙ ap (take (length taken)) (sym parts)
 
--- a fault that is told at line 1 wherever a text is cut off is not told at line 2
+-- a text whose fault is at line 1 after any cut has no fault at line 2
 not_cut : (moment longest : ℕ) (text : List ℕ) → ((n : ℕ) → line_told (outcome_after moment longest text n) ≡ 1)
     → IsCutOff Read longest (instant_of default_limits moment) text 2 → ⊥
 not_cut moment longest text first h =

@@ -37,7 +37,7 @@ returns-clause-tokens_left_out c h =
 pub returns-clause-has_checked : goal.returns-clause-has_checked
 returns-clause-has_checked c = record { book = []; has_tokens = record { floors = []; read = refl }; written = refl }
 
--- the number of event tokens is told
+-- the number of event tokens is in the text
 told_apart : checked one_token ≡ checked [] → ⊥
 unfolding word_line member_line settings_text count_line counts_text address_text digits
 told_apart e = let counts : 49 ≡ 48 = ap (λ (text : List ℕ). slice_index text 84) e in omega (arith, counts)

@@ -1,4 +1,4 @@
--- Each offset is told from the ones beside it.
+-- Each offset differs from the offsets beside it.
 use Rattle.std.proofs.Common.{◌≡◌, ℕ, zero, suc, ◌+◌, List, [], ◌∷◌, ◌++◌, Some, pos, negsuc, refl, ap, ◌∙◌, append-nil, arith}
 use Rattle.std.specs.Fmt.{digits}
 use Rattle.std.specs.Prelude.{codes}

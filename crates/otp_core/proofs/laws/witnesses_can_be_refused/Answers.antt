@@ -1,4 +1,4 @@
--- The floors are computed; those of all later events are above the factors.
+-- The floors are computed. The floors of all later events are above the factors.
 use Rattle.std.proofs.Common.{◌≡◌, ℕ, ◌+◌, ◌<◌, ◌≤◌, true, nat_le, arith}
 use Rattle.std.proofs.lemmas.Bool.Decides.{nat_tests}
 use Rattle.otp_core.specs.Acceptance.{HasMajority, LetsGo, majority_of}

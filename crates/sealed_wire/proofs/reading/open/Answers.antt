@@ -1,4 +1,4 @@
--- Where the tag is right, the body is read; where it is wrong, nothing is.
+-- If the tag is right, the body is read. If it is wrong, nothing is read.
 use Rattle.std.proofs.Common.{sym}
 use Rattle.sealed_wire.proofs.TagLemmas.{headless_is_none, read_of, unopened_is_none}
 use Rattle.sealed_wire.proofs.reading.open.Goals as goal

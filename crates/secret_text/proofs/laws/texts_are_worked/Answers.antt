@@ -72,7 +72,7 @@ returns-clause-spells c = (
   record { are_bytes = foobar_are_bytes; rest = 0 ∷ 0 ∷ []; short = lit< tt; same_bits = refl },
 )
 
--- the number of bits before the rest, and then of the rest
+-- the number of bits of the rest
 rest_len : (rest bits : List ℕ) (len : ℕ) → bits ≡ rest → length bits ≡ len → length rest ≡ len
 rest_len rest bits len e of_len = ap length (sym e) ∙ of_len
 

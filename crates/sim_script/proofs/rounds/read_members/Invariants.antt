@@ -3,7 +3,7 @@ use Rattle.sim_script.specs.Lines.{fields_of}
 use Rattle.sim_script.proofs.RoundLemmas.{HasMembers}
 use Rattle.sim_script.proofs.rounds.read_members.Given as goal
 
--- as many fields are read as were yielded, and the members are fewer than the last of them says
+-- the yielded fields are read, and the number of members is at most the last of them
 abbrev pub invariant-loop-field : goal.invariant-loop-field
 invariant-loop-field l = record {
   members : HasMembers l.fn.nodes (fields_of l.fn.text) l.live.items l.last (length l.yielded);

@@ -5,7 +5,7 @@ use Rattle.sim_script.specs.Script.{with_line}
 use Rattle.sim_script.proofs.TurnLemmas.{HasTaken}
 use Rattle.sim_script.proofs.script.read_script.Given as goal
 
--- so many lines are taken as were yielded, and this is the script
+-- the yielded lines are taken, and their script is `l.script`
 abbrev pub invariant-loop-line : goal.invariant-loop-line
 invariant-loop-line l = record {
   count : l.number ≡ length l.yielded;

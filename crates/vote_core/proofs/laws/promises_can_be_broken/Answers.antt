@@ -23,7 +23,7 @@ at_most_six : (is_taken : Bool) → (if is_taken then 6 else 5) ≤ 6
 at_most_six true = omega arith
 at_most_six false = omega arith
 
--- the first that is counted is there, where the rest are too few
+-- the first counted item is there if the rest are too few
 is_counted : (is_there : Bool) (rest least : ℕ) → rest < least → least ≤ (if is_there then 1 else 0) + rest
     → is_there ≡ true
 is_counted true rest least few many = refl

@@ -2,6 +2,6 @@ use Rattle.std.proofs.Common.{◌≡◌, ◌≤◌, take}
 use Rattle.std.specs.Prelude.{◌↔◌}
 use Rattle.vote_wire.proofs.key.are_equal.Given as goal
 
--- so far no byte differs where none was counted
+-- no byte differs until now if none was counted
 abbrev pub invariant-loop-place : goal.invariant-loop-place
 invariant-loop-place l = (l.differing ≤ l.place) × ((l.differing ≡ 0) ↔ (take l.place l.left ≡ take l.place l.right))

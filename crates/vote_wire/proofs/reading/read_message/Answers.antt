@@ -1,4 +1,4 @@
--- Where the tag is right, the body is read; where it is wrong, nothing is.
+-- If the tag is right, the body is read. If it is wrong, nothing is read.
 use Rattle.std.proofs.Common.{sym, ap, ◌∙◌}
 use Rattle.vote_wire.specs.Body.{body_at}
 use Rattle.vote_wire.proofs.TagLemmas.{is_none, is_some, tagged_is_read, untagged_is_none}

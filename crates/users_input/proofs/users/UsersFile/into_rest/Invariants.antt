@@ -3,7 +3,7 @@ use Rattle.token_file.specs.Source.{Stays}
 use Rattle.users_input.specs.Users.{rest_left}
 use Rattle.users_input.proofs.users.UsersFile.into_rest.Given as goal
 
--- the lines behind the users file are still the same
+-- the lines after the users file are unchanged
 abbrev pub invariant-loop : goal.invariant-loop
 invariant-loop g l =
     Stays (option_map (rest_left l.fn.self.stage l.fn.self.taken l.fn.self.input.room l.fn.self.line.items) (g.B.Read.remaining l.fn.self.input.reader))

@@ -1,0 +1,136 @@
+"""Reads lists of tokens: a vendor's CSV, and lists that say whose a token is, also those of LinOTP and privacyIDEA."""
+import csv
+import io
+import json
+from dataclasses import dataclass
+
+from tokens import HASHES, KINDS, Fault, Token, read_number, read_secret, read_word
+
+FIELDS = ("serial", "user", "secret", "type", "digits", "period", "hash", "counter")
+# What the programs call these fields. LinOTP has a prefix before its names.
+NAMES = {"tokenserialnumber": "serial", "username": "user", "user.username": "user", "count": "counter",
+         "isactive": "active"}
+
+
+def text_of(data, source):
+    try:
+        return data.decode("utf-8-sig")
+    except UnicodeDecodeError as fault:
+        line = data[:fault.start].count(b"\n") + 1
+        raise Fault("%s line %d" % (source, line), "NotText", "it is not UTF-8") from None
+
+
+def read_cells(text, delimiter, source):
+    """Yields each line that isn't empty and is no remark: its number and its cells, without blanks around them."""
+    reader, line = csv.reader(io.StringIO(text, newline=""), delimiter=delimiter, strict=True), 1
+    try:
+        for cells in reader:
+            if any(cells) and not cells[0].startswith("#"):
+                yield line, [cell.strip() for cell in cells]
+            line = reader.line_num + 1
+    except csv.Error as fault:
+        raise Fault("%s line %d" % (source, line), "NotCsv", str(fault)) from None
+
+
+def places_of(header, named, place):
+    """Returns the column of each field: the one whose header has the name given for it, or its own."""
+    header, places = [cell.lower() for cell in header], {}
+    for field in FIELDS:
+        name = named.get(field, field).lower()
+        if name in header:
+            places[field] = header.index(name)
+        elif field in named:
+            raise Fault(place, "NoColumn", "no column %r for %s" % (named[field], field))
+    return places
+
+
+def token_of(cells, places, place, form, defaults):
+    """Returns the token of a line."""
+    def told(field):
+        at = places.get(field)
+        return cells[at] if at is not None and at < len(cells) else ""
+
+    def number(field, default):
+        return read_number(told(field), place, field) if told(field) else default
+
+    for field, known in (("secret", told("secret")), ("type", told("type") or defaults.kind)):
+        if not known:
+            raise Fault(place, "No" + field.capitalize(), "the line has no %s" % field)
+    return Token(
+        place, read_secret(told("secret"), form, place), read_word(KINDS, told("type") or defaults.kind, place, "type"),
+        serial=told("serial"), user=told("user") or None, digits=number("digits", defaults.digits),
+        period=number("period", defaults.period),
+        hash=read_word(HASHES, told("hash"), place, "hash") if told("hash") else defaults.hash,
+        counter=number("counter", 0))
+
+
+def read_csv(data, source, words, defaults):
+    """Returns the tokens of a CSV file, with a fault in place of each line that can't be read, and no notes."""
+    lines, found = read_cells(text_of(data, source), words.delimiter, source), []
+    if words.columns:
+        places = {field: at for at, field in enumerate(words.columns) if field in FIELDS}
+    else:
+        line, header = next(lines, (1, []))
+        places = places_of(header, dict(words.column), "%s line %d" % (source, line))
+    if "secret" not in places:
+        raise Fault("%s line 1" % source, "NoColumn", "no column is named secret: --column secret=NAME")
+    for line, cells in lines:
+        try:
+            found.append(token_of(cells, places, "%s line %d" % (source, line), words.secrets, defaults))
+        except Fault as fault:
+            found.append(fault)
+    return found, []
+
+
+@dataclass
+class Owner:
+    """Who has a token: the user, the next counter, and whether the token may be used."""
+    place: str
+    user: str
+    counter: int
+    is_active: bool
+
+
+def owner_of(told, place):
+    """Returns the serial number and the owner that an entry names."""
+    told = {str(key).lower().removeprefix("linotp."): value for key, value in told.items()}
+    told = {NAMES.get(key, key): value for key, value in told.items()}
+    if not told.get("serial"):
+        raise Fault(place, "NoSerial", "it names no serial number")
+    is_active = str(told.get("active", "true")).lower() in ("true", "1", "") and not told.get("revoked")
+    counter = read_number(str(told.get("counter") or "0"), place, "counter")
+    return str(told["serial"]), Owner(place, str(told.get("user") or ""), counter, is_active)
+
+
+def entries_of(text, source):
+    """Yields the entries of a list with their places: CSV with a header, or JSON as LinOTP and privacyIDEA give it."""
+    if not text.lstrip().startswith(("{", "[")):
+        header = None
+        for line, cells in read_cells(text, ";" if ";" in text.split("\n")[0] else ",", source):
+            if header:
+                yield "%s line %d" % (source, line), dict(zip(header, cells))
+            header = header or cells
+        return
+    try:
+        told = json.loads(text)
+        if isinstance(told, dict):
+            told = told["result"]["value"]
+            told = told["data"] if "data" in told else told["tokens"]
+        for number, entry in enumerate(told, 1):
+            yield "%s entry %d" % (source, number), dict(entry)
+    except json.JSONDecodeError as fault:
+        raise Fault("%s line %d" % (source, fault.lineno), "NotJson", fault.msg) from None
+    except (KeyError, TypeError, ValueError, RecursionError):
+        raise Fault(source, "NoTokens", "it has no list at result.value.data or result.value.tokens") from None
+
+
+def read_owners(data, source):
+    """Returns the owner of each serial number that has a user. A number that is named twice is a fault."""
+    owners = {}
+    for place, entry in entries_of(text_of(data, source), source):
+        serial, owner = owner_of(entry, place)
+        if owner.user and serial in owners:
+            raise Fault(place, "DuplicateSerial", "%s has a user at %s" % (serial, owners[serial].place))
+        if owner.user:
+            owners[serial] = owner
+    return owners

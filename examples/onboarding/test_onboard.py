@@ -1,0 +1,342 @@
+#!/usr/bin/env python3
+"""Tries onboard: test_onboard.py [TEST..]
+
+OATHD and OATHTOOL are the programs, else ./oathd and ./oathtool of the repository. It takes some seconds.
+"""
+import fcntl
+import os
+import shutil
+import stat
+import subprocess
+import sys
+import tempfile
+import unittest
+from pathlib import Path
+
+sys.dont_write_bytecode = True
+HERE = Path(__file__).resolve().parent
+TOP = HERE.parent.parent
+sys.path.insert(0, str(HERE))
+import aes
+import phone
+from tokens import Fault, Token, read_rows, read_secret
+
+SAMPLES = HERE / "samples"
+OATHTOOL = os.environ.get("OATHTOOL", str(TOP / "oathtool"))
+RFC_SECRET = b"12345678901234567890"
+KEY_OF_FIGURE_6 = "12345678901234567890123456789012"
+
+
+class Case(unittest.TestCase):
+    def setUp(self):
+        folder = tempfile.TemporaryDirectory()
+        self.addCleanup(folder.cleanup)
+        self.folder = Path(folder.name)
+        self.users = self.put("users", "# remark\nHOTP\tann\t-\t00ff\t7")
+        self.put("key", "00" * 32)
+        self.cluster = self.put("cluster", "member 1 127.0.0.1:7101\nkey-file %s/key\nlife 1\n" % self.folder)
+
+    def put(self, name, text):
+        """Makes a file that its owner alone may read. Its path."""
+        path = self.folder / name
+        path.write_bytes(text.encode() if isinstance(text, str) else text)
+        path.chmod(0o600)
+        return path
+
+    def run_it(self, command, *words, users=None):
+        """What onboard prints, what it says on standard error, and its status."""
+        done = subprocess.run([HERE / "onboard", command, users or self.users, *words], capture_output=True, text=True)
+        self.assertNotIn("Traceback", done.stderr)
+        return done.stdout, done.stderr, done.returncode
+
+    def done(self, *words):
+        """What onboard prints, which has to succeed."""
+        printed, said, status = self.run_it(*words)
+        self.assertEqual(status, 0, said)
+        return printed
+
+    def refused(self, name, *words):
+        """What onboard says of a fault with this name, after which the users file is as it was."""
+        before = self.users.read_bytes()
+        printed, said, status = self.run_it(*words)
+        self.assertEqual((printed, status), ("", 1), said)
+        self.assertIn(": %s: " % name, said)
+        self.assertEqual(self.users.read_bytes(), before)
+        self.assertEqual([each.name for each in self.folder.iterdir() if ".new-" in each.name], [])
+        return said
+
+    def rows(self):
+        """The rows of the users file by user: type, secret and counter."""
+        return {row.user.decode(): (row.type.decode(), bytes.fromhex(row.secret.decode()), *(each.decode() for each in row.rest))
+                for row in read_rows(self.users.read_bytes())}
+
+
+class Figures(Case):
+    """RFC 6030: the files of its figures, and one that another program wrote."""
+
+    def test_plain_secrets(self):
+        self.done("pskc", SAMPLES / "figure-2.xml", "--name-by-serial")
+        self.assertEqual(self.rows()["12345678"], ("HOTP/E/6", b"1234", "0"))
+        self.done("pskc", SAMPLES / "figure-3.xml")
+        self.assertEqual(self.rows()["UID=jsmith,DC=example-bank,DC=net"], ("HOTP/E/8", RFC_SECRET, "0"))
+
+    def test_a_key_without_a_secret(self):
+        self.assertIn("figure-4.xml line 11", self.refused("NoSecret", "pskc", SAMPLES / "figure-4.xml", "--name-by-serial"))
+
+    def test_a_pin_is_passed_over(self):
+        printed, said, status = self.run_it("pskc", SAMPLES / "figure-5.xml", "--name-by-serial")
+        self.assertEqual((status, self.rows()["987654321"]), (0, ("HOTP/E/8", RFC_SECRET, "0")))
+        self.assertIn("line 39: passed over: a PIN", said)
+
+    def test_a_pre_shared_key(self):
+        key = self.put("psk", KEY_OF_FIGURE_6 + "\n")
+        self.done("pskc", SAMPLES / "figure-6.xml", "--name-by-serial", "--key-file", key)
+        self.assertEqual(self.rows()["987654321"], ("HOTP/E/8", RFC_SECRET, "0"))
+        code = subprocess.run([OATHTOOL, "-d8", RFC_SECRET.hex()], capture_output=True, text=True).stdout
+        self.assertEqual(code, "84755224\n")
+
+    def test_a_wrong_key_and_none(self):
+        file = SAMPLES / "figure-6.xml", "--name-by-serial"
+        self.refused("NoKey", "pskc", *file)
+        self.refused("BadKey", "pskc", *file, "--key-file", self.put("psk", "12" * 24))
+        self.refused("BadKey", "pskc", *file, "--key-file", self.put("psk", "no hex"))
+        self.refused("BadValue", "pskc", *file, "--key-file", self.put("psk", KEY_OF_FIGURE_6[:-1] + "3"))
+        changed = (SAMPLES / "figure-6.xml").read_text().replace("AAECAwQF", "AAECAwQG")
+        key = self.put("psk", KEY_OF_FIGURE_6)
+        self.refused("BadMac", "pskc", self.put("f.xml", changed), "--name-by-serial", "--key-file", key)
+        cut = changed.replace("<ValueMAC>Su+NvtQfmvfJzF6bmQiJqoLRExc=\n          </ValueMAC>", "")
+        self.refused("BadMac", "pskc", self.put("f.xml", cut), "--name-by-serial", "--key-file", key)
+
+    def test_a_password(self):
+        password = self.put("password", "qwerty\n")
+        self.done("pskc", SAMPLES / "figure-7.xml", "--name-by-serial", "--password-file", password)
+        self.assertEqual(self.rows()["987654321"], ("HOTP/E/8", RFC_SECRET, "0"))
+        self.refused("NoPassword", "pskc", SAMPLES / "figure-7.xml", "--name-by-serial")
+
+    def test_a_file_of_another_program(self):
+        self.done("pskc", SAMPLES / "pbkdf2-sha256.xml", "--password-file", self.put("password", "qwerty"))
+        self.assertEqual(self.rows()["erin"], ("HOTP/T30/8/SHA256", RFC_SECRET))
+        self.assertEqual(self.rows()["frank"], ("HOTP/E/6", b"12345678901234567891", "7"))
+
+
+class Pskc(Case):
+    """What a PSKC file may not have."""
+
+    def file(self, old, new, figure=3):
+        text = (SAMPLES / ("figure-%d.xml" % figure)).read_text()
+        self.assertIn(old, text)
+        return self.put("f.xml", text.replace(old, new))
+
+    def test_a_dtd_and_its_entities(self):
+        dtd = '<!DOCTYPE a [<!ENTITY b "bbbb">]>\n<KeyContainer'
+        self.assertIn("line 2", self.refused("Doctype", "pskc", self.file("<KeyContainer", dtd)))
+        self.refused("NotXml", "pskc", self.file("987654321", "&b;"))
+
+    def test_what_is_no_pskc(self):
+        self.refused("NotXml", "pskc", self.put("f.xml", "serial,secret\n"))
+        self.refused("NotPskc", "pskc", self.put("f.xml", "<a/>"))
+        self.refused("TooDeep", "pskc", self.put("f.xml", "<a>" * 70 + "</a>" * 70))
+
+    def test_what_a_users_file_has_no_row_for(self):
+        self.refused("UnknownAlgorithm", "pskc", self.file("pskc:hotp", "pskc:ocra"))
+        self.refused("BadDigits", "pskc", self.file('Length="8"', 'Length="9"'))
+        self.refused("BadFormat", "pskc", self.file('"DECIMAL"', '"HEXADECIMAL"'))
+        self.refused("BadFormat", "pskc", self.file('"DECIMAL"', '"DECIMAL" CheckDigits="true"'))
+        self.refused("BadBase64", "pskc", self.file("MTIz", "MT!z"))
+        self.refused("BadNumber", "pskc", self.file("<PlainValue>0<", "<PlainValue>x<"))
+        policy = "</Data><Policy><ExpiryDate>2026-12-01T00:00:00Z</ExpiryDate></Policy>"
+        self.refused("Policy", "pskc", self.file("</Data>", policy))
+
+    def test_rounds_have_a_bound(self):
+        file = self.file("<IterationCount>1000<", "<IterationCount>99999999999<", 7)
+        self.refused("UnknownDerivation", "pskc", file, "--password-file", self.put("password", "qwerty"))
+
+
+class Csv(Case):
+    WORDS = ("--column", "serial=Serial Number", "--column", "secret=Seed", "--column", "type=Algorithm",
+             "--column", "digits=OTP Length")
+
+    def test_a_vendors_file(self):
+        printed = self.done("csv", SAMPLES / "vendor.csv", *self.WORDS, "--owners", SAMPLES / "owners.csv",
+                            "--cluster", self.cluster)
+        self.assertRegex(printed, "(?s)^added bob: HOTP/E/6, 20 bytes, .*vendor.csv line 2\n.*\nfingerprint [0-9a-f]{16}\n$")
+        self.assertEqual(self.rows()["bob"], ("HOTP/E/6", b"123456789012345678A0", "0"))
+        self.assertEqual(self.rows()["dave"][0], "HOTP/T30/8")
+        self.assertTrue(self.users.read_bytes().startswith(b"# remark\nHOTP\tann\t-\t00ff\t7\n# 3000000001\n"))
+
+    def test_codes_of_an_imported_row(self):
+        self.put("v.csv", "serial,secret,type,user\n1,GEZDGNBVGY3TQOJQGEZDGNBVGY3TQOJQ,hotp,bob\n2,gezdgnbvgy3tqojqgezdgnbvgy3tqojr,totp,carol\n")
+        self.done("csv", self.folder / "v.csv", "--secrets", "base32")
+        codes = [subprocess.run([OATHTOOL, *words, self.rows()[user][1].hex()], capture_output=True, text=True).stdout
+                 for user, *words in (("bob", "-w2"), ("carol", "--totp", "-N@59"))]
+        self.assertEqual(codes[0].split(), ["755224", "287082", "359152"])
+        self.assertRegex(codes[1], "^[0-9]{6}\n$")
+
+    def test_each_fault_has_its_line(self):
+        rows = ["3132,hotp,bob,6", "313,hotp,carol,6", "3133,what,dave,6", "3134,hotp,ann,6", "3135,hotp,bob,6", "3132,hotp,erin,6",
+                "3136,hotp,a b,6", "3137,hotp,%s,6" % ("x" * 65), "3138,hotp,,6", "3139,hotp,frank,9", ",hotp,grace,6", "3140,,heidi,6",
+                "3141,hotp,ivan,six", "00FF,hotp,judy,6"]
+        file = self.put("v.csv", "secret,type,user,digits\n" + "\n".join(rows) + "\n")
+        printed, said, status = self.run_it("csv", file, "--dry-run")
+        self.assertEqual((printed, status), ("would add bob: HOTP/E/6, 2 bytes, %s line 2\n" % file, 1))
+        names = ["BadSecret", "UnknownType", "DuplicateUser", "DuplicateUser", "DuplicateSecret", "BadName", "NameTooLong", "NoUser",
+                 "BadDigits", "NoSecret", "NoType", "BadNumber", "DuplicateSecret"]
+        self.assertEqual([line.split(": ")[1:3] for line in said.splitlines()],
+                         [["%s line %d" % (file, number), name] for number, name in enumerate(names, 3)])
+        self.refused("BadSecret", "csv", file)
+        self.assertEqual(self.run_it("csv", file, "--part")[2], 0)
+        self.assertEqual(sorted(self.rows()), ["ann", "bob"])
+
+    def test_columns_without_a_header(self):
+        self.done("csv", SAMPLES / "oath.csv", "--columns", "serial,secret,type,digits,period", "--owners", SAMPLES / "owners.csv",
+                  "--period", "30", "--part")
+        self.assertEqual(self.rows()["dave"][0], "HOTP/T60/8")
+        self.assertEqual(self.rows()["bob"], ("HOTP/E/6", RFC_SECRET, "0"))
+
+    def test_headers_that_lack(self):
+        self.refused("NoColumn", "csv", SAMPLES / "vendor.csv")
+        self.refused("NoColumn", "csv", SAMPLES / "vendor.csv", "--column", "secret=Key")
+        self.refused("NotText", "csv", self.put("v.csv", b"secret\n\xff\n"))
+        self.assertIn("line 2: ", self.refused("NotCsv", "csv", self.put("v.csv", 'secret,user\n"31"x,bob\n')))
+        self.refused("NotCsv", "csv", self.put("v.csv", "secret\n%s\n" % ("3" * 200_000)))
+
+    def test_words(self):
+        for words in ("--columns", "serial,sceret"), ("--column", "secret"), ("--column", "key=Seed"), ("--delimiter", "--"):
+            self.assertEqual(self.run_it("csv", SAMPLES / "vendor.csv", *words)[2], 2)
+        printed = self.done("csv", self.put("v.csv", "31;x;bob;hotp\n"), "--delimiter", ";", "--columns", "secret,-,user,type")
+        self.assertTrue(printed.startswith("added bob: HOTP/E/6, 1 bytes, "))
+
+
+class Owners(Case):
+    """Who has which token: lists of LinOTP and privacyIDEA, in the form in which we know them."""
+
+    def test_linotp(self):
+        printed, said, status = self.run_it("csv", SAMPLES / "oath.csv", "--columns", "serial,secret,type,digits,period",
+                                            "--owners", SAMPLES / "linotp-tokens.json")
+        self.assertEqual(status, 0, said)
+        self.assertEqual(self.rows()["grace"], ("HOTP/E/6", RFC_SECRET, "41"))
+        self.assertIn("passed over: token 3000000002 is inactive", said)
+        self.assertEqual(sorted(self.rows()), ["ann", "grace", "ivan"])
+
+    def test_privacyidea(self):
+        self.done("pskc", SAMPLES / "pbkdf2-sha256.xml", "--password-file", self.put("password", "qwerty"),
+                  "--owners", SAMPLES / "privacyidea-tokens.json")
+        self.assertEqual(self.rows()["frank"], ("HOTP/E/6", b"12345678901234567891", "12"))
+
+    def test_faults(self):
+        words = "csv", SAMPLES / "oath.csv", "--columns", "serial,secret,type,digits,period", "--owners"
+        self.refused("NoToken", *words, self.put("o.csv", "serial,user\n3000000009,bob\n"))
+        self.refused("DuplicateSerial", *words, self.put("o.csv", "serial;user\n3000000001;bob\n3000000001;carol\n"))
+        self.refused("NoSerial", *words, self.put("o.csv", "user\nbob\n"))
+        self.refused("NotJson", *words, self.put("o.json", "{"))
+        self.refused("NoTokens", *words, self.put("o.json", "{}"))
+        self.refused("NoTokens", *words, self.put("o.json", "[" * 100_000 + "]" * 100_000))
+
+
+class Phone(Case):
+    def test_the_uri_of_the_key_uri_format(self):
+        token = Token("", RFC_SECRET, "totp", digits=8, hash="SHA256", period=60)
+        self.assertEqual(phone.uri_of(token, "My Site", "ann@example.org"),
+                         "otpauth://totp/My%20Site:ann@example.org?secret=GEZDGNBVGY3TQOJQGEZDGNBVGY3TQOJQ&issuer=My%20Site"
+                         "&algorithm=SHA256&digits=8&period=60")
+        self.assertTrue(phone.uri_of(Token("", b"1", "hotp", counter=3), "S", "u").endswith("?secret=GE&issuer=S&algorithm=SHA1&digits=6&counter=3"))
+        for issuer, account in ("a:b", "c"), ("a", "b:c"), ("", "c"):
+            self.assertRaises(Fault, phone.uri_of, token, issuer, account)
+
+    @unittest.skipUnless(shutil.which("qrencode"), "needs qrencode")
+    def test_a_new_phone(self):
+        picture = self.folder / "q.png"
+        uri = self.done("phone", "bob", "--issuer", "Site", "--uri", "--png", picture).splitlines()[-1]
+        kind, secret = self.rows()["bob"]
+        self.assertEqual((kind, len(secret)), ("HOTP/T30/6", 20))
+        self.assertEqual(read_secret(uri.split("secret=")[1].split("&")[0], "base32", ""), secret)
+        self.assertEqual(stat.S_IMODE(picture.stat().st_mode), 0o600)
+        self.assertEqual(picture.read_bytes()[:8], b"\x89PNG\r\n\x1a\n")
+        self.done("phone", "carol", "--issuer", "Site", "--terminal", "--type", "hotp", "--digits", "8")
+        self.assertEqual(self.rows()["carol"][::2], ("HOTP/E/8", "0"))
+
+    @unittest.skipUnless(shutil.which("qrencode"), "needs qrencode")
+    def test_faults_leave_no_picture(self):
+        picture = self.folder / "q.png"
+        self.refused("DuplicateUser", "phone", "ann", "--issuer", "Site", "--png", picture)
+        self.put("cluster", "life 1\n")
+        self.refused("refuses the new file", "phone", "bob", "--issuer", "Site", "--png", picture, "--cluster", self.cluster)
+        self.assertFalse(picture.exists())
+        self.put("q.png", "mine")
+        self.assertEqual(self.run_it("phone", "bob", "--issuer", "Site", "--png", picture)[2], 1)
+        self.assertEqual(picture.read_text(), "mine")
+        self.assertEqual(self.run_it("phone", "bob", "--issuer", "Site")[2], 2)
+
+    def test_no_secret_is_among_the_words(self):
+        fake = self.folder / "bin"
+        fake.mkdir()
+        for name in "qrencode", "oathd":
+            (fake / name).write_text("#!/bin/sh\necho \"$0 $*\" >> %s/words\ncat >> %s/input\n" % (self.folder, self.folder))
+            (fake / name).chmod(0o755)
+        env = dict(os.environ, PATH="%s:%s" % (fake, os.environ["PATH"]), OATHD=str(fake / "oathd"))
+        subprocess.run([HERE / "onboard", "phone", self.users, "bob", "--issuer", "Site", "--terminal"], env=env, check=True, capture_output=True)
+        secret = self.rows()["bob"][1]
+        words = (self.folder / "words").read_text()
+        self.assertEqual(len(words.splitlines()), 2)
+        self.assertNotIn(secret.hex(), words)
+        self.assertNotIn("secret=", words)
+        self.assertIn("secret=", (self.folder / "input").read_text())
+
+
+class File(Case):
+    WORDS = ("csv", SAMPLES / "oath.csv", "--columns", "user,secret,type,digits,period")
+
+    def test_mode_owner_and_link_stay(self):
+        self.users.chmod(0o640)
+        if os.geteuid() == 0:
+            os.chown(self.users, 1, 1)
+        link = self.folder / "link"
+        link.symlink_to(self.users)
+        before, inode = self.users.stat(), self.users.stat().st_ino
+        self.assertEqual(self.run_it(*self.WORDS, users=link)[2], 0)
+        after = self.users.stat()
+        self.assertEqual((after.st_mode, after.st_uid, after.st_gid), (before.st_mode, before.st_uid, before.st_gid))
+        self.assertNotEqual(after.st_ino, inode)
+        self.assertTrue(link.is_symlink())
+
+    def test_a_second_onboard_is_refused(self):
+        folder = os.open(self.folder, os.O_RDONLY)
+        self.addCleanup(os.close, folder)
+        fcntl.flock(folder, fcntl.LOCK_EX)
+        self.refused("Locked", *self.WORDS)
+
+    def test_a_file_that_is_not_there(self):
+        self.users.unlink()
+        self.assertEqual(self.run_it(*self.WORDS)[1:], ("onboard: %s: No such file or directory\n" % self.users, 1))
+        self.assertEqual(self.run_it(*self.WORDS, "--create")[2], 0)
+        self.assertEqual(stat.S_IMODE(self.users.stat().st_mode), 0o600)
+
+    def test_a_file_that_oathd_refuses(self):
+        self.users.write_text("HOTP ann - 31\nHOTP ann - 32\n")
+        self.assertIn("oathd: users line 2: DuplicateUser", self.refused("refuses the new file", *self.WORDS))
+
+    def test_others_who_may_read(self):
+        self.users.chmod(0o644)
+        self.assertIn("chmod 600", self.run_it(*self.WORDS, "--dry-run")[1])
+
+    def test_a_dry_run_writes_nothing(self):
+        before = self.users.read_bytes(), sorted(self.folder.iterdir())
+        self.assertEqual(self.done(*self.WORDS, "--dry-run").count("would add"), 3)
+        self.assertEqual((self.users.read_bytes(), sorted(self.folder.iterdir())), before)
+
+
+class Cipher(unittest.TestCase):
+    def test_blocks_of_fips_197(self):
+        for length, block in ((16, "69c4e0d86a7b0430d8cdb78070b4c55a"), (24, "dda97ca4864cdfe06eaf70a0ec0d7191"),
+                              (32, "8ea2b7ca516745bfeafc49904b496089")):
+            plain = aes.decipher_block(aes.expand(bytes(range(length))), bytes.fromhex(block))
+            self.assertEqual(plain.hex(), "00112233445566778899aabbccddeeff")
+
+    def test_lengths_and_padding(self):
+        for key, data in ((15, 32), (16, 16), (16, 33), (16, 0)):
+            self.assertRaises(ValueError, aes.decipher_cbc, bytes(key), bytes(data))
+        self.assertRaises(ValueError, aes.decipher_cbc, bytes(16), bytes(32))
+
+
+if __name__ == "__main__":
+    unittest.main()

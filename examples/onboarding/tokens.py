@@ -1,0 +1,115 @@
+"""Tokens, as files of other programs name them, and their rows in a users file (docs/reference/formats.md)."""
+import base64
+import binascii
+import re
+from dataclasses import dataclass
+
+# What stands in a users file before a field, and the types that its rows have.
+BLANKS = re.compile(rb"[ \t\r]+")
+TYPE = re.compile(rb"HOTP(?:/E(?:/[678])?)?|HOTP/T(?:30|60)(?:/[678](?:/SHA(?:256|512))?)?")
+KINDS = {"hotp": "hotp", "hmac": "hotp", "event": "hotp", "totp": "totp", "time": "totp", "timebased": "totp"}
+HASHES = {"sha1": "SHA1", "sha256": "SHA256", "sha512": "SHA512"}
+NO_COUNTER = 2 ** 62
+
+
+class Fault(Exception):
+    """What is wrong with a line of a file, by a name and some words."""
+
+    def __init__(self, place, name, detail):
+        super().__init__("%s: %s: %s" % (place, name, detail))
+
+
+@dataclass
+class Token:
+    """A token with the place of the line that names it. Its user is None if no file says whose it is."""
+    place: str
+    secret: bytes
+    kind: str
+    serial: str = ""
+    user: str | None = None
+    digits: int = 6
+    period: int = 30
+    hash: str = "SHA1"
+    counter: int = 0
+
+    def type_word(self):
+        """Returns the type that the row has."""
+        if self.kind == "hotp":
+            return "HOTP/E/%d" % self.digits
+        return "HOTP/T%d/%d" % (self.period, self.digits) + ("" if self.hash == "SHA1" else "/" + self.hash)
+
+    def row(self, password):
+        """Returns the row, in the form that `oathd export` writes, after a remark with the serial number."""
+        fields = [self.type_word(), self.user, password, self.secret.hex()]
+        fields += [str(self.counter)] if self.kind == "hotp" else []
+        remark = "# %s\n" % self.serial if self.serial and self.serial != self.user else ""
+        return (remark + "\t".join(fields) + "\n").encode()
+
+    def check(self):
+        """Raises the first fault of the token, if a users file has no row for it."""
+        user = (self.user or "").encode()
+        faults = [
+            ("NoUser", not self.user, "no file says whose token %s is" % (self.serial or "this")),
+            ("BadName", re.search(r"[\s\x00-\x1f\x7f]", self.user or ""), "a name has no blanks: %r" % self.user),
+            ("NameTooLong", len(user) > 64, "a user's name has at most 64 bytes: %r" % self.user),
+            ("BadSerial", not self.serial.isprintable(), "the serial number isn't printable: %r" % self.serial),
+            ("BadSecret", not 1 <= len(self.secret) <= 128, "a secret has 1 to 128 bytes: %d" % len(self.secret)),
+            ("BadDigits", self.digits not in (6, 7, 8), "a code has 6 to 8 digits: %d" % self.digits),
+            ("BadPeriod", self.kind == "totp" and self.period not in (30, 60), "30 or 60 seconds: %d" % self.period),
+            ("BadHash", self.kind == "hotp" and self.hash != "SHA1", "an event token has SHA-1: %s" % self.hash),
+            ("BadCounter", not 0 <= self.counter <= NO_COUNTER, "a counter is 0 to 2^62: %d" % self.counter),
+        ]
+        for name, is_fault, detail in faults:
+            if is_fault:
+                raise Fault(self.place, name, detail)
+
+
+def read_secret(text, form, place):
+    """Returns the bytes of a secret in `hex` or `base32`. No fault repeats the secret."""
+    text = "".join(text.split())
+    try:
+        if form == "hex":
+            return binascii.unhexlify(text)
+        text = text.rstrip("=").upper()
+        return base64.b32decode(text + "=" * (-len(text) % 8))
+    except (binascii.Error, ValueError):
+        raise Fault(place, "BadSecret", "%d characters that are no %s" % (len(text), form)) from None
+
+
+def read_number(text, place, what):
+    """Returns the number that a field says in decimal digits."""
+    if not re.fullmatch(r"[0-9]{1,19}", text.strip()):
+        raise Fault(place, "BadNumber", "%s is no number: %r" % (what, text.strip()))
+    return int(text)
+
+
+def read_word(words, text, place, what):
+    """Returns what a word stands for, in either case and without its hyphens."""
+    found = words.get(text.strip().lower().replace("-", "").removeprefix("hmac" if words is HASHES else ""))
+    if found is None:
+        raise Fault(place, "Unknown" + what.capitalize(), "%r" % text.strip())
+    return found
+
+
+@dataclass
+class Row:
+    """A row of a users file with the number of its line, from 1."""
+    line: int
+    type: bytes
+    user: bytes
+    password: bytes
+    secret: bytes
+    rest: list
+
+
+def read_rows(text):
+    """Returns the rows of a users file as oathd reads it. Lines of other types and remarks are passed over."""
+    rows = []
+    for number, line in enumerate(text.split(b"\n"), 1):
+        fields = [field for field in BLANKS.split(line) if field]
+        if line.startswith(b"#") or not fields or not TYPE.fullmatch(fields[0]):
+            continue
+        if len(fields) < 4:
+            raise Fault("line %d of the users file" % number, "MissingField", "a row has at least four fields")
+        rows.append(Row(number, *fields[:4], fields[4:]))
+    return rows

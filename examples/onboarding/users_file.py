@@ -1,0 +1,97 @@
+"""Adds rows to a users file: all of them or none, in a new file that takes the place of the old one."""
+import contextlib
+import fcntl
+import os
+import stat
+import subprocess
+
+from tokens import Fault, read_rows
+
+
+class UsersFile:
+    """A users file that one process at a time may change. Its path is that of the file and not of a link to it."""
+
+    def __init__(self, path, create):
+        self.path, self.name = os.path.realpath(path), path
+        try:
+            with open(self.path, "rb") as file:
+                self.before, self.text = os.fstat(file.fileno()), file.read()
+        except FileNotFoundError:
+            if not create:
+                raise
+            self.before, self.text = None, b""
+        self.rows = read_rows(self.text)
+
+    def is_open_to_others(self):
+        return self.before is not None and stat.S_IMODE(self.before.st_mode) & stat.S_IRWXO != 0
+
+    def text_with(self, rows):
+        """Returns the text of the new file: the old bytes, an LF if they lack it, and the rows."""
+        gap = b"\n" if self.text and not self.text.endswith(b"\n") else b""
+        return self.text + gap + b"".join(rows)
+
+    def replace(self, text):
+        """Writes the text beside the file, with the mode and the owner of the file, and renames it."""
+        beside = "%s.new-%d" % (self.path, os.getpid())
+        made = os.open(beside, os.O_WRONLY | os.O_CREAT | os.O_EXCL | os.O_NOFOLLOW, 0o600)
+        try:
+            with open(made, "wb") as file:
+                file.write(text)
+                file.flush()
+                if self.before:
+                    self.take_owner_and_mode(file.fileno())
+                os.fsync(file.fileno())
+            self.check_unchanged()
+            os.rename(beside, self.path)
+        except BaseException:
+            os.unlink(beside)
+            raise
+        sync_folder(self.path)
+
+    def take_owner_and_mode(self, file):
+        made = os.fstat(file)
+        if (made.st_uid, made.st_gid) != (self.before.st_uid, self.before.st_gid):
+            os.fchown(file, self.before.st_uid, self.before.st_gid)
+        os.fchmod(file, stat.S_IMODE(self.before.st_mode))
+
+    def check_unchanged(self):
+        """Raises a fault if another program wrote the file meanwhile."""
+        try:
+            now = os.stat(self.path)
+        except FileNotFoundError:
+            now = None
+        told = [each and (each.st_dev, each.st_ino, each.st_size, each.st_mtime_ns) for each in (self.before, now)]
+        if told[0] != told[1]:
+            raise Fault(self.name, "Changed", "another program wrote it meanwhile; nothing is changed")
+
+
+def sync_folder(path):
+    folder = os.open(os.path.dirname(path), os.O_RDONLY | os.O_DIRECTORY)
+    try:
+        os.fsync(folder)
+    finally:
+        os.close(folder)
+
+
+@contextlib.contextmanager
+def lock_beside(path):
+    """Holds the lock of the folder of a file, so that no second `onboard` changes a users file there."""
+    folder = os.open(os.path.dirname(os.path.realpath(path)), os.O_RDONLY | os.O_DIRECTORY)
+    try:
+        try:
+            fcntl.flock(folder, fcntl.LOCK_EX | fcntl.LOCK_NB)
+        except BlockingIOError:
+            raise Fault(path, "Locked", "another onboard is at work in its folder") from None
+        yield
+    finally:
+        os.close(folder)
+
+
+def ask_oathd(oathd, text, cluster):
+    """Has oathd read the text of a users file by standard input. Returns the fingerprint if there is a cluster file."""
+    words = [oathd, "check", "/dev/stdin", "--cluster", cluster] if cluster else [oathd, "lines"]
+    done = subprocess.run(words, input=text, capture_output=True)
+    if done.returncode:
+        said = done.stderr.decode("utf-8", "replace").strip().replace("\n", "\n  ")
+        raise Fault("oathd %s" % words[1], "refuses the new file", said)
+    return done.stdout.decode().split()[-1] if cluster else None
