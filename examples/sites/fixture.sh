@@ -104,7 +104,7 @@ make_root() {
         logs=("$work/debootstrap.log")
         suite=${SUITE:-$(. /etc/os-release; echo "$VERSION_CODENAME")}
         debootstrap --include=systemd,dbus,man-db,bash-completion,gunicorn,python3-flask "$suite" "$base" \
-            "${MIRROR:-http://deb.debian.org/debian}" > "$work/debootstrap.log"
+            ${MIRROR:+"$MIRROR"} > "$work/debootstrap.log"
     fi
     step='a Debian of its own'
     mkdir "$work/upper" "$work/below" "$root"
