@@ -1,1 +1,0 @@
-../clients/wakdulg.py
