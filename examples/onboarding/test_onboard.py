@@ -72,7 +72,7 @@ class Case(unittest.TestCase):
 
 
 class Figures(Case):
-    """RFC 6030: the files of its figures, and one that another program wrote."""
+    """Files in the form of RFC 6030's figures, not compared with its text, and one that another program wrote."""
 
     def test_plain_secrets(self):
         self.done("pskc", SAMPLES / "figure-2.xml", "--name-by-serial")

@@ -45,6 +45,7 @@ abbrev pub number_of : ℕ → (ℕ → ℕ) → ℕ → Option ℕ
 number_of zero name token = None
 number_of (suc number) name token = if name number == token then Some number else number_of number name token
 
+-- whether there is a number
 abbrev pub is_number : Option ℕ → Bool
 is_number None = false
 is_number (Some number) = true
@@ -79,6 +80,7 @@ abbrev pub named_step : (ℕ → ℕ) → Voted → Voted
 named_step name step =
     record step { sends = map (named_send name) step.sends; decisions = map (named_made name) step.decisions }
 
+-- the members after a message that has this number at its receiver; without a number it is dropped
 abbrev pub after_number : ℕ → Envelope → Option ℕ → Books → Cluster
 after_number event envelope None books = books.own
 after_number event envelope (Some number) books =
@@ -90,11 +92,13 @@ after_number event envelope (Some number) books =
     then cluster_after event node (named_step (books.name node) step) books.own
     else books.own
 
+-- the members after a message arrives, under the number that its receiver gives to the token's name
 abbrev pub after_getting : ℕ → Option Envelope → Books → Cluster
 after_getting event None books = books.own
 after_getting event (Some envelope) books =
     after_number event envelope (number_at books envelope.receiver (token_of envelope.message)) books
 
+-- the members after a node proposes; a node without a proposal number left stops
 abbrev pub after_beginning : ℕ → ℕ → ℕ → ℕ → ℕ → ℤ → Books → Cluster
 after_beginning event node number lo hi drift books =
     let member = books.own.nodes node in
@@ -151,6 +155,7 @@ with_name number token name other = if other == number then token else name othe
 abbrev pub with_names : ℕ → (ℕ → ℕ) → (ℕ → ℕ → ℕ) → ℕ → ℕ → ℕ
 with_names changed names name node = if node == changed then names else name node
 
+-- the names of the rows after an action of a member: `Adds` alone changes them
 abbrev pub names_after : Doing → Books → ℕ → ℕ → ℕ
 names_after (Begins node number lo hi drift) books = books.name
 names_after (Gets message) books = books.name
@@ -178,6 +183,7 @@ abbrev pub free_at : Books → ℕ → Option ℕ → ℕ
 free_at books node None = 0
 free_at books node (Some number) = (row (books.own.nodes node).content number).next
 
+-- the same by the token's name
 abbrev pub free_of : Books → ℕ → ℕ → ℕ
 free_of books node token = free_at books node (number_at books node token)
 
@@ -208,6 +214,7 @@ may_remake books node boot count name floor =
     && (nat_le boot last_boot
     && all_most books.tokens books.own.least (made_floor count name floor)))))
 
+-- the members after a store is replaced for a node, if the rule allows it
 abbrev pub own_remade : ℕ → ℕ → ℕ → (ℕ → ℕ) → (ℕ → ℕ) → Books → Cluster
 own_remade node boot count name floor books =
     if may_remake books node boot count name floor

@@ -17,21 +17,25 @@ named_message name (Grant proposal token span) = Grant proposal (name token) spa
 named_message name (Deny proposal token next) = Deny proposal (name token) next
 named_message name (Floor token next) = Floor (name token) next
 
--- a message with its receiver, a ballot, a pass and a decision, each with its token's name
+-- a message with its receiver, under its token's name
 abbrev pub named_send : (ℕ → ℕ) → ℕ × Message → ℕ × Message
 named_send name send = (send.0, named_message name send.1)
 
+-- a ballot under its token's name
 abbrev pub named_ballot : (ℕ → ℕ) → Ballot → Ballot
 named_ballot name ballot = record ballot { token = name ballot.token }
 
+-- a pass under its token's name
 abbrev pub named_pass : (ℕ → ℕ) → PassRecord → PassRecord
 named_pass name pass = record pass { token = name pass.token }
 
+-- a decision with its pass under the token's name
 abbrev pub named_decision : (ℕ → ℕ) → Decision → Decision
 named_decision name (Accepted pass) = Accepted (named_pass name pass)
 named_decision name Spent = Spent
 named_decision name Timeout = Timeout
 
+-- the same of a decision and its proposal number
 abbrev pub named_made : (ℕ → ℕ) → ℕ × Decision → ℕ × Decision
 named_made name made = (made.0, named_decision name made.1)
 
