@@ -234,7 +234,7 @@ pub fn throttle_is_worked()
 {}
 
 /// Counterexamples: each promise of an acceptance and of the throttle fails for a minimal one.
-pub fn promises_can_be_broken()
+pub fn entitlements_can_be_broken()
     ensures passwords { PasswordFits Password.NoneAllowed None × PasswordFits Password.NotChecked None
         × PasswordFits Password.NotChecked wrong × PasswordFits checked right }
     ensures password_where_none_is { PasswordFits Password.NoneAllowed right → ⊥ }

@@ -12,8 +12,8 @@ mod windows;
 
 pub use drift::drift_after;
 pub use laws::{
-    drifts_are_worked, failures_are_spaced, fits_are_worked, gate_keeps_throttle,
-    least_fit_is_least, no_drift_is_as_before, promises_can_be_broken, throttle_is_worked,
+    drifts_are_worked, entitlements_can_be_broken, failures_are_spaced, fits_are_worked,
+    gate_keeps_throttle, least_fit_is_least, no_drift_is_as_before, throttle_is_worked,
     windows_are_worked,
 };
 pub use otp_core::Gate;

@@ -6,14 +6,9 @@ ghost use Rattle.answer_ring.specs.Answers.{answer_order, kept_answer, kept_with
 
 use crate::answers::Answers;
 use arrayvec::ArrayVec;
+use client_lines::{MAX_ANSWER_LEN, MAX_LINE_LEN};
 use std::cmp::Ordering;
 use std::marker::Model;
-
-/// The maximum length of a line, in bytes.
-pub const MAX_LINE_LEN: usize = 256;
-
-/// The maximum length of an answer, in bytes.
-pub const MAX_ANSWER_LEN: usize = 64;
 
 /// An answer to a client's line. The line has no LF at its end.
 #[derive(Drop)]

@@ -9,5 +9,6 @@ mod kept;
 mod laws;
 
 pub use answers::Answers;
-pub use kept::{Count, Kept, MAX_ANSWER_LEN, MAX_LINE_LEN, answer_again, keep};
+pub use client_lines::{MAX_ANSWER_LEN, MAX_LINE_LEN};
+pub use kept::{Count, Kept, answer_again, keep};
 pub use laws::kept_answers_are_worked;

@@ -10,4 +10,4 @@ mod line;
 
 pub use answer::{Answer, MAX_ANSWER_LEN, Nonce, Outcome, Reason, write_answer, write_reply};
 pub use laws::{answers_are_worked, grammar_is_read, lines_are_worked};
-pub use line::{Codes, Line, read_line, without_lf};
+pub use line::{Codes, Line, MAX_LINE_LEN, read_line, without_lf};

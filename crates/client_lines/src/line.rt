@@ -10,7 +10,7 @@ use otp_core::Code;
 use std::marker::Model;
 
 /// The maximum length of a client's line, in bytes with its LF.
-const MAX_LINE_LEN: usize = 256;
+pub const MAX_LINE_LEN: usize = 256;
 
 /// The codes of a line: the code of one factor, or the codes of two consecutive factors.
 #[derive(Drop, PartialEq, Eq)]

@@ -148,7 +148,7 @@ pub fn keys_are_worked()
 /// Counterexamples: each promise of addresses, shared values and collisions fails for a minimal one.
 ///
 /// No collision is known, so no example keeps the promise of one.
-pub fn promises_can_be_broken()
+pub fn shared_values_can_be_broken()
     ensures address { IsAddress (address_at 255) }
     ensures no_octets { IsAddress (record { octets = []; port = 0 }) → ⊥ }
     ensures octet_of_256 { IsAddress (record { octets = 256 ∷ 0 ∷ 0 ∷ 0 ∷ []; port = 0 }) → ⊥ }

@@ -31,8 +31,8 @@ pub use fault::{ClusterFault, LineFault};
 pub use key::{fingerprint, shared_key};
 pub use laws::{
     addresses_are_spelled, checks_are_worked, clusters_are_shared, fields_are_worked,
-    files_are_worked, keys_are_worked, lines_are_worked, promises_can_be_broken, shared_keys_tell,
-    shared_texts_tell,
+    files_are_worked, keys_are_worked, lines_are_worked, shared_keys_tell, shared_texts_tell,
+    shared_values_can_be_broken,
 };
 pub use reading::{MAX_CLUSTER_LEN, read_cluster};
 pub use shared::shared_text;

@@ -12,14 +12,11 @@ use crate::fault::LineFault;
 use crate::fields::{first_field, key, life, one_field, setting, two_fields};
 use crate::word::{Word, read_word};
 use field_text::read_number;
-use otp_core::Settings;
+use otp_core::{MAX_MEMBERS, Settings};
 use std::alloc::Global;
 use std::marker::Model;
 use std::net::SocketAddrV4;
 use vote_wire::ClusterKey;
-
-/// The maximum number of members of a cluster.
-const MAX_MEMBERS: usize = 9;
 
 /// The maximum look-ahead.
 const MAX_LOOK_AHEAD: u64 = 100;
@@ -135,7 +132,7 @@ impl<'a> Said<'a> {
         ensures fault { IfErr result (λ fault. member_of self.now.members (fields_of rest.now) ≡ Err fault) }
     {
         let (number, address) = two_fields(rest)?;
-        if self.members.len() >= MAX_MEMBERS {
+        if self.members.len() >= MAX_MEMBERS as usize {
             return Err(LineFault::TooManyMembers);
         }
         if !is_number(number, self.members.len() as u64 + 1) {

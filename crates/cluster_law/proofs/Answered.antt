@@ -8,13 +8,13 @@ use Rattle.vote_core.specs.Schedule.{Envelope, envelope_from}
 use Rattle.oath_node.specs.Machine.{NodeState, Reply}
 use Rattle.cluster_sim.proofs.Owners.{get_more}
 use Rattle.cluster_sim.specs.Answered.{HasAnswer, IsAnsweredIn, IsAskedIn}
-use Rattle.cluster_sim.specs.World.{Told, WorldEvent, Happens, Restart, Lost as LostEvent, Anew, told_reply, world_of}
-use Rattle.cluster_law.specs.Answered.{AnswersAll, EndsProcess, HasOk, HasYetToOffer, IsAnsweredInDeed, IsLost, IsOfferedOrEnds}
-use Rattle.cluster_law.specs.Lives.{Deed, Opens, FailsToOpen, Takes, Offers, Stops, StopsIn, Loses, Remakes, Handout, Post, Answer, IsHistory, Scene, Setting, Site, Down, Up, answers_among, can_be, first_scene, handouts_of, made_by_input, node_of_deed, offers_by, scene_after, scene_after_deed, scene_at, site_after, start_of}
-use Rattle.cluster_law.specs.Promises.{HasAct, IsAskedInDeed, IsEventOf, IsToldAmong, nothing}
+use Rattle.cluster_sim.specs.World.{Answer, WorldEvent, Happens, Restart, Lost as LostEvent, Anew, told_reply, world_of}
+use Rattle.cluster_law.specs.Answered.{AnswersAll, EndsProcess, HasOk, HasYetToOffer, IsAnsweredInAction, IsLost, IsOfferedOrEnds}
+use Rattle.cluster_law.specs.Lives.{Action, Opens, FailsToOpen, Takes, Offers, Stops, StopsIn, Loses, Remakes, Output, ToPeer, ToClient, IsHistory, ClusterState, Setting, ProcessState, Down, Up, answers_among, can_be, first_cluster, outputs_of_step, made_by_input, node_of_action, offers_by, cluster_after, cluster_after_action, cluster_at, process_after, start_of}
+use Rattle.cluster_law.specs.Promises.{HasAct, IsAskedInAction, IsEventOf, IsToldAmong, nothing}
 use Rattle.cluster_law.proofs.Follow.{answers_by, answers_made, get_after}
 use Rattle.cluster_law.proofs.Histories.{AnsweredLaw, Whole, answers_in, whole_run}
-use Rattle.cluster_law.proofs.Told.{asked_deed, at_place}
+use Rattle.cluster_law.proofs.Told.{asked_action, at_place}
 
 -- ---- lists
 
@@ -31,43 +31,43 @@ in_map f [] k x e = absurd (none-some x e)
 in_map f (y ∷ ys) zero x e = ap (λ z. Some (f z)) (same_Some y x e)
 in_map f (y ∷ ys) (suc k) x e = in_map f ys k x e
 
-replied_at : (e i : ℕ) (rs : List Reply) (k : ℕ) (t : Told) → slice_get (map (told_reply e i) rs) k ≡ Some t → t.node ≡ i
+replied_at : (e i : ℕ) (rs : List Reply) (k : ℕ) (t : Answer) → slice_get (map (told_reply e i) rs) k ≡ Some t → t.node ≡ i
 replied_at e i [] k t h = absurd (none-some t h)
-replied_at e i (r ∷ rs) zero t h = ap (λ (z : Told). z.node) (sym (same_Some (told_reply e i r) t h))
+replied_at e i (r ∷ rs) zero t h = ap (λ (z : Answer). z.node) (sym (same_Some (told_reply e i r) t h))
 replied_at e i (r ∷ rs) (suc k) t h = replied_at e i rs k t h
 
-among : (hs : List Handout) (k : ℕ) (t : Told) → slice_get hs k ≡ Some (Answer t) → IsToldAmong t (answers_among hs)
-among [] k t h = absurd (none-some (Answer t) h)
-among (Post l ∷ hs) zero t h = absurd (apart l t h)
+among : (hs : List Output) (k : ℕ) (t : Answer) → slice_get hs k ≡ Some (ToClient t) → IsToldAmong t (answers_among hs)
+among [] k t h = absurd (none-some (ToClient t) h)
+among (ToPeer l ∷ hs) zero t h = absurd (apart l t h)
   where
-    apart : (l : Envelope) (t : Told) → Some (Post l) ≡ Some (Answer t) → ⊥
+    apart : (l : Envelope) (t : Answer) → Some (ToPeer l) ≡ Some (ToClient t) → ⊥
     apart l t h = cc
-among (Post l ∷ hs) (suc k) t h = among hs k t h
-among (Answer u ∷ hs) zero t h = record { place = zero; is_there = same u t h }
+among (ToPeer l ∷ hs) (suc k) t h = among hs k t h
+among (ToClient u ∷ hs) zero t h = record { place = zero; is_there = same u t h }
   where
-    same : (u t : Told) → Some (Answer u) ≡ Some (Answer t) → Some u ≡ Some t
+    same : (u t : Answer) → Some (ToClient u) ≡ Some (ToClient t) → Some u ≡ Some t
     same u t h = cc
-among (Answer u ∷ hs) (suc k) t h = let r = among hs k t h in record { place = suc r.place; is_there = r.is_there }
+among (ToClient u ∷ hs) (suc k) t h = let r = among hs k t h in record { place = suc r.place; is_there = r.is_there }
 
 -- ---- an action
 
 -- the answer was offered, or it waits
-abbrev Lives : Scene → Told → Type 0
-Lives scene t = IsIn (Answer t) scene.offered ⊎ HasYetToOffer t (scene.sites t.node)
+abbrev Lives : ClusterState → Answer → Type 0
+Lives cluster t = IsIn (ToClient t) cluster.offered ⊎ HasYetToOffer t (cluster.processes t.node)
 
 -- it waits, and its process ends
-abbrev Dies : Deed → Scene → Told → Type 0
-Dies d scene t = EndsProcess t.node (Some d) × HasYetToOffer t (scene.sites t.node)
+abbrev Dies : Action → ClusterState → Answer → Type 0
+Dies d cluster t = EndsProcess t.node (Some d) × HasYetToOffer t (cluster.processes t.node)
 
 -- at a process
-at_up : (setting : Setting) (e : ℕ) (d : Deed) (s : NodeState) (waiting : List Handout) (t : Told) (place : ℕ) → slice_get waiting place ≡ Some (Answer t)
-    → (IsIn (Answer t) (offers_by d (Up s waiting)) ⊎ HasYetToOffer t (site_after setting e d (Up s waiting))) ⊎ EndsProcess (node_of_deed d) (Some d)
+at_up : (setting : Setting) (e : ℕ) (d : Action) (s : NodeState) (waiting : List Output) (t : Answer) (place : ℕ) → slice_get waiting place ≡ Some (ToClient t)
+    → (IsIn (ToClient t) (offers_by d (Up s waiting)) ⊎ HasYetToOffer t (process_after setting e d (Up s waiting))) ⊎ EndsProcess (node_of_action d) (Some d)
 at_up setting e (Opens i) s waiting t place at = inl (inr (record { state = s; waiting = waiting; is_up = refl; place = place; is_there = at }))
 at_up setting e (FailsToOpen i raised) s waiting t place at = inl (inr (record { state = s; waiting = waiting; is_up = refl; place = place; is_there = at }))
 at_up setting e (Takes i input) s waiting t place at =
     let made = made_by_input setting i input s in
-    inl (inr (record { state = made.state; waiting = waiting ++ handouts_of e i made; is_up = refl; place = place; is_there = get_more waiting (handouts_of e i made) place (Answer t) at }))
-at_up setting e (Offers i) s [] t place at = absurd (none-some (Answer t) at)
+    inl (inr (record { state = made.state; waiting = waiting ++ outputs_of_step e i made; is_up = refl; place = place; is_there = get_more waiting (outputs_of_step e i made) place (ToClient t) at }))
+at_up setting e (Offers i) s [] t place at = absurd (none-some (ToClient t) at)
 at_up setting e (Offers i) s (h ∷ waiting) t zero at = inl (inl (zero, at))
 at_up setting e (Offers i) s (h ∷ waiting) t (suc place) at = inl (inr (record { state = s; waiting = waiting; is_up = refl; place = place; is_there = at }))
 at_up setting e (Stops i) s waiting t place at = inr refl
@@ -75,174 +75,174 @@ at_up setting e (StopsIn i kept input) s waiting t place at = inr refl
 at_up setting e (Loses i) s waiting t place at = inr refl
 at_up setting e (Remakes i boot floors) s waiting t place at = inl (inr (record { state = s; waiting = waiting; is_up = refl; place = place; is_there = at }))
 
--- at the site of its own node
-own_deed : (setting : Setting) (e : ℕ) (d : Deed) (scene : Scene) (t : Told) (can : Bool) → t.node ≡ node_of_deed d → HasYetToOffer t (scene.sites t.node)
-    → Lives (cond can (scene_at setting e d (scene.sites (node_of_deed d)) scene) scene) t ⊎ Dies d scene t
-own_deed setting e d scene t false own y = inl (inr y)
-own_deed setting e d scene t true own y =
-    let i = node_of_deed d in
-    let up : scene.sites i ≡ Up y.state y.waiting = ap (λ m. scene.sites m) (sym own) ∙ y.is_up in
-    let old = scene.sites i in
+-- at the process state of its own node
+own_action : (setting : Setting) (e : ℕ) (d : Action) (cluster : ClusterState) (t : Answer) (can : Bool) → t.node ≡ node_of_action d → HasYetToOffer t (cluster.processes t.node)
+    → Lives (cond can (cluster_at setting e d (cluster.processes (node_of_action d)) cluster) cluster) t ⊎ Dies d cluster t
+own_action setting e d cluster t false own y = inl (inr y)
+own_action setting e d cluster t true own y =
+    let i = node_of_action d in
+    let up : cluster.processes i ≡ Up y.state y.waiting = ap (λ m. cluster.processes m) (sym own) ∙ y.is_up in
+    let old = cluster.processes i in
     ⊎_elim
-    (λ (p : IsIn (Answer t) (offers_by d (Up y.state y.waiting)) ⊎ HasYetToOffer t (site_after setting e d (Up y.state y.waiting))).
+    (λ (p : IsIn (ToClient t) (offers_by d (Up y.state y.waiting)) ⊎ HasYetToOffer t (process_after setting e d (Up y.state y.waiting))).
     ⊎_elim
-    (λ (q : IsIn (Answer t) (offers_by d (Up y.state y.waiting))).
-    let r = get_after scene.offered (offers_by d old) q.0 (Answer t) (subst (λ a. slice_get (offers_by d a) q.0 ≡ Some (Answer t)) (sym up) q.1) in
+    (λ (q : IsIn (ToClient t) (offers_by d (Up y.state y.waiting))).
+    let r = get_after cluster.offered (offers_by d old) q.0 (ToClient t) (subst (λ a. slice_get (offers_by d a) q.0 ≡ Some (ToClient t)) (sym up) q.1) in
     inl (inl r))
-    (λ (q : HasYetToOffer t (site_after setting e d (Up y.state y.waiting))).
-    let here : HasYetToOffer t (site_after setting e d old) = subst (λ a. HasYetToOffer t (site_after setting e d a)) (sym up) q in
-    inl (inr (subst (λ a. HasYetToOffer t a) (sym (cond-true (eqb t.node i) (site_after setting e d old) (scene.sites t.node) (eq-eqb t.node i own))) here)))
+    (λ (q : HasYetToOffer t (process_after setting e d (Up y.state y.waiting))).
+    let here : HasYetToOffer t (process_after setting e d old) = subst (λ a. HasYetToOffer t (process_after setting e d a)) (sym up) q in
+    inl (inr (subst (λ a. HasYetToOffer t a) (sym (cond-true (eqb t.node i) (process_after setting e d old) (cluster.processes t.node) (eq-eqb t.node i own))) here)))
     p)
     (λ (p : EndsProcess i (Some d)). inr (subst (λ m. EndsProcess m (Some d)) (sym own) p, y))
     (at_up setting e d y.state y.waiting t y.place y.is_there)
 
-other_deed : (setting : Setting) (e : ℕ) (d : Deed) (scene : Scene) (t : Told) (can : Bool) → eqb t.node (node_of_deed d) ≡ false → HasYetToOffer t (scene.sites t.node)
-    → Lives (cond can (scene_at setting e d (scene.sites (node_of_deed d)) scene) scene) t
-other_deed setting e d scene t false other y = inr y
-other_deed setting e d scene t true other y =
-    inr (subst (λ a. HasYetToOffer t a) (sym (cond-false (eqb t.node (node_of_deed d)) (site_after setting e d (scene.sites (node_of_deed d))) (scene.sites t.node) other)) y)
+other_action : (setting : Setting) (e : ℕ) (d : Action) (cluster : ClusterState) (t : Answer) (can : Bool) → eqb t.node (node_of_action d) ≡ false → HasYetToOffer t (cluster.processes t.node)
+    → Lives (cond can (cluster_at setting e d (cluster.processes (node_of_action d)) cluster) cluster) t
+other_action setting e d cluster t false other y = inr y
+other_action setting e d cluster t true other y =
+    inr (subst (λ a. HasYetToOffer t a) (sym (cond-false (eqb t.node (node_of_action d)) (process_after setting e d (cluster.processes (node_of_action d))) (cluster.processes t.node) other)) y)
 
-offered_deed : (setting : Setting) (e : ℕ) (d : Deed) (scene : Scene) (t : Told) (can : Bool) → IsIn (Answer t) scene.offered → Lives (cond can (scene_at setting e d (scene.sites (node_of_deed d)) scene) scene) t
-offered_deed setting e d scene t false p = inl p
-offered_deed setting e d scene t true p = inl (p.0, get_more scene.offered (offers_by d (scene.sites (node_of_deed d))) p.0 (Answer t) p.1)
+offered_action : (setting : Setting) (e : ℕ) (d : Action) (cluster : ClusterState) (t : Answer) (can : Bool) → IsIn (ToClient t) cluster.offered → Lives (cond can (cluster_at setting e d (cluster.processes (node_of_action d)) cluster) cluster) t
+offered_action setting e d cluster t false p = inl p
+offered_action setting e d cluster t true p = inl (p.0, get_more cluster.offered (offers_by d (cluster.processes (node_of_action d))) p.0 (ToClient t) p.1)
 
-deed_lives : (setting : Setting) (e : ℕ) (d : Deed) (scene : Scene) (t : Told) → Lives scene t → Lives (scene_after_deed setting e d scene) t ⊎ Dies d scene t
-unfolding scene_after_deed
-deed_lives setting e d scene t h =
-    let can = can_be setting scene d in
+action_lives : (setting : Setting) (e : ℕ) (d : Action) (cluster : ClusterState) (t : Answer) → Lives cluster t → Lives (cluster_after_action setting e d cluster) t ⊎ Dies d cluster t
+unfolding cluster_after_action
+action_lives setting e d cluster t h =
+    let can = can_be setting cluster d in
     ⊎_elim
-    (λ (p : IsIn (Answer t) scene.offered). inl (offered_deed setting e d scene t can p))
-    (λ (y : HasYetToOffer t (scene.sites t.node)).
+    (λ (p : IsIn (ToClient t) cluster.offered). inl (offered_action setting e d cluster t can p))
+    (λ (y : HasYetToOffer t (cluster.processes t.node)).
     ⊎_elim
-    (λ (own : eqb t.node (node_of_deed d) ≡ true). own_deed setting e d scene t can (eqb-true t.node (node_of_deed d) own) y)
-    (λ (other : eqb t.node (node_of_deed d) ≡ false). inl (other_deed setting e d scene t can other y))
-    (cases_Bool (eqb t.node (node_of_deed d))))
+    (λ (own : eqb t.node (node_of_action d) ≡ true). own_action setting e d cluster t can (eqb-true t.node (node_of_action d) own) y)
+    (λ (other : eqb t.node (node_of_action d) ≡ false). inl (other_action setting e d cluster t can other y))
+    (cases_Bool (eqb t.node (node_of_action d))))
     h
 
 -- ---- actions
 
 -- its process ended in one of these, before which it waited
-record Lost (setting : Setting) (e : ℕ) (ds : List Deed) (scene : Scene) (t : Told) : Type 0 where
+record Lost (setting : Setting) (e : ℕ) (ds : List Action) (cluster : ClusterState) (t : Answer) : Type 0 where
   event : ℕ
   ends : EndsProcess t.node (slice_get ds event)
-  yet : HasYetToOffer t ((scene_after setting e (take event ds) scene).sites t.node)
+  yet : HasYetToOffer t ((cluster_after setting e (take event ds) cluster).processes t.node)
 
-abbrev Fate : Setting → ℕ → List Deed → Scene → Told → Type 0
-Fate setting e ds scene t = Lives (scene_after setting e ds scene) t ⊎ Lost setting e ds scene t
+abbrev Fate : Setting → ℕ → List Action → ClusterState → Answer → Type 0
+Fate setting e ds cluster t = Lives (cluster_after setting e ds cluster) t ⊎ Lost setting e ds cluster t
 
-later : (setting : Setting) (e : ℕ) (d : Deed) (ds : List Deed) (scene : Scene) (t : Told) → Fate setting (suc e) ds (scene_after_deed setting e d scene) t → Fate setting e (d ∷ ds) scene t
-unfolding scene_after
-later setting e d ds scene t h =
+later : (setting : Setting) (e : ℕ) (d : Action) (ds : List Action) (cluster : ClusterState) (t : Answer) → Fate setting (suc e) ds (cluster_after_action setting e d cluster) t → Fate setting e (d ∷ ds) cluster t
+unfolding cluster_after
+later setting e d ds cluster t h =
     ⊎_elim
-    (λ (p : Lives (scene_after setting (suc e) ds (scene_after_deed setting e d scene)) t). inl p)
-    (λ (p : Lost setting (suc e) ds (scene_after_deed setting e d scene) t).
-    let is : Lost setting e (d ∷ ds) scene t = record { event = suc p.event; ends = p.ends; yet = p.yet } in
+    (λ (p : Lives (cluster_after setting (suc e) ds (cluster_after_action setting e d cluster)) t). inl p)
+    (λ (p : Lost setting (suc e) ds (cluster_after_action setting e d cluster) t).
+    let is : Lost setting e (d ∷ ds) cluster t = record { event = suc p.event; ends = p.ends; yet = p.yet } in
     inr is)
     h
 
-fate_of : (setting : Setting) (e : ℕ) (ds : List Deed) (scene : Scene) (t : Told) → Lives scene t → Fate setting e ds scene t
-unfolding scene_after
-fate_of setting e [] scene t h = inl h
-fate_of setting e (d ∷ ds) scene t h =
+fate_of : (setting : Setting) (e : ℕ) (ds : List Action) (cluster : ClusterState) (t : Answer) → Lives cluster t → Fate setting e ds cluster t
+unfolding cluster_after
+fate_of setting e [] cluster t h = inl h
+fate_of setting e (d ∷ ds) cluster t h =
     ⊎_elim
-    (λ (p : Lives (scene_after_deed setting e d scene) t). later setting e d ds scene t (fate_of setting (suc e) ds (scene_after_deed setting e d scene) t p))
-    (λ (p : Dies d scene t).
-    let is : Lost setting e (d ∷ ds) scene t = record { event = 0; ends = p.0; yet = p.1 } in
+    (λ (p : Lives (cluster_after_action setting e d cluster) t). later setting e d ds cluster t (fate_of setting (suc e) ds (cluster_after_action setting e d cluster) t p))
+    (λ (p : Dies d cluster t).
+    let is : Lost setting e (d ∷ ds) cluster t = record { event = 0; ends = p.0; yet = p.1 } in
     inr is)
-    (deed_lives setting e d scene t h)
+    (action_lives setting e d cluster t h)
 
 -- an answer that an action makes waits
-made_at : (setting : Setting) (e : ℕ) (d : Deed) (a : Site) (k : ℕ) (t : Told) → slice_get (answers_made setting e d a) k ≡ Some t → (t.node ≡ node_of_deed d) × HasYetToOffer t (site_after setting e d a)
+made_at : (setting : Setting) (e : ℕ) (d : Action) (a : ProcessState) (k : ℕ) (t : Answer) → slice_get (answers_made setting e d a) k ≡ Some t → (t.node ≡ node_of_action d) × HasYetToOffer t (process_after setting e d a)
 made_at setting e (Opens i) a k t h = absurd (none-some t h)
 made_at setting e (FailsToOpen i raised) a k t h = absurd (none-some t h)
 made_at setting e (Takes i input) (Down c) k t h = absurd (none-some t h)
 made_at setting e (Takes i input) (Up s waiting) k t h =
     let made = made_by_input setting i input s in
-    let ls = map (λ (l : Envelope). Post l) (map (envelope_from i) made.sends) in
+    let ls = map (λ (l : Envelope). ToPeer l) (map (envelope_from i) made.sends) in
     let ts = map (told_reply e i) made.replies in
-    let p = get_after ls (map (λ (u : Told). Answer u) ts) k (Answer t) (in_map (λ (u : Told). Answer u) ts k t h) in
-    let q = get_after waiting (handouts_of e i made) p.0 (Answer t) p.1 in
-    (replied_at e i made.replies k t h, record { state = made.state; waiting = waiting ++ handouts_of e i made; is_up = refl; place = q.0; is_there = q.1 })
+    let p = get_after ls (map (λ (u : Answer). ToClient u) ts) k (ToClient t) (in_map (λ (u : Answer). ToClient u) ts k t h) in
+    let q = get_after waiting (outputs_of_step e i made) p.0 (ToClient t) p.1 in
+    (replied_at e i made.replies k t h, record { state = made.state; waiting = waiting ++ outputs_of_step e i made; is_up = refl; place = q.0; is_there = q.1 })
 made_at setting e (Offers i) a k t h = absurd (none-some t h)
 made_at setting e (Stops i) a k t h = absurd (none-some t h)
 made_at setting e (StopsIn i kept input) a k t h = absurd (none-some t h)
 made_at setting e (Loses i) a k t h = absurd (none-some t h)
 made_at setting e (Remakes i boot floors) a k t h = absurd (none-some t h)
 
-waits_at : (setting : Setting) (e : ℕ) (d : Deed) (scene : Scene) (k : ℕ) (t : Told) (can : Bool) → slice_get (cond can (answers_made setting e d (scene.sites (node_of_deed d))) []) k ≡ Some t
-    → HasYetToOffer t ((cond can (scene_at setting e d (scene.sites (node_of_deed d)) scene) scene).sites t.node)
-waits_at setting e d scene k t false h = absurd (none-some t h)
-waits_at setting e d scene k t true h =
-    let i = node_of_deed d in
-    let p = made_at setting e d (scene.sites i) k t h in
-    subst (λ a. HasYetToOffer t a) (sym (cond-true (eqb t.node i) (site_after setting e d (scene.sites i)) (scene.sites t.node) (eq-eqb t.node i p.0))) p.1
+waits_at : (setting : Setting) (e : ℕ) (d : Action) (cluster : ClusterState) (k : ℕ) (t : Answer) (can : Bool) → slice_get (cond can (answers_made setting e d (cluster.processes (node_of_action d))) []) k ≡ Some t
+    → HasYetToOffer t ((cond can (cluster_at setting e d (cluster.processes (node_of_action d)) cluster) cluster).processes t.node)
+waits_at setting e d cluster k t false h = absurd (none-some t h)
+waits_at setting e d cluster k t true h =
+    let i = node_of_action d in
+    let p = made_at setting e d (cluster.processes i) k t h in
+    subst (λ a. HasYetToOffer t a) (sym (cond-true (eqb t.node i) (process_after setting e d (cluster.processes i)) (cluster.processes t.node) (eq-eqb t.node i p.0))) p.1
 
-made_waits : (setting : Setting) (e : ℕ) (d : Deed) (scene : Scene) (k : ℕ) (t : Told) → slice_get (answers_by setting e d scene) k ≡ Some t → Lives (scene_after_deed setting e d scene) t
-unfolding scene_after_deed
-made_waits setting e d scene k t h = inr (waits_at setting e d scene k t (can_be setting scene d) h)
+made_waits : (setting : Setting) (e : ℕ) (d : Action) (cluster : ClusterState) (k : ℕ) (t : Answer) → slice_get (answers_by setting e d cluster) k ≡ Some t → Lives (cluster_after_action setting e d cluster) t
+unfolding cluster_after_action
+made_waits setting e d cluster k t h = inr (waits_at setting e d cluster k t (can_be setting cluster d) h)
 
-fated : (setting : Setting) (e : ℕ) (ds : List Deed) (scene : Scene) (k : ℕ) (t : Told) → slice_get (answers_in setting e ds scene) k ≡ Some t → Fate setting e ds scene t
-fated setting e [] scene k t h = absurd (none-some t h)
-fated setting e (d ∷ ds) scene k t h =
-    let next = scene_after_deed setting e d scene in
+fated : (setting : Setting) (e : ℕ) (ds : List Action) (cluster : ClusterState) (k : ℕ) (t : Answer) → slice_get (answers_in setting e ds cluster) k ≡ Some t → Fate setting e ds cluster t
+fated setting e [] cluster k t h = absurd (none-some t h)
+fated setting e (d ∷ ds) cluster k t h =
+    let next = cluster_after_action setting e d cluster in
     ⊎_elim
-    (λ (p : IsIn t (answers_by setting e d scene)). later setting e d ds scene t (fate_of setting (suc e) ds next t (made_waits setting e d scene p.0 t p.1)))
-    (λ (p : IsIn t (answers_in setting (suc e) ds next)). later setting e d ds scene t (fated setting (suc e) ds next p.0 t p.1))
-    (get_either (answers_by setting e d scene) (answers_in setting (suc e) ds next) k t h)
+    (λ (p : IsIn t (answers_by setting e d cluster)). later setting e d ds cluster t (fate_of setting (suc e) ds next t (made_waits setting e d cluster p.0 t p.1)))
+    (λ (p : IsIn t (answers_in setting (suc e) ds next)). later setting e d ds cluster t (fated setting (suc e) ds next p.0 t p.1))
+    (get_either (answers_by setting e d cluster) (answers_in setting (suc e) ds next) k t h)
 
 -- ---- a history
 
-becomes : (setting : Setting) (history : List Deed) (t : Told) → Fate setting 0 history (first_scene setting) t → IsOfferedOrEnds setting history t
+becomes : (setting : Setting) (history : List Action) (t : Answer) → Fate setting 0 history (first_cluster setting) t → IsOfferedOrEnds setting history t
 becomes setting history t h =
     ⊎_elim
-    (λ (p : Lives (scene_after setting 0 history (first_scene setting)) t).
+    (λ (p : Lives (cluster_after setting 0 history (first_cluster setting)) t).
     ⊎_elim
-    (λ (q : IsIn (Answer t) (scene_after setting 0 history (first_scene setting)).offered). inl (among (scene_after setting 0 history (first_scene setting)).offered q.0 t q.1))
-    (λ (q : HasYetToOffer t ((scene_after setting 0 history (first_scene setting)).sites t.node)). inr (inr q))
+    (λ (q : IsIn (ToClient t) (cluster_after setting 0 history (first_cluster setting)).offered). inl (among (cluster_after setting 0 history (first_cluster setting)).offered q.0 t q.1))
+    (λ (q : HasYetToOffer t ((cluster_after setting 0 history (first_cluster setting)).processes t.node)). inr (inr q))
     p)
-    (λ (p : Lost setting 0 history (first_scene setting) t).
+    (λ (p : Lost setting 0 history (first_cluster setting) t).
     let is : IsLost setting history t = record { event = p.event; ends = p.ends; yet = p.yet } in
     inr (inl is))
     h
 
-has_ok : (setting : Setting) (history : List Deed) (x : Whole setting history) (p : Acceptance) → HasAnswer x.events (world_of setting.config (start_of setting) x.events).told p → HasOk setting history p
+has_ok : (setting : Setting) (history : List Action) (x : Whole setting history) (p : Acceptance) → HasAnswer x.events (world_of setting.config (start_of setting) x.events).told p → HasOk setting history p
 has_ok setting history x p a = record {
   answer = a.answer;
   event = a.event;
   node = a.node;
   line = a.line;
   nonce = a.nonce;
-  asked = at_place (λ o. IsAskedIn p.node a.answer.client a.line a.nonce o) (λ o. IsAskedInDeed p.node a.answer.client a.line a.nonce o) setting history x.events p.began x.run
-      (λ z. z) (λ d e. asked_deed setting.key p.node a.answer.client a.line a.nonce d e) a.asked;
+  asked = at_place (λ o. IsAskedIn p.node a.answer.client a.line a.nonce o) (λ o. IsAskedInAction p.node a.answer.client a.line a.nonce o) setting history x.events p.began x.run
+      (λ z. z) (λ d e. asked_action setting.key p.node a.answer.client a.line a.nonce d e) a.asked;
   bytes = a.bytes;
   becomes = becomes setting history a.answer
-      (fated setting 0 history (first_scene setting) a.place a.answer (subst (λ ts. slice_get ts a.place ≡ Some a.answer) x.told a.is_told));
+      (fated setting 0 history (first_cluster setting) a.place a.answer (subst (λ ts. slice_get ts a.place ≡ Some a.answer) x.told a.is_told));
 }
 
-abbrev InWorld : (setting : Setting) (history : List Deed) → Whole setting history → Acceptance → Option WorldEvent → Type 0
+abbrev InWorld : (setting : Setting) (history : List Action) → Whole setting history → Acceptance → Option WorldEvent → Type 0
 InWorld setting history x p o = IsAnsweredIn x.events (world_of setting.config (start_of setting) x.events).told p o
 
-answered_deed : (setting : Setting) (history : List Deed) (x : Whole setting history) (p : Acceptance) (d : Deed) (e : WorldEvent) → IsEventOf setting.key d e
-    → InWorld setting history x p (Some e) → IsAnsweredInDeed setting history p (Some d)
-answered_deed setting history x p (Opens i) e is h =
+answered_action : (setting : Setting) (history : List Action) (x : Whole setting history) (p : Acceptance) (d : Action) (e : WorldEvent) → IsEventOf setting.key d e
+    → InWorld setting history x p (Some e) → IsAnsweredInAction setting history p (Some d)
+answered_action setting history x p (Opens i) e is h =
     ⊎_elim (λ (q : e ≡ nothing). absurd (subst (λ z. InWorld setting history x p (Some z)) q h)) (λ (q : e ≡ Restart i). absurd (subst (λ z. InWorld setting history x p (Some z)) q h)) is
-answered_deed setting history x p (FailsToOpen i raised) e is h =
+answered_action setting history x p (FailsToOpen i raised) e is h =
     ⊎_elim (λ (q : e ≡ nothing). absurd (subst (λ z. InWorld setting history x p (Some z)) q h)) (λ (q : e ≡ Restart i). absurd (subst (λ z. InWorld setting history x p (Some z)) q h)) is
-answered_deed setting history x p (Takes i input) e is h =
+answered_action setting history x p (Takes i input) e is h =
     ⊎_elim (λ (q : e ≡ nothing). absurd (subst (λ z. InWorld setting history x p (Some z)) q h))
     (λ (a : HasAct setting.key i input (λ act. Happens act) e). has_ok setting history x p (subst (λ z. InWorld setting history x p (Some z)) a.event_is h)) is
-answered_deed setting history x p (Offers i) e is h = absurd (subst (λ z. InWorld setting history x p (Some z)) is h)
-answered_deed setting history x p (Stops i) e is h = absurd (subst (λ z. InWorld setting history x p (Some z)) is h)
-answered_deed setting history x p (StopsIn i false input) e is h = absurd (subst (λ z. InWorld setting history x p (Some z)) is h)
-answered_deed setting history x p (StopsIn i true input) e is h = tt
-answered_deed setting history x p (Loses i) e is h =
+answered_action setting history x p (Offers i) e is h = absurd (subst (λ z. InWorld setting history x p (Some z)) is h)
+answered_action setting history x p (Stops i) e is h = absurd (subst (λ z. InWorld setting history x p (Some z)) is h)
+answered_action setting history x p (StopsIn i false input) e is h = absurd (subst (λ z. InWorld setting history x p (Some z)) is h)
+answered_action setting history x p (StopsIn i true input) e is h = tt
+answered_action setting history x p (Loses i) e is h =
     ⊎_elim (λ (q : e ≡ nothing). absurd (subst (λ z. InWorld setting history x p (Some z)) q h)) (λ (q : e ≡ LostEvent i). absurd (subst (λ z. InWorld setting history x p (Some z)) q h)) is
-answered_deed setting history x p (Remakes i boot floors) e is h =
+answered_action setting history x p (Remakes i boot floors) e is h =
     ⊎_elim (λ (q : e ≡ nothing). absurd (subst (λ z. InWorld setting history x p (Some z)) q h)) (λ (q : e ≡ Anew i (boot + 1) floors). absurd (subst (λ z. InWorld setting history x p (Some z)) q h)) is
 
-pub answers_all : AnsweredLaw → (setting : Setting) (history : List Deed) → IsHistory setting history → AnswersAll setting history
+pub answers_all : AnsweredLaw → (setting : Setting) (history : List Action) → IsHistory setting history → AnswersAll setting history
 answers_all law setting history g = λ i p at.
     let x = whole_run setting history g in
-    at_place (λ o. InWorld setting history x p o) (λ o. IsAnsweredInDeed setting history p o) setting history x.events p.ended x.run
-    (λ z. z) (λ d e is h. answered_deed setting history x p d e is h)
+    at_place (λ o. InWorld setting history x p o) (λ o. IsAnsweredInAction setting history p o) setting history x.events p.ended x.run
+    (λ z. z) (λ d e is h. answered_action setting history x p d e is h)
     (law setting.config (start_of setting) x.events i p (subst (λ ps. slice_get ps i ≡ Some p) x.run.accepted at))

@@ -14,15 +14,15 @@ use Rattle.oath_node.specs.Hosted.{Hosted, made_of, state_of}
 use Rattle.oath_node.specs.Machine.{Made, Reply, made_by_event, opened_node}
 use Rattle.oath_node.specs.Outputs.{OutputsRecord, datagram_item, outputs_of, reply_item}
 use Rattle.oath_node.specs.declared.fault.NodeFault.{NodeFault}
-use Rattle.cluster_sim.specs.World.{Told, told_reply}
-use Rattle.cluster_law.specs.Lives.{Post, Answer, Input, Setting, Down, Up, event_of, handouts_of, made_by_input, place_in, site_cut, site_opened}
+use Rattle.cluster_sim.specs.World.{Answer, told_reply}
+use Rattle.cluster_law.specs.Lives.{ToPeer, ToClient, Input, Setting, Down, Up, event_of, outputs_of_step, made_by_input, place_in, process_cut, process_opened}
 use Rattle.cluster_law.specs.Processes.{IsHalfOpened, IsMemberIn, item_of}
 
 below_last : (boot : ℕ) → boot + 1 < 2 ^ 62 → boot < last_boot
 below_last boot h = omega arith
 
 pub opens : {S : Type 0} (held : S → Held) (store : S) (node : Hosted S) → IsOpened held store node → (held node.store).is_clean → IsCount (held node.store).content.boot
-    → site_opened (held store).content ≡ Up (state_of held node) []
+    → process_opened (held store).content ≡ Up (state_of held node) []
 opens held store node o clean count =
     let c = (held store).content in
     let made : (held node.store).content ≡ with_next_boot c = o.raises.writes.makes.ok clean in
@@ -35,30 +35,30 @@ pub half_opens : {S A : Type 0} (held : S → Held) (store left : S) (result : R
 half_opens held store left result c r settled leaves count =
     let d = (held store).content in
     ⊎_elim
-    (λ (old : (held store).leaves c). let is : IsHalfOpened d c = record { raised = false; site = ap (λ x. Down x) (sym (settled c old)) } in is)
+    (λ (old : (held store).leaves c). let is : IsHalfOpened d c = record { raised = false; process = ap (λ x. Down x) (sym (settled c old)) } in is)
     (λ (new : c ≡ with_next_boot d).
     let low : d.boot + 1 < 2 ^ 62 = subst (λ (x : Content). x.boot < 2 ^ 62) new count in
     let is : IsHalfOpened d c = record {
       raised = true;
-      site = cond-true (ltb d.boot last_boot) (Down (with_next_boot d)) (Down d) (lt-ltb d.boot last_boot (below_last d.boot low)) ∙ ap (λ x. Down x) (sym new);
+      process = cond-true (ltb d.boot last_boot) (Down (with_next_boot d)) (Down d) (lt-ltb d.boot last_boot (below_last d.boot low)) ∙ ap (λ x. Down x) (sym new);
     } in is)
     (r.writes.left c leaves)
 
 -- ---- what a step puts out
 
-posts : (key : List ℕ) (i : ℕ) (sends : List (ℕ × Message)) → map (item_of key) (map (λ (l : Envelope). Post l) (map (envelope_from i) sends)) ≡ map (datagram_item key i) sends
+posts : (key : List ℕ) (i : ℕ) (sends : List (ℕ × Message)) → map (item_of key) (map (λ (l : Envelope). ToPeer l) (map (envelope_from i) sends)) ≡ map (datagram_item key i) sends
 posts key i [] = refl
 posts key i (send ∷ sends) = ap (λ xs. datagram_item key i send ∷ xs) (posts key i sends)
 
-answers : (key : List ℕ) (e i : ℕ) (replies : List Reply) → map (item_of key) (map (λ (t : Told). Answer t) (map (told_reply e i) replies)) ≡ map reply_item replies
+answers : (key : List ℕ) (e i : ℕ) (replies : List Reply) → map (item_of key) (map (λ (t : Answer). ToClient t) (map (told_reply e i) replies)) ≡ map reply_item replies
 answers key e i [] = refl
 answers key e i (reply ∷ replies) = ap (λ xs. reply_item reply ∷ xs) (answers key e i replies)
 
-pub put_out : (setting : Setting) (e i : ℕ) (made : Made) → (outputs_of setting.key (place_in setting i) made).items ≡ map (item_of setting.key) (handouts_of e i made)
+pub put_out : (setting : Setting) (e i : ℕ) (made : Made) → (outputs_of setting.key (place_in setting i) made).items ≡ map (item_of setting.key) (outputs_of_step e i made)
 put_out setting e i made =
     let key = setting.key in
-    let ps = map (λ (l : Envelope). Post l) (map (envelope_from i) made.sends) in
-    let ts = map (λ (t : Told). Answer t) (map (told_reply e i) made.replies) in
+    let ps = map (λ (l : Envelope). ToPeer l) (map (envelope_from i) made.sends) in
+    let ts = map (λ (t : Answer). ToClient t) (map (told_reply e i) made.replies) in
     sym (map-append (item_of key) ps ts
     ∙ ap (λ xs. xs ++ map (item_of key) ts) (posts key i made.sends)
     ∙ ap (λ xs. map (datagram_item key i) made.sends ++ xs) (answers key e i made.replies))
@@ -73,7 +73,7 @@ left_is : {S : Type 0} (held : S → Held) (setting : Setting) (i : ℕ) (input 
 left_is held setting i input old new outputs m h = h.left ∙ ap (λ (x : Made). x.state) (same_made held setting i input old m)
 
 told_is : {S : Type 0} (held : S → Held) (setting : Setting) (e i : ℕ) (input : Input) (old new : Hosted S) (outputs : OutputsRecord) → IsMemberIn setting i old
-    → IsMade old.key old.voter.place (made_of held old (event_of setting.key input)) outputs (state_of held new) → outputs.items ≡ map (item_of setting.key) (handouts_of e i (made_by_input setting i input (state_of held old)))
+    → IsMade old.key old.voter.place (made_of held old (event_of setting.key input)) outputs (state_of held new) → outputs.items ≡ map (item_of setting.key) (outputs_of_step e i (made_by_input setting i input (state_of held old)))
 told_is held setting e i input old new outputs m h =
     ap (λ (o : OutputsRecord). o.items) h.told
     ∙ ap (λ k. (outputs_of k old.voter.place (made_of held old (event_of setting.key input))).items) m.key
@@ -83,7 +83,7 @@ told_is held setting e i input old new outputs m h =
 
 cut_is : {S : Type 0} (held : S → Held) (setting : Setting) (i : ℕ) (input : Input) (old : Hosted S) (c : Content) → IsMemberIn setting i old → IsSettled (held old.store)
     → (held old.store).leaves c ⊎ (c ≡ (made_of held old (event_of setting.key input)).state.content)
-    → (site_cut setting i false input (state_of held old) ≡ Down c) ⊎ (site_cut setting i true input (state_of held old) ≡ Down c)
+    → (process_cut setting i false input (state_of held old) ≡ Down c) ⊎ (process_cut setting i true input (state_of held old) ≡ Down c)
 cut_is held setting i input old c m settled left =
     ⊎_elim
     (λ (was : (held old.store).leaves c). inl (ap (λ x. Down x) (sym (settled c was))))
@@ -97,12 +97,12 @@ pub handles_state : {S : Type 0} (held : S → Held) (setting : Setting) (i : �
 handles_state held setting i input old new outputs m h clean = left_is held setting i input old new outputs m (h.made clean)
 
 pub handles_items : {S : Type 0} (held : S → Held) (setting : Setting) (e i : ℕ) (input : Input) (old new : Hosted S) (outputs : OutputsRecord) → IsMemberIn setting i old → Handles held old new (event_of setting.key input) (Ok outputs) → (held new.store).is_clean
-    → outputs.items ≡ map (item_of setting.key) (handouts_of e i (made_by_input setting i input (state_of held old)))
+    → outputs.items ≡ map (item_of setting.key) (outputs_of_step e i (made_by_input setting i input (state_of held old)))
 handles_items held setting e i input old new outputs m h clean = told_is held setting e i input old new outputs m (h.made clean)
 
 pub stops_inside : {S : Type 0} (held : S → Held) (setting : Setting) (i : ℕ) (input : Input) (old new : Hosted S) (result : Result OutputsRecord NodeFault) (c : Content) → IsMemberIn setting i old → Handles held old new (event_of setting.key input) result
     → (held new.store).is_clean → IsSettled (held old.store) → (held new.store).leaves c
-    → (site_cut setting i false input (state_of held old) ≡ Down c) ⊎ (site_cut setting i true input (state_of held old) ≡ Down c)
+    → (process_cut setting i false input (state_of held old) ≡ Down c) ⊎ (process_cut setting i true input (state_of held old) ≡ Down c)
 stops_inside held setting i input old new result c m h clean settled leaves = cut_is held setting i input old c m settled (h.writes.left clean c leaves)
 
 -- ---- an event that is taken, and a commit
@@ -112,13 +112,13 @@ pub takes_state : {S : Type 0} (held : S → Held) (setting : Setting) (i : ℕ)
 takes_state held setting i input old new outputs m h clean = left_is held setting i input old new outputs m (h.made clean)
 
 pub takes_items : {S : Type 0} (held : S → Held) (setting : Setting) (e i : ℕ) (input : Input) (old new : Hosted S) (outputs : OutputsRecord) → IsMemberIn setting i old → TakesEvent held old new (event_of setting.key input) (Ok outputs) → (held new.store).is_clean
-    → outputs.items ≡ map (item_of setting.key) (handouts_of e i (made_by_input setting i input (state_of held old)))
+    → outputs.items ≡ map (item_of setting.key) (outputs_of_step e i (made_by_input setting i input (state_of held old)))
 takes_items held setting e i input old new outputs m h clean = told_is held setting e i input old new outputs m (h.made clean)
 
 -- what a stop before the commit leaves: what one before the event could leave, or what the step makes
 pub stops_before : {S : Type 0} (held : S → Held) (setting : Setting) (i : ℕ) (input : Input) (old new : Hosted S) (result : Result OutputsRecord NodeFault) (c : Content) → IsMemberIn setting i old → TakesEvent held old new (event_of setting.key input) result
     → (held old.store).is_clean → (held new.store).leaves c
-    → (held old.store).leaves c ⊎ (site_cut setting i true input (state_of held old) ≡ Down c)
+    → (held old.store).leaves c ⊎ (process_cut setting i true input (state_of held old) ≡ Down c)
 stops_before held setting i input old new result c m h clean leaves =
     ⊎_elim
     (λ (was : (held old.store).leaves c). inl was)

@@ -12,11 +12,11 @@ use Rattle.oath_node.specs.Machine.{made_by_proposal, made_by_ruling, made_by_da
 use Rattle.vote_core.specs.Schedule.{Envelope}
 use Rattle.oath_node.specs.Hosted.{envelope_at}
 use Rattle.cluster_law.specs.Examples.{ask, bytes_of, grant, grant_before_its_offer, granted_by_two, three_nodes}
-use Rattle.cluster_law.specs.Lives.{Answer, Deed, Handout, Post, WasOffered, scene_after, scene_after_deed, scene_of}
+use Rattle.cluster_law.specs.Lives.{ToClient, Action, Output, ToPeer, WasOffered, cluster_after, cluster_after_action, cluster_of}
 
 -- the outputs offered before the action of the given number
-abbrev pub offered_before : List Deed → ℕ → List Handout
-offered_before history event = (scene_of three_nodes (take event history)).offered
+abbrev pub offered_before : List Action → ℕ → List Output
+offered_before history event = (cluster_of three_nodes (take event history)).offered
 
 pub ask_reads : envelope_at three_nodes.key (bytes_of ask) ≡ Some ask
 unfolding tag_of datagram_bytes datagram_at body_at message_at vote_at denial_at floor_at proposal_at factor_at next_at sha256_steps.first_words sha256_steps.schedule sha256_steps.rounds sha256_steps.compress sha256_steps.hash_after sha256_steps.digest_bytes sha256_steps.sha256
@@ -26,16 +26,16 @@ pub grant_reads : envelope_at three_nodes.key (bytes_of grant) ≡ Some grant
 unfolding tag_of datagram_bytes datagram_at body_at message_at vote_at denial_at floor_at proposal_at factor_at next_at sha256_steps.first_words sha256_steps.schedule sha256_steps.rounds sha256_steps.compress sha256_steps.hash_after sha256_steps.digest_bytes sha256_steps.sha256
 grant_reads = refl
 
-pub ask_is_offered : offered_before granted_by_two 4 ≡ Post ask ∷ []
-unfolding code_at first_words schedule rounds compress hash_after digest_bytes sha1 tag_of datagram_bytes datagram_at body_at message_at vote_at denial_at floor_at proposal_at factor_at next_at sha256_steps.first_words sha256_steps.schedule sha256_steps.rounds sha256_steps.compress sha256_steps.hash_after sha256_steps.digest_bytes sha256_steps.sha256 scene_after scene_after_deed made_by_event made_while_running made_by_datagram made_by_ruling made_by_proposal propose propose_alone propose_among on_ask accept count_grant on_grant raise count_deny on_deny on_floor on_message tick
+pub ask_is_offered : offered_before granted_by_two 4 ≡ ToPeer ask ∷ []
+unfolding code_at first_words schedule rounds compress hash_after digest_bytes sha1 tag_of datagram_bytes datagram_at body_at message_at vote_at denial_at floor_at proposal_at factor_at next_at sha256_steps.first_words sha256_steps.schedule sha256_steps.rounds sha256_steps.compress sha256_steps.hash_after sha256_steps.digest_bytes sha256_steps.sha256 cluster_after cluster_after_action made_by_event made_while_running made_by_datagram made_by_ruling made_by_proposal propose propose_alone propose_among on_ask accept count_grant on_grant raise count_deny on_deny on_floor on_message tick
 ask_is_offered = refl
 
-pub grant_is_offered : offered_before granted_by_two 6 ≡ Post ask ∷ Post grant ∷ []
-unfolding code_at first_words schedule rounds compress hash_after digest_bytes sha1 tag_of datagram_bytes datagram_at body_at message_at vote_at denial_at floor_at proposal_at factor_at next_at sha256_steps.first_words sha256_steps.schedule sha256_steps.rounds sha256_steps.compress sha256_steps.hash_after sha256_steps.digest_bytes sha256_steps.sha256 scene_after scene_after_deed made_by_event made_while_running made_by_datagram made_by_ruling made_by_proposal propose propose_alone propose_among on_ask accept count_grant on_grant raise count_deny on_deny on_floor on_message tick
+pub grant_is_offered : offered_before granted_by_two 6 ≡ ToPeer ask ∷ ToPeer grant ∷ []
+unfolding code_at first_words schedule rounds compress hash_after digest_bytes sha1 tag_of datagram_bytes datagram_at body_at message_at vote_at denial_at floor_at proposal_at factor_at next_at sha256_steps.first_words sha256_steps.schedule sha256_steps.rounds sha256_steps.compress sha256_steps.hash_after sha256_steps.digest_bytes sha256_steps.sha256 cluster_after cluster_after_action made_by_event made_while_running made_by_datagram made_by_ruling made_by_proposal propose propose_alone propose_among on_ask accept count_grant on_grant raise count_deny on_deny on_floor on_message tick
 grant_is_offered = refl
 
-pub grant_is_made_only : offered_before grant_before_its_offer 5 ≡ Post ask ∷ []
-unfolding code_at first_words schedule rounds compress hash_after digest_bytes sha1 tag_of datagram_bytes datagram_at body_at message_at vote_at denial_at floor_at proposal_at factor_at next_at sha256_steps.first_words sha256_steps.schedule sha256_steps.rounds sha256_steps.compress sha256_steps.hash_after sha256_steps.digest_bytes sha256_steps.sha256 scene_after scene_after_deed made_by_event made_while_running made_by_datagram made_by_ruling made_by_proposal propose propose_alone propose_among on_ask accept count_grant on_grant raise count_deny on_deny on_floor on_message tick
+pub grant_is_made_only : offered_before grant_before_its_offer 5 ≡ ToPeer ask ∷ []
+unfolding code_at first_words schedule rounds compress hash_after digest_bytes sha1 tag_of datagram_bytes datagram_at body_at message_at vote_at denial_at floor_at proposal_at factor_at next_at sha256_steps.first_words sha256_steps.schedule sha256_steps.rounds sha256_steps.compress sha256_steps.hash_after sha256_steps.digest_bytes sha256_steps.sha256 cluster_after cluster_after_action made_by_event made_while_running made_by_datagram made_by_ruling made_by_proposal propose propose_alone propose_among on_ask accept count_grant on_grant raise count_deny on_deny on_floor on_message tick
 grant_is_made_only = refl
 
 -- ---- Lists
@@ -49,9 +49,9 @@ pub said : (bytes : List ℕ) (known envelope : Envelope) → envelope_at three_
 said bytes known envelope knows reads = same_some known envelope (sym knows ∙ reads)
 
 -- the sender of an output; an answer has no sender
-abbrev sender_of : Handout → ℕ
-sender_of (Post envelope) = envelope.sender
-sender_of (Answer told) = 0
+abbrev sender_of : Output → ℕ
+sender_of (ToPeer envelope) = envelope.sender
+sender_of (ToClient told) = 0
 
 none : {A : Type 0} (x : A) (place : ℕ) → slice_get [] place ≡ Some x → ⊥
 none x place e = absurd cc
@@ -62,11 +62,11 @@ only x y (suc place) e = absurd cc
 
 -- the envelope is not among no outputs
 pub nothing_offered : (envelope : Envelope) → WasOffered [] envelope → ⊥
-nothing_offered envelope was = none (Post envelope) was.place was.is_there
+nothing_offered envelope was = none (ToPeer envelope) was.place was.is_there
 
 -- the Grant is not among the outputs if only the Ask was offered
-pub ask_alone_offered : WasOffered (Post ask ∷ []) grant → ⊥
+pub ask_alone_offered : WasOffered (ToPeer ask ∷ []) grant → ⊥
 ask_alone_offered was =
-    let same : Post ask ≡ Post grant = only (Post ask) (Post grant) was.place was.is_there in
+    let same : ToPeer ask ≡ ToPeer grant = only (ToPeer ask) (ToPeer grant) was.place was.is_there in
     let senders : 1 ≡ 2 = ap sender_of same in
     omega (arith, senders)

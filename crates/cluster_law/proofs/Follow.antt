@@ -14,37 +14,37 @@ use Rattle.vote_core.specs.Schedule.{Envelope, all_most, envelope_from, greatest
 use Rattle.oath_node.specs.Hosted.{envelope_at}
 use Rattle.oath_node.specs.Machine.{Config, Made, NodeState, Peer, made_by_event, opened_node, restarted_node, stopped_node}
 use Rattle.cluster_sim.proofs.Owners.{get_more}
-use Rattle.cluster_sim.specs.World.{Note, Act, Says, Deliver, Ticks, Noise, Told, World, WorldEvent, Happens, Cut, Restart, Lost, Anew, acting_node, delivered_event, floor_in, has_store, is_from, lost_node, may_be_anew, note_anew, opening_node, world_after_anew, world_after_loss, node_event_of, node_if_sent, node_of, note_of, place_at, told_reply, with_state, with_told_of, world_after_act, world_after_event, world_after_restart, world_after_turn, world_with_made}
-use Rattle.cluster_law.specs.Lives.{Deed, Opens, FailsToOpen, Takes, Offers, Stops, StopsIn, Loses, Remakes, Input, Line, Datagram, Time, Handout, Post, Answer, Scene, Setting, Site, Down, Up, IsGenuine, IsGenuineDeed, can_be, content_at, event_of, has_store as has_own_store, handouts_of, made_by_input, may_be_remade, node_of_deed, nodes_of, place_in, remade_content, scene_after_deed, first_of_these, scene_at, site_cut, site_half_opened, site_offered, site_opened, site_taken, with_site}
+use Rattle.cluster_sim.specs.World.{Note, Act, Says, Deliver, Ticks, Noise, Answer, World, WorldEvent, Happens, Cut, Restart, Lost, Anew, acting_node, delivered_event, floor_in, has_store, is_from, lost_node, may_be_anew, note_anew, opening_node, world_after_anew, world_after_loss, node_event_of, node_if_sent, node_of, note_of, place_at, told_reply, with_state, with_told_of, world_after_act, world_after_event, world_after_restart, world_after_turn, world_with_made}
+use Rattle.cluster_law.specs.Lives.{Action, Opens, FailsToOpen, Takes, Offers, Stops, StopsIn, Loses, Remakes, Input, Line, Datagram, Time, Output, ToPeer, ToClient, ClusterState, Setting, ProcessState, Down, Up, IsGenuine, IsGenuineAction, can_be, content_at, event_of, has_store as has_own_store, outputs_of_step, made_by_input, may_be_remade, node_of_action, nodes_of, place_in, remade_content, cluster_after_action, first_of_these, cluster_at, process_cut, process_half_opened, process_offered, process_opened, process_taken, with_process_state}
 use Rattle.cluster_law.specs.Promises.{HasAct, IsActOf, IsEventOf, nothing}
 
--- ---- What a scene is in a world
+-- ---- What a cluster state is in a world
 
 -- the world has sent the datagram, or replied the answer
-abbrev pub IsKnown : World → Handout → Type 0
-IsKnown w (Post envelope) = (k : ℕ) × (slice_get w.sent k ≡ Some envelope)
-IsKnown w (Answer told) = (k : ℕ) × (slice_get w.told k ≡ Some told)
+abbrev pub IsKnown : World → Output → Type 0
+IsKnown w (ToPeer envelope) = (k : ℕ) × (slice_get w.sent k ≡ Some envelope)
+IsKnown w (ToClient told) = (k : ℕ) × (slice_get w.told k ≡ Some told)
 
-abbrev pub IsSiteIn : World → Site → NodeState → Type 0
-IsSiteIn w (Down c) x = (x.content ≡ c) ⊎ (x ≡ opened_node c)
-IsSiteIn w (Up s waiting) x = (x ≡ s) × Each (IsKnown w) waiting
+abbrev pub IsProcessIn : World → ProcessState → NodeState → Type 0
+IsProcessIn w (Down c) x = (x.content ≡ c) ⊎ (x ≡ opened_node c)
+IsProcessIn w (Up s waiting) x = (x ≡ s) × Each (IsKnown w) waiting
 
 -- a node that lost its store keeps its rows in the world, with a boot that it never used
-abbrev pub IsGone : Site → NodeState → Type 0
+abbrev pub IsGone : ProcessState → NodeState → Type 0
 IsGone (Down c) x = (x.content.rows ≡ c.rows) × (x.content.boot ≤ c.boot + 1)
 IsGone (Up s waiting) x = ⊥
 
-abbrev pub IsSiteAt : World → Bool → Site → NodeState → Type 0
-IsSiteAt w false a x = IsSiteIn w a x
-IsSiteAt w true a x = IsGone a x
+abbrev pub IsProcessAt : World → Bool → ProcessState → NodeState → Type 0
+IsProcessAt w false a x = IsProcessIn w a x
+IsProcessAt w true a x = IsGone a x
 
-pub record Matches (setting : Setting) (scene : Scene) (w : World) : Type 0 where
+pub record Matches (setting : Setting) (cluster : ClusterState) (w : World) : Type 0 where
   pub n : w.n ≡ nodes_of setting
-  pub lost : w.lost ≡ scene.lost
-  pub least : w.least ≡ scene.least
-  pub sites : (j : ℕ) → IsSiteAt w (scene.lost j) (scene.sites j) (w.nodes j)
-  pub offered : Each (IsKnown w) scene.offered
-  pub notes : w.history ≡ scene.notes
+  pub lost : w.lost ≡ cluster.lost
+  pub least : w.least ≡ cluster.least
+  pub processes : (j : ℕ) → IsProcessAt w (cluster.lost j) (cluster.processes j) (w.nodes j)
+  pub offered : Each (IsKnown w) cluster.offered
+  pub notes : w.history ≡ cluster.notes
 
 -- ---- lists
 
@@ -63,56 +63,56 @@ all_after {A} xs ys =
 
 -- ---- what changes at one node
 
-either_set : (P : Site → NodeState → Type 0) (b : Bool) (a c : Site) (x y : NodeState) → (b ≡ true → P a x) → (b ≡ false → P c y) → P (cond b a c) (cond b x y)
+either_set : (P : ProcessState → NodeState → Type 0) (b : Bool) (a c : ProcessState) (x y : NodeState) → (b ≡ true → P a x) → (b ≡ false → P c y) → P (cond b a c) (cond b x y)
 either_set P true a c x y h k = h refl
 either_set P false a c x y h k = k refl
 
-both_set : (P : ℕ → Site → NodeState → Type 0) (i : ℕ) (a : Site) (x : NodeState) (sites : ℕ → Site) (nodes : ℕ → NodeState) → P i a x → ((j : ℕ) → P j (sites j) (nodes j)) → (j : ℕ) → P j (with_site i a sites j) (with_state i x nodes j)
-both_set P i a x sites nodes here h j =
-    either_set (P j) (eqb j i) a (sites j) x (nodes j) (λ q. subst (λ m. P m a x) (sym (eqb-true j i q)) here) (λ _. h j)
+both_set : (P : ℕ → ProcessState → NodeState → Type 0) (i : ℕ) (a : ProcessState) (x : NodeState) (processes : ℕ → ProcessState) (nodes : ℕ → NodeState) → P i a x → ((j : ℕ) → P j (processes j) (nodes j)) → (j : ℕ) → P j (with_process_state i a processes j) (with_state i x nodes j)
+both_set P i a x processes nodes here h j =
+    either_set (P j) (eqb j i) a (processes j) x (nodes j) (λ q. subst (λ m. P m a x) (sym (eqb-true j i q)) here) (λ _. h j)
 
-either_twice : (P : Site → NodeState → Type 0) (b : Bool) (a c : Site) (x y z : NodeState) → (b ≡ true → P a y) → (b ≡ false → P c z) → P (cond b a c) (cond b y (cond b x z))
+either_twice : (P : ProcessState → NodeState → Type 0) (b : Bool) (a c : ProcessState) (x y z : NodeState) → (b ≡ true → P a y) → (b ≡ false → P c z) → P (cond b a c) (cond b y (cond b x z))
 either_twice P true a c x y z h k = h refl
 either_twice P false a c x y z h k = k refl
 
-twice_set : (P : ℕ → Site → NodeState → Type 0) (i : ℕ) (a : Site) (x y : NodeState) (sites : ℕ → Site) (nodes : ℕ → NodeState) → P i a y → ((j : ℕ) → P j (sites j) (nodes j)) → (j : ℕ) → P j (with_site i a sites j) (with_state i y (with_state i x nodes) j)
-twice_set P i a x y sites nodes here h j =
-    either_twice (P j) (eqb j i) a (sites j) x y (nodes j) (λ q. subst (λ m. P m a y) (sym (eqb-true j i q)) here) (λ _. h j)
+twice_set : (P : ℕ → ProcessState → NodeState → Type 0) (i : ℕ) (a : ProcessState) (x y : NodeState) (processes : ℕ → ProcessState) (nodes : ℕ → NodeState) → P i a y → ((j : ℕ) → P j (processes j) (nodes j)) → (j : ℕ) → P j (with_process_state i a processes j) (with_state i y (with_state i x nodes) j)
+twice_set P i a x y processes nodes here h j =
+    either_twice (P j) (eqb j i) a (processes j) x y (nodes j) (λ q. subst (λ m. P m a y) (sym (eqb-true j i q)) here) (λ _. h j)
 
-site_set : (P : ℕ → Site → NodeState → Type 0) (i : ℕ) (a : Site) (sites : ℕ → Site) (nodes : ℕ → NodeState) → P i a (nodes i) → ((j : ℕ) → P j (sites j) (nodes j)) → (j : ℕ) → P j (with_site i a sites j) (nodes j)
-site_set P i a sites nodes here h j =
-    cond_both (eqb j i) a (sites j) (λ s. P j s (nodes j)) (λ q. subst (λ m. P m a (nodes m)) (sym (eqb-true j i q)) here) (λ _. h j)
+process_set : (P : ℕ → ProcessState → NodeState → Type 0) (i : ℕ) (a : ProcessState) (processes : ℕ → ProcessState) (nodes : ℕ → NodeState) → P i a (nodes i) → ((j : ℕ) → P j (processes j) (nodes j)) → (j : ℕ) → P j (with_process_state i a processes j) (nodes j)
+process_set P i a processes nodes here h j =
+    cond_both (eqb j i) a (processes j) (λ s. P j s (nodes j)) (λ q. subst (λ m. P m a (nodes m)) (sym (eqb-true j i q)) here) (λ _. h j)
 
 -- one more or one less store is lost
-lost_set : (w : World) (i : ℕ) (a : Site) (x : NodeState) (lost : ℕ → Bool) (sites : ℕ → Site) (nodes : ℕ → NodeState) → IsGone a x → ((j : ℕ) → IsSiteAt w (lost j) (sites j) (nodes j))
-    → (j : ℕ) → IsSiteAt w (with_node i lost j) (with_site i a sites j) (with_state i x nodes j)
-lost_set w i a x lost sites nodes here h j =
-    elim (eqb j i) as (λ b. IsSiteAt w (b || lost j) (cond b a (sites j)) (cond b x (nodes j))) [ true ↦ here | false ↦ h j ]
+lost_set : (w : World) (i : ℕ) (a : ProcessState) (x : NodeState) (lost : ℕ → Bool) (processes : ℕ → ProcessState) (nodes : ℕ → NodeState) → IsGone a x → ((j : ℕ) → IsProcessAt w (lost j) (processes j) (nodes j))
+    → (j : ℕ) → IsProcessAt w (with_node i lost j) (with_process_state i a processes j) (with_state i x nodes j)
+lost_set w i a x lost processes nodes here h j =
+    elim (eqb j i) as (λ b. IsProcessAt w (b || lost j) (cond b a (processes j)) (cond b x (nodes j))) [ true ↦ here | false ↦ h j ]
 
-remade_set : (w : World) (i : ℕ) (a : Site) (x : NodeState) (lost : ℕ → Bool) (sites : ℕ → Site) (nodes : ℕ → NodeState) → IsSiteIn w a x → ((j : ℕ) → IsSiteAt w (lost j) (sites j) (nodes j))
-    → (j : ℕ) → IsSiteAt w (without_node i lost j) (with_site i a sites j) (with_state i x nodes j)
-remade_set w i a x lost sites nodes here h j =
-    elim (eqb j i) as (λ b. IsSiteAt w (not b && lost j) (cond b a (sites j)) (cond b x (nodes j))) [ true ↦ here | false ↦ h j ]
+remade_set : (w : World) (i : ℕ) (a : ProcessState) (x : NodeState) (lost : ℕ → Bool) (processes : ℕ → ProcessState) (nodes : ℕ → NodeState) → IsProcessIn w a x → ((j : ℕ) → IsProcessAt w (lost j) (processes j) (nodes j))
+    → (j : ℕ) → IsProcessAt w (without_node i lost j) (with_process_state i a processes j) (with_state i x nodes j)
+remade_set w i a x lost processes nodes here h j =
+    elim (eqb j i) as (λ b. IsProcessAt w (not b && lost j) (cond b a (processes j)) (cond b x (nodes j))) [ true ↦ here | false ↦ h j ]
 
 -- a node that has its store
-abbrev pub IsStored : Scene → World → ℕ → Type 0
-IsStored scene w i = (scene.lost i ≡ false) × (has_store w i ≡ true)
+abbrev pub IsStored : ClusterState → World → ℕ → Type 0
+IsStored cluster w i = (cluster.lost i ≡ false) × (has_store w i ≡ true)
 
-site_at : (w : World) (b : Bool) (a : Site) (x : NodeState) → b ≡ false → IsSiteIn w a x → IsSiteAt w b a x
-site_at w b a x kept h = subst (λ z. IsSiteAt w z a x) (sym kept) h
+process_at : (w : World) (b : Bool) (a : ProcessState) (x : NodeState) → b ≡ false → IsProcessIn w a x → IsProcessAt w b a x
+process_at w b a x kept h = subst (λ z. IsProcessAt w z a x) (sym kept) h
 
 -- what a node's store holds
-pub same_rows : (w : World) (b : Bool) (a : Site) (x : NodeState) → IsSiteAt w b a x → x.content.rows ≡ (content_at a).rows
+pub same_rows : (w : World) (b : Bool) (a : ProcessState) (x : NodeState) → IsProcessAt w b a x → x.content.rows ≡ (content_at a).rows
 same_rows w false (Down c) x h =
     ⊎_elim (λ (q : x.content ≡ c). ap (λ (d : Content). d.rows) q) (λ (q : x ≡ opened_node c). ap (λ (y : NodeState). y.content.rows) q) h
 same_rows w false (Up s waiting) x h = ap (λ (y : NodeState). y.content.rows) h.0
 same_rows w true (Down c) x h = h.0
 same_rows w true (Up s waiting) x h = absurd h
 
-pub same_next : (w : World) (b : Bool) (a : Site) (x : NodeState) (token : ℕ) → IsSiteAt w b a x → (row x.content token).next ≡ (row (content_at a) token).next
+pub same_next : (w : World) (b : Bool) (a : ProcessState) (x : NodeState) (token : ℕ) → IsProcessAt w b a x → (row x.content token).next ≡ (row (content_at a) token).next
 same_next w b a x token h = ap (λ (rs : List RowRecord). (get_or rs token no_row).next) (same_rows w b a x h)
 
-near_boot : (w : World) (a : Site) (x : NodeState) → IsSiteIn w a x → x.content.boot ≤ (content_at a).boot + 1
+near_boot : (w : World) (a : ProcessState) (x : NodeState) → IsProcessIn w a x → x.content.boot ≤ (content_at a).boot + 1
 near_boot w (Down c) x h =
     ⊎_elim
     (λ (q : x.content ≡ c). (let same : x.content.boot ≡ c.boot = ap (λ (d : Content). d.boot) q in omega (arith, same)))
@@ -141,7 +141,7 @@ restarts : (config : Config) (e i : ℕ) (w : World) → has_store w i ≡ true
 unfolding world_after_event world_after_restart
 restarts config e i w member = cond-true (has_store w i) (record w { nodes = with_state i (restarted_node (w.nodes i)) w.nodes }) w member
 
-restarted_is : (w : World) (x : NodeState) → IsSiteIn w (Down x.content) (restarted_node x)
+restarted_is : (w : World) (x : NodeState) → IsProcessIn w (Down x.content) (restarted_node x)
 restarted_is w x =
     cond_both (ltb x.content.boot last_boot) (opened_node x.content) (stopped_node x) (λ y. (y.content ≡ x.content) ⊎ (y ≡ opened_node x.content)) (λ _. inr refl) (λ _. inl refl)
 
@@ -185,7 +185,7 @@ sent_for key w i from bytes l k reads own at = record {
   is_act = inl (k, refl);
 }
 
-datagram_for : (key : List ℕ) (offered : List Handout) (w : World) (i from : ℕ) (bytes : List ℕ) (read : Option Envelope) → envelope_at key bytes ≡ read → Each (IsKnown w) offered
+datagram_for : (key : List ℕ) (offered : List Output) (w : World) (i from : ℕ) (bytes : List ℕ) (read : Option Envelope) → envelope_at key bytes ≡ read → Each (IsKnown w) offered
     → IsGenuine key offered (Datagram from bytes) → ActFor key w i (Datagram from bytes)
 datagram_for key offered w i from bytes None reads known genuine = noise_for key w i from bytes None reads refl
 datagram_for key offered w i from bytes (Some l) reads known genuine =
@@ -193,51 +193,51 @@ datagram_for key offered w i from bytes (Some l) reads known genuine =
     (λ (q : eqb l.sender from ≡ true).
     let own = eqb-true l.sender from q in
     let was = genuine l reads own in
-    let p : IsKnown w (Post l) = each_get (IsKnown w) offered was.place (Post l) known was.is_there in
+    let p : IsKnown w (ToPeer l) = each_get (IsKnown w) offered was.place (ToPeer l) known was.is_there in
     sent_for key w i from bytes l p.0 reads own p.1)
     (λ (q : eqb l.sender from ≡ false). noise_for key w i from bytes (Some l) reads q)
     (cases_Bool (eqb l.sender from))
 
-act_for : (key : List ℕ) (offered : List Handout) (w : World) (i : ℕ) (input : Input) → Each (IsKnown w) offered → IsGenuine key offered input → ActFor key w i input
+act_for : (key : List ℕ) (offered : List Output) (w : World) (i : ℕ) (input : Input) → Each (IsKnown w) offered → IsGenuine key offered input → ActFor key w i input
 act_for key offered w i (Line client moment bytes) known genuine = record { act = Says i client moment bytes; acting = refl; event = refl; cut = refl; is_act = refl }
 act_for key offered w i Time known genuine = record { act = Ticks i; acting = refl; event = refl; cut = refl; is_act = refl }
 act_for key offered w i (Datagram from bytes) known genuine = datagram_for key offered w i from bytes (envelope_at key bytes) refl known genuine
 
 -- ---- what a world that grows knows
 
-site_grows : (v w : World) → ((h : Handout) → IsKnown v h → IsKnown w h) → (s : Site) (x : NodeState) → IsSiteIn v s x → IsSiteIn w s x
-site_grows v w grows (Down c) x p = p
-site_grows v w grows (Up s waiting) x p = (p.0, each_weaker (IsKnown v) (IsKnown w) grows waiting p.1)
+process_grows : (v w : World) → ((h : Output) → IsKnown v h → IsKnown w h) → (s : ProcessState) (x : NodeState) → IsProcessIn v s x → IsProcessIn w s x
+process_grows v w grows (Down c) x p = p
+process_grows v w grows (Up s waiting) x p = (p.0, each_weaker (IsKnown v) (IsKnown w) grows waiting p.1)
 
-at_grows : (v w : World) → ((h : Handout) → IsKnown v h → IsKnown w h) → (b : Bool) (s : Site) (x : NodeState) → IsSiteAt v b s x → IsSiteAt w b s x
-at_grows v w grows false s x p = site_grows v w grows s x p
+at_grows : (v w : World) → ((h : Output) → IsKnown v h → IsKnown w h) → (b : Bool) (s : ProcessState) (x : NodeState) → IsProcessAt v b s x → IsProcessAt w b s x
+at_grows v w grows false s x p = process_grows v w grows s x p
 at_grows v w grows true s x p = p
 
-made_grows : (e i : ℕ) (m : Made) (w : World) (h : Handout) → IsKnown w h → IsKnown (world_with_made e i m w) h
+made_grows : (e i : ℕ) (m : Made) (w : World) (h : Output) → IsKnown w h → IsKnown (world_with_made e i m w) h
 unfolding world_with_made
-made_grows e i m w (Post l) p = (p.0, get_more w.sent (map (envelope_from i) m.sends) p.0 l p.1)
-made_grows e i m w (Answer t) p = (p.0, get_more w.told (map (told_reply e i) m.replies) p.0 t p.1)
+made_grows e i m w (ToPeer l) p = (p.0, get_more w.sent (map (envelope_from i) m.sends) p.0 l p.1)
+made_grows e i m w (ToClient t) p = (p.0, get_more w.told (map (told_reply e i) m.replies) p.0 t p.1)
 
-made_known : (e i : ℕ) (m : Made) (w : World) → Each (IsKnown (world_with_made e i m w)) (handouts_of e i m)
+made_known : (e i : ℕ) (m : Made) (w : World) → Each (IsKnown (world_with_made e i m w)) (outputs_of_step e i m)
 unfolding world_with_made
 made_known e i m w =
     let v = world_with_made e i m w in
     let ls = map (envelope_from i) m.sends in
     let ts = map (told_reply e i) m.replies in
-    each_append (IsKnown v) (map (λ (l : Envelope). Post l) ls) (map (λ (t : Told). Answer t) ts)
-    (each_map (IsKnown v) (λ (l : Envelope). Post l) ls (all_after w.sent ls))
-    (each_map (IsKnown v) (λ (t : Told). Answer t) ts (all_after w.told ts))
+    each_append (IsKnown v) (map (λ (l : Envelope). ToPeer l) ls) (map (λ (t : Answer). ToClient t) ts)
+    (each_map (IsKnown v) (λ (l : Envelope). ToPeer l) ls (all_after w.sent ls))
+    (each_map (IsKnown v) (λ (t : Answer). ToClient t) ts (all_after w.told ts))
 
--- ---- a step, a stop inside it, and what changes one site alone
+-- ---- a step, a stop inside it, and what changes one process state alone
 
--- the scene with another site of one node, and with these offers and notes more
-abbrev scene_with : ℕ → Site → List Handout → List Note → Scene → Scene
-scene_with i a hs ns scene = record { sites = with_site i a scene.sites; lost = scene.lost; least = scene.least; offered = scene.offered ++ hs; notes = ns ++ scene.notes }
+-- the cluster state with another process state of one node, and with these offers and notes more
+abbrev cluster_with : ℕ → ProcessState → List Output → List Note → ClusterState → ClusterState
+cluster_with i a hs ns cluster = record { processes = with_process_state i a cluster.processes; lost = cluster.lost; least = cluster.least; offered = cluster.offered ++ hs; notes = ns ++ cluster.notes }
 
-taken : (setting : Setting) (e i : ℕ) (input : Input) (s : NodeState) (waiting : List Handout) (scene : Scene) (w : World) → IsStored scene w i → Matches setting scene w → Each (IsKnown w) waiting
-    → Matches setting (scene_with i (site_taken setting e i input s waiting) [] (note_of e i (made_by_input setting i input s) ∷ []) scene) (world_with_made e i (made_by_input setting i input s) w)
+taken : (setting : Setting) (e i : ℕ) (input : Input) (s : NodeState) (waiting : List Output) (cluster : ClusterState) (w : World) → IsStored cluster w i → Matches setting cluster w → Each (IsKnown w) waiting
+    → Matches setting (cluster_with i (process_taken setting e i input s waiting) [] (note_of e i (made_by_input setting i input s) ∷ []) cluster) (world_with_made e i (made_by_input setting i input s) w)
 unfolding world_with_made
-taken setting e i input s waiting scene w stored m known =
+taken setting e i input s waiting cluster w stored m known =
     let made = made_by_input setting i input s in
     let v = world_with_made e i made w in
     let grows = made_grows e i made w in
@@ -245,48 +245,48 @@ taken setting e i input s waiting scene w stored m known =
       n = m.n;
       lost = m.lost;
       least = m.least;
-      sites = both_set (λ j. IsSiteAt v (scene.lost j)) i (Up made.state (waiting ++ handouts_of e i made)) made.state scene.sites w.nodes
-          (site_at v (scene.lost i) (Up made.state (waiting ++ handouts_of e i made)) made.state stored.0 (refl, each_append (IsKnown v) waiting (handouts_of e i made) (each_weaker (IsKnown w) (IsKnown v) grows waiting known) (made_known e i made w)))
-          (λ j. at_grows w v grows (scene.lost j) (scene.sites j) (w.nodes j) (m.sites j));
-      offered = each_append (IsKnown v) scene.offered [] (each_weaker (IsKnown w) (IsKnown v) grows scene.offered m.offered) tt;
+      processes = both_set (λ j. IsProcessAt v (cluster.lost j)) i (Up made.state (waiting ++ outputs_of_step e i made)) made.state cluster.processes w.nodes
+          (process_at v (cluster.lost i) (Up made.state (waiting ++ outputs_of_step e i made)) made.state stored.0 (refl, each_append (IsKnown v) waiting (outputs_of_step e i made) (each_weaker (IsKnown w) (IsKnown v) grows waiting known) (made_known e i made w)))
+          (λ j. at_grows w v grows (cluster.lost j) (cluster.processes j) (w.nodes j) (m.processes j));
+      offered = each_append (IsKnown v) cluster.offered [] (each_weaker (IsKnown w) (IsKnown v) grows cluster.offered m.offered) tt;
       notes = ap (λ h. note_of e i made ∷ h) m.notes;
     }
 
 abbrev cut_world : ℕ → ℕ → Made → World → World
 cut_world e i made w = with_told_of w (world_with_made e i made w)
 
-same_known : (v w : World) → v.sent ≡ w.sent → v.told ≡ w.told → (h : Handout) → IsKnown w h → IsKnown v h
-same_known v w sent told (Post l) p = (p.0, subst (λ ls. slice_get ls p.0 ≡ Some l) (sym sent) p.1)
-same_known v w sent told (Answer t) p = (p.0, subst (λ ts. slice_get ts p.0 ≡ Some t) (sym told) p.1)
+same_known : (v w : World) → v.sent ≡ w.sent → v.told ≡ w.told → (h : Output) → IsKnown w h → IsKnown v h
+same_known v w sent told (ToPeer l) p = (p.0, subst (λ ls. slice_get ls p.0 ≡ Some l) (sym sent) p.1)
+same_known v w sent told (ToClient t) p = (p.0, subst (λ ts. slice_get ts p.0 ≡ Some t) (sym told) p.1)
 
-cut_matches : (setting : Setting) (e i : ℕ) (input : Input) (s : NodeState) (scene : Scene) (w : World) → IsStored scene w i → Matches setting scene w
-    → Matches setting (scene_with i (site_cut setting i true input s) [] (note_of e i (made_by_input setting i input s) ∷ []) scene) (world_after_restart (Some i) (cut_world e i (made_by_input setting i input s) w))
+cut_matches : (setting : Setting) (e i : ℕ) (input : Input) (s : NodeState) (cluster : ClusterState) (w : World) → IsStored cluster w i → Matches setting cluster w
+    → Matches setting (cluster_with i (process_cut setting i true input s) [] (note_of e i (made_by_input setting i input s) ∷ []) cluster) (world_after_restart (Some i) (cut_world e i (made_by_input setting i input s) w))
 unfolding world_with_made world_after_restart
-cut_matches setting e i input s scene w stored m =
+cut_matches setting e i input s cluster w stored m =
     let made = made_by_input setting i input s in
     let v = cut_world e i made w in
     let y = restarted_node (v.nodes i) in
     let u : World = record v { nodes = with_state i y v.nodes } in
     let grows = same_known u w refl refl in
-    let here : IsSiteIn u (Down made.state.content) y = subst (λ (x : NodeState). IsSiteIn u (Down made.state.content) (restarted_node x)) (sym (state_at i made.state w.nodes)) (restarted_is u made.state) in
-    subst (λ z. Matches setting (scene_with i (site_cut setting i true input s) [] (note_of e i made ∷ []) scene) z) (sym (cond-true (has_store w i) u v stored.1))
+    let here : IsProcessIn u (Down made.state.content) y = subst (λ (x : NodeState). IsProcessIn u (Down made.state.content) (restarted_node x)) (sym (state_at i made.state w.nodes)) (restarted_is u made.state) in
+    subst (λ z. Matches setting (cluster_with i (process_cut setting i true input s) [] (note_of e i made ∷ []) cluster) z) (sym (cond-true (has_store w i) u v stored.1))
     (record {
       n = m.n;
       lost = m.lost;
       least = m.least;
-      sites = twice_set (λ j. IsSiteAt u (scene.lost j)) i (Down made.state.content) made.state y scene.sites w.nodes (site_at u (scene.lost i) (Down made.state.content) y stored.0 here)
-          (λ j. at_grows w u grows (scene.lost j) (scene.sites j) (w.nodes j) (m.sites j));
-      offered = each_append (IsKnown u) scene.offered [] (each_weaker (IsKnown w) (IsKnown u) grows scene.offered m.offered) tt;
+      processes = twice_set (λ j. IsProcessAt u (cluster.lost j)) i (Down made.state.content) made.state y cluster.processes w.nodes (process_at u (cluster.lost i) (Down made.state.content) y stored.0 here)
+          (λ j. at_grows w u grows (cluster.lost j) (cluster.processes j) (w.nodes j) (m.processes j));
+      offered = each_append (IsKnown u) cluster.offered [] (each_weaker (IsKnown w) (IsKnown u) grows cluster.offered m.offered) tt;
       notes = ap (λ h. note_of e i made ∷ h) m.notes;
     })
 
-site_changes : (setting : Setting) (i : ℕ) (a : Site) (scene : Scene) (w : World) → IsStored scene w i → Matches setting scene w → IsSiteIn w a (w.nodes i) → Matches setting (scene_with i a [] [] scene) w
-site_changes setting i a scene w stored m here = record {
+process_changes : (setting : Setting) (i : ℕ) (a : ProcessState) (cluster : ClusterState) (w : World) → IsStored cluster w i → Matches setting cluster w → IsProcessIn w a (w.nodes i) → Matches setting (cluster_with i a [] [] cluster) w
+process_changes setting i a cluster w stored m here = record {
   n = m.n;
   lost = m.lost;
   least = m.least;
-  sites = site_set (λ j. IsSiteAt w (scene.lost j)) i a scene.sites w.nodes (site_at w (scene.lost i) a (w.nodes i) stored.0 here) m.sites;
-  offered = each_append (IsKnown w) scene.offered [] m.offered tt;
+  processes = process_set (λ j. IsProcessAt w (cluster.lost j)) i a cluster.processes w.nodes (process_at w (cluster.lost i) a (w.nodes i) stored.0 here) m.processes;
+  offered = each_append (IsKnown w) cluster.offered [] m.offered tt;
   notes = m.notes;
 }
 
@@ -299,26 +299,26 @@ cut_told e i made w member =
     let v = cut_world e i made w in
     ap (λ (z : World). z.told) (cond-true (has_store w i) (record v { nodes = with_state i (restarted_node (v.nodes i)) v.nodes }) v member)
 
-restart_matches : (setting : Setting) (e i : ℕ) (a : Site) (scene : Scene) (w : World) → IsStored scene w i → Matches setting scene w → ((v : World) → IsSiteIn v a (restarted_node (w.nodes i)))
-    → Matches setting (scene_with i a [] [] scene) (world_after_event setting.config e (Restart i) w)
-restart_matches setting e i a scene w stored m here =
+restart_matches : (setting : Setting) (e i : ℕ) (a : ProcessState) (cluster : ClusterState) (w : World) → IsStored cluster w i → Matches setting cluster w → ((v : World) → IsProcessIn v a (restarted_node (w.nodes i)))
+    → Matches setting (cluster_with i a [] [] cluster) (world_after_event setting.config e (Restart i) w)
+restart_matches setting e i a cluster w stored m here =
     let u : World = record w { nodes = with_state i (restarted_node (w.nodes i)) w.nodes } in
     let grows = same_known u w refl refl in
-    subst (λ z. Matches setting (scene_with i a [] [] scene) z) (sym (restarts setting.config e i w stored.1))
+    subst (λ z. Matches setting (cluster_with i a [] [] cluster) z) (sym (restarts setting.config e i w stored.1))
     (record {
       n = m.n;
       lost = m.lost;
       least = m.least;
-      sites = both_set (λ j. IsSiteAt u (scene.lost j)) i a (restarted_node (w.nodes i)) scene.sites w.nodes (site_at u (scene.lost i) a (restarted_node (w.nodes i)) stored.0 (here u))
-          (λ j. at_grows w u grows (scene.lost j) (scene.sites j) (w.nodes j) (m.sites j));
-      offered = each_append (IsKnown u) scene.offered [] (each_weaker (IsKnown w) (IsKnown u) grows scene.offered m.offered) tt;
+      processes = both_set (λ j. IsProcessAt u (cluster.lost j)) i a (restarted_node (w.nodes i)) cluster.processes w.nodes (process_at u (cluster.lost i) a (restarted_node (w.nodes i)) stored.0 (here u))
+          (λ j. at_grows w u grows (cluster.lost j) (cluster.processes j) (w.nodes j) (m.processes j));
+      offered = each_append (IsKnown u) cluster.offered [] (each_weaker (IsKnown w) (IsKnown u) grows cluster.offered m.offered) tt;
       notes = m.notes;
     })
 
 -- ---- an action
 
--- the event of an action at a member with the given site
-abbrev pub IsFull : List ℕ → Deed → Site → WorldEvent → Type 0
+-- the event of an action at a member with the given process state
+abbrev pub IsFull : List ℕ → Action → ProcessState → WorldEvent → Type 0
 IsFull key (Opens i) (Down c) event = (event ≡ nothing) ⊎ (event ≡ Restart i)
 IsFull key (Opens i) (Up s waiting) event = event ≡ nothing
 IsFull key (FailsToOpen i raised) (Down c) event = (event ≡ nothing) ⊎ (event ≡ Restart i)
@@ -333,7 +333,7 @@ IsFull key (StopsIn i true input) (Up s waiting) event = HasAct key i input (λ 
 IsFull key (Loses i) old event = event ≡ Lost i
 IsFull key (Remakes i boot floors) old event = event ≡ Anew i (boot + 1) floors
 
-full_is_event : (key : List ℕ) (deed : Deed) (old : Site) (event : WorldEvent) → IsFull key deed old event → IsEventOf key deed event
+full_is_event : (key : List ℕ) (action : Action) (old : ProcessState) (event : WorldEvent) → IsFull key action old event → IsEventOf key action event
 full_is_event key (Opens i) (Down c) event h = h
 full_is_event key (Opens i) (Up s waiting) event h = inl h
 full_is_event key (FailsToOpen i raised) (Down c) event h = h
@@ -349,8 +349,8 @@ full_is_event key (StopsIn i true input) (Up s waiting) event h = inr h
 full_is_event key (Loses i) old event h = inr h
 full_is_event key (Remakes i boot floors) old event h = inr h
 
--- the answers that an action at the given site makes
-abbrev pub answers_made : Setting → ℕ → Deed → Site → List Told
+-- the answers that an action at the given process state makes
+abbrev pub answers_made : Setting → ℕ → Action → ProcessState → List Answer
 answers_made setting e (Takes i input) (Up s waiting) = map (told_reply e i) (made_by_input setting i input s).replies
 answers_made setting e (Takes i input) (Down c) = []
 answers_made setting e (Opens i) old = []
@@ -361,89 +361,89 @@ answers_made setting e (StopsIn i kept input) old = []
 answers_made setting e (Loses i) old = []
 answers_made setting e (Remakes i boot floors) old = []
 
--- the event of an action at a site, and the scene after it
-record Follows (setting : Setting) (e : ℕ) (deed : Deed) (old : Site) (scene : Scene) (w : World) : Type 0 where
+-- the event of an action at a process state, and the cluster state after it
+record Follows (setting : Setting) (e : ℕ) (action : Action) (old : ProcessState) (cluster : ClusterState) (w : World) : Type 0 where
   event : WorldEvent
-  is_full : IsFull setting.key deed old event
-  matches : Matches setting scene (world_after_event setting.config e event w)
-  told : (world_after_event setting.config e event w).told ≡ w.told ++ answers_made setting e deed old
+  is_full : IsFull setting.key action old event
+  matches : Matches setting cluster (world_after_event setting.config e event w)
+  told : (world_after_event setting.config e event w).told ≡ w.told ++ answers_made setting e action old
 
-stays : (setting : Setting) (e : ℕ) (deed : Deed) (old : Site) (scene : Scene) (w : World) → IsFull setting.key deed old nothing → answers_made setting e deed old ≡ [] → Matches setting scene w → Follows setting e deed old scene w
-stays setting e deed old scene w is none m = record {
+stays : (setting : Setting) (e : ℕ) (action : Action) (old : ProcessState) (cluster : ClusterState) (w : World) → IsFull setting.key action old nothing → answers_made setting e action old ≡ [] → Matches setting cluster w → Follows setting e action old cluster w
+stays setting e action old cluster w is none m = record {
   event = nothing;
   is_full = is;
-  matches = subst (λ z. Matches setting scene z) (sym (quiet setting.config e w)) m;
+  matches = subst (λ z. Matches setting cluster z) (sym (quiet setting.config e w)) m;
   told = ap (λ (z : World). z.told) (quiet setting.config e w) ∙ sym (append-nil w.told) ∙ ap (λ l. w.told ++ l) (sym none);
 }
 
 -- a node with no process opens, or ends while it opens
-opens_site : (c : Content) (x : NodeState) (w : World) → (x.content ≡ c) → ltb c.boot last_boot ≡ true → restarted_node x ≡ opened_node c
-opens_site c x w same low =
+opens_process : (c : Content) (x : NodeState) (w : World) → (x.content ≡ c) → ltb c.boot last_boot ≡ true → restarted_node x ≡ opened_node c
+opens_process c x w same low =
     cond-true (ltb x.content.boot last_boot) (opened_node x.content) (stopped_node x) (subst (λ (d : Content). ltb d.boot last_boot ≡ true) (sym same) low)
     ∙ ap (λ (d : Content). opened_node d) same
 
-opened_up : (setting : Setting) (e i : ℕ) (c : Content) (scene : Scene) (w : World) → IsStored scene w i → Matches setting scene w → IsSiteIn w (Down c) (w.nodes i) → ltb c.boot last_boot ≡ true
-    → Follows setting e (Opens i) (Down c) (scene_with i (Up (opened_node c) []) [] [] scene) w
-opened_up setting e i c scene w member m here low =
+opened_up : (setting : Setting) (e i : ℕ) (c : Content) (cluster : ClusterState) (w : World) → IsStored cluster w i → Matches setting cluster w → IsProcessIn w (Down c) (w.nodes i) → ltb c.boot last_boot ≡ true
+    → Follows setting e (Opens i) (Down c) (cluster_with i (Up (opened_node c) []) [] [] cluster) w
+opened_up setting e i c cluster w member m here low =
     ⊎_elim
     (λ (same : (w.nodes i).content ≡ c). record {
       event = Restart i;
       is_full = inr refl;
-      matches = restart_matches setting e i (Up (opened_node c) []) scene w member m (λ v. (opens_site c (w.nodes i) w same low, tt));
+      matches = restart_matches setting e i (Up (opened_node c) []) cluster w member m (λ v. (opens_process c (w.nodes i) w same low, tt));
       told = restart_told setting.config e i w member.1;
     })
-    (λ (is : w.nodes i ≡ opened_node c). stays setting e (Opens i) (Down c) (scene_with i (Up (opened_node c) []) [] [] scene) w (inl refl) refl (site_changes setting i (Up (opened_node c) []) scene w member m (is, tt)))
+    (λ (is : w.nodes i ≡ opened_node c). stays setting e (Opens i) (Down c) (cluster_with i (Up (opened_node c) []) [] [] cluster) w (inl refl) refl (process_changes setting i (Up (opened_node c) []) cluster w member m (is, tt)))
     here
 
-opens : (setting : Setting) (e i : ℕ) (c : Content) (scene : Scene) (w : World) → IsStored scene w i → Matches setting scene w → IsSiteIn w (Down c) (w.nodes i)
-    → Follows setting e (Opens i) (Down c) (scene_with i (site_opened c) [] [] scene) w
-opens setting e i c scene w member m here =
-    cond_both (ltb c.boot last_boot) (Up (opened_node c) []) (Down c) (λ a. Follows setting e (Opens i) (Down c) (scene_with i a [] [] scene) w)
-    (λ low. opened_up setting e i c scene w member m here low)
-    (λ _. stays setting e (Opens i) (Down c) (scene_with i (Down c) [] [] scene) w (inl refl) refl (site_changes setting i (Down c) scene w member m here))
+opens : (setting : Setting) (e i : ℕ) (c : Content) (cluster : ClusterState) (w : World) → IsStored cluster w i → Matches setting cluster w → IsProcessIn w (Down c) (w.nodes i)
+    → Follows setting e (Opens i) (Down c) (cluster_with i (process_opened c) [] [] cluster) w
+opens setting e i c cluster w member m here =
+    cond_both (ltb c.boot last_boot) (Up (opened_node c) []) (Down c) (λ a. Follows setting e (Opens i) (Down c) (cluster_with i a [] [] cluster) w)
+    (λ low. opened_up setting e i c cluster w member m here low)
+    (λ _. stays setting e (Opens i) (Down c) (cluster_with i (Down c) [] [] cluster) w (inl refl) refl (process_changes setting i (Down c) cluster w member m here))
 
-raised_up : (setting : Setting) (e i : ℕ) (c : Content) (scene : Scene) (w : World) → IsStored scene w i → Matches setting scene w → IsSiteIn w (Down c) (w.nodes i) → ltb c.boot last_boot ≡ true
-    → Follows setting e (FailsToOpen i true) (Down c) (scene_with i (Down (with_next_boot c)) [] [] scene) w
-raised_up setting e i c scene w member m here low =
+raised_up : (setting : Setting) (e i : ℕ) (c : Content) (cluster : ClusterState) (w : World) → IsStored cluster w i → Matches setting cluster w → IsProcessIn w (Down c) (w.nodes i) → ltb c.boot last_boot ≡ true
+    → Follows setting e (FailsToOpen i true) (Down c) (cluster_with i (Down (with_next_boot c)) [] [] cluster) w
+raised_up setting e i c cluster w member m here low =
     let a = Down (with_next_boot c) in
     ⊎_elim
     (λ (same : (w.nodes i).content ≡ c). record {
       event = Restart i;
       is_full = inr refl;
-      matches = restart_matches setting e i a scene w member m (λ v. inl (ap (λ (x : NodeState). x.content) (opens_site c (w.nodes i) w same low)));
+      matches = restart_matches setting e i a cluster w member m (λ v. inl (ap (λ (x : NodeState). x.content) (opens_process c (w.nodes i) w same low)));
       told = restart_told setting.config e i w member.1;
     })
-    (λ (is : w.nodes i ≡ opened_node c). stays setting e (FailsToOpen i true) (Down c) (scene_with i a [] [] scene) w (inl refl) refl (site_changes setting i a scene w member m (inl (ap (λ (x : NodeState). x.content) is))))
+    (λ (is : w.nodes i ≡ opened_node c). stays setting e (FailsToOpen i true) (Down c) (cluster_with i a [] [] cluster) w (inl refl) refl (process_changes setting i a cluster w member m (inl (ap (λ (x : NodeState). x.content) is))))
     here
 
-half_opens : (setting : Setting) (e i : ℕ) (raised : Bool) (c : Content) (scene : Scene) (w : World) → IsStored scene w i → Matches setting scene w → IsSiteIn w (Down c) (w.nodes i)
-    → Follows setting e (FailsToOpen i raised) (Down c) (scene_with i (site_half_opened raised c) [] [] scene) w
-half_opens setting e i false c scene w member m here = stays setting e (FailsToOpen i false) (Down c) (scene_with i (Down c) [] [] scene) w (inl refl) refl (site_changes setting i (Down c) scene w member m here)
-half_opens setting e i true c scene w member m here =
-    cond_both (ltb c.boot last_boot) (Down (with_next_boot c)) (Down c) (λ a. Follows setting e (FailsToOpen i true) (Down c) (scene_with i a [] [] scene) w)
-    (λ low. raised_up setting e i c scene w member m here low)
-    (λ _. stays setting e (FailsToOpen i true) (Down c) (scene_with i (Down c) [] [] scene) w (inl refl) refl (site_changes setting i (Down c) scene w member m here))
+half_opens : (setting : Setting) (e i : ℕ) (raised : Bool) (c : Content) (cluster : ClusterState) (w : World) → IsStored cluster w i → Matches setting cluster w → IsProcessIn w (Down c) (w.nodes i)
+    → Follows setting e (FailsToOpen i raised) (Down c) (cluster_with i (process_half_opened raised c) [] [] cluster) w
+half_opens setting e i false c cluster w member m here = stays setting e (FailsToOpen i false) (Down c) (cluster_with i (Down c) [] [] cluster) w (inl refl) refl (process_changes setting i (Down c) cluster w member m here)
+half_opens setting e i true c cluster w member m here =
+    cond_both (ltb c.boot last_boot) (Down (with_next_boot c)) (Down c) (λ a. Follows setting e (FailsToOpen i true) (Down c) (cluster_with i a [] [] cluster) w)
+    (λ low. raised_up setting e i c cluster w member m here low)
+    (λ _. stays setting e (FailsToOpen i true) (Down c) (cluster_with i (Down c) [] [] cluster) w (inl refl) refl (process_changes setting i (Down c) cluster w member m here))
 
 -- a process takes an input
-takes : (setting : Setting) (e i : ℕ) (input : Input) (s : NodeState) (waiting : List Handout) (scene : Scene) (w : World) → IsStored scene w i → Matches setting scene w → IsSiteIn w (Up s waiting) (w.nodes i)
-    → IsGenuine setting.key scene.offered input → Follows setting e (Takes i input) (Up s waiting) (scene_with i (site_taken setting e i input s waiting) [] (note_of e i (made_by_input setting i input s) ∷ []) scene) w
+takes : (setting : Setting) (e i : ℕ) (input : Input) (s : NodeState) (waiting : List Output) (cluster : ClusterState) (w : World) → IsStored cluster w i → Matches setting cluster w → IsProcessIn w (Up s waiting) (w.nodes i)
+    → IsGenuine setting.key cluster.offered input → Follows setting e (Takes i input) (Up s waiting) (cluster_with i (process_taken setting e i input s waiting) [] (note_of e i (made_by_input setting i input s) ∷ []) cluster) w
 unfolding world_after_event world_with_made
-takes setting e i input s waiting scene w member m here genuine =
-    let found = act_for setting.key scene.offered w i input m.offered genuine in
+takes setting e i input s waiting cluster w member m here genuine =
+    let found = act_for setting.key cluster.offered w i input m.offered genuine in
     record {
       event = Happens found.act;
       is_full = record { act = found.act; event_is = refl; is_act = found.is_act };
-      matches = subst (λ z. Matches setting (scene_with i (site_taken setting e i input s waiting) [] (note_of e i (made_by_input setting i input s) ∷ []) scene) z) (sym (acts setting e i found.act input s w m.n member.1 here.0 found.acting found.event))
-          (taken setting e i input s waiting scene w member m here.1);
+      matches = subst (λ z. Matches setting (cluster_with i (process_taken setting e i input s waiting) [] (note_of e i (made_by_input setting i input s) ∷ []) cluster) z) (sym (acts setting e i found.act input s w m.n member.1 here.0 found.acting found.event))
+          (taken setting e i input s waiting cluster w member m here.1);
       told = ap (λ (z : World). z.told) (acts setting e i found.act input s w m.n member.1 here.0 found.acting found.event);
     }
 
 -- it ends inside the step, and the change is kept
-cut_kept : (setting : Setting) (e i : ℕ) (input : Input) (s : NodeState) (waiting : List Handout) (scene : Scene) (w : World) → IsStored scene w i → Matches setting scene w → IsSiteIn w (Up s waiting) (w.nodes i)
-    → IsGenuine setting.key scene.offered input → Follows setting e (StopsIn i true input) (Up s waiting) (scene_with i (site_cut setting i true input s) [] (note_of e i (made_by_input setting i input s) ∷ []) scene) w
+cut_kept : (setting : Setting) (e i : ℕ) (input : Input) (s : NodeState) (waiting : List Output) (cluster : ClusterState) (w : World) → IsStored cluster w i → Matches setting cluster w → IsProcessIn w (Up s waiting) (w.nodes i)
+    → IsGenuine setting.key cluster.offered input → Follows setting e (StopsIn i true input) (Up s waiting) (cluster_with i (process_cut setting i true input s) [] (note_of e i (made_by_input setting i input s) ∷ []) cluster) w
 unfolding world_after_event
-cut_kept setting e i input s waiting scene w member m here genuine =
-    let found = act_for setting.key scene.offered w i input m.offered genuine in
+cut_kept setting e i input s waiting cluster w member m here genuine =
+    let found = act_for setting.key cluster.offered w i input m.offered genuine in
     let made = made_by_input setting i input s in
     let is : world_after_restart (node_of found.act w) (with_told_of w (world_after_act setting.config e found.act w)) ≡ world_after_restart (Some i) (cut_world e i made w) =
     ap (λ o. world_after_restart o (with_told_of w (world_after_act setting.config e found.act w))) found.cut
@@ -451,33 +451,33 @@ cut_kept setting e i input s waiting scene w member m here genuine =
     record {
       event = Cut true found.act;
       is_full = record { act = found.act; event_is = refl; is_act = found.is_act };
-      matches = subst (λ z. Matches setting (scene_with i (site_cut setting i true input s) [] (note_of e i made ∷ []) scene) z) (sym is) (cut_matches setting e i input s scene w member m);
+      matches = subst (λ z. Matches setting (cluster_with i (process_cut setting i true input s) [] (note_of e i made ∷ []) cluster) z) (sym is) (cut_matches setting e i input s cluster w member m);
       told = ap (λ (z : World). z.told) is ∙ cut_told e i made w member.1 ∙ sym (append-nil w.told);
     }
 
 -- it offers the next
-offers : (setting : Setting) (e i : ℕ) (s : NodeState) (waiting : List Handout) (scene : Scene) (w : World) → IsStored scene w i → Matches setting scene w → IsSiteIn w (Up s waiting) (w.nodes i)
-    → Follows setting e (Offers i) (Up s waiting) (scene_with i (site_offered s waiting) (first_of_these waiting) [] scene) w
-offers setting e i s [] scene w member m here = stays setting e (Offers i) (Up s []) (scene_with i (Up s []) [] [] scene) w refl refl (site_changes setting i (Up s []) scene w member m here)
-offers setting e i s (h ∷ waiting) scene w member m here =
-    stays setting e (Offers i) (Up s (h ∷ waiting)) (scene_with i (Up s waiting) (h ∷ []) [] scene) w refl refl
+offers : (setting : Setting) (e i : ℕ) (s : NodeState) (waiting : List Output) (cluster : ClusterState) (w : World) → IsStored cluster w i → Matches setting cluster w → IsProcessIn w (Up s waiting) (w.nodes i)
+    → Follows setting e (Offers i) (Up s waiting) (cluster_with i (process_offered s waiting) (first_of_these waiting) [] cluster) w
+offers setting e i s [] cluster w member m here = stays setting e (Offers i) (Up s []) (cluster_with i (Up s []) [] [] cluster) w refl refl (process_changes setting i (Up s []) cluster w member m here)
+offers setting e i s (h ∷ waiting) cluster w member m here =
+    stays setting e (Offers i) (Up s (h ∷ waiting)) (cluster_with i (Up s waiting) (h ∷ []) [] cluster) w refl refl
     (record {
       n = m.n;
       lost = m.lost;
       least = m.least;
-      sites = site_set (λ j. IsSiteAt w (scene.lost j)) i (Up s waiting) scene.sites w.nodes (site_at w (scene.lost i) (Up s waiting) (w.nodes i) member.0 (here.0, here.1.1)) m.sites;
-      offered = each_append (IsKnown w) scene.offered (h ∷ []) m.offered (here.1.0, tt);
+      processes = process_set (λ j. IsProcessAt w (cluster.lost j)) i (Up s waiting) cluster.processes w.nodes (process_at w (cluster.lost i) (Up s waiting) (w.nodes i) member.0 (here.0, here.1.1)) m.processes;
+      offered = each_append (IsKnown w) cluster.offered (h ∷ []) m.offered (here.1.0, tt);
       notes = m.notes;
     })
 
--- its site changes alone
-alone : (setting : Setting) (e : ℕ) (deed : Deed) (old : Site) (i : ℕ) (a : Site) (scene : Scene) (w : World) → IsFull setting.key deed old nothing → answers_made setting e deed old ≡ [] → IsStored scene w i → Matches setting scene w → IsSiteIn w a (w.nodes i) → Follows setting e deed old (scene_with i a [] [] scene) w
-alone setting e deed old i a scene w is none member m here = stays setting e deed old (scene_with i a [] [] scene) w is none (site_changes setting i a scene w member m here)
+-- its process state changes alone
+alone : (setting : Setting) (e : ℕ) (action : Action) (old : ProcessState) (i : ℕ) (a : ProcessState) (cluster : ClusterState) (w : World) → IsFull setting.key action old nothing → answers_made setting e action old ≡ [] → IsStored cluster w i → Matches setting cluster w → IsProcessIn w a (w.nodes i) → Follows setting e action old (cluster_with i a [] [] cluster) w
+alone setting e action old i a cluster w is none member m here = stays setting e action old (cluster_with i a [] [] cluster) w is none (process_changes setting i a cluster w member m here)
 
 -- its store is lost
-loses : (setting : Setting) (e i : ℕ) (a : Site) (scene : Scene) (w : World) → IsStored scene w i → Matches setting scene w → IsSiteIn w a (w.nodes i) → Follows setting e (Loses i) a (scene_at setting e (Loses i) a scene) w
+loses : (setting : Setting) (e i : ℕ) (a : ProcessState) (cluster : ClusterState) (w : World) → IsStored cluster w i → Matches setting cluster w → IsProcessIn w a (w.nodes i) → Follows setting e (Loses i) a (cluster_at setting e (Loses i) a cluster) w
 unfolding world_after_event world_after_loss
-loses setting e i a scene w stored m here =
+loses setting e i a cluster w stored m here =
     let n = nodes_of setting in
     let x = w.nodes i in
     let next : ℕ → ℕ → ℕ = λ token other. (row (w.nodes other).content token).next in
@@ -488,36 +488,36 @@ loses setting e i a scene w stored m here =
     record {
       event = Lost i;
       is_full = refl;
-      matches = subst (λ z. Matches setting (scene_at setting e (Loses i) a scene) z) (sym is)
+      matches = subst (λ z. Matches setting (cluster_at setting e (Loses i) a cluster) z) (sym is)
           (record {
             n = m.n;
             lost = ap (λ l. with_node i l) m.lost;
             least = fun_ext (λ token.
                 ap (λ k. greatest k (with_node i w.lost) (next token)) m.n
                 ∙ ap (λ l. greatest n (with_node i l) (next token)) m.lost
-                ∙ ap (λ f. greatest n (with_node i scene.lost) f) (fun_ext (λ j. same_next w (scene.lost j) (scene.sites j) (w.nodes j) token (m.sites j))));
-            sites = lost_set u i (Down (with_next_boot (content_at a))) (lost_node x) scene.lost scene.sites w.nodes
+                ∙ ap (λ f. greatest n (with_node i cluster.lost) f) (fun_ext (λ j. same_next w (cluster.lost j) (cluster.processes j) (w.nodes j) token (m.processes j))));
+            processes = lost_set u i (Down (with_next_boot (content_at a))) (lost_node x) cluster.lost cluster.processes w.nodes
                 (same_rows w false a x here, boot)
-                (λ j. at_grows w u grows (scene.lost j) (scene.sites j) (w.nodes j) (m.sites j));
-            offered = each_append (IsKnown u) scene.offered [] (each_weaker (IsKnown w) (IsKnown u) grows scene.offered m.offered) tt;
+                (λ j. at_grows w u grows (cluster.lost j) (cluster.processes j) (w.nodes j) (m.processes j));
+            offered = each_append (IsKnown u) cluster.offered [] (each_weaker (IsKnown w) (IsKnown u) grows cluster.offered m.offered) tt;
             notes = m.notes;
           });
       told = ap (λ (z : World). z.told) is ∙ sym (append-nil w.told);
     }
 
--- if a replacement store may be created in the scene, it may be in the world, with the next boot
-remade_may : (setting : Setting) (scene : Scene) (w : World) (i boot : ℕ) (floor : ℕ → ℕ) → Matches setting scene w → (w.nodes i).content.rows ≡ (content_at (scene.sites i)).rows → (w.nodes i).content.boot ≤ (content_at (scene.sites i)).boot + 1
-    → may_be_remade setting scene i boot floor ≡ true → may_be_anew w i (boot + 1) floor ≡ true
-remade_may setting scene w i boot floor m sized near can =
+-- if a replacement store may be created in the cluster state, it may be in the world, with the next boot
+remade_may : (setting : Setting) (cluster : ClusterState) (w : World) (i boot : ℕ) (floor : ℕ → ℕ) → Matches setting cluster w → (w.nodes i).content.rows ≡ (content_at (cluster.processes i)).rows → (w.nodes i).content.boot ≤ (content_at (cluster.processes i)).boot + 1
+    → may_be_remade setting cluster i boot floor ≡ true → may_be_anew w i (boot + 1) floor ≡ true
+remade_may setting cluster w i boot floor m sized near can =
     let n = nodes_of setting in
     let x = w.nodes i in
-    let before = (content_at (scene.sites i)).boot in
-    let tokens = length (content_at (scene.sites i)).rows in
-    let few = leb before boot && (ltb boot last_boot && all_most tokens scene.least floor) in
-    let p = and_parts (is_member n i && scene.lost i) (ltb (size n scene.lost) (majority_of n) && few) can in
-    let q = and_parts (ltb (size n scene.lost) (majority_of n)) few p.1 in
-    let r = and_parts (leb before boot) (ltb boot last_boot && all_most tokens scene.least floor) q.1 in
-    let s = and_parts (ltb boot last_boot) (all_most tokens scene.least floor) r.1 in
+    let before = (content_at (cluster.processes i)).boot in
+    let tokens = length (content_at (cluster.processes i)).rows in
+    let few = leb before boot && (ltb boot last_boot && all_most tokens cluster.least floor) in
+    let p = and_parts (is_member n i && cluster.lost i) (ltb (size n cluster.lost) (majority_of n) && few) can in
+    let q = and_parts (ltb (size n cluster.lost) (majority_of n)) few p.1 in
+    let r = and_parts (leb before boot) (ltb boot last_boot && all_most tokens cluster.least floor) q.1 in
+    let s = and_parts (ltb boot last_boot) (all_most tokens cluster.least floor) r.1 in
     let fresh : x.content.boot ≤ boot + 1 = omega (arith, near, leb-true before boot r.0) in
     let low : boot + 1 ≤ last_boot = omega (arith, ltb-true boot last_boot s.0) in
     let most = all_most (length x.content.rows) w.least floor in
@@ -531,85 +531,85 @@ remade_may setting scene w i boot floor m sized near can =
     (and_from (leb (boot + 1) last_boot) most (le-leb (boot + 1) last_boot low)
     (ap (λ (rs : List RowRecord). all_most (length rs) w.least floor) sized ∙ ap (λ l. all_most tokens l floor) m.least ∙ s.1))))
 
-remakes : (setting : Setting) (e i boot : ℕ) (floors : List ℕ) (a : Site) (scene : Scene) (w : World) → Matches setting scene w → IsGone a (w.nodes i) → may_be_anew w i (boot + 1) (floor_in floors) ≡ true → Follows setting e (Remakes i boot floors) a (scene_at setting e (Remakes i boot floors) a scene) w
+remakes : (setting : Setting) (e i boot : ℕ) (floors : List ℕ) (a : ProcessState) (cluster : ClusterState) (w : World) → Matches setting cluster w → IsGone a (w.nodes i) → may_be_anew w i (boot + 1) (floor_in floors) ≡ true → Follows setting e (Remakes i boot floors) a (cluster_at setting e (Remakes i boot floors) a cluster) w
 unfolding world_after_event world_after_anew
-remakes setting e i boot floors (Up s waiting) scene w m gone may = absurd gone
-remakes setting e i boot floors (Down c) scene w m gone may =
+remakes setting e i boot floors (Up s waiting) cluster w m gone may = absurd gone
+remakes setting e i boot floors (Down c) cluster w m gone may =
     let floor = floor_in floors in
     let new = opening_node (boot + 1) (length (w.nodes i).content.rows) floor in
-    let site = Down (remade_content c boot floor) in
+    let process = Down (remade_content c boot floor) in
     let u : World = record w { nodes = with_state i new w.nodes; lost = without_node i w.lost; history = note_anew e i ∷ w.history } in
     let is : world_after_event setting.config e (Anew i (boot + 1) floors) w ≡ u = cond-true (may_be_anew w i (boot + 1) floor) u w may in
     let grows = same_known u w refl refl in
     record {
       event = Anew i (boot + 1) floors;
       is_full = refl;
-      matches = subst (λ z. Matches setting (scene_at setting e (Remakes i boot floors) (Down c) scene) z) (sym is)
+      matches = subst (λ z. Matches setting (cluster_at setting e (Remakes i boot floors) (Down c) cluster) z) (sym is)
           (record {
             n = m.n;
             lost = ap (λ l. without_node i l) m.lost;
             least = m.least;
-            sites = remade_set u i site new scene.lost scene.sites w.nodes (inr (ap (λ (rs : List RowRecord). opening_node (boot + 1) (length rs) floor) gone.0))
-                (λ j. at_grows w u grows (scene.lost j) (scene.sites j) (w.nodes j) (m.sites j));
-            offered = each_append (IsKnown u) scene.offered [] (each_weaker (IsKnown w) (IsKnown u) grows scene.offered m.offered) tt;
+            processes = remade_set u i process new cluster.lost cluster.processes w.nodes (inr (ap (λ (rs : List RowRecord). opening_node (boot + 1) (length rs) floor) gone.0))
+                (λ j. at_grows w u grows (cluster.lost j) (cluster.processes j) (w.nodes j) (m.processes j));
+            offered = each_append (IsKnown u) cluster.offered [] (each_weaker (IsKnown w) (IsKnown u) grows cluster.offered m.offered) tt;
             notes = ap (λ h. note_anew e i ∷ h) m.notes;
           });
       told = ap (λ (z : World). z.told) is ∙ sym (append-nil w.told);
     }
 
 -- the premise of an action that is possible
-abbrev IsReady : Setting → Scene → World → Deed → Site → Type 0
-IsReady setting scene w (Remakes i boot floors) a = IsGone a (w.nodes i) × (may_be_anew w i (boot + 1) (floor_in floors) ≡ true)
-IsReady setting scene w deed a = IsStored scene w (node_of_deed deed) × IsSiteIn w a (w.nodes (node_of_deed deed))
+abbrev IsReady : Setting → ClusterState → World → Action → ProcessState → Type 0
+IsReady setting cluster w (Remakes i boot floors) a = IsGone a (w.nodes i) × (may_be_anew w i (boot + 1) (floor_in floors) ≡ true)
+IsReady setting cluster w action a = IsStored cluster w (node_of_action action) × IsProcessIn w a (w.nodes (node_of_action action))
 
 not_lost : (b c : Bool) → (not b && c) ≡ true → b ≡ false
 not_lost false c h = refl
 not_lost true c h = absurd (false≢true h)
 
-is_stored : (setting : Setting) (scene : Scene) (w : World) (i : ℕ) → Matches setting scene w → has_own_store setting scene i ≡ true → IsStored scene w i × IsSiteIn w (scene.sites i) (w.nodes i)
-is_stored setting scene w i m can =
-    let kept = not_lost (scene.lost i) (is_member (nodes_of setting) i) can in
+is_stored : (setting : Setting) (cluster : ClusterState) (w : World) (i : ℕ) → Matches setting cluster w → has_own_store setting cluster i ≡ true → IsStored cluster w i × IsProcessIn w (cluster.processes i) (w.nodes i)
+is_stored setting cluster w i m can =
+    let kept = not_lost (cluster.lost i) (is_member (nodes_of setting) i) can in
     let store : has_store w i ≡ true = ap (λ k. not (w.lost i) && is_member k i) m.n ∙ ap (λ (l : ℕ → Bool). not (l i) && is_member (nodes_of setting) i) m.lost ∙ can in
-    ((kept, store), subst (λ b. IsSiteAt w b (scene.sites i) (w.nodes i)) kept (m.sites i))
+    ((kept, store), subst (λ b. IsProcessAt w b (cluster.processes i) (w.nodes i)) kept (m.processes i))
 
-gone_near : (a : Site) (x : NodeState) → IsGone a x → x.content.boot ≤ (content_at a).boot + 1
+gone_near : (a : ProcessState) (x : NodeState) → IsGone a x → x.content.boot ≤ (content_at a).boot + 1
 gone_near (Down c) x h = h.1
 gone_near (Up s waiting) x h = absurd h
 
-is_ready : (setting : Setting) (scene : Scene) (w : World) (deed : Deed) → Matches setting scene w → can_be setting scene deed ≡ true → IsReady setting scene w deed (scene.sites (node_of_deed deed))
-is_ready setting scene w (Opens i) m can = is_stored setting scene w i m can
-is_ready setting scene w (FailsToOpen i raised) m can = is_stored setting scene w i m can
-is_ready setting scene w (Takes i input) m can = is_stored setting scene w i m can
-is_ready setting scene w (Offers i) m can = is_stored setting scene w i m can
-is_ready setting scene w (Stops i) m can = is_stored setting scene w i m can
-is_ready setting scene w (StopsIn i kept input) m can = is_stored setting scene w i m can
-is_ready setting scene w (Loses i) m can = is_stored setting scene w i m can
-is_ready setting scene w (Remakes i boot floors) m can =
-    let lost = (and_parts (is_member (nodes_of setting) i) (scene.lost i) (and_parts (is_member (nodes_of setting) i && scene.lost i) _ can).0).1 in
-    let gone : IsGone (scene.sites i) (w.nodes i) = subst (λ b. IsSiteAt w b (scene.sites i) (w.nodes i)) lost (m.sites i) in
-    (gone, remade_may setting scene w i boot (floor_in floors) m (same_rows w true (scene.sites i) (w.nodes i) gone) (gone_near (scene.sites i) (w.nodes i) gone) can)
+is_ready : (setting : Setting) (cluster : ClusterState) (w : World) (action : Action) → Matches setting cluster w → can_be setting cluster action ≡ true → IsReady setting cluster w action (cluster.processes (node_of_action action))
+is_ready setting cluster w (Opens i) m can = is_stored setting cluster w i m can
+is_ready setting cluster w (FailsToOpen i raised) m can = is_stored setting cluster w i m can
+is_ready setting cluster w (Takes i input) m can = is_stored setting cluster w i m can
+is_ready setting cluster w (Offers i) m can = is_stored setting cluster w i m can
+is_ready setting cluster w (Stops i) m can = is_stored setting cluster w i m can
+is_ready setting cluster w (StopsIn i kept input) m can = is_stored setting cluster w i m can
+is_ready setting cluster w (Loses i) m can = is_stored setting cluster w i m can
+is_ready setting cluster w (Remakes i boot floors) m can =
+    let lost = (and_parts (is_member (nodes_of setting) i) (cluster.lost i) (and_parts (is_member (nodes_of setting) i && cluster.lost i) _ can).0).1 in
+    let gone : IsGone (cluster.processes i) (w.nodes i) = subst (λ b. IsProcessAt w b (cluster.processes i) (w.nodes i)) lost (m.processes i) in
+    (gone, remade_may setting cluster w i boot (floor_in floors) m (same_rows w true (cluster.processes i) (w.nodes i) gone) (gone_near (cluster.processes i) (w.nodes i) gone) can)
 
-at_site : (setting : Setting) (e : ℕ) (deed : Deed) (a : Site) (scene : Scene) (w : World) → Matches setting scene w → IsReady setting scene w deed a
-    → IsGenuineDeed setting scene deed → Follows setting e deed a (scene_at setting e deed a scene) w
-at_site setting e (Opens i) (Down c) scene w m ready g = opens setting e i c scene w ready.0 m ready.1
-at_site setting e (Opens i) (Up s waiting) scene w m ready g = alone setting e (Opens i) (Up s waiting) i (Up s waiting) scene w refl refl ready.0 m ready.1
-at_site setting e (FailsToOpen i raised) (Down c) scene w m ready g = half_opens setting e i raised c scene w ready.0 m ready.1
-at_site setting e (FailsToOpen i raised) (Up s waiting) scene w m ready g = alone setting e (FailsToOpen i raised) (Up s waiting) i (Up s waiting) scene w refl refl ready.0 m ready.1
-at_site setting e (Takes i input) (Down c) scene w m ready g = alone setting e (Takes i input) (Down c) i (Down c) scene w refl refl ready.0 m ready.1
-at_site setting e (Takes i input) (Up s waiting) scene w m ready g = takes setting e i input s waiting scene w ready.0 m ready.1 g
-at_site setting e (Offers i) (Down c) scene w m ready g = alone setting e (Offers i) (Down c) i (Down c) scene w refl refl ready.0 m ready.1
-at_site setting e (Offers i) (Up s waiting) scene w m ready g = offers setting e i s waiting scene w ready.0 m ready.1
-at_site setting e (Stops i) (Down c) scene w m ready g = alone setting e (Stops i) (Down c) i (Down c) scene w refl refl ready.0 m ready.1
-at_site setting e (Stops i) (Up s waiting) scene w m ready g = alone setting e (Stops i) (Up s waiting) i (Down s.content) scene w refl refl ready.0 m (inl (ap (λ (x : NodeState). x.content) ready.1.0))
-at_site setting e (StopsIn i false input) (Down c) scene w m ready g = alone setting e (StopsIn i false input) (Down c) i (Down c) scene w refl refl ready.0 m ready.1
-at_site setting e (StopsIn i true input) (Down c) scene w m ready g = alone setting e (StopsIn i true input) (Down c) i (Down c) scene w refl refl ready.0 m ready.1
-at_site setting e (StopsIn i false input) (Up s waiting) scene w m ready g = alone setting e (StopsIn i false input) (Up s waiting) i (Down s.content) scene w refl refl ready.0 m (inl (ap (λ (x : NodeState). x.content) ready.1.0))
-at_site setting e (StopsIn i true input) (Up s waiting) scene w m ready g = cut_kept setting e i input s waiting scene w ready.0 m ready.1 g
-at_site setting e (Loses i) a scene w m ready g = loses setting e i a scene w ready.0 m ready.1
-at_site setting e (Remakes i boot floors) a scene w m ready g = remakes setting e i boot floors a scene w m ready.0 ready.1
+at_process : (setting : Setting) (e : ℕ) (action : Action) (a : ProcessState) (cluster : ClusterState) (w : World) → Matches setting cluster w → IsReady setting cluster w action a
+    → IsGenuineAction setting cluster action → Follows setting e action a (cluster_at setting e action a cluster) w
+at_process setting e (Opens i) (Down c) cluster w m ready g = opens setting e i c cluster w ready.0 m ready.1
+at_process setting e (Opens i) (Up s waiting) cluster w m ready g = alone setting e (Opens i) (Up s waiting) i (Up s waiting) cluster w refl refl ready.0 m ready.1
+at_process setting e (FailsToOpen i raised) (Down c) cluster w m ready g = half_opens setting e i raised c cluster w ready.0 m ready.1
+at_process setting e (FailsToOpen i raised) (Up s waiting) cluster w m ready g = alone setting e (FailsToOpen i raised) (Up s waiting) i (Up s waiting) cluster w refl refl ready.0 m ready.1
+at_process setting e (Takes i input) (Down c) cluster w m ready g = alone setting e (Takes i input) (Down c) i (Down c) cluster w refl refl ready.0 m ready.1
+at_process setting e (Takes i input) (Up s waiting) cluster w m ready g = takes setting e i input s waiting cluster w ready.0 m ready.1 g
+at_process setting e (Offers i) (Down c) cluster w m ready g = alone setting e (Offers i) (Down c) i (Down c) cluster w refl refl ready.0 m ready.1
+at_process setting e (Offers i) (Up s waiting) cluster w m ready g = offers setting e i s waiting cluster w ready.0 m ready.1
+at_process setting e (Stops i) (Down c) cluster w m ready g = alone setting e (Stops i) (Down c) i (Down c) cluster w refl refl ready.0 m ready.1
+at_process setting e (Stops i) (Up s waiting) cluster w m ready g = alone setting e (Stops i) (Up s waiting) i (Down s.content) cluster w refl refl ready.0 m (inl (ap (λ (x : NodeState). x.content) ready.1.0))
+at_process setting e (StopsIn i false input) (Down c) cluster w m ready g = alone setting e (StopsIn i false input) (Down c) i (Down c) cluster w refl refl ready.0 m ready.1
+at_process setting e (StopsIn i true input) (Down c) cluster w m ready g = alone setting e (StopsIn i true input) (Down c) i (Down c) cluster w refl refl ready.0 m ready.1
+at_process setting e (StopsIn i false input) (Up s waiting) cluster w m ready g = alone setting e (StopsIn i false input) (Up s waiting) i (Down s.content) cluster w refl refl ready.0 m (inl (ap (λ (x : NodeState). x.content) ready.1.0))
+at_process setting e (StopsIn i true input) (Up s waiting) cluster w m ready g = cut_kept setting e i input s waiting cluster w ready.0 m ready.1 g
+at_process setting e (Loses i) a cluster w m ready g = loses setting e i a cluster w ready.0 m ready.1
+at_process setting e (Remakes i boot floors) a cluster w m ready g = remakes setting e i boot floors a cluster w m ready.0 ready.1
 
 -- `nothing` may be the event of any action
-may_be_nothing : (key : List ℕ) (deed : Deed) → IsEventOf key deed nothing
+may_be_nothing : (key : List ℕ) (action : Action) → IsEventOf key action nothing
 may_be_nothing key (Opens i) = inl refl
 may_be_nothing key (FailsToOpen i raised) = inl refl
 may_be_nothing key (Takes i input) = inl refl
@@ -621,13 +621,13 @@ may_be_nothing key (Loses i) = inl refl
 may_be_nothing key (Remakes i boot floors) = inl refl
 
 -- `P` of the event of an action that loses or replaces a store
-abbrev pub OfStore : (WorldEvent → Type 0) → Deed → Type 0
+abbrev pub OfStore : (WorldEvent → Type 0) → Action → Type 0
 OfStore P (Loses i) = P (Lost i)
 OfStore P (Remakes i boot floors) = P (Anew i (boot + 1) floors)
 OfStore P _ = Unit {0}
 
 -- a claim that holds of each act, stop that keeps its change, restart and `OfStore` holds of an action's event
-pub of_event : (P : WorldEvent → Type 0) (key : List ℕ) (deed : Deed) (x : WorldEvent) → IsEventOf key deed x → ((act : Act) → P (Happens act)) → ((act : Act) → P (Cut true act)) → ((i : ℕ) → P (Restart i)) → OfStore P deed → P x
+pub of_event : (P : WorldEvent → Type 0) (key : List ℕ) (action : Action) (x : WorldEvent) → IsEventOf key action x → ((act : Act) → P (Happens act)) → ((act : Act) → P (Cut true act)) → ((i : ℕ) → P (Restart i)) → OfStore P action → P x
 of_event P key (Opens i) x is act cut restart store = ⊎_elim (λ (q : x ≡ nothing). subst P (sym q) (restart 0)) (λ (q : x ≡ Restart i). subst P (sym q) (restart i)) is
 of_event P key (FailsToOpen i raised) x is act cut restart store = ⊎_elim (λ (q : x ≡ nothing). subst P (sym q) (restart 0)) (λ (q : x ≡ Restart i). subst P (sym q) (restart i)) is
 of_event P key (Takes i input) x is act cut restart store =
@@ -640,44 +640,44 @@ of_event P key (StopsIn i true input) x is act cut restart store =
 of_event P key (Loses i) x is act cut restart store = ⊎_elim (λ (q : x ≡ nothing). subst P (sym q) (restart 0)) (λ (q : x ≡ Lost i). subst P (sym q) store) is
 of_event P key (Remakes i boot floors) x is act cut restart store = ⊎_elim (λ (q : x ≡ nothing). subst P (sym q) (restart 0)) (λ (q : x ≡ Anew i (boot + 1) floors). subst P (sym q) store) is
 
--- the event of a possible action is as its site says; an impossible action has the event `nothing`
-abbrev pub IsOneAt : Setting → Deed → Scene → Bool → WorldEvent → Type 0
-IsOneAt setting deed scene true event = IsFull setting.key deed (scene.sites (node_of_deed deed)) event
-IsOneAt setting deed scene false event = event ≡ nothing
+-- the event of a possible action is as its process state says; an impossible action has the event `nothing`
+abbrev pub IsOneAt : Setting → Action → ClusterState → Bool → WorldEvent → Type 0
+IsOneAt setting action cluster true event = IsFull setting.key action (cluster.processes (node_of_action action)) event
+IsOneAt setting action cluster false event = event ≡ nothing
 
 -- the answers that an action makes
-abbrev pub answers_by : Setting → ℕ → Deed → Scene → List Told
-answers_by setting e deed scene = cond (can_be setting scene deed) (answers_made setting e deed (scene.sites (node_of_deed deed))) []
+abbrev pub answers_by : Setting → ℕ → Action → ClusterState → List Answer
+answers_by setting e action cluster = cond (can_be setting cluster action) (answers_made setting e action (cluster.processes (node_of_action action))) []
 
--- the event of an action, and the scene after it
-pub record IsFollowed (setting : Setting) (e : ℕ) (deed : Deed) (scene new : Scene) (w : World) (made : List Told) (can : Bool) : Type 0 where
+-- the event of an action, and the cluster state after it
+pub record IsFollowed (setting : Setting) (e : ℕ) (action : Action) (cluster new : ClusterState) (w : World) (made : List Answer) (can : Bool) : Type 0 where
   pub event : WorldEvent
-  pub is_event : IsEventOf setting.key deed event
-  pub is_one : IsOneAt setting deed scene can event
+  pub is_event : IsEventOf setting.key action event
+  pub is_one : IsOneAt setting action cluster can event
   pub matches : Matches setting new (world_after_event setting.config e event w)
   pub told : (world_after_event setting.config e event w).told ≡ w.told ++ made
 
-followed : (setting : Setting) (e : ℕ) (deed : Deed) (scene : Scene) (w : World) (can : Bool) → can_be setting scene deed ≡ can → Matches setting scene w → IsGenuineDeed setting scene deed
-    → IsFollowed setting e deed scene (cond can (scene_at setting e deed (scene.sites (node_of_deed deed)) scene) scene) w (cond can (answers_made setting e deed (scene.sites (node_of_deed deed))) []) can
-followed setting e deed scene w true is m g =
-    let a = scene.sites (node_of_deed deed) in
-    let f = at_site setting e deed a scene w m (is_ready setting scene w deed m is) g in
+followed : (setting : Setting) (e : ℕ) (action : Action) (cluster : ClusterState) (w : World) (can : Bool) → can_be setting cluster action ≡ can → Matches setting cluster w → IsGenuineAction setting cluster action
+    → IsFollowed setting e action cluster (cond can (cluster_at setting e action (cluster.processes (node_of_action action)) cluster) cluster) w (cond can (answers_made setting e action (cluster.processes (node_of_action action))) []) can
+followed setting e action cluster w true is m g =
+    let a = cluster.processes (node_of_action action) in
+    let f = at_process setting e action a cluster w m (is_ready setting cluster w action m is) g in
     record {
       event = f.event;
-      is_event = full_is_event setting.key deed a f.event f.is_full;
+      is_event = full_is_event setting.key action a f.event f.is_full;
       is_one = f.is_full;
       matches = f.matches;
       told = f.told;
     }
-followed setting e deed scene w false is m g = record {
+followed setting e action cluster w false is m g = record {
   event = nothing;
-  is_event = may_be_nothing setting.key deed;
+  is_event = may_be_nothing setting.key action;
   is_one = refl;
-  matches = subst (λ z. Matches setting scene z) (sym (quiet setting.config e w)) m;
+  matches = subst (λ z. Matches setting cluster z) (sym (quiet setting.config e w)) m;
   told = ap (λ (z : World). z.told) (quiet setting.config e w) ∙ sym (append-nil w.told);
 }
 
-pub follows : (setting : Setting) (e : ℕ) (deed : Deed) (scene : Scene) (w : World) → Matches setting scene w → IsGenuineDeed setting scene deed
-    → IsFollowed setting e deed scene (scene_after_deed setting e deed scene) w (answers_by setting e deed scene) (can_be setting scene deed)
-unfolding scene_after_deed
-follows setting e deed scene w m g = followed setting e deed scene w (can_be setting scene deed) refl m g
+pub follows : (setting : Setting) (e : ℕ) (action : Action) (cluster : ClusterState) (w : World) → Matches setting cluster w → IsGenuineAction setting cluster action
+    → IsFollowed setting e action cluster (cluster_after_action setting e action cluster) w (answers_by setting e action cluster) (can_be setting cluster action)
+unfolding cluster_after_action
+follows setting e action cluster w m g = followed setting e action cluster w (can_be setting cluster action) refl m g

@@ -13,107 +13,107 @@ use Rattle.cluster_sim.specs.Answered.{AreAnswered, NamePasses, TellTruth}
 use Rattle.admit_core.specs.Throttle.{SpacesFailures}
 use Rattle.cluster_sim.specs.Results.{results_in, results_of}
 use Rattle.cluster_sim.specs.Justified.{AreJustified}
-use Rattle.cluster_sim.specs.World.{Told, World, WorldEvent, floor_before, opening_world, passes_in, passes_of, world_after_event, world_after_events, world_of, MayStart, Start}
-use Rattle.cluster_law.specs.Lives.{Deed, Handout, Post, Answer, Scene, Setting, AreGenuine, IsHistory, accepted_in, answered_in, answers_among, can_be, first_scene, floor_in, nodes_of, scene_after, scene_after_deed, scene_of, start_of}
+use Rattle.cluster_sim.specs.World.{Answer, World, WorldEvent, floor_before, opening_world, passes_in, passes_of, world_after_event, world_after_events, world_of, MayStart, Start}
+use Rattle.cluster_law.specs.Lives.{Action, Output, ToPeer, ToClient, ClusterState, Setting, AreGenuine, IsHistory, accepted_in, answered_in, answers_among, can_be, first_cluster, floor_in, nodes_of, cluster_after, cluster_after_action, cluster_of, start_of}
 use Rattle.cluster_law.specs.Promises.{HasEvent, IsEventOf, IsExplained, IsRunOf, IsToldAmong}
 use Rattle.cluster_law.proofs.Follow.{IsKnown, IsOneAt, Matches, all_there, answers_by, follows, same_next}
 
 -- the answers that the actions make
-abbrev pub answers_in : Setting → ℕ → List Deed → Scene → List Told
-answers_in setting e [] scene = []
-answers_in setting e (d ∷ ds) scene = answers_by setting e d scene ++ answers_in setting (suc e) ds (scene_after_deed setting e d scene)
+abbrev pub answers_in : Setting → ℕ → List Action → ClusterState → List Answer
+answers_in setting e [] cluster = []
+answers_in setting e (d ∷ ds) cluster = answers_by setting e d cluster ++ answers_in setting (suc e) ds (cluster_after_action setting e d cluster)
 
 -- each event is the event of the action at its place
-abbrev pub AreOnes : Setting → ℕ → List Deed → Scene → List WorldEvent → Type 0
-AreOnes setting e [] scene [] = Unit {0}
-AreOnes setting e [] scene (x ∷ xs) = ⊥
-AreOnes setting e (d ∷ ds) scene [] = ⊥
-AreOnes setting e (d ∷ ds) scene (x ∷ xs) = IsOneAt setting d scene (can_be setting scene d) x × AreOnes setting (suc e) ds (scene_after_deed setting e d scene) xs
+abbrev pub AreOnes : Setting → ℕ → List Action → ClusterState → List WorldEvent → Type 0
+AreOnes setting e [] cluster [] = Unit {0}
+AreOnes setting e [] cluster (x ∷ xs) = ⊥
+AreOnes setting e (d ∷ ds) cluster [] = ⊥
+AreOnes setting e (d ∷ ds) cluster (x ∷ xs) = IsOneAt setting d cluster (can_be setting cluster d) x × AreOnes setting (suc e) ds (cluster_after_action setting e d cluster) xs
 
 -- the events of the actions, and the world after each of them
-record Runs (setting : Setting) (e : ℕ) (deeds : List Deed) (scene : Scene) (w : World) : Type 0 where
+record Runs (setting : Setting) (e : ℕ) (actions : List Action) (cluster : ClusterState) (w : World) : Type 0 where
   events : List WorldEvent
-  number : length events ≡ length deeds
-  each : (place : ℕ) (deed : Deed) → slice_get deeds place ≡ Some deed → HasEvent setting.key deed place events
-  whole : Matches setting (scene_after setting e deeds scene) (world_after_events setting.config e events w)
-  parts : (k : ℕ) → Matches setting (scene_after setting e (take k deeds) scene) (world_after_events setting.config e (take k events) w)
-  ones : AreOnes setting e deeds scene events
-  told : (world_after_events setting.config e events w).told ≡ w.told ++ answers_in setting e deeds scene
+  number : length events ≡ length actions
+  each : (place : ℕ) (action : Action) → slice_get actions place ≡ Some action → HasEvent setting.key action place events
+  whole : Matches setting (cluster_after setting e actions cluster) (world_after_events setting.config e events w)
+  parts : (k : ℕ) → Matches setting (cluster_after setting e (take k actions) cluster) (world_after_events setting.config e (take k events) w)
+  ones : AreOnes setting e actions cluster events
+  told : (world_after_events setting.config e events w).told ≡ w.told ++ answers_in setting e actions cluster
 
-none_left : (setting : Setting) (e : ℕ) (scene : Scene) (w : World) → Matches setting scene w → (k : ℕ) → Matches setting (scene_after setting e (take k []) scene) (world_after_events setting.config e (take k []) w)
-unfolding scene_after world_after_events
-none_left setting e scene w m zero = m
-none_left setting e scene w m (suc k) = m
+none_left : (setting : Setting) (e : ℕ) (cluster : ClusterState) (w : World) → Matches setting cluster w → (k : ℕ) → Matches setting (cluster_after setting e (take k []) cluster) (world_after_events setting.config e (take k []) w)
+unfolding cluster_after world_after_events
+none_left setting e cluster w m zero = m
+none_left setting e cluster w m (suc k) = m
 
-each_place : (key : List ℕ) (x : Deed) (xs : List Deed) (event : WorldEvent) (events : List WorldEvent) → IsEventOf key x event
-    → ((place : ℕ) (deed : Deed) → slice_get xs place ≡ Some deed → HasEvent key deed place events)
-    → (place : ℕ) (deed : Deed) → slice_get (x ∷ xs) place ≡ Some deed → HasEvent key deed place (event ∷ events)
-each_place key x xs event events is rest zero deed at = record { event = event; is_there = refl; is_event = subst (λ d. IsEventOf key d event) (same_Some x deed at) is }
-each_place key x xs event events is rest (suc place) deed at =
-    let r = rest place deed at in
+each_place : (key : List ℕ) (x : Action) (xs : List Action) (event : WorldEvent) (events : List WorldEvent) → IsEventOf key x event
+    → ((place : ℕ) (action : Action) → slice_get xs place ≡ Some action → HasEvent key action place events)
+    → (place : ℕ) (action : Action) → slice_get (x ∷ xs) place ≡ Some action → HasEvent key action place (event ∷ events)
+each_place key x xs event events is rest zero action at = record { event = event; is_there = refl; is_event = subst (λ d. IsEventOf key d event) (same_Some x action at) is }
+each_place key x xs event events is rest (suc place) action at =
+    let r = rest place action at in
     record { event = r.event; is_there = r.is_there; is_event = r.is_event }
 
-each_part : (setting : Setting) (e : ℕ) (x : Deed) (xs : List Deed) (event : WorldEvent) (events : List WorldEvent) (scene : Scene) (w : World) → Matches setting scene w
-    → ((k : ℕ) → Matches setting (scene_after setting (suc e) (take k xs) (scene_after_deed setting e x scene)) (world_after_events setting.config (suc e) (take k events) (world_after_event setting.config e event w)))
-    → (k : ℕ) → Matches setting (scene_after setting e (take k (x ∷ xs)) scene) (world_after_events setting.config e (take k (event ∷ events)) w)
-unfolding scene_after world_after_events
-each_part setting e x xs event events scene w m rest zero = m
-each_part setting e x xs event events scene w m rest (suc k) = rest k
+each_part : (setting : Setting) (e : ℕ) (x : Action) (xs : List Action) (event : WorldEvent) (events : List WorldEvent) (cluster : ClusterState) (w : World) → Matches setting cluster w
+    → ((k : ℕ) → Matches setting (cluster_after setting (suc e) (take k xs) (cluster_after_action setting e x cluster)) (world_after_events setting.config (suc e) (take k events) (world_after_event setting.config e event w)))
+    → (k : ℕ) → Matches setting (cluster_after setting e (take k (x ∷ xs)) cluster) (world_after_events setting.config e (take k (event ∷ events)) w)
+unfolding cluster_after world_after_events
+each_part setting e x xs event events cluster w m rest zero = m
+each_part setting e x xs event events cluster w m rest (suc k) = rest k
 
-runs : (setting : Setting) (e : ℕ) (deeds : List Deed) (scene : Scene) (w : World) → Matches setting scene w → AreGenuine setting e deeds scene → Runs setting e deeds scene w
-unfolding scene_after world_after_events AreGenuine
-runs setting e [] scene w m g = record {
+runs : (setting : Setting) (e : ℕ) (actions : List Action) (cluster : ClusterState) (w : World) → Matches setting cluster w → AreGenuine setting e actions cluster → Runs setting e actions cluster w
+unfolding cluster_after world_after_events AreGenuine
+runs setting e [] cluster w m g = record {
   events = [];
   number = refl;
-  each = λ place deed at. absurd (none-some deed at);
+  each = λ place action at. absurd (none-some action at);
   whole = m;
-  parts = none_left setting e scene w m;
+  parts = none_left setting e cluster w m;
   ones = tt;
   told = sym (append-nil w.told);
 }
-runs setting e (x ∷ xs) scene w m g =
-    let f = follows setting e x scene w m g.0 in
-    let r = runs setting (suc e) xs (scene_after_deed setting e x scene) (world_after_event setting.config e f.event w) f.matches g.1 in
+runs setting e (x ∷ xs) cluster w m g =
+    let f = follows setting e x cluster w m g.0 in
+    let r = runs setting (suc e) xs (cluster_after_action setting e x cluster) (world_after_event setting.config e f.event w) f.matches g.1 in
     record {
       events = f.event ∷ r.events;
       number = ap (λ n. suc n) r.number;
       each = each_place setting.key x xs f.event r.events f.is_event r.each;
       whole = r.whole;
-      parts = each_part setting e x xs f.event r.events scene w m r.parts;
+      parts = each_part setting e x xs f.event r.events cluster w m r.parts;
       ones = (f.is_one, r.ones);
-      told = r.told ∙ ap (λ l. l ++ answers_in setting (suc e) xs (scene_after_deed setting e x scene)) f.told
-          ∙ append_assoc w.told (answers_by setting e x scene) (answers_in setting (suc e) xs (scene_after_deed setting e x scene));
+      told = r.told ∙ ap (λ l. l ++ answers_in setting (suc e) xs (cluster_after_action setting e x cluster)) f.told
+          ∙ append_assoc w.told (answers_by setting e x cluster) (answers_in setting (suc e) xs (cluster_after_action setting e x cluster));
     }
 
-pub starts : (setting : Setting) → Matches setting (first_scene setting) (opening_world setting.config (start_of setting))
+pub starts : (setting : Setting) → Matches setting (first_cluster setting) (opening_world setting.config (start_of setting))
 starts setting = record {
   n = refl;
   lost = refl;
   least = refl;
-  sites = λ j. inr refl;
-  offered = each_map (IsKnown (opening_world setting.config (start_of setting))) (λ (l : Envelope). Post l) setting.old (all_there setting.old);
+  processes = λ j. inr refl;
+  offered = each_map (IsKnown (opening_world setting.config (start_of setting))) (λ (l : Envelope). ToPeer l) setting.old (all_there setting.old);
   notes = refl;
 }
 
 -- ---- what is to be seen
 
-all_told : (w : World) (hs : List Handout) → Each (IsKnown w) hs → Each (λ (t : Told). IsToldAmong t w.told) (answers_among hs)
+all_told : (w : World) (hs : List Output) → Each (IsKnown w) hs → Each (λ (t : Answer). IsToldAmong t w.told) (answers_among hs)
 all_told w [] p = tt
-all_told w (Post l ∷ hs) p = all_told w hs p.1
-all_told w (Answer t ∷ hs) p = (record { place = p.0.0; is_there = p.0.1 }, all_told w hs p.1)
+all_told w (ToPeer l ∷ hs) p = all_told w hs p.1
+all_told w (ToClient t ∷ hs) p = (record { place = p.0.0; is_there = p.0.1 }, all_told w hs p.1)
 
 -- the run of a history, and what it tells
-pub record Whole (setting : Setting) (history : List Deed) : Type 0 where
+pub record Whole (setting : Setting) (history : List Action) : Type 0 where
   pub events : List WorldEvent
   pub run : IsRunOf setting history events
-  pub ones : AreOnes setting 0 history (first_scene setting) events
-  pub told : (world_of setting.config (start_of setting) events).told ≡ answers_in setting 0 history (first_scene setting)
-  pub matches : Matches setting (scene_of setting history) (world_of setting.config (start_of setting) events)
+  pub ones : AreOnes setting 0 history (first_cluster setting) events
+  pub told : (world_of setting.config (start_of setting) events).told ≡ answers_in setting 0 history (first_cluster setting)
+  pub matches : Matches setting (cluster_of setting history) (world_of setting.config (start_of setting) events)
 
-pub whole_run : (setting : Setting) (history : List Deed) → IsHistory setting history → Whole setting history
+pub whole_run : (setting : Setting) (history : List Action) → IsHistory setting history → Whole setting history
 whole_run setting history g =
     let first = opening_world setting.config (start_of setting) in
-    let r = runs setting 0 history (first_scene setting) first (starts setting) g.genuine in
+    let r = runs setting 0 history (first_cluster setting) first (starts setting) g.genuine in
     let w = world_after_events setting.config 0 r.events first in
     let of_run : IsRunOf setting history r.events = record {
       number = r.number;
@@ -123,13 +123,13 @@ whole_run setting history g =
       accepted = ap passes_in (sym r.whole.notes);
       floors = λ node token event.
           let v = world_after_events setting.config 0 (take event r.events) first in
-          let x = scene_of setting (take event history) in
-          sym (same_next v (x.lost node) (x.sites node) (v.nodes node) token ((r.parts event).sites node));
-      answered = λ place told at. each_get (λ (t : Told). IsToldAmong t w.told) (answered_in setting history) place told (all_told w (scene_of setting history).offered r.whole.offered) at;
+          let x = cluster_of setting (take event history) in
+          sym (same_next v (x.lost node) (x.processes node) (v.nodes node) token ((r.parts event).processes node));
+      answered = λ place told at. each_get (λ (t : Answer). IsToldAmong t w.told) (answered_in setting history) place told (all_told w (cluster_of setting history).offered r.whole.offered) at;
     } in
     record { events = r.events; run = of_run; ones = r.ones; told = r.told; matches = r.whole }
 
-pub is_run : (setting : Setting) (history : List Deed) → IsHistory setting history → (events : List WorldEvent) × IsRunOf setting history events
+pub is_run : (setting : Setting) (history : List Action) → IsHistory setting history → (events : List WorldEvent) × IsRunOf setting history events
 is_run setting history g = let r = whole_run setting history g in (r.events, r.run)
 
 -- ---- the promises
@@ -153,24 +153,24 @@ ToldLaw = (config : Config) (start : Start) (events : List WorldEvent) → MaySt
 abbrev pub NoOtherLaw : Type 0
 NoOtherLaw = (config : Config) (start : Start) (events : List WorldEvent) → TellTruth events (passes_of config start events) (world_of config start events).told
 
-pub single_use : SingleUseLaw → (setting : Setting) (history : List Deed) → IsHistory setting history → HaveSingleUse (accepted_in setting history)
+pub single_use : SingleUseLaw → (setting : Setting) (history : List Action) → IsHistory setting history → HaveSingleUse (accepted_in setting history)
 single_use law setting history g =
     let r = is_run setting history g in
     subst (λ ps. HaveSingleUse ps) (sym r.1.accepted) (law setting.config (start_of setting) r.0 g.starts)
 
-pub in_order : OrderLaw → (setting : Setting) (history : List Deed) → IsHistory setting history → KeepRealTimeOrder (accepted_in setting history)
+pub in_order : OrderLaw → (setting : Setting) (history : List Action) → IsHistory setting history → KeepRealTimeOrder (accepted_in setting history)
 in_order law setting history g =
     let r = is_run setting history g in
     subst (λ ps. KeepRealTimeOrder ps) (sym r.1.accepted) (law setting.config (start_of setting) r.0 g.starts)
 
-pub majority : MajorityLaw → (setting : Setting) (history : List Deed) → IsHistory setting history → HaveMajority (nodes_of setting) (floor_in setting history) (accepted_in setting history)
+pub majority : MajorityLaw → (setting : Setting) (history : List Action) → IsHistory setting history → HaveMajority (nodes_of setting) (floor_in setting history) (accepted_in setting history)
 majority law setting history g =
     let r = is_run setting history g in
     let same : floor_in setting history ≡ floor_before setting.config (start_of setting) r.0 = fun_ext (λ node. fun_ext (λ token. fun_ext (λ event. r.1.floors node token event))) in
     subst (λ ps. HaveMajority (nodes_of setting) (floor_in setting history) ps) (sym r.1.accepted)
     (subst (λ f. HaveMajority (nodes_of setting) f (passes_of setting.config (start_of setting) r.0)) (sym same) (law setting.config (start_of setting) r.0 g.starts))
 
-pub explained : JustifiedLaw → ToldLaw → NoOtherLaw → (setting : Setting) (history : List Deed) → IsHistory setting history → IsExplained setting history
+pub explained : JustifiedLaw → ToldLaw → NoOtherLaw → (setting : Setting) (history : List Action) → IsHistory setting history → IsExplained setting history
 explained justified told no_other setting history g =
     let r = is_run setting history g in
     let config = setting.config in
@@ -190,7 +190,7 @@ explained justified told no_other setting history g =
 abbrev pub SpacedLaw : Type 0
 SpacedLaw = (config : Config) (start : Start) (events : List WorldEvent) (node token : ℕ) → SpacesFailures (results_of config start events node token)
 
-pub spaced : SpacedLaw → (setting : Setting) (history : List Deed) (node token : ℕ) → IsHistory setting history → SpacesFailures (results_in (scene_of setting history).notes node token)
+pub spaced : SpacedLaw → (setting : Setting) (history : List Action) (node token : ℕ) → IsHistory setting history → SpacesFailures (results_in (cluster_of setting history).notes node token)
 spaced law setting history node token g =
     let r = is_run setting history g in
     subst (λ ns. SpacesFailures (results_in ns node token)) (sym r.1.notes) (law setting.config (start_of setting) r.0 node token)

@@ -1,7 +1,7 @@
 pub mod Answered
 pub mod Bytes
 pub mod Calls
-pub mod Deeds
+pub mod Actions
 pub mod Events
 pub mod Examples
 pub mod Follow

@@ -1,4 +1,4 @@
--- A process in a history, by itself: its site, and the result of its turns.
+-- A process in a history, by itself: its process state, and the result of its turns.
 use Rattle.std.proofs.Common.{◌≡◌, ℕ, suc, ◌≤◌, ⊎_elim, Bool, true, false, not, ◌&&◌, ◌||◌, cond, List, [], ◌∷◌, ◌++◌, length, map, take, Option, Some, None, refl, sym, ap, ◌∙◌, subst, eqb}
 use Rattle.std.proofs.lemmas.Bool.{cond_both, cond-true, cond-false, cases_Bool, eq-eqb, eqb-true, ne_eqb}
 use Rattle.std.proofs.lemmas.List.{append-nil, append_assoc, map-append}
@@ -17,45 +17,45 @@ use Rattle.oath_node.specs.declared.serve_fault.ServeFault.{ServeFault}
 use Rattle.oath_node.specs.declared.serve_fault.ServeFault.TheVariants.{Clock, Node, Port}
 use Rattle.datagram_port.specs.Port.{PortEvent}
 use Rattle.oath_node.specs.Turns.{Receipt, Run, entry_of, events_of_turns, member_of, offer_of, offers_in, receipts_in, receives_in, run_at, run_with_batches, run_with_event, run_with_events, run_with_receipts}
-use Rattle.cluster_law.specs.Lives.{Deed, Opens, FailsToOpen, Takes, Offers, Stops, StopsIn, Loses, Remakes, Handout, Input, Scene, Setting, Site, Down, Up, LeaveStore, LeavesStore, can_be, event_of, handouts_of, has_store, lost_after, made_by_input, node_of_deed, nodes_of, offers_by, own_offers, own_site, place_in, scene_after, scene_after_deed, scene_at, site_after}
-use Rattle.cluster_law.specs.Processes.{AreServing, IsEndedNode, IsFailedNode, IsMemberIn, IsNoFaultOfNode, IsServed, IsServedNode, IsServing, IsStopped, TakesSome, TakesTurns, events_after, input_of, inputs_at, item_of, member_in, offer_of_handout, run_over}
+use Rattle.cluster_law.specs.Lives.{Action, Opens, FailsToOpen, Takes, Offers, Stops, StopsIn, Loses, Remakes, Output, Input, ClusterState, Setting, ProcessState, Down, Up, LeaveStore, LeavesStore, can_be, event_of, outputs_of_step, has_store, lost_after, made_by_input, node_of_action, nodes_of, offers_by, own_offers, own_process, place_in, cluster_after, cluster_after_action, cluster_at, process_after}
+use Rattle.cluster_law.specs.Processes.{AreServing, IsEndedNode, IsFailedNode, IsMemberIn, IsNoFaultOfNode, IsServed, IsServedNode, IsServing, IsStopped, TakesSome, TakesTurns, events_after, input_of, inputs_at, item_of, member_in, offer_of_output, run_over}
 use Rattle.cluster_law.proofs.Calls.{put_out}
 use Rattle.cluster_law.proofs.Events.{Does, all_done, all_end, append_events, events_add, events_do, receipts_do, receipts_end}
 
--- ---- a node's site depends on its own actions alone
+-- ---- a node's process state depends on its own actions alone
 
-pub deed_at : (setting : Setting) (e node : ℕ) (d : Deed) (scene : Scene) → (node ≡ node_of_deed d → can_be setting scene d ≡ true)
-    → (scene_after_deed setting e d scene).sites node ≡ cond (eqb node (node_of_deed d)) (site_after setting e d (scene.sites node)) (scene.sites node)
-unfolding scene_after_deed
-deed_at setting e node d scene can =
-    let i = node_of_deed d in
+pub action_at : (setting : Setting) (e node : ℕ) (d : Action) (cluster : ClusterState) → (node ≡ node_of_action d → can_be setting cluster d ≡ true)
+    → (cluster_after_action setting e d cluster).processes node ≡ cond (eqb node (node_of_action d)) (process_after setting e d (cluster.processes node)) (cluster.processes node)
+unfolding cluster_after_action
+action_at setting e node d cluster can =
+    let i = node_of_action d in
     ⊎_elim
     (λ (q : eqb node i ≡ true).
     let same : node ≡ i = eqb-true node i q in
-    ap (λ (z : Scene). z.sites node) (cond-true (can_be setting scene d) (scene_at setting e d (scene.sites i) scene) scene (can same))
-    ∙ cond-true (eqb node i) (site_after setting e d (scene.sites i)) (scene.sites node) q
-    ∙ ap (λ m. site_after setting e d (scene.sites m)) (sym same)
-    ∙ sym (cond-true (eqb node i) (site_after setting e d (scene.sites node)) (scene.sites node) q))
+    ap (λ (z : ClusterState). z.processes node) (cond-true (can_be setting cluster d) (cluster_at setting e d (cluster.processes i) cluster) cluster (can same))
+    ∙ cond-true (eqb node i) (process_after setting e d (cluster.processes i)) (cluster.processes node) q
+    ∙ ap (λ m. process_after setting e d (cluster.processes m)) (sym same)
+    ∙ sym (cond-true (eqb node i) (process_after setting e d (cluster.processes node)) (cluster.processes node) q))
     (λ (q : eqb node i ≡ false).
-    cond_both (can_be setting scene d) (scene_at setting e d (scene.sites i) scene) scene
-    (λ (z : Scene). z.sites node ≡ cond (eqb node i) (site_after setting e d (scene.sites node)) (scene.sites node))
-    (λ _. cond-false (eqb node i) (site_after setting e d (scene.sites i)) (scene.sites node) q ∙ sym (cond-false (eqb node i) (site_after setting e d (scene.sites node)) (scene.sites node) q))
-    (λ _. sym (cond-false (eqb node i) (site_after setting e d (scene.sites node)) (scene.sites node) q)))
+    cond_both (can_be setting cluster d) (cluster_at setting e d (cluster.processes i) cluster) cluster
+    (λ (z : ClusterState). z.processes node ≡ cond (eqb node i) (process_after setting e d (cluster.processes node)) (cluster.processes node))
+    (λ _. cond-false (eqb node i) (process_after setting e d (cluster.processes i)) (cluster.processes node) q ∙ sym (cond-false (eqb node i) (process_after setting e d (cluster.processes node)) (cluster.processes node) q))
+    (λ _. sym (cond-false (eqb node i) (process_after setting e d (cluster.processes node)) (cluster.processes node) q)))
     (cases_Bool (eqb node i))
 
 -- while a node has its store, an action that keeps the store is possible
-pub can_there : (setting : Setting) (scene : Scene) (node : ℕ) (d : Deed) → has_store setting scene node ≡ true → LeavesStore node d → node ≡ node_of_deed d → can_be setting scene d ≡ true
-can_there setting scene node (Opens i) store leaves own = subst (λ m. has_store setting scene m ≡ true) own store
-can_there setting scene node (FailsToOpen i raised) store leaves own = subst (λ m. has_store setting scene m ≡ true) own store
-can_there setting scene node (Takes i input) store leaves own = subst (λ m. has_store setting scene m ≡ true) own store
-can_there setting scene node (Offers i) store leaves own = subst (λ m. has_store setting scene m ≡ true) own store
-can_there setting scene node (Stops i) store leaves own = subst (λ m. has_store setting scene m ≡ true) own store
-can_there setting scene node (StopsIn i kept input) store leaves own = subst (λ m. has_store setting scene m ≡ true) own store
-can_there setting scene node (Loses i) store leaves own = absurd (leaves own)
-can_there setting scene node (Remakes i boot floors) store leaves own = absurd (leaves own)
+pub can_there : (setting : Setting) (cluster : ClusterState) (node : ℕ) (d : Action) → has_store setting cluster node ≡ true → LeavesStore node d → node ≡ node_of_action d → can_be setting cluster d ≡ true
+can_there setting cluster node (Opens i) store leaves own = subst (λ m. has_store setting cluster m ≡ true) own store
+can_there setting cluster node (FailsToOpen i raised) store leaves own = subst (λ m. has_store setting cluster m ≡ true) own store
+can_there setting cluster node (Takes i input) store leaves own = subst (λ m. has_store setting cluster m ≡ true) own store
+can_there setting cluster node (Offers i) store leaves own = subst (λ m. has_store setting cluster m ≡ true) own store
+can_there setting cluster node (Stops i) store leaves own = subst (λ m. has_store setting cluster m ≡ true) own store
+can_there setting cluster node (StopsIn i kept input) store leaves own = subst (λ m. has_store setting cluster m ≡ true) own store
+can_there setting cluster node (Loses i) store leaves own = absurd (leaves own)
+can_there setting cluster node (Remakes i boot floors) store leaves own = absurd (leaves own)
 
 -- and it stays
-lost_left : (node : ℕ) (d : Deed) (lost : ℕ → Bool) → LeavesStore node d → lost_after d lost node ≡ lost node
+lost_left : (node : ℕ) (d : Action) (lost : ℕ → Bool) → LeavesStore node d → lost_after d lost node ≡ lost node
 lost_left node (Opens i) lost leaves = refl
 lost_left node (FailsToOpen i raised) lost leaves = refl
 lost_left node (Takes i input) lost leaves = refl
@@ -65,139 +65,139 @@ lost_left node (StopsIn i kept input) lost leaves = refl
 lost_left node (Loses i) lost leaves = ap (λ b. b || lost node) (ne_eqb node i leaves)
 lost_left node (Remakes i boot floors) lost leaves = ap (λ b. not b && lost node) (ne_eqb node i leaves)
 
-pub store_left : (setting : Setting) (e node : ℕ) (d : Deed) (scene : Scene) → has_store setting scene node ≡ true → LeavesStore node d → has_store setting (scene_after_deed setting e d scene) node ≡ true
-unfolding scene_after_deed
-store_left setting e node d scene store leaves =
-    cond_both (can_be setting scene d) (scene_at setting e d (scene.sites (node_of_deed d)) scene) scene (λ (z : Scene). has_store setting z node ≡ true)
-    (λ _. ap (λ b. not b && is_member (nodes_of setting) node) (lost_left node d scene.lost leaves) ∙ store) (λ _. store)
+pub store_left : (setting : Setting) (e node : ℕ) (d : Action) (cluster : ClusterState) → has_store setting cluster node ≡ true → LeavesStore node d → has_store setting (cluster_after_action setting e d cluster) node ≡ true
+unfolding cluster_after_action
+store_left setting e node d cluster store leaves =
+    cond_both (can_be setting cluster d) (cluster_at setting e d (cluster.processes (node_of_action d)) cluster) cluster (λ (z : ClusterState). has_store setting z node ≡ true)
+    (λ _. ap (λ b. not b && is_member (nodes_of setting) node) (lost_left node d cluster.lost leaves) ∙ store) (λ _. store)
 
-pub site_is_own : (setting : Setting) (e node : ℕ) (ds : List Deed) (scene : Scene) → has_store setting scene node ≡ true → LeaveStore node ds
-    → (scene_after setting e ds scene).sites node ≡ own_site setting node e ds (scene.sites node)
-unfolding scene_after own_site
-site_is_own setting e node [] scene store leave = refl
-site_is_own setting e node (d ∷ ds) scene store leave =
-    site_is_own setting (suc e) node ds (scene_after_deed setting e d scene) (store_left setting e node d scene store leave.0) leave.1
-    ∙ ap (λ s. own_site setting node (suc e) ds s) (deed_at setting e node d scene (can_there setting scene node d store leave.0))
+pub process_is_own : (setting : Setting) (e node : ℕ) (ds : List Action) (cluster : ClusterState) → has_store setting cluster node ≡ true → LeaveStore node ds
+    → (cluster_after setting e ds cluster).processes node ≡ own_process setting node e ds (cluster.processes node)
+unfolding cluster_after own_process
+process_is_own setting e node [] cluster store leave = refl
+process_is_own setting e node (d ∷ ds) cluster store leave =
+    process_is_own setting (suc e) node ds (cluster_after_action setting e d cluster) (store_left setting e node d cluster store leave.0) leave.1
+    ∙ ap (λ s. own_process setting node (suc e) ds s) (action_at setting e node d cluster (can_there setting cluster node d store leave.0))
 
 -- ---- a process that continues
 
 -- the claim for any run with the offered outputs, of which the rest waits
-record GoesOn (setting : Setting) (node e : ℕ) (ds : List Deed) (s : NodeState) (waiting : List Handout) (done : List PortEvent) (r : Run) : Type 0 where
-  left : List Handout
-  site : own_site setting node e ds (Up s waiting) ≡ Up r.node left
-  entries : r.entries ≡ (done ++ map (offer_of_handout setting.key) (own_offers setting node e ds (Up s waiting))) ++ map (offer_of_handout setting.key) left
+record GoesOn (setting : Setting) (node e : ℕ) (ds : List Action) (s : NodeState) (waiting : List Output) (done : List PortEvent) (r : Run) : Type 0 where
+  left : List Output
+  process : own_process setting node e ds (Up s waiting) ≡ Up r.node left
+  entries : r.entries ≡ (done ++ map (offer_of_output setting.key) (own_offers setting node e ds (Up s waiting))) ++ map (offer_of_output setting.key) left
 
-offered_items : (key : List ℕ) (hs : List Handout) → map offer_of (map (item_of key) hs) ≡ map (offer_of_handout key) hs
+offered_items : (key : List ℕ) (hs : List Output) → map offer_of (map (item_of key) hs) ≡ map (offer_of_output key) hs
 offered_items key [] = refl
-offered_items key (h ∷ hs) = ap (λ xs. offer_of_handout key h ∷ xs) (offered_items key hs)
+offered_items key (h ∷ hs) = ap (λ xs. offer_of_output key h ∷ xs) (offered_items key hs)
 
 -- the run with one input more
-step_entries : (setting : Setting) (e i : ℕ) (made : Made) (waiting : List Handout) (done : List PortEvent) (entries : List PortEvent) → entries ≡ done ++ map (offer_of_handout setting.key) waiting
-    → entries ++ map offer_of (outputs_of setting.key (place_in setting i) made).items ≡ done ++ map (offer_of_handout setting.key) (waiting ++ handouts_of e i made)
+step_entries : (setting : Setting) (e i : ℕ) (made : Made) (waiting : List Output) (done : List PortEvent) (entries : List PortEvent) → entries ≡ done ++ map (offer_of_output setting.key) waiting
+    → entries ++ map offer_of (outputs_of setting.key (place_in setting i) made).items ≡ done ++ map (offer_of_output setting.key) (waiting ++ outputs_of_step e i made)
 step_entries setting e i made waiting done entries is =
-    let f = offer_of_handout setting.key in
-    let hs = handouts_of e i made in
+    let f = offer_of_output setting.key in
+    let hs = outputs_of_step e i made in
     ap (λ xs. entries ++ map offer_of xs) (put_out setting e i made)
     ∙ ap (λ xs. entries ++ xs) (offered_items setting.key hs)
     ∙ ap (λ xs. xs ++ map f hs) is
     ∙ append_assoc done (map f waiting) (map f hs)
     ∙ ap (λ xs. done ++ xs) (sym (map-append f waiting hs))
 
--- the claim for the rest after one action, which left the site and offered the outputs
-record GoesThen (setting : Setting) (node e : ℕ) (ds : List Deed) (a : Site) (out : List Handout) (done : List PortEvent) (r : Run) : Type 0 where
-  left : List Handout
-  site : own_site setting node (suc e) ds a ≡ Up r.node left
-  entries : r.entries ≡ (done ++ map (offer_of_handout setting.key) (out ++ own_offers setting node (suc e) ds a)) ++ map (offer_of_handout setting.key) left
+-- the claim for the rest after one action, which left the process state and offered the outputs
+record GoesThen (setting : Setting) (node e : ℕ) (ds : List Action) (a : ProcessState) (out : List Output) (done : List PortEvent) (r : Run) : Type 0 where
+  left : List Output
+  process : own_process setting node (suc e) ds a ≡ Up r.node left
+  entries : r.entries ≡ (done ++ map (offer_of_output setting.key) (out ++ own_offers setting node (suc e) ds a)) ++ map (offer_of_output setting.key) left
 
 -- the run over what the node takes in the rest
-abbrev rest_of : Setting → ℕ → List Deed → Run → Run
+abbrev rest_of : Setting → ℕ → List Action → Run → Run
 rest_of setting node ds r = run_with_events (member_in setting node) (map (event_of setting.key) (inputs_at node ds)) r
 
 -- the rest, from any state
-abbrev RestGoes : Setting → ℕ → ℕ → List Deed → Type 0
+abbrev RestGoes : Setting → ℕ → ℕ → List Action → Type 0
 RestGoes setting node e ds =
-    (s : NodeState) (waiting : List Handout) (done : List PortEvent) (r : Run) → r.node ≡ s → r.entries ≡ done ++ map (offer_of_handout setting.key) waiting
+    (s : NodeState) (waiting : List Output) (done : List PortEvent) (r : Run) → r.node ≡ s → r.entries ≡ done ++ map (offer_of_output setting.key) waiting
     → GoesOn setting node (suc e) ds s waiting done (rest_of setting node ds r)
 
-same_rest : (setting : Setting) (node e : ℕ) (ds : List Deed) (s : NodeState) (waiting : List Handout) (done : List PortEvent) (r : Run) → GoesOn setting node (suc e) ds s waiting done r → GoesThen setting node e ds (Up s waiting) [] done r
-same_rest setting node e ds s waiting done r g = record { left = g.left; site = g.site; entries = g.entries }
+same_rest : (setting : Setting) (node e : ℕ) (ds : List Action) (s : NodeState) (waiting : List Output) (done : List PortEvent) (r : Run) → GoesOn setting node (suc e) ds s waiting done r → GoesThen setting node e ds (Up s waiting) [] done r
+same_rest setting node e ds s waiting done r g = record { left = g.left; process = g.process; entries = g.entries }
 
-taken_then : (setting : Setting) (node e : ℕ) (input : Input) (ds : List Deed) (s : NodeState) (waiting : List Handout) (done : List PortEvent) (r : Run) → RestGoes setting node e ds → r.node ≡ s → r.entries ≡ done ++ map (offer_of_handout setting.key) waiting
-    → GoesThen setting node e ds (site_after setting e (Takes node input) (Up s waiting)) [] done (rest_of setting node ds (run_with_event (member_in setting node) (event_of setting.key input) r))
+taken_then : (setting : Setting) (node e : ℕ) (input : Input) (ds : List Action) (s : NodeState) (waiting : List Output) (done : List PortEvent) (r : Run) → RestGoes setting node e ds → r.node ≡ s → r.entries ≡ done ++ map (offer_of_output setting.key) waiting
+    → GoesThen setting node e ds (process_after setting e (Takes node input) (Up s waiting)) [] done (rest_of setting node ds (run_with_event (member_in setting node) (event_of setting.key input) r))
 taken_then setting node e input ds s waiting done r rest state entries =
     let m = member_in setting node in
     let made = made_by_input setting node input s in
     let r1 = run_with_event m (event_of setting.key input) r in
     let state1 : r1.node ≡ made.state = ap (λ (z : NodeState). (made_by_input setting node input z).state) state in
-    let entries1 : r1.entries ≡ done ++ map (offer_of_handout setting.key) (waiting ++ handouts_of e node made) =
+    let entries1 : r1.entries ≡ done ++ map (offer_of_output setting.key) (waiting ++ outputs_of_step e node made) =
     ap (λ (z : NodeState). r.entries ++ map offer_of (outputs_of setting.key (place_in setting node) (made_by_input setting node input z)).items) state
     ∙ step_entries setting e node made waiting done r.entries entries in
-    same_rest setting node e ds made.state (waiting ++ handouts_of e node made) done (rest_of setting node ds r1) (rest made.state (waiting ++ handouts_of e node made) done r1 state1 entries1)
+    same_rest setting node e ds made.state (waiting ++ outputs_of_step e node made) done (rest_of setting node ds r1) (rest made.state (waiting ++ outputs_of_step e node made) done r1 state1 entries1)
 
-offered_then : (setting : Setting) (node e : ℕ) (ds : List Deed) (s : NodeState) (waiting : List Handout) (done : List PortEvent) (r : Run) → RestGoes setting node e ds → r.node ≡ s → r.entries ≡ done ++ map (offer_of_handout setting.key) waiting
-    → GoesThen setting node e ds (site_after setting e (Offers node) (Up s waiting)) (offers_by (Offers node) (Up s waiting)) done (rest_of setting node ds r)
+offered_then : (setting : Setting) (node e : ℕ) (ds : List Action) (s : NodeState) (waiting : List Output) (done : List PortEvent) (r : Run) → RestGoes setting node e ds → r.node ≡ s → r.entries ≡ done ++ map (offer_of_output setting.key) waiting
+    → GoesThen setting node e ds (process_after setting e (Offers node) (Up s waiting)) (offers_by (Offers node) (Up s waiting)) done (rest_of setting node ds r)
 offered_then setting node e ds s [] done r rest state entries = same_rest setting node e ds s [] done (rest_of setting node ds r) (rest s [] done r state entries)
 offered_then setting node e ds s (h ∷ waiting) done r rest state entries =
-    let f = offer_of_handout setting.key in
+    let f = offer_of_output setting.key in
     let g = rest s waiting (done ++ f h ∷ []) r state (entries ∙ sym (append_assoc done (f h ∷ []) (map f waiting))) in
     let own = map f (own_offers setting node (suc e) ds (Up s waiting)) in
     record {
       left = g.left;
-      site = g.site;
+      process = g.process;
       entries = g.entries ∙ ap (λ xs. xs ++ map f g.left) (append_assoc done (f h ∷ []) own);
     }
 
-deed_then : (setting : Setting) (node e : ℕ) (d : Deed) (ds : List Deed) (s : NodeState) (waiting : List Handout) (done : List PortEvent) (r : Run) → node ≡ node_of_deed d → IsServing node d → RestGoes setting node e ds → r.node ≡ s → r.entries ≡ done ++ map (offer_of_handout setting.key) waiting
-    → GoesThen setting node e ds (site_after setting e d (Up s waiting)) (offers_by d (Up s waiting)) done (run_with_events (member_in setting node) (map (event_of setting.key) (input_of d ++ inputs_at node ds)) r)
-deed_then setting node e (Opens at) ds s waiting done r q g rest state entries = absurd (g q)
-deed_then setting node e (FailsToOpen at raised) ds s waiting done r q g rest state entries = absurd (g q)
-deed_then setting node e (Stops at) ds s waiting done r q g rest state entries = absurd (g q)
-deed_then setting node e (StopsIn at kept input) ds s waiting done r q g rest state entries = absurd (g q)
-deed_then setting node e (Takes at input) ds s waiting done r q g rest state entries =
+action_then : (setting : Setting) (node e : ℕ) (d : Action) (ds : List Action) (s : NodeState) (waiting : List Output) (done : List PortEvent) (r : Run) → node ≡ node_of_action d → IsServing node d → RestGoes setting node e ds → r.node ≡ s → r.entries ≡ done ++ map (offer_of_output setting.key) waiting
+    → GoesThen setting node e ds (process_after setting e d (Up s waiting)) (offers_by d (Up s waiting)) done (run_with_events (member_in setting node) (map (event_of setting.key) (input_of d ++ inputs_at node ds)) r)
+action_then setting node e (Opens at) ds s waiting done r q g rest state entries = absurd (g q)
+action_then setting node e (FailsToOpen at raised) ds s waiting done r q g rest state entries = absurd (g q)
+action_then setting node e (Stops at) ds s waiting done r q g rest state entries = absurd (g q)
+action_then setting node e (StopsIn at kept input) ds s waiting done r q g rest state entries = absurd (g q)
+action_then setting node e (Takes at input) ds s waiting done r q g rest state entries =
     let made_run = rest_of setting node ds (run_with_event (member_in setting node) (event_of setting.key input) r) in
-    subst (λ m. GoesThen setting node e ds (site_after setting e (Takes m input) (Up s waiting)) [] done made_run) q (taken_then setting node e input ds s waiting done r rest state entries)
-deed_then setting node e (Offers at) ds s waiting done r q g rest state entries = offered_then setting node e ds s waiting done r rest state entries
-deed_then setting node e (Loses at) ds s waiting done r q g rest state entries = absurd (g q)
-deed_then setting node e (Remakes at boot floors) ds s waiting done r q g rest state entries = absurd (g q)
+    subst (λ m. GoesThen setting node e ds (process_after setting e (Takes m input) (Up s waiting)) [] done made_run) q (taken_then setting node e input ds s waiting done r rest state entries)
+action_then setting node e (Offers at) ds s waiting done r q g rest state entries = offered_then setting node e ds s waiting done r rest state entries
+action_then setting node e (Loses at) ds s waiting done r q g rest state entries = absurd (g q)
+action_then setting node e (Remakes at boot floors) ds s waiting done r q g rest state entries = absurd (g q)
 
-either_then : (setting : Setting) (node e : ℕ) (d : Deed) (ds : List Deed) (s : NodeState) (waiting : List Handout) (done : List PortEvent) (r : Run) (b : Bool) → (b ≡ true → node ≡ node_of_deed d) → IsServing node d → RestGoes setting node e ds → r.node ≡ s → r.entries ≡ done ++ map (offer_of_handout setting.key) waiting
-    → GoesThen setting node e ds (cond b (site_after setting e d (Up s waiting)) (Up s waiting)) (cond b (offers_by d (Up s waiting)) []) done
+either_then : (setting : Setting) (node e : ℕ) (d : Action) (ds : List Action) (s : NodeState) (waiting : List Output) (done : List PortEvent) (r : Run) (b : Bool) → (b ≡ true → node ≡ node_of_action d) → IsServing node d → RestGoes setting node e ds → r.node ≡ s → r.entries ≡ done ++ map (offer_of_output setting.key) waiting
+    → GoesThen setting node e ds (cond b (process_after setting e d (Up s waiting)) (Up s waiting)) (cond b (offers_by d (Up s waiting)) []) done
     (run_with_events (member_in setting node) (map (event_of setting.key) (cond b (input_of d) [] ++ inputs_at node ds)) r)
-either_then setting node e d ds s waiting done r true own g rest state entries = deed_then setting node e d ds s waiting done r (own refl) g rest state entries
+either_then setting node e d ds s waiting done r true own g rest state entries = action_then setting node e d ds s waiting done r (own refl) g rest state entries
 either_then setting node e d ds s waiting done r false own g rest state entries = same_rest setting node e ds s waiting done (rest_of setting node ds r) (rest s waiting done r state entries)
 
-goes_on : (setting : Setting) (node e : ℕ) (ds : List Deed) (s : NodeState) (waiting : List Handout) (done : List PortEvent) (r : Run) → AreServing node ds → r.node ≡ s → r.entries ≡ done ++ map (offer_of_handout setting.key) waiting
+goes_on : (setting : Setting) (node e : ℕ) (ds : List Action) (s : NodeState) (waiting : List Output) (done : List PortEvent) (r : Run) → AreServing node ds → r.node ≡ s → r.entries ≡ done ++ map (offer_of_output setting.key) waiting
     → GoesOn setting node e ds s waiting done (rest_of setting node ds r)
-unfolding own_site own_offers
+unfolding own_process own_offers
 goes_on setting node e [] s waiting done r g state entries = record {
   left = waiting;
-  site = ap (λ z. Up z waiting) (sym state);
-  entries = entries ∙ ap (λ xs. xs ++ map (offer_of_handout setting.key) waiting) (sym (append-nil done));
+  process = ap (λ z. Up z waiting) (sym state);
+  entries = entries ∙ ap (λ xs. xs ++ map (offer_of_output setting.key) waiting) (sym (append-nil done));
 }
 goes_on setting node e (d ∷ ds) s waiting done r g state entries =
     let rest : RestGoes setting node e ds = λ s2 w2 done2 r2 h k. goes_on setting node (suc e) ds s2 w2 done2 r2 g.1 h k in
-    let t = either_then setting node e d ds s waiting done r (eqb node (node_of_deed d)) (eqb-true node (node_of_deed d)) g.0 rest state entries in
-    record { left = t.left; site = t.site; entries = t.entries }
+    let t = either_then setting node e d ds s waiting done r (eqb node (node_of_action d)) (eqb-true node (node_of_action d)) g.0 rest state entries in
+    record { left = t.left; process = t.process; entries = t.entries }
 
-pub serves : (setting : Setting) (node e : ℕ) (ds : List Deed) (s : NodeState) → AreServing node ds
+pub serves : (setting : Setting) (node e : ℕ) (ds : List Action) (s : NodeState) → AreServing node ds
     → IsServed setting node e ds s (run_over setting node ds s).node (run_over setting node ds s).entries
 serves setting node e ds s g =
     let t = goes_on setting node e ds s [] [] (run_at s) g refl refl in
-    record { left = t.left; site = t.site; offered = t.entries }
+    record { left = t.left; process = t.process; offered = t.entries }
 
 -- a run that does what the run over the node's events does
-served_run : (setting : Setting) (node e : ℕ) (ds : List Deed) (s : NodeState) (receipts : List Receipt) (run : Run) → AreServing node ds → TakesTurns setting node ds receipts
+served_run : (setting : Setting) (node e : ℕ) (ds : List Action) (s : NodeState) (receipts : List Receipt) (run : Run) → AreServing node ds → TakesTurns setting node ds receipts
     → Does run (run_with_events (member_in setting node) (events_of_turns setting.key 0 receipts) (run_at s)) → IsServed setting node e ds s run.node (offers_in run.entries)
 served_run setting node e ds s receipts run g takes does =
     let t = serves setting node e ds s g in
     let same : run_over setting node ds s ≡ run_with_events (member_in setting node) (events_of_turns setting.key 0 receipts) (run_at s) = ap (λ es. run_with_events (member_in setting node) es (run_at s)) takes in
     record {
       left = t.left;
-      site = t.site ∙ ap (λ x. Up x t.left) (ap (λ (r : Run). r.node) same ∙ sym does.node);
+      process = t.process ∙ ap (λ x. Up x t.left) (ap (λ (r : Run). r.node) same ∙ sym does.node);
       offered = does.offers ∙ ap (λ (r : Run). r.entries) (sym same) ∙ t.offered;
     }
 
-pub serves_turns : (setting : Setting) (node e : ℕ) (ds : List Deed) (s : NodeState) (batches : List (List Receipt)) → AreServing node ds → TakesTurns setting node ds (receipts_in batches)
+pub serves_turns : (setting : Setting) (node e : ℕ) (ds : List Action) (s : NodeState) (batches : List (List Receipt)) → AreServing node ds → TakesTurns setting node ds (receipts_in batches)
     → (run_with_batches (member_in setting node) batches (run_at s)).end ≡ None
     → IsServed setting node e ds s (run_with_batches (member_in setting node) batches (run_at s)).node (offers_in (run_with_batches (member_in setting node) batches (run_at s)).entries)
 serves_turns setting node e ds s batches g takes end =
@@ -262,14 +262,14 @@ ends_node held setting node old new entries batches m received stands =
 -- ---- a call that a fault of the node ended
 
 -- one more action
-own_stop : (setting : Setting) (node e : ℕ) (ds : List Deed) (a : Site) (s : NodeState) (waiting : List Handout) → own_site setting node e ds a ≡ Up s waiting → own_site setting node e (ds ++ Stops node ∷ []) a ≡ Down s.content
-unfolding own_site
+own_stop : (setting : Setting) (node e : ℕ) (ds : List Action) (a : ProcessState) (s : NodeState) (waiting : List Output) → own_process setting node e ds a ≡ Up s waiting → own_process setting node e (ds ++ Stops node ∷ []) a ≡ Down s.content
+unfolding own_process
 own_stop setting node e [] a s waiting is =
-    cond-true (eqb node node) (site_after setting e (Stops node) a) a (eq-eqb node node refl) ∙ ap (λ z. site_after setting e (Stops node) z) is
-own_stop setting node e (d ∷ ds) a s waiting is = own_stop setting node (suc e) ds (cond (eqb node (node_of_deed d)) (site_after setting e d a) a) s waiting is
+    cond-true (eqb node node) (process_after setting e (Stops node) a) a (eq-eqb node node refl) ∙ ap (λ z. process_after setting e (Stops node) z) is
+own_stop setting node e (d ∷ ds) a s waiting is = own_stop setting node (suc e) ds (cond (eqb node (node_of_action d)) (process_after setting e d a) a) s waiting is
 
 -- the node that took what was served, and the first events of a batch
-stopped_run : (setting : Setting) (node e : ℕ) (ds : List Deed) (s : NodeState) (before last : List Receipt) (count : ℕ) (run : Run) (content : Content) → AreServing node ds → TakesSome setting node ds before last count
+stopped_run : (setting : Setting) (node e : ℕ) (ds : List Action) (s : NodeState) (before last : List Receipt) (count : ℕ) (run : Run) (content : Content) → AreServing node ds → TakesSome setting node ds before last count
     → Does run (run_with_events (member_in setting node) (events_of_turns setting.key 0 before) (run_at s))
     → content ≡ (run_with_events (member_in setting node) (take count (events_after setting.key before last)) run).node.content
     → IsStopped setting node e ds s (offers_in run.entries) content
@@ -289,10 +289,10 @@ stopped_run setting node e ds s before last count run content g takes does is =
       rest = more.0;
       served = record {
         left = t.left;
-        site = t.site;
+        process = t.process;
         offered = ap (λ es. es ++ more.0) does.offers ∙ sym more.1 ∙ ap (λ (r : Run). r.entries) (sym same) ∙ t.offered;
       };
-      stops = own_stop setting node e ds (Up s []) whole.node t.left t.site ∙ ap (λ c. Down c) (sym left);
+      stops = own_stop setting node e ds (Up s []) whole.node t.left t.process ∙ ap (λ c. Down c) (sym left);
     }
 
 pub fails_node : {S : Type 0} (held : S → Held) (setting : Setting) (node : ℕ) (old new : Hosted S) (entries : List PortEvent) (batches : List (List Receipt)) (fault : NodeFault) (content : Content)

@@ -3,57 +3,57 @@ use Rattle.std.specs.Prelude.{◌≡◌, ◌⊎◌, ℕ, true, List, take, Optio
 use Rattle.otp_core.specs.Acceptance.{Acceptance}
 use Rattle.oath_node.specs.Machine.{NodeState}
 use Rattle.cluster_sim.specs.Answered.{ok_bytes}
-use Rattle.cluster_sim.specs.World.{Told}
-use Rattle.cluster_law.specs.Lives.{Deed, Takes, Stops, StopsIn, Loses, Handout, Answer, Setting, Site, Up, accepted_in, answered_in, scene_of}
-use Rattle.cluster_law.specs.Promises.{IsAskedInDeed, IsToldAmong}
+use Rattle.cluster_sim.specs.World.{Answer}
+use Rattle.cluster_law.specs.Lives.{Action, Takes, Stops, StopsIn, Loses, Output, ToClient, Setting, ProcessState, Up, accepted_in, answered_in, cluster_of}
+use Rattle.cluster_law.specs.Promises.{IsAskedInAction, IsToldAmong}
 
--- the site's process still has to offer the answer
-pub record HasYetToOffer (told : Told) (site : Site) : Type 0 where
+-- the process still has to offer the answer
+pub record HasYetToOffer (answer : Answer) (process : ProcessState) : Type 0 where
   pub state : NodeState
-  pub waiting : List Handout
-  pub is_up : site ≡ Up state waiting
+  pub waiting : List Output
+  pub is_up : process ≡ Up state waiting
   pub place : ℕ
-  pub is_there : slice_get waiting place ≡ Some (Answer told)
+  pub is_there : slice_get waiting place ≡ Some (ToClient answer)
 
 -- the action ends the process of the node
-abbrev pub EndsProcess : ℕ → Option Deed → Type 0
+abbrev pub EndsProcess : ℕ → Option Action → Type 0
 EndsProcess node (Some (Stops at)) = at ≡ node
 EndsProcess node (Some (StopsIn at kept input)) = at ≡ node
 EndsProcess node (Some (Loses at)) = at ≡ node
 EndsProcess node _ = ⊥
 
 -- the process of the node ended in an action before which it still had to offer the answer
-pub record IsLost (setting : Setting) (history : List Deed) (told : Told) : Type 0 where
+pub record IsLost (setting : Setting) (history : List Action) (answer : Answer) : Type 0 where
   pub event : ℕ
-  pub ends : EndsProcess told.node (slice_get history event)
-  pub yet : HasYetToOffer told ((scene_of setting (take event history)).sites told.node)
+  pub ends : EndsProcess answer.node (slice_get history event)
+  pub yet : HasYetToOffer answer ((cluster_of setting (take event history)).processes answer.node)
 
 -- An answer was offered, its process ended before it offered it, or the process still has to offer it.
-abbrev pub IsOfferedOrEnds : Setting → List Deed → Told → Type 0
-IsOfferedOrEnds setting history told =
-    IsToldAmong told (answered_in setting history)
-    ⊎ (IsLost setting history told ⊎ HasYetToOffer told ((scene_of setting history).sites told.node))
+abbrev pub IsOfferedOrEnds : Setting → List Action → Answer → Type 0
+IsOfferedOrEnds setting history answer =
+    IsToldAmong answer (answered_in setting history)
+    ⊎ (IsLost setting history answer ⊎ HasYetToOffer answer ((cluster_of setting history).processes answer.node))
 
 -- In the action in which the acceptance ended, its process made the OK for the client of its line. The process offered
 -- the OK or still has to, unless it ended first.
-pub record HasOk (setting : Setting) (history : List Deed) (pass : Acceptance) : Type 0 where
-  pub answer : Told
+pub record HasOk (setting : Setting) (history : List Action) (pass : Acceptance) : Type 0 where
+  pub answer : Answer
   pub event : answer.event ≡ pass.ended
   pub node : answer.node ≡ pass.node
   pub line : List ℕ
   pub nonce : List ℕ
-  pub asked : IsAskedInDeed pass.node answer.client line nonce (slice_get history pass.began)
+  pub asked : IsAskedInAction pass.node answer.client line nonce (slice_get history pass.began)
   pub bytes : answer.bytes ≡ ok_bytes nonce pass.hi
   pub becomes : IsOfferedOrEnds setting history answer
 
 -- An acceptance in a taken step has its OK. An acceptance in a step inside which the process ended has none.
-abbrev pub IsAnsweredInDeed : Setting → List Deed → Acceptance → Option Deed → Type 0
-IsAnsweredInDeed setting history pass (Some (Takes node input)) = HasOk setting history pass
-IsAnsweredInDeed setting history pass (Some (StopsIn node true input)) = Unit {0}
-IsAnsweredInDeed setting history pass _ = ⊥
+abbrev pub IsAnsweredInAction : Setting → List Action → Acceptance → Option Action → Type 0
+IsAnsweredInAction setting history pass (Some (Takes node input)) = HasOk setting history pass
+IsAnsweredInAction setting history pass (Some (StopsIn node true input)) = Unit {0}
+IsAnsweredInAction setting history pass _ = ⊥
 
 -- each acceptance of the history has its OK, or ended in a stop
-abbrev pub AnswersAll : Setting → List Deed → Type 0
+abbrev pub AnswersAll : Setting → List Action → Type 0
 AnswersAll setting history =
     (i : ℕ) (pass : Acceptance) → slice_get (accepted_in setting history) i ≡ Some pass
-    → IsAnsweredInDeed setting history pass (slice_get history pass.ended)
+    → IsAnsweredInAction setting history pass (slice_get history pass.ended)

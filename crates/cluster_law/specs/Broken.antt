@@ -1,4 +1,4 @@
--- Processes, scenes and runs, each of which breaks one field of a promise. No contract cites them.
+-- Processes, cluster states and runs, each of which breaks one field of a promise. No contract cites them.
 use Rattle.std.specs.Prelude.{List, [], ◌∷◌, ℕ, map, codes}
 use Rattle.floor_store.specs.Content.{Content}
 use Rattle.vote_core.specs.Broken.{small_ballot}
@@ -9,8 +9,8 @@ use Rattle.oath_node.specs.Machine.{Made, NodeState, opened_node}
 use Rattle.datagram_port.specs.Port.{PortEvent}
 use Rattle.cluster_sim.specs.World.{Deliver, Happens, Restart, Says, WorldEvent}
 use Rattle.cluster_law.specs.Examples.{old_floor, one_node, one_open, quiet_node, right_line, three_nodes}
-use Rattle.cluster_law.specs.Lives.{Deed, Line, Offers, Opens, Scene, Setting, Takes, Time, Up, handouts_of, made_by_input, made_content}
-use Rattle.cluster_law.specs.Processes.{offer_of_handout}
+use Rattle.cluster_law.specs.Lives.{Action, Line, Offers, Opens, ClusterState, Setting, Takes, Time, Up, outputs_of_step, made_by_input, made_content}
+use Rattle.cluster_law.specs.Processes.{offer_of_output}
 use Rattle.cluster_law.specs.Promises.{nothing}
 
 -- ---- Processes
@@ -25,7 +25,7 @@ tick_made = made_by_input three_nodes 1 Time (just_opened three_nodes)
 
 -- the offers of the tick to the port
 abbrev pub told_by_tick : List PortEvent
-told_by_tick = map (offer_of_handout three_nodes.key) (handouts_of 0 1 tick_made)
+told_by_tick = map (offer_of_output three_nodes.key) (outputs_of_step 0 1 tick_made)
 
 -- the content of the one node's store after it took the right line
 abbrev pub content_with_pass : Content
@@ -38,16 +38,16 @@ abbrev pub right_text : List ℕ
 right_text = codes "CHECK 1 silver 755224 -"
 
 -- a wrong code arrives, and the right one 4 seconds later
-abbrev pub hurries : List Deed
+abbrev pub hurries : List Action
 hurries =
     Opens 1 ∷ Takes 1 (Line 7 100 (codes "CHECK 1 silver 000000 -"))
     ∷ Takes 1 (Line 7 104 (codes "CHECK 2 silver 755224 -")) ∷ []
 
--- ---- Scenes
+-- ---- Cluster states
 
 -- a process in the given state, at every node
-abbrev pub with_process : NodeState → Scene
-with_process state = record one_open { sites = λ node. Up state [] }
+abbrev pub with_process : NodeState → ClusterState
+with_process state = record one_open { processes = λ node. Up state [] }
 
 -- a node with a pending proposal
 abbrev pub pending_node : NodeState
@@ -72,7 +72,7 @@ abbrev pub late_node : Setting
 late_node = record one_node { boots = 4611686018427387902 ∷ [] }
 
 -- a process opens the store in the last boot, takes a bad line, and answers; a second process doesn't open it
-abbrev pub answers_late : List Deed
+abbrev pub answers_late : List Action
 answers_late = Opens 1 ∷ Opens 1 ∷ Takes 1 (Line 7 100 []) ∷ Offers 1 ∷ []
 
 -- the run in which the second process restarts the node, which stops

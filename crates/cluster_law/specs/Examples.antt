@@ -11,8 +11,8 @@ use Rattle.otp_core.specs.Acceptance.{Acceptance}
 use Rattle.client_lines.specs.declared.answer.Outcome.TheVariants.{Accepted}
 use Rattle.oath_node.specs.Turns.{FromClient, Receipt}
 use Rattle.cluster_sim.specs.Examples.{acceptance, clock_config, config, told_outcome}
-use Rattle.cluster_sim.specs.World.{Told}
-use Rattle.cluster_law.specs.Lives.{Answer, Datagram, Deed, FailsToOpen, Handout, Input, Line, Loses, Offers, Opens, Post, Remakes, Scene, Setting, Stops, StopsIn, Takes, first_setting, scene_of}
+use Rattle.cluster_sim.specs.World.{Answer}
+use Rattle.cluster_law.specs.Lives.{ToClient, Datagram, Action, FailsToOpen, Output, Input, Line, Loses, Offers, Opens, ToPeer, Remakes, ClusterState, Setting, Stops, StopsIn, Takes, first_setting, cluster_of}
 use Rattle.cluster_law.specs.SingleNode.{reference_of}
 
 -- ---- One node
@@ -30,35 +30,35 @@ abbrev pub right_receipt : Receipt
 right_receipt = FromClient 7 (codes "CHECK 1 silver 755224 -") (Some 100)
 
 -- a process takes the line, and answers
-abbrev pub answers_once : List Deed
+abbrev pub answers_once : List Action
 answers_once = Opens 1 ∷ Takes 1 right_line ∷ Offers 1 ∷ []
 
 -- the process ends after its answer
-abbrev pub ends_after_the_answer : List Deed
+abbrev pub ends_after_the_answer : List Action
 ends_after_the_answer = Opens 1 ∷ Takes 1 right_line ∷ Offers 1 ∷ Stops 1 ∷ []
 
 -- a process takes the line, and ends before it answers; the next process takes the line again
-abbrev pub ends_before_the_answer : List Deed
+abbrev pub ends_before_the_answer : List Action
 ends_before_the_answer =
     Opens 1 ∷ Takes 1 right_line ∷ Stops 1 ∷ Offers 1 ∷ Opens 1 ∷ Takes 1 right_line ∷ Offers 1 ∷ []
 
 -- A process ends inside the step. Two more end while they open: one has raised the boot, and one hasn't. The next
 -- process takes the line again.
-abbrev pub ends_in_the_step : Bool → List Deed
+abbrev pub ends_in_the_step : Bool → List Action
 ends_in_the_step kept =
     Opens 1 ∷ StopsIn 1 kept right_line ∷ FailsToOpen 1 true ∷ FailsToOpen 1 false ∷ Opens 1 ∷ Takes 1 right_line
     ∷ Offers 1 ∷ []
 
 -- a line arrives at a node without a process
-abbrev pub comes_to_nobody : List Deed
+abbrev pub comes_to_nobody : List Action
 comes_to_nobody = Takes 1 right_line ∷ Offers 1 ∷ FailsToOpen 1 true ∷ Takes 1 right_line ∷ Offers 1 ∷ []
 
 -- another process tries to open at a node with a process, and one fails to open
-abbrev pub opens_twice : List Deed
+abbrev pub opens_twice : List Action
 opens_twice = Opens 1 ∷ Takes 1 right_line ∷ Opens 1 ∷ FailsToOpen 1 true ∷ Offers 1 ∷ []
 
 -- actions of nodes that aren't members
-abbrev pub strangers : List Deed
+abbrev pub strangers : List Action
 strangers = Opens 0 ∷ Takes 0 right_line ∷ Offers 0 ∷ Opens 2 ∷ Takes 2 right_line ∷ Offers 2 ∷ []
 
 -- ---- Three nodes
@@ -92,31 +92,31 @@ grant_comes = Datagram 2 (bytes_of grant)
 
 -- Node 3 has no process. Node 1 takes a line, and offers its Ask to node 2. Node 2 takes the Ask and offers its Grant,
 -- which node 1 takes. Node 1 offers its Ask to node 3, and at last its answer.
-abbrev pub granted_by_two : List Deed
+abbrev pub granted_by_two : List Action
 granted_by_two =
     Opens 1 ∷ Opens 2 ∷ Takes 1 right_line ∷ Offers 1 ∷ Takes 2 ask_comes ∷ Offers 2 ∷ Takes 1 grant_comes ∷ Offers 1
     ∷ Offers 1 ∷ []
 
 -- the Grant arrives after node 2 made it and before node 2 offered it
-abbrev pub grant_before_its_offer : List Deed
+abbrev pub grant_before_its_offer : List Action
 grant_before_its_offer =
     Opens 1 ∷ Opens 2 ∷ Takes 1 right_line ∷ Offers 1 ∷ Takes 2 ask_comes ∷ Takes 1 grant_comes ∷ Offers 2 ∷ []
 
 -- a Grant that node 2 never made arrives at node 1 from the address of the node `from`
-abbrev pub grant_from : ℕ → List Deed
+abbrev pub grant_from : ℕ → List Action
 grant_from from = Opens 1 ∷ Takes 1 (Datagram from (bytes_of grant)) ∷ []
 
 -- a process ends inside the step that takes such a Grant
-abbrev pub stop_in_a_forged_grant : List Deed
+abbrev pub stop_in_a_forged_grant : List Action
 stop_in_a_forged_grant = Opens 1 ∷ StopsIn 1 true grant_comes ∷ []
 
 -- the single node with a process
-abbrev pub one_open : Scene
-one_open = scene_of one_node (Opens 1 ∷ [])
+abbrev pub one_open : ClusterState
+one_open = cluster_of one_node (Opens 1 ∷ [])
 
 -- two of the three nodes with processes
-abbrev pub two_open : Scene
-two_open = scene_of three_nodes (Opens 1 ∷ Opens 2 ∷ [])
+abbrev pub two_open : ClusterState
+two_open = cluster_of three_nodes (Opens 1 ∷ Opens 2 ∷ [])
 
 -- node 1 tells node 2 its floor 0
 abbrev pub floor_comes : Input
@@ -140,12 +140,12 @@ tells_both = record (quiet_made quiet_node) {
 }
 
 -- the Floor of the step, as an output of node 1
-abbrev pub floor_out : Handout
-floor_out = Post (record { sender = 1; receiver = 2; message = Floor 0 4 })
+abbrev pub floor_out : Output
+floor_out = ToPeer (record { sender = 1; receiver = 2; message = Floor 0 4 })
 
 -- the answer of the step, as an output of node 1 in event 5
-abbrev pub answer_out : Handout
-answer_out = Answer (record { event = 5; node = 1; client = 7; bytes = codes "NO" })
+abbrev pub answer_out : Output
+answer_out = ToClient (record { event = 5; node = 1; client = 7; bytes = codes "NO" })
 
 -- ---- Grounds, and outcomes of answers
 
@@ -154,7 +154,7 @@ abbrev pub first_pass : Acceptance
 first_pass = acceptance 1 1 1 0 0
 
 -- the answer to the right line
-abbrev pub first_ok : Told
+abbrev pub first_ok : Answer
 first_ok = told_outcome 1 1 7 (codes "1") (Accepted 0)
 
 -- one node with a time token, with the floor 2
@@ -166,23 +166,23 @@ abbrev pub line_behind : Input
 line_behind = Line 7 120 (codes "CHECK 1 silver 969429 -")
 
 -- a process takes the line
-abbrev pub takes_behind : List Deed
+abbrev pub takes_behind : List Action
 takes_behind = Opens 1 ∷ Takes 1 line_behind ∷ []
 
 -- a process ends inside the step of the line
-abbrev pub ends_behind : Bool → List Deed
+abbrev pub ends_behind : Bool → List Action
 ends_behind kept = Opens 1 ∷ StopsIn 1 kept line_behind ∷ []
 
 -- a process takes the right line twice
-abbrev pub takes_twice : List Deed
+abbrev pub takes_twice : List Action
 takes_twice = Opens 1 ∷ Takes 1 right_line ∷ Takes 1 right_line ∷ []
 
 -- another node's actions between the single node's
-abbrev pub among_strangers : List Deed
+abbrev pub among_strangers : List Action
 among_strangers = Opens 2 ∷ Opens 1 ∷ Takes 2 right_line ∷ Takes 1 right_line ∷ Stops 2 ∷ []
 
 -- the answers of the reference server to the history of the single node with the token
-abbrev pub told_by_reference : List Deed → List Told
+abbrev pub told_by_reference : List Action → List Answer
 told_by_reference history = reference_of config [] (0 ∷ []) history
 
 -- ---- Losses and replacements of stores
@@ -192,19 +192,19 @@ abbrev pub uneven_nodes : Setting
 uneven_nodes = record three_nodes { floors = (0 ∷ []) ∷ (1 ∷ []) ∷ (0 ∷ []) ∷ [] }
 
 -- node 1 loses its store while it has a process
-abbrev pub loses_one : List Deed
+abbrev pub loses_one : List Action
 loses_one = Opens 1 ∷ Loses 1 ∷ []
 
 -- the same, followed by other actions at node 1
-abbrev pub comes_to_no_store : List Deed
+abbrev pub comes_to_no_store : List Action
 comes_to_no_store = loses_one ++ Opens 1 ∷ FailsToOpen 1 true ∷ Takes 1 right_line ∷ Loses 1 ∷ []
 
 -- the same, followed by a replacement with the given boot and floor
-abbrev pub made_anew : ℕ → ℕ → List Deed
+abbrev pub made_anew : ℕ → ℕ → List Action
 made_anew boot next = loses_one ++ Remakes 1 boot (next ∷ []) ∷ []
 
 -- the same, followed by the loss of a second store
-abbrev pub loses_two : List Deed
+abbrev pub loses_two : List Action
 loses_two = loses_one ++ Loses 2 ∷ []
 
 -- the code of factor 1
@@ -223,14 +223,14 @@ abbrev pub grant_anew : Envelope
 grant_anew = record { sender = 2; receiver = 1; message = Grant proposal_anew 0 (span_of 1 1) }
 
 -- the process accepts factor 1
-abbrev pub accepts_anew : List Deed
+abbrev pub accepts_anew : List Action
 accepts_anew =
     made_anew 2 1
     ++ Opens 1 ∷ Opens 2 ∷ Takes 1 second_line ∷ Offers 1 ∷ Takes 2 (Datagram 1 (bytes_of ask_anew)) ∷ Offers 2
     ∷ Takes 1 (Datagram 2 (bytes_of grant_anew)) ∷ []
 
 -- a wrong code arrives at node 1, whose store is then lost and replaced
-abbrev pub fails_and_loses : List Deed
+abbrev pub fails_and_loses : List Action
 fails_and_loses =
     Opens 1 ∷ Takes 1 (Line 7 100 (codes "CHECK 1 silver 000000 -")) ∷ Loses 1 ∷ Remakes 1 2 (1 ∷ []) ∷ []
 
@@ -246,7 +246,7 @@ abbrev pub grant_behind : Envelope
 grant_behind = record { sender = 2; receiver = 1; message = Grant first_proposal 0 (span_of 3 3) }
 
 -- node 1 accepts the step; its store is then lost and replaced
-abbrev pub drifts_and_loses : List Deed
+abbrev pub drifts_and_loses : List Action
 drifts_and_loses =
     Opens 1 ∷ Opens 2 ∷ Takes 1 line_behind ∷ Offers 1 ∷ Takes 2 (Datagram 1 (bytes_of ask_behind)) ∷ Offers 2
     ∷ Takes 1 (Datagram 2 (bytes_of grant_behind)) ∷ Loses 1 ∷ Remakes 1 2 (4 ∷ []) ∷ []
@@ -258,7 +258,7 @@ abbrev pub nodes_after : List ℕ → Envelope → Setting
 nodes_after boots envelope = record three_nodes { boots = boots; old = envelope ∷ [] }
 
 -- node 1 takes a line, followed by the Grant that node 2 sent to its first proposal in a former incarnation
-abbrev pub old_grant_comes : List Deed
+abbrev pub old_grant_comes : List Action
 old_grant_comes = Opens 1 ∷ Takes 1 right_line ∷ Takes 1 grant_comes ∷ []
 
 -- the floor that node 2 told node 1 in a former incarnation
@@ -266,5 +266,5 @@ abbrev pub old_floor : Envelope
 old_floor = record { sender = 2; receiver = 1; message = Floor 0 1 }
 
 -- the old floor arrives at node 1
-abbrev pub old_floor_comes : List Deed
+abbrev pub old_floor_comes : List Action
 old_floor_comes = Opens 1 ∷ Takes 1 (Datagram 2 (bytes_of old_floor)) ∷ []

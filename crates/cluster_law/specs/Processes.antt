@@ -11,20 +11,20 @@ use Rattle.oath_node.specs.Turns.{Member, Receipt, Run, entry_of, events_of_turn
 use Rattle.oath_node.specs.declared.serve_fault.ServeFault.{ServeFault}
 use Rattle.oath_node.specs.declared.serve_fault.ServeFault.TheVariants.{Node}
 use Rattle.oath_node.specs.declared.turns.Served.{Served}
-use Rattle.cluster_law.specs.Lives.{Deed, Opens, FailsToOpen, Takes, Offers, Stops, StopsIn, Loses, Remakes, Handout, Post, Answer, Input, Setting, Down, Up, event_of, node_of_deed, own_offers, own_site, place_in, site_half_opened}
+use Rattle.cluster_law.specs.Lives.{Action, Opens, FailsToOpen, Takes, Offers, Stops, StopsIn, Loses, Remakes, Output, ToPeer, ToClient, Input, Setting, Down, Up, event_of, node_of_action, own_offers, own_process, place_in, process_half_opened}
 
 -- ---- The node
 
 -- the item of an output, encoded under the key
-abbrev pub item_of : List ℕ → Handout → Item
-item_of key (Post envelope) =
+abbrev pub item_of : List ℕ → Output → Item
+item_of key (ToPeer envelope) =
     let bytes = datagram_bytes key envelope.sender envelope.receiver envelope.message in
     DatagramItem envelope.receiver (record { items = bytes })
-item_of key (Answer told) = Reply told.client (record { items = told.bytes })
+item_of key (ToClient answer) = Reply answer.client (record { items = answer.bytes })
 
 -- the entry of an output in the port's record
-abbrev pub offer_of_handout : List ℕ → Handout → PortEvent
-offer_of_handout key handout = offer_of (item_of key handout)
+abbrev pub offer_of_output : List ℕ → Output → PortEvent
+offer_of_output key output = offer_of (item_of key output)
 
 -- the member at a node of the setting
 abbrev pub member_in : Setting → ℕ → Member
@@ -39,12 +39,12 @@ pub record IsMemberIn {S : Type 0} (setting : Setting) (node : ℕ) (process : H
 -- The store of a process that ended while it opened. Its node is one that failed to open.
 pub record IsHalfOpened (before after : Content) : Type 0 where
   pub raised : Bool
-  pub site : site_half_opened raised before ≡ Down after
+  pub process : process_half_opened raised before ≡ Down after
 
 -- ---- The turns of a process
 
 -- the action, if it is the node's, is one of a process that continues
-abbrev pub IsServing : ℕ → Deed → Type 0
+abbrev pub IsServing : ℕ → Action → Type 0
 IsServing node (Opens at) = node ≡ at → ⊥
 IsServing node (FailsToOpen at raised) = node ≡ at → ⊥
 IsServing node (Takes at input) = Unit {0}
@@ -55,12 +55,12 @@ IsServing node (Loses at) = node ≡ at → ⊥
 IsServing node (Remakes at boot floors) = node ≡ at → ⊥
 
 -- all of the node's actions are ones of a process that continues
-abbrev pub AreServing : ℕ → List Deed → Type 0
+abbrev pub AreServing : ℕ → List Action → Type 0
 AreServing node [] = Unit {0}
-AreServing node (deed ∷ deeds) = IsServing node deed × AreServing node deeds
+AreServing node (action ∷ actions) = IsServing node action × AreServing node actions
 
 -- the input of an action
-abbrev pub input_of : Deed → List Input
+abbrev pub input_of : Action → List Input
 input_of (Opens at) = []
 input_of (FailsToOpen at raised) = []
 input_of (Takes at input) = input ∷ []
@@ -71,24 +71,25 @@ input_of (Loses at) = []
 input_of (Remakes at boot floors) = []
 
 -- the inputs that the node takes in the actions, in order
-abbrev pub inputs_at : ℕ → List Deed → List Input
+abbrev pub inputs_at : ℕ → List Action → List Input
 inputs_at node [] = []
-inputs_at node (deed ∷ deeds) = (if node == node_of_deed deed then input_of deed else []) ++ inputs_at node deeds
+inputs_at node (action ∷ actions) =
+    (if node == node_of_action action then input_of action else []) ++ inputs_at node actions
 
 -- From `state`, without a waiting output, the actions take the process of the node to `new`. `offers` are the outputs
 -- that it has offered, followed by those still waiting.
-pub record IsServed (setting : Setting) (node first : ℕ) (deeds : List Deed) (state new : NodeState)
+pub record IsServed (setting : Setting) (node first : ℕ) (actions : List Action) (state new : NodeState)
     (offers : List PortEvent) : Type 0 where
-  pub left : List Handout
-  pub site : own_site setting node first deeds (Up state []) ≡ Up new left
+  pub left : List Output
+  pub process : own_process setting node first actions (Up state []) ≡ Up new left
   pub offered : offers
-      ≡ map (offer_of_handout setting.key) (own_offers setting node first deeds (Up state []))
-      ++ map (offer_of_handout setting.key) left
+      ≡ map (offer_of_output setting.key) (own_offers setting node first actions (Up state []))
+      ++ map (offer_of_output setting.key) left
 
 -- the run of a node over the inputs that it takes in the actions
-abbrev pub run_over : Setting → ℕ → List Deed → NodeState → Run
-run_over setting node deeds state =
-    run_with_events (member_in setting node) (map (event_of setting.key) (inputs_at node deeds)) (run_at state)
+abbrev pub run_over : Setting → ℕ → List Action → NodeState → Run
+run_over setting node actions state =
+    run_with_events (member_in setting node) (map (event_of setting.key) (inputs_at node actions)) (run_at state)
 
 -- The batches give the same result as their events: the same node, and the same offers in the same order.
 pub record AreEvents (member : Member) (batches : List (List Receipt)) (state : NodeState) : Type 0 where
@@ -98,15 +99,15 @@ pub record AreEvents (member : Member) (batches : List (List Receipt)) (state : 
       ≡ (run_with_events member (events_of_turns member.key 0 (receipts_in batches)) (run_at state)).entries
 
 -- the inputs that the node takes in the actions are the events of turns with the receipts
-abbrev pub TakesTurns : Setting → ℕ → List Deed → List Receipt → Type 0
-TakesTurns setting node deeds receipts =
-    map (event_of setting.key) (inputs_at node deeds) ≡ events_of_turns setting.key 0 receipts
+abbrev pub TakesTurns : Setting → ℕ → List Action → List Receipt → Type 0
+TakesTurns setting node actions receipts =
+    map (event_of setting.key) (inputs_at node actions) ≡ events_of_turns setting.key 0 receipts
 
 -- actions of a process that continues and takes the turns
 pub record CanTakeTurns (setting : Setting) (node : ℕ) (receipts : List Receipt) : Type 0 where
-  pub deeds : List Deed
-  pub serving : AreServing node deeds
-  pub takes : TakesTurns setting node deeds receipts
+  pub actions : List Action
+  pub serving : AreServing node actions
+  pub takes : TakesTurns setting node actions receipts
 
 -- ---- A call that serves a process, over a port with an empty record
 
@@ -115,9 +116,9 @@ pub record CanTakeTurns (setting : Setting) (node : ℕ) (receipts : List Receip
 pub record IsServedNode (setting : Setting) (node : ℕ) (state new : NodeState) (entries : List PortEvent) : Type 0 where
   pub batches : List (List Receipt)
   pub received : map entry_of (receipts_in batches) ≡ receives_in entries
-  pub served : (first : ℕ) (deeds : List Deed) → AreServing node deeds
-      → TakesTurns setting node deeds (receipts_in batches)
-      → IsServed setting node first deeds state new (offers_in entries)
+  pub served : (first : ℕ) (actions : List Action) → AreServing node actions
+      → TakesTurns setting node actions (receipts_in batches)
+      → IsServed setting node first actions state new (offers_in entries)
 
 -- The call ended by a fault of the port or the clock. The same holds for a prefix of the batches, up to the one with
 -- the fault.
@@ -127,9 +128,9 @@ pub record IsEndedNode (setting : Setting) (node : ℕ) (state new : NodeState) 
   pub gone : List (List Receipt)
   pub later : List (List Receipt)
   pub split : batches ≡ gone ++ later
-  pub served : (first : ℕ) (deeds : List Deed) → AreServing node deeds
-      → TakesTurns setting node deeds (receipts_in gone)
-      → IsServed setting node first deeds state new (offers_in entries)
+  pub served : (first : ℕ) (actions : List Action) → AreServing node actions
+      → TakesTurns setting node actions (receipts_in gone)
+      → IsServed setting node first actions state new (offers_in entries)
 
 -- the events of a batch after the earlier receipts
 abbrev pub events_after : List ℕ → List Receipt → List Receipt → List NodeEvent
@@ -137,25 +138,25 @@ events_after key before batch = events_of_turns key (received_after before 0) ba
 
 -- The inputs that the node takes in the actions are the events of turns with the receipts, followed by a batch's first
 -- `count` events.
-abbrev pub TakesSome : Setting → ℕ → List Deed → List Receipt → List Receipt → ℕ → Type 0
-TakesSome setting node deeds before batch count =
-    map (event_of setting.key) (inputs_at node deeds)
+abbrev pub TakesSome : Setting → ℕ → List Action → List Receipt → List Receipt → ℕ → Type 0
+TakesSome setting node actions before batch count =
+    map (event_of setting.key) (inputs_at node actions)
     ≡ events_of_turns setting.key 0 before ++ take count (events_after setting.key before batch)
 
 -- actions of a process that continues and takes these inputs
 pub record CanTakeSome (setting : Setting) (node : ℕ) (before batch : List Receipt) (count : ℕ) : Type 0 where
-  pub deeds : List Deed
-  pub serving : AreServing node deeds
-  pub takes : TakesSome setting node deeds before batch count
+  pub actions : List Action
+  pub serving : AreServing node actions
+  pub takes : TakesSome setting node actions before batch count
 
 -- From `state`, the actions and a stop after them leave the content in the node's store. `offers` is a prefix of the
 -- process's outputs, offered or waiting.
-pub record IsStopped (setting : Setting) (node first : ℕ) (deeds : List Deed) (state : NodeState)
+pub record IsStopped (setting : Setting) (node first : ℕ) (actions : List Action) (state : NodeState)
     (offers : List PortEvent) (content : Content) : Type 0 where
   pub new : NodeState
   pub rest : List PortEvent
-  pub served : IsServed setting node first deeds state new (offers ++ rest)
-  pub stops : own_site setting node first (deeds ++ Stops node ∷ []) (Up state []) ≡ Down content
+  pub served : IsServed setting node first actions state new (offers ++ rest)
+  pub stops : own_process setting node first (actions ++ Stops node ∷ []) (Up state []) ≡ Down content
 
 -- The call ended by a fault of the node, and a stop leaves the content. The batches before the last are served. The
 -- process takes their turns and a prefix of the last batch's events, and stops. It then leaves the content, and has
@@ -167,9 +168,9 @@ pub record IsFailedNode (setting : Setting) (node : ℕ) (state : NodeState) (en
   pub received : map entry_of (receipts_in before ++ last) ≡ receives_in entries
   pub count : ℕ
   pub within : count ≤ length (events_after setting.key (receipts_in before) last)
-  pub served : (first : ℕ) (deeds : List Deed) → AreServing node deeds
-      → TakesSome setting node deeds (receipts_in before) last count
-      → IsStopped setting node first deeds state (offers_in entries) content
+  pub served : (first : ℕ) (actions : List Action) → AreServing node actions
+      → TakesSome setting node actions (receipts_in before) last count
+      → IsStopped setting node first actions state (offers_in entries) content
 
 -- the call didn't end by a fault of the node
 abbrev pub IsNoFaultOfNode : Result Served ServeFault → Type 0

@@ -24,14 +24,14 @@ ghost use Rattle.oath_node.specs.TurnServing.{Serves};
 ghost use Rattle.oath_node.specs.declared.serve_fault.ServeFault.{ServeFault};
 ghost use Rattle.oath_node.specs.declared.serve_fault.ServeFault.TheVariants.{Clock, Node, Port};
 ghost use Rattle.oath_node.specs.declared.turns.Served.{Served};
-ghost use Rattle.cluster_law.specs.Answered.{AnswersAll, EndsProcess, HasYetToOffer, IsAnsweredInDeed, IsLost, IsOfferedOrEnds};
+ghost use Rattle.cluster_law.specs.Answered.{AnswersAll, EndsProcess, HasYetToOffer, IsAnsweredInAction, IsLost, IsOfferedOrEnds};
 ghost use Rattle.cluster_law.specs.Broken.{answers_late, content_with_pass, hurries, just_opened, late_node, owning_node, pending_node, right_text, second_floor_comes, stops_late, tick_made, told_by_tick, two_floors, with_process};
 ghost use Rattle.cluster_law.specs.Bytes.{IsSized, IsUnforgedHistory};
 ghost use Rattle.cluster_law.specs.Examples.{accepts_anew, among_strangers, answer_out, answers_once, clock_node, clock_nodes, comes_to_no_store, comes_to_nobody, content_of_boot, drifts_and_loses, ends_after_the_answer, ends_before_the_answer, ends_behind, ends_in_the_step, fails_and_loses, first_ok, first_pass, floor_comes, floor_out, grant, grant_before_its_offer, grant_from, granted_by_two, loses_one, loses_two, made_anew, nodes_after, old_floor, old_floor_comes, old_grant_comes, one_node, one_open, opens_twice, quiet_node, right_line, right_receipt, stop_in_a_forged_grant, strangers, takes_behind, takes_twice, tells_both, three_nodes, told_by_reference, two_open, uneven_nodes};
-ghost use Rattle.cluster_law.specs.Justified.{IsJustifiedInDeed, JustifiesAll, drift_in, moment_in_deed, results_held};
-ghost use Rattle.cluster_law.specs.Lives.{Datagram, Deed, Down, FailsToOpen, Input, IsHistory, LeaveStore, Loses, Offers, Opens, Post, Remakes, Scene, Setting, Site, Stops, StopsIn, Takes, Time, Up, accepted_in, answered_in, answers_among, content_at, event_of, first_scene, floor_in, handouts_of, has_store, made_boot, made_by_input, made_content, nodes_of, offers_by, own_site, scene_after, scene_of, site_after, site_cut, site_half_opened, site_offered, site_opened, start_of};
+ghost use Rattle.cluster_law.specs.Justified.{IsJustifiedInAction, JustifiesAll, drift_in, moment_in_action, results_held};
+ghost use Rattle.cluster_law.specs.Lives.{Datagram, Action, Down, FailsToOpen, Input, IsHistory, LeaveStore, Loses, Offers, Opens, ToPeer, Remakes, ClusterState, Setting, ProcessState, Stops, StopsIn, Takes, Time, Up, accepted_in, answered_in, answers_among, content_at, event_of, first_cluster, floor_in, outputs_of_step, has_store, made_boot, made_by_input, made_content, nodes_of, offers_by, own_process, cluster_after, cluster_of, process_after, process_cut, process_half_opened, process_offered, process_opened, start_of};
 ghost use Rattle.cluster_law.specs.Processes.{AreServing, CanTakeSome, CanTakeTurns, IsEndedNode, IsFailedNode, IsHalfOpened, IsMemberIn, IsNoFaultOfNode, IsServed, IsServedNode, IsStopped, TakesSome, TakesTurns, item_of, member_in, run_over};
-ghost use Rattle.cluster_law.specs.Promises.{AnswerTruly, BelongsToAcceptance, HasAct, HasEvent, IsActOf, IsAskedInDeed, IsEventOf, IsExplained, IsRunOf, IsSaidInDeed, nothing};
+ghost use Rattle.cluster_law.specs.Promises.{AnswerTruly, BelongsToAcceptance, HasAct, HasEvent, IsActOf, IsAskedInAction, IsEventOf, IsExplained, IsRunOf, IsSaidInAction, nothing};
 ghost use Rattle.cluster_law.specs.SingleNode.{IsPartOf, reference_of, setting_of_one};
 ghost use Rattle.cluster_law.specs.Sweeps.{IsLive, IsSweep, IsSwept, IsTick, SweepsLevel, greatest_in, is_step_of};
 ghost use Rattle.std.specs.List.{filter};
@@ -47,29 +47,29 @@ use vote_wire::one_spelling;
 /// and the clients may do anything except forge datagrams under the key.
 pub fn lives_are_worlds()
     // Every history is a run of the world, event by event.
-    ensures world { (setting : Setting) (history : List Deed) → IsHistory setting history
+    ensures world { (setting : Setting) (history : List Action) → IsHistory setting history
         → (events : List WorldEvent) × IsRunOf setting history events }
-    ensures single_use { (setting : Setting) (history : List Deed) → IsHistory setting history
+    ensures single_use { (setting : Setting) (history : List Action) → IsHistory setting history
         → HaveSingleUse (accepted_in setting history) }
-    ensures in_order { (setting : Setting) (history : List Deed) → IsHistory setting history
+    ensures in_order { (setting : Setting) (history : List Action) → IsHistory setting history
         → KeepRealTimeOrder (accepted_in setting history) }
-    ensures majority { (setting : Setting) (history : List Deed) → IsHistory setting history
+    ensures majority { (setting : Setting) (history : List Action) → IsHistory setting history
         → HaveMajority (nodes_of setting) (floor_in setting history) (accepted_in setting history) }
-    ensures explained { (setting : Setting) (history : List Deed) → IsHistory setting history
+    ensures explained { (setting : Setting) (history : List Action) → IsHistory setting history
         → IsExplained setting history }
     // The failures of a token at a node are far apart.
-    ensures spaced { (setting : Setting) (history : List Deed) (node token : ℕ) → IsHistory setting history
-        → SpacesFailures (results_in (scene_of setting history).notes node token) }
+    ensures spaced { (setting : Setting) (history : List Action) (node token : ℕ) → IsHistory setting history
+        → SpacesFailures (results_in (cluster_of setting history).notes node token) }
     // Each offered answer that begins as an `OK` belongs to an acceptance of its node. The answer's client sent the
     // line of the acceptance there.
-    ensures told { (setting : Setting) (history : List Deed) → IsHistory setting history
+    ensures told { (setting : Setting) (history : List Action) → IsHistory setting history
         → AnswerTruly setting history }
     // The line with which it began justifies each acceptance, by the content and the acceptances of its store before.
-    ensures justified { (setting : Setting) (history : List Deed) → IsHistory setting history
+    ensures justified { (setting : Setting) (history : List Action) → IsHistory setting history
         → JustifiesAll setting history }
     // Each acceptance in a step that its process finished has its `OK`. The process offered the `OK` or still has to,
     // unless it ended first.
-    ensures answered { (setting : Setting) (history : List Deed) → IsHistory setting history
+    ensures answered { (setting : Setting) (history : List Action) → IsHistory setting history
         → AnswersAll setting history }
 {
     world_is_safe();
@@ -80,7 +80,7 @@ pub fn lives_are_worlds()
 ///
 /// The reference server answers the lines that the processes took and whose changes the store kept.
 pub fn one_node_answers_as_the_reference()
-    ensures { (config : Config) (key floors : List ℕ) (history : List Deed) → 1 + length history < 2 ^ 62
+    ensures { (config : Config) (key floors : List ℕ) (history : List Action) → 1 + length history < 2 ^ 62
         → IsHistory (setting_of_one config key floors) history
         → IsPartOf (answered_in (setting_of_one config key floors) history) (reference_of config key floors history) }
 {
@@ -102,7 +102,7 @@ pub fn sweeps_level_stores()
 /// Only a datagram with a valid tag, from the address of the sender that it names, can be forged. It is unforged if a
 /// node offered exactly its bytes before.
 pub fn unforged_bytes_are_genuine()
-    ensures { (setting : Setting) (history : List Deed) → IsSized setting → IsUnforgedHistory setting history
+    ensures { (setting : Setting) (history : List Action) → IsSized setting → IsUnforgedHistory setting history
         → IsHistory setting history }
 {
     one_spelling();
@@ -110,16 +110,16 @@ pub fn unforged_bytes_are_genuine()
 }
 
 /// Calls: over any store, the calls of a node are the actions of a history.
-pub fn calls_are_deeds<S: FloorStore>()
-    // A node that `Node::open` opened is the site that its process opened.
+pub fn calls_are_actions<S: FloorStore>()
+    // A node that `Node::open` opened has the state of an opened process.
     ensures opens { (store : S) (node : Hosted S) → IsOpened S.held store node → (S.held node.store).is_clean
         → IsCount (S.held node.store).content.boot
-        → site_opened (S.held store).content ≡ Up (state_of S.held node) [] }
+        → process_opened (S.held store).content ≡ Up (state_of S.held node) [] }
     // The store that a stop leaves while its boot is raised is the store of a process that failed to open.
     ensures half_opens { (store left : S) (result : Result S StoreFault) (content : Content)
         → RaisesBoot S.held store left result → IsSettled (S.held store) → (S.held left).leaves content
         → IsCount content.boot → IsHalfOpened (S.held store).content content }
-    // A node that took an event is the site that took it, and its outputs are the site's. The commit keeps the node
+    // A node that took an event has the state of a process that took it, and its outputs. The commit keeps the node
     // unchanged. After it a stop leaves only the node's content.
     ensures takes { (setting : Setting) (place : ℕ) (input : Input) (old new : Hosted S) (outputs : OutputsRecord)
         → IsMemberIn setting place old → TakesEvent S.held old new (event_of setting.key input) (Ok outputs)
@@ -130,7 +130,7 @@ pub fn calls_are_deeds<S: FloorStore>()
         → IsMemberIn setting place old → TakesEvent S.held old new (event_of setting.key input) (Ok outputs)
         → (S.held new.store).is_clean
         → let made = made_by_input setting place input (state_of S.held old) in
-        outputs.items ≡ map (item_of setting.key) (handouts_of event place made) }
+        outputs.items ≡ map (item_of setting.key) (outputs_of_step event place made) }
     ensures commits { (old new : Hosted S) (done : Unit {0}) → CommitsNode S.held old new (Ok done)
         → (S.held new.store).is_clean
         → (state_of S.held new ≡ state_of S.held old) × IsSettled (S.held new.store) }
@@ -141,7 +141,7 @@ pub fn calls_are_deeds<S: FloorStore>()
         → IsMemberIn setting place old → TakesEvent S.held old new (event_of setting.key input) result
         → (S.held old.store).is_clean → (S.held new.store).leaves content
         → (S.held old.store).leaves content
-        ⊎ (site_cut setting place true input (state_of S.held old) ≡ Down content) }
+        ⊎ (process_cut setting place true input (state_of S.held old) ≡ Down content) }
     // The same holds of a node that `Node::handle` took through an event and committed. A stop in that call leaves the
     // content that a process leaves if it ends inside the step.
     ensures handles { (setting : Setting) (event place : ℕ) (input : Input) (old new : Hosted S)
@@ -150,13 +150,13 @@ pub fn calls_are_deeds<S: FloorStore>()
         → (S.held new.store).is_clean
         → let made = made_by_input setting place input (state_of S.held old) in
         (state_of S.held new ≡ made.state)
-        × (outputs.items ≡ map (item_of setting.key) (handouts_of event place made)) }
+        × (outputs.items ≡ map (item_of setting.key) (outputs_of_step event place made)) }
     ensures stops_inside { (setting : Setting) (place : ℕ) (input : Input) (old new : Hosted S)
         (result : Result OutputsRecord NodeFault) (content : Content)
         → IsMemberIn setting place old → Handles S.held old new (event_of setting.key input) result
         → (S.held new.store).is_clean → IsSettled (S.held old.store) → (S.held new.store).leaves content
-        → (site_cut setting place false input (state_of S.held old) ≡ Down content)
-        ⊎ (site_cut setting place true input (state_of S.held old) ≡ Down content) }
+        → (process_cut setting place false input (state_of S.held old) ≡ Down content)
+        ⊎ (process_cut setting place true input (state_of S.held old) ≡ Down content) }
     // After each call that returned Ok, a stop leaves only the node's content.
     ensures opens_settled { (store : S) (node : Hosted S) → IsOpened S.held store node
         → (S.held node.store).is_clean → IsSettled (S.held node.store) }
@@ -169,19 +169,20 @@ pub fn calls_are_deeds<S: FloorStore>()
 /// run of its turns.
 ///
 /// The process offers what the run offers, in any division into batches.
-pub fn turns_are_deeds()
-    ensures own { (setting : Setting) (node first : ℕ) (deeds : List Deed) (scene : Scene)
-        → has_store setting scene node ≡ true → LeaveStore node deeds
-        → (scene_after setting first deeds scene).sites node
-        ≡ own_site setting node first deeds (scene.sites node) }
-    ensures events { (setting : Setting) (node first : ℕ) (deeds : List Deed) (state : NodeState)
-        → AreServing node deeds
-        → let run = run_over setting node deeds state in
-        IsServed setting node first deeds state run.node run.entries }
-    ensures turns { (setting : Setting) (node first : ℕ) (deeds : List Deed) (state : NodeState)
-        (batches : List (List Receipt)) → AreServing node deeds → TakesTurns setting node deeds (receipts_in batches)
+pub fn turns_are_actions()
+    ensures own { (setting : Setting) (node first : ℕ) (actions : List Action) (cluster : ClusterState)
+        → has_store setting cluster node ≡ true → LeaveStore node actions
+        → (cluster_after setting first actions cluster).processes node
+        ≡ own_process setting node first actions (cluster.processes node) }
+    ensures events { (setting : Setting) (node first : ℕ) (actions : List Action) (state : NodeState)
+        → AreServing node actions
+        → let run = run_over setting node actions state in
+        IsServed setting node first actions state run.node run.entries }
+    ensures turns { (setting : Setting) (node first : ℕ) (actions : List Action) (state : NodeState)
+        (batches : List (List Receipt)) → AreServing node actions
+        → TakesTurns setting node actions (receipts_in batches)
         → let run = run_with_batches (member_in setting node) batches (run_at state) in
-        run.end ≡ None → IsServed setting node first deeds state run.node (offers_in run.entries) }
+        run.end ≡ None → IsServed setting node first actions state run.node (offers_in run.entries) }
     // Such actions exist for any turns, and for any prefix of a batch after them.
     ensures can_take { (setting : Setting) (node : ℕ) (receipts : List Receipt) → CanTakeTurns setting node receipts }
     ensures can_take_some { (setting : Setting) (node : ℕ) (before batch : List Receipt) (count : ℕ)
@@ -190,7 +191,7 @@ pub fn turns_are_deeds()
 
 /// Serving: the promises of `run_turns`, over any store and a recording port, are the history's statements about a
 /// process.
-pub fn served_nodes_are_deeds<S: FloorStore>()
+pub fn served_nodes_are_actions<S: FloorStore>()
     ensures ok { (setting : Setting) (place : ℕ) (old new : Hosted S) (entries : List PortEvent)
         (asked told : Option (List (Option ℕ))) (turns : ℕ) (served : Served)
         → IsMemberIn setting place old
@@ -233,13 +234,13 @@ pub fn histories_are_worked()
     ensures accepted_lost { accepted_in one_node (ends_in_the_step false) ≡ acceptance 5 5 1 0 0 ∷ [] }
     ensures answered_lost { answered_in one_node (ends_in_the_step false)
         ≡ told_outcome 5 1 7 (codes "1") (Accepted 0) ∷ [] }
-    ensures boots { (content_at ((scene_of one_node (ends_in_the_step true)).sites 1)).boot ≡ 3 }
-    ensures nobody { scene_of one_node comes_to_nobody
-        ≡ record (first_scene one_node) { sites = (scene_of one_node comes_to_nobody).sites } }
+    ensures boots { (content_at ((cluster_of one_node (ends_in_the_step true)).processes 1)).boot ≡ 3 }
+    ensures nobody { cluster_of one_node comes_to_nobody
+        ≡ record (first_cluster one_node) { processes = (cluster_of one_node comes_to_nobody).processes } }
     // A node has one process: while it has one, no other opens or fails to open.
     ensures one_process { answered_in one_node opens_twice ≡ told_outcome 1 1 7 (codes "1") (Accepted 0) ∷ [] }
     // A node that is no member does nothing.
-    ensures strangers { scene_of one_node strangers ≡ first_scene one_node }
+    ensures strangers { cluster_of one_node strangers ≡ first_cluster one_node }
     ensures is_history { IsHistory one_node answers_once }
 {}
 
@@ -258,25 +259,25 @@ pub fn history_of_three_is_worked()
 
 /// Worked cases.
 pub fn losses_are_worked()
-    ensures gone { (scene_of uneven_nodes loses_one).sites 1
+    ensures gone { (cluster_of uneven_nodes loses_one).processes 1
         ≡ Down (record (made_content uneven_nodes 1) { boot = 2 }) }
-    ensures least { (scene_of uneven_nodes loses_one).least 0 ≡ 1 }
-    ensures least_of_the_others { (scene_of uneven_nodes (Loses 2 ∷ [])).least 0 ≡ 0 }
+    ensures least { (cluster_of uneven_nodes loses_one).least 0 ≡ 1 }
+    ensures least_of_the_others { (cluster_of uneven_nodes (Loses 2 ∷ [])).least 0 ≡ 0 }
     // A lost node does nothing.
-    ensures nothing_there { scene_of uneven_nodes comes_to_no_store ≡ scene_of uneven_nodes loses_one }
-    ensures too_low { scene_of uneven_nodes (made_anew 2 0) ≡ scene_of uneven_nodes loses_one }
-    ensures used_boot { scene_of uneven_nodes (made_anew 1 1) ≡ scene_of uneven_nodes loses_one }
+    ensures nothing_there { cluster_of uneven_nodes comes_to_no_store ≡ cluster_of uneven_nodes loses_one }
+    ensures too_low { cluster_of uneven_nodes (made_anew 2 0) ≡ cluster_of uneven_nodes loses_one }
+    ensures used_boot { cluster_of uneven_nodes (made_anew 1 1) ≡ cluster_of uneven_nodes loses_one }
     // The last boot is 2^62 - 1, and no process opens after it.
-    ensures last_boot { scene_of uneven_nodes (made_anew 4611686018427387903 1) ≡ scene_of uneven_nodes loses_one }
-    ensures late_boot { (content_at ((scene_of uneven_nodes (made_anew 4611686018427387902 1)).sites 1)).boot
+    ensures last_boot { cluster_of uneven_nodes (made_anew 4611686018427387903 1) ≡ cluster_of uneven_nodes loses_one }
+    ensures late_boot { (content_at ((cluster_of uneven_nodes (made_anew 4611686018427387902 1)).processes 1)).boot
         ≡ 4611686018427387902 }
-    ensures too_many { scene_of uneven_nodes (loses_two ++ Remakes 1 2 (1 ∷ []) ∷ [])
-        ≡ scene_of uneven_nodes loses_two }
-    ensures not_lost { scene_of uneven_nodes (Opens 1 ∷ Remakes 1 2 (1 ∷ []) ∷ [])
-        ≡ scene_of uneven_nodes (Opens 1 ∷ []) }
-    ensures made { (scene_of uneven_nodes (made_anew 2 1)).sites 1
+    ensures too_many { cluster_of uneven_nodes (loses_two ++ Remakes 1 2 (1 ∷ []) ∷ [])
+        ≡ cluster_of uneven_nodes loses_two }
+    ensures not_lost { cluster_of uneven_nodes (Opens 1 ∷ Remakes 1 2 (1 ∷ []) ∷ [])
+        ≡ cluster_of uneven_nodes (Opens 1 ∷ []) }
+    ensures made { (cluster_of uneven_nodes (made_anew 2 1)).processes 1
         ≡ Down (record (made_content uneven_nodes 2) { boot = 2 }) }
-    ensures there_again { (scene_of uneven_nodes (made_anew 2 1)).lost 1 ≡ false }
+    ensures there_again { (cluster_of uneven_nodes (made_anew 2 1)).lost 1 ≡ false }
     // A process opens the replacement store in the next boot, and accepts the next factor.
     ensures accepted { accepted_in uneven_nodes accepts_anew ≡ acceptance 5 9 1 1 1 ∷ [] }
     ensures result { results_held uneven_nodes fails_and_loses 1 0 2 ≡ Failed 100 ∷ [] }
@@ -287,13 +288,13 @@ pub fn losses_are_worked()
 
 /// Worked cases.
 pub fn former_lives_are_worked()
-    ensures made { (first_scene (nodes_after (4 ∷ []) grant)).sites 1
+    ensures made { (first_cluster (nodes_after (4 ∷ []) grant)).processes 1
         ≡ Down (record (made_content three_nodes 1) { boot = 4 }) }
     ensures made_at_0 { made_boot (nodes_after (4 ∷ []) grant) 2 ≡ 0 }
     ensures made_third { made_boot (nodes_after (4 ∷ 5 ∷ 6 ∷ []) grant) 3 ≡ 6 }
     ensures opens { (start_of (nodes_after (4 ∷ []) grant)).opening.boot 1 ≡ 5 }
     ensures was_sent { (start_of (nodes_after (4 ∷ []) grant)).opening.old ≡ grant ∷ [] }
-    ensures was_offered { (first_scene (nodes_after [] grant)).offered ≡ Post grant ∷ [] }
+    ensures was_offered { (first_cluster (nodes_after [] grant)).offered ≡ ToPeer grant ∷ [] }
     ensures grant_of_before { accepted_in (nodes_after (1 ∷ []) grant) old_grant_comes ≡ [] }
     ensures grant_at_its_boot { accepted_in (nodes_after [] grant) old_grant_comes ≡ acceptance 1 2 1 0 0 ∷ [] }
     ensures floor_of_before { floor_in (nodes_after [] old_floor) old_floor_comes 1 0 2 ≡ 1 }
@@ -304,7 +305,7 @@ pub fn former_lives_are_worked()
 
 /// Counterexamples: a datagram under the key that its sender never offered, or offers later, makes no history. Noise
 /// makes one.
-pub fn promises_can_be_broken()
+pub fn histories_can_be_broken()
     ensures forged { IsHistory three_nodes (grant_from 2) → ⊥ }
     ensures forged_in_a_stop { IsHistory three_nodes stop_in_a_forged_grant → ⊥ }
     ensures not_offered_yet { IsHistory three_nodes grant_before_its_offer → ⊥ }
@@ -313,9 +314,9 @@ pub fn promises_can_be_broken()
 
 /// Worked cases.
 pub fn grounds_are_worked()
-    ensures line { moment_in_deed (Some (Takes 1 right_line)) ≡ Some 100 }
-    ensures line_in_a_stop { moment_in_deed (Some (StopsIn 1 true right_line)) ≡ Some 100 }
-    ensures no_line { moment_in_deed (Some (Takes 1 Time)) ≡ None }
+    ensures line { moment_in_action (Some (Takes 1 right_line)) ≡ Some 100 }
+    ensures line_in_a_stop { moment_in_action (Some (StopsIn 1 true right_line)) ≡ Some 100 }
+    ensures no_line { moment_in_action (Some (Takes 1 Time)) ≡ None }
     ensures no_drift_yet { drift_in clock_node takes_behind 1 0 1 ≡ pos 0 }
     ensures drift { drift_in clock_node takes_behind 1 0 2 ≡ negsuc 0 }
     ensures drift_kept { drift_in clock_node (ends_behind true) 1 0 2 ≡ negsuc 0 }
@@ -325,21 +326,21 @@ pub fn grounds_are_worked()
     ensures no_result_yet { results_held one_node answers_once 1 0 1 ≡ [] }
     ensures result { results_held one_node answers_once 1 0 2 ≡ Passed ∷ [] }
     ensures result_stays { results_held one_node ends_before_the_answer 1 0 5 ≡ Passed ∷ [] }
-    ensures offer { IsJustifiedInDeed one_node answers_once (acceptance 2 2 1 0 0) → ⊥ }
-    ensures no_deed { IsJustifiedInDeed one_node answers_once (acceptance 9 9 1 0 0) → ⊥ }
-    ensures node { IsJustifiedInDeed one_node answers_once (acceptance 1 1 2 0 0) → ⊥ }
-    ensures token { IsJustifiedInDeed one_node answers_once (record first_pass { token = 1 }) → ⊥ }
-    ensures lost { IsJustifiedInDeed one_node (ends_in_the_step false) first_pass → ⊥ }
-    ensures tick { IsJustifiedInDeed one_node (Opens 1 ∷ Takes 1 Time ∷ []) first_pass → ⊥ }
-    ensures node_in_a_stop { IsJustifiedInDeed one_node (ends_in_the_step true) (acceptance 1 1 2 0 0) → ⊥ }
+    ensures offer { IsJustifiedInAction one_node answers_once (acceptance 2 2 1 0 0) → ⊥ }
+    ensures no_action { IsJustifiedInAction one_node answers_once (acceptance 9 9 1 0 0) → ⊥ }
+    ensures node { IsJustifiedInAction one_node answers_once (acceptance 1 1 2 0 0) → ⊥ }
+    ensures token { IsJustifiedInAction one_node answers_once (record first_pass { token = 1 }) → ⊥ }
+    ensures lost { IsJustifiedInAction one_node (ends_in_the_step false) first_pass → ⊥ }
+    ensures tick { IsJustifiedInAction one_node (Opens 1 ∷ Takes 1 Time ∷ []) first_pass → ⊥ }
+    ensures node_in_a_stop { IsJustifiedInAction one_node (ends_in_the_step true) (acceptance 1 1 2 0 0) → ⊥ }
     // A failure 4 seconds before has closed the token.
-    ensures closed { IsJustifiedInDeed one_node hurries (acceptance 2 2 1 0 0) → ⊥ }
+    ensures closed { IsJustifiedInAction one_node hurries (acceptance 2 2 1 0 0) → ⊥ }
 {}
 
 /// Worked cases.
 pub fn answers_are_worked()
-    ensures waits { HasYetToOffer first_ok ((scene_of one_node (take 2 answers_once)).sites 1) }
-    ensures waits_no_more { HasYetToOffer first_ok ((scene_of one_node answers_once).sites 1) → ⊥ }
+    ensures waits { HasYetToOffer first_ok ((cluster_of one_node (take 2 answers_once)).processes 1) }
+    ensures waits_no_more { HasYetToOffer first_ok ((cluster_of one_node answers_once).processes 1) → ⊥ }
     ensures lost { IsLost one_node ends_before_the_answer first_ok }
     ensures not_lost { IsLost one_node answers_once first_ok → ⊥ }
     ensures not_lost_once_offered { IsLost one_node ends_after_the_answer first_ok → ⊥ }
@@ -353,21 +354,21 @@ pub fn answers_are_worked()
     ensures loss_elsewhere { EndsProcess 1 (Some (Loses 2)) → ⊥ }
     ensures making { EndsProcess 1 (Some (Remakes 1 2 [])) → ⊥ }
     // An acceptance written in a stop inside a step has no answer. Every other acceptance has one.
-    ensures of_a_stop { IsAnsweredInDeed one_node (ends_in_the_step true) first_pass
+    ensures of_a_stop { IsAnsweredInAction one_node (ends_in_the_step true) first_pass
         (Some (StopsIn 1 true right_line)) }
-    ensures of_a_lost_stop { IsAnsweredInDeed one_node (ends_in_the_step false) first_pass
+    ensures of_a_lost_stop { IsAnsweredInAction one_node (ends_in_the_step false) first_pass
         (Some (StopsIn 1 false right_line)) → ⊥ }
-    ensures of_an_offer { IsAnsweredInDeed one_node answers_once first_pass (Some (Offers 1)) → ⊥ }
-    ensures answered { IsAnsweredInDeed one_node answers_once first_pass (Some (Takes 1 right_line)) }
-    ensures in_another_deed { IsAnsweredInDeed one_node answers_once (record first_pass { ended = 2 })
+    ensures of_an_offer { IsAnsweredInAction one_node answers_once first_pass (Some (Offers 1)) → ⊥ }
+    ensures answered { IsAnsweredInAction one_node answers_once first_pass (Some (Takes 1 right_line)) }
+    ensures in_another_action { IsAnsweredInAction one_node answers_once (record first_pass { ended = 2 })
         (Some (Takes 1 right_line)) → ⊥ }
-    ensures at_another_node { IsAnsweredInDeed one_node answers_once (record first_pass { node = 2 })
+    ensures at_another_node { IsAnsweredInAction one_node answers_once (record first_pass { node = 2 })
         (Some (Takes 1 right_line)) → ⊥ }
-    ensures by_another_node { IsAnsweredInDeed one_node among_strangers (acceptance 2 3 2 0 0)
+    ensures by_another_node { IsAnsweredInAction one_node among_strangers (acceptance 2 3 2 0 0)
         (Some (Takes 1 right_line)) → ⊥ }
-    ensures without_a_line { IsAnsweredInDeed one_node answers_once (record first_pass { began = 0 })
+    ensures without_a_line { IsAnsweredInAction one_node answers_once (record first_pass { began = 0 })
         (Some (Takes 1 right_line)) → ⊥ }
-    ensures with_another_factor { IsAnsweredInDeed one_node answers_once (record first_pass { hi = 1 })
+    ensures with_another_factor { IsAnsweredInAction one_node answers_once (record first_pass { hi = 1 })
         (Some (Takes 1 right_line)) → ⊥ }
 {}
 
@@ -426,8 +427,8 @@ pub fn sweeps_are_worked()
         ≡ Takes 1 Time ∷ Stops 1 ∷ [] }
     ensures sweep { IsSweep one_node (1 ∷ []) one_open (Offers 1 ∷ Stops 2 ∷ replicate 8 (Takes 1 Time)) }
     ensures short { IsSweep one_node (1 ∷ []) one_open (replicate 7 (Takes 1 Time)) → ⊥ }
-    ensures greatest { greatest_in (3 ∷ 2 ∷ []) (scene_of three_nodes (take 5 granted_by_two)) 0 ≡ 1 }
-    ensures greatest_of_the_first { greatest_in (2 ∷ 3 ∷ []) (scene_of three_nodes (take 5 granted_by_two)) 0 ≡ 1 }
+    ensures greatest { greatest_in (3 ∷ 2 ∷ []) (cluster_of three_nodes (take 5 granted_by_two)) 0 ≡ 1 }
+    ensures greatest_of_the_first { greatest_in (2 ∷ 3 ∷ []) (cluster_of three_nodes (take 5 granted_by_two)) 0 ≡ 1 }
 {}
 
 /// Counterexamples: each promise of a process fails for a minimal one, with every choice of batches.
@@ -454,20 +455,20 @@ pub fn promises_of_processes_can_be_broken()
 
 /// Counterexamples: each promise of an answer fails for a minimal one.
 pub fn answers_can_be_broken()
-    ensures asked { IsAskedInDeed 1 7 right_text (codes "1") (Some (Takes 1 right_line)) }
-    ensures asked_at_another_node { IsAskedInDeed 2 7 right_text (codes "1") (Some (Takes 1 right_line)) → ⊥ }
-    ensures asked_by_another_client { IsAskedInDeed 1 8 right_text (codes "1") (Some (Takes 1 right_line)) → ⊥ }
-    ensures asked_with_another_nonce { IsAskedInDeed 1 7 right_text (codes "2") (Some (Takes 1 right_line)) → ⊥ }
-    ensures stop_at_another_node { IsAskedInDeed 2 7 right_text (codes "1") (Some (StopsIn 1 true right_line)) → ⊥ }
-    ensures stop_of_another_client { IsAskedInDeed 1 8 right_text (codes "1") (Some (StopsIn 1 true right_line)) → ⊥ }
-    ensures stop_with_another_nonce { IsAskedInDeed 1 7 right_text (codes "2") (Some (StopsIn 1 true right_line))
+    ensures asked { IsAskedInAction 1 7 right_text (codes "1") (Some (Takes 1 right_line)) }
+    ensures asked_at_another_node { IsAskedInAction 2 7 right_text (codes "1") (Some (Takes 1 right_line)) → ⊥ }
+    ensures asked_by_another_client { IsAskedInAction 1 8 right_text (codes "1") (Some (Takes 1 right_line)) → ⊥ }
+    ensures asked_with_another_nonce { IsAskedInAction 1 7 right_text (codes "2") (Some (Takes 1 right_line)) → ⊥ }
+    ensures stop_at_another_node { IsAskedInAction 2 7 right_text (codes "1") (Some (StopsIn 1 true right_line)) → ⊥ }
+    ensures stop_of_another_client { IsAskedInAction 1 8 right_text (codes "1") (Some (StopsIn 1 true right_line)) → ⊥ }
+    ensures stop_with_another_nonce { IsAskedInAction 1 7 right_text (codes "2") (Some (StopsIn 1 true right_line))
         → ⊥ }
-    ensures stop_that_lost_it { IsAskedInDeed 1 7 right_text (codes "1") (Some (StopsIn 1 false right_line)) → ⊥ }
-    ensures said { IsSaidInDeed 1 7 right_text (Some (Takes 1 right_line)) }
-    ensures said_at_another_node { IsSaidInDeed 2 7 right_text (Some (Takes 1 right_line)) → ⊥ }
-    ensures said_by_another_client { IsSaidInDeed 1 8 right_text (Some (Takes 1 right_line)) → ⊥ }
-    ensures said_with_another_text { IsSaidInDeed 1 7 [] (Some (Takes 1 right_line)) → ⊥ }
-    ensures said_in_a_stop { IsSaidInDeed 1 7 right_text (Some (StopsIn 1 true right_line)) → ⊥ }
+    ensures stop_that_lost_it { IsAskedInAction 1 7 right_text (codes "1") (Some (StopsIn 1 false right_line)) → ⊥ }
+    ensures said { IsSaidInAction 1 7 right_text (Some (Takes 1 right_line)) }
+    ensures said_at_another_node { IsSaidInAction 2 7 right_text (Some (Takes 1 right_line)) → ⊥ }
+    ensures said_by_another_client { IsSaidInAction 1 8 right_text (Some (Takes 1 right_line)) → ⊥ }
+    ensures said_with_another_text { IsSaidInAction 1 7 [] (Some (Takes 1 right_line)) → ⊥ }
+    ensures said_in_a_stop { IsSaidInAction 1 7 right_text (Some (StopsIn 1 true right_line)) → ⊥ }
     ensures belongs { BelongsToAcceptance one_node answers_once first_ok }
     ensures belongs_to_none { BelongsToAcceptance one_node comes_to_nobody first_ok → ⊥ }
     ensures belongs_to_a_later_one { BelongsToAcceptance one_node answers_once (record first_ok { event = 0 }) → ⊥ }
@@ -481,10 +482,10 @@ pub fn answers_can_be_broken()
 pub fn sweeps_can_be_broken()
     ensures stranger { IsLive one_node (with_process quiet_node) 2 → ⊥ }
     ensures swept { IsSwept one_node (1 ∷ []) one_open one_open 1 }
-    ensures without_a_process { IsSwept one_node (1 ∷ []) one_open (first_scene one_node) 1 → ⊥ }
+    ensures without_a_process { IsSwept one_node (1 ∷ []) one_open (first_cluster one_node) 1 → ⊥ }
     ensures proposal_waits { IsSwept one_node (1 ∷ []) one_open (with_process pending_node) 1 → ⊥ }
     ensures line_waits { IsSwept one_node (1 ∷ []) one_open (with_process owning_node) 1 → ⊥ }
-    ensures factor_ahead { IsSwept one_node (1 ∷ []) one_open (scene_of one_node answers_once) 1 → ⊥ }
+    ensures factor_ahead { IsSwept one_node (1 ∷ []) one_open (cluster_of one_node answers_once) 1 → ⊥ }
 {}
 
 /// Counterexamples: histories that are not runs of the world.
@@ -515,25 +516,25 @@ pub fn runs_can_be_broken()
 {}
 
 /// Worked cases.
-pub fn deeds_are_worked()
+pub fn actions_are_worked()
     // The last boot is 2^62 - 1.
-    ensures opens_before_the_last { site_opened (content_of_boot 4611686018427387902)
+    ensures opens_before_the_last { process_opened (content_of_boot 4611686018427387902)
         ≡ Up (opened_node (content_of_boot 4611686018427387902)) [] }
-    ensures opens_no_more { site_opened (content_of_boot 4611686018427387903)
+    ensures opens_no_more { process_opened (content_of_boot 4611686018427387903)
         ≡ Down (content_of_boot 4611686018427387903) }
-    ensures half_opens { site_half_opened true (content_of_boot 4611686018427387902)
+    ensures half_opens { process_half_opened true (content_of_boot 4611686018427387902)
         ≡ Down (content_of_boot 4611686018427387903) }
-    ensures half_opens_no_more { site_half_opened true (content_of_boot 4611686018427387903)
+    ensures half_opens_no_more { process_half_opened true (content_of_boot 4611686018427387903)
         ≡ Down (content_of_boot 4611686018427387903) }
-    ensures opens_in_vain { site_half_opened false (content_of_boot 3) ≡ Down (content_of_boot 3) }
+    ensures opens_in_vain { process_half_opened false (content_of_boot 3) ≡ Down (content_of_boot 3) }
     // A node hands out datagrams before answers, one at a time.
-    ensures handed_out { handouts_of 5 1 tells_both ≡ floor_out ∷ answer_out ∷ [] }
+    ensures handed_out { outputs_of_step 5 1 tells_both ≡ floor_out ∷ answer_out ∷ [] }
     ensures first_offered { offers_by (Offers 1) (Up quiet_node (floor_out ∷ answer_out ∷ [])) ≡ floor_out ∷ [] }
-    ensures rest_waits { site_offered quiet_node (floor_out ∷ answer_out ∷ []) ≡ Up quiet_node (answer_out ∷ []) }
+    ensures rest_waits { process_offered quiet_node (floor_out ∷ answer_out ∷ []) ≡ Up quiet_node (answer_out ∷ []) }
     ensures all_offered { offers_by (Offers 1) (Up quiet_node []) ≡ [] }
     ensures taken_is_not_offered { offers_by (Takes 1 Time) (Up quiet_node (floor_out ∷ [])) ≡ [] }
     ensures stopped_is_not_offered { offers_by (Stops 1) (Up quiet_node (floor_out ∷ [])) ≡ [] }
-    ensures stopped { site_after one_node 0 (Stops 1) (Up quiet_node (floor_out ∷ [])) ≡ Down (content_of_boot 1) }
+    ensures stopped { process_after one_node 0 (Stops 1) (Up quiet_node (floor_out ∷ [])) ≡ Down (content_of_boot 1) }
     ensures answers { answers_among (floor_out ∷ answer_out ∷ [])
         ≡ record { event = 5; node = 1; client = 7; bytes = codes "NO" } ∷ [] }
 {}

@@ -7,10 +7,10 @@
 mod laws;
 
 pub use laws::{
-    answers_are_worked, answers_can_be_broken, calls_are_deeds, deeds_are_worked,
-    former_lives_are_worked, grounds_are_worked, histories_are_worked, history_of_three_is_worked,
-    lives_are_worlds, losses_are_worked, one_node_answers_as_the_reference, promises_can_be_broken,
-    promises_of_processes_can_be_broken, reference_is_worked, runs_can_be_broken,
-    served_nodes_are_deeds, sweeps_are_worked, sweeps_can_be_broken, sweeps_level_stores,
-    takes_are_worked, turns_are_deeds, unforged_bytes_are_genuine,
+    actions_are_worked, answers_are_worked, answers_can_be_broken, calls_are_actions,
+    former_lives_are_worked, grounds_are_worked, histories_are_worked, histories_can_be_broken,
+    history_of_three_is_worked, lives_are_worlds, losses_are_worked,
+    one_node_answers_as_the_reference, promises_of_processes_can_be_broken, reference_is_worked,
+    runs_can_be_broken, served_nodes_are_actions, sweeps_are_worked, sweeps_can_be_broken,
+    sweeps_level_stores, takes_are_worked, turns_are_actions, unforged_bytes_are_genuine,
 };

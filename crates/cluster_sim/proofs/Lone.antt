@@ -21,7 +21,7 @@ use Rattle.oath_node.specs.declared.ruling.Ruling.{Ruling}
 use Rattle.oath_node.specs.declared.ruling.Ruling.TheVariants.{Again, Denied, Fitting, Outside, Waiting, Wrong}
 use Rattle.client_lines.specs.Request.{without_lf}
 use Rattle.cluster_sim.specs.SingleNode.{answers_to_act, answers_to_event, front_of, is_end, opening_server, reference_answers, server_after_act, server_after_event, server_after_restart, told_of_line}
-use Rattle.cluster_sim.specs.World.{World, Told, Act, Says, Deliver, Ticks, Noise, WorldEvent, Happens, Cut, Restart, Lost, Anew, acting_node, floor_in, has_store, may_be_anew, node_event_of, world_after_anew, world_after_loss, delivered_event, noise_event, place_at, with_state, told_reply, world_with_made, world_after_turn, world_after_act, node_if_sent, node_of, world_after_restart, with_told_of, world_after_event, world_after_events, opening_world, floor_at, report_of, first_start}
+use Rattle.cluster_sim.specs.World.{World, Answer, Act, Says, Deliver, Ticks, Noise, WorldEvent, Happens, Cut, Restart, Lost, Anew, acting_node, floor_in, has_store, may_be_anew, node_event_of, world_after_anew, world_after_loss, delivered_event, noise_event, place_at, with_state, told_reply, world_with_made, world_after_turn, world_after_act, node_if_sent, node_of, world_after_restart, with_told_of, world_after_event, world_after_events, opening_world, floor_at, report_of, first_start}
 use Rattle.cluster_sim.proofs.Acts.{noise_cases, unheard, unread}
 use Rattle.cluster_sim.proofs.BelowLaws.{AloneLaw}
 use Rattle.cluster_sim.proofs.Shape.{right_nil}
@@ -75,7 +75,7 @@ pub record Lone (b q : ℕ) (w : World) (s : Server) : Type 0 where
   pub boot : (w.nodes 1).content.boot ≤ b
 
 -- what an event leaves and tells
-pub record LoneStep (b q : ℕ) (w new : World) (s : Server) (told : List Told) : Type 0 where
+pub record LoneStep (b q : ℕ) (w new : World) (s : Server) (told : List Answer) : Type 0 where
   pub lone : Lone b q new s
   pub tells : new.told ≡ w.told ++ told
 
@@ -119,14 +119,14 @@ outside_step config e i (Some v) w P alone out h =
     (λ at. absurd (both_ways (has_store w i) (no_store w i alone out) at)) (λ _. h)
 
 -- what the node made of an event, in the world
-made_lone : (b q e : ℕ) (o : Made) (w : World) (s : Server) (told : List Told) → w.n ≡ 1 → w.lost 1 ≡ false → w.sent ≡ [] → IsAlone q o.state s → o.state.content.boot ≤ b → o.sends ≡ [] → map (told_reply e 1) o.replies ≡ told → LoneStep b q w (world_with_made e 1 o w) s told
+made_lone : (b q e : ℕ) (o : Made) (w : World) (s : Server) (told : List Answer) → w.n ≡ 1 → w.lost 1 ≡ false → w.sent ≡ [] → IsAlone q o.state s → o.state.content.boot ≤ b → o.sends ≡ [] → map (told_reply e 1) o.replies ≡ told → LoneStep b q w (world_with_made e 1 o w) s told
 unfolding world_with_made
 made_lone b q e o w s told alone here unsaid node boot sends replies = record {
   lone = record { alone = alone; here = here; unsaid = ap (λ l. w.sent ++ map (envelope_from 1) l) sends ∙ right_nil w.sent ∙ unsaid; node = node; boot = boot };
   tells = ap (λ l. w.told ++ l) replies;
 }
 
-both_cond : (b q : ℕ) (w new : World) (d : Bool) (s s' : Server) (t t' : List Told) → (d ≡ true → LoneStep b q w new s t) → (d ≡ false → LoneStep b q w new s' t') → LoneStep b q w new (cond d s s') (cond d t t')
+both_cond : (b q : ℕ) (w new : World) (d : Bool) (s s' : Server) (t t' : List Answer) → (d ≡ true → LoneStep b q w new s t) → (d ≡ false → LoneStep b q w new s' t') → LoneStep b q w new (cond d s s') (cond d t t')
 both_cond b q w new true s s' t t' h k = h refl
 both_cond b q w new false s s' t t' h k = k refl
 

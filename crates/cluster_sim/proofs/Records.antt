@@ -16,7 +16,7 @@ use Rattle.oath_node.specs.Machine.{Beginning, Config, Made, NodeEvent, NodeStat
 use Rattle.oath_node.specs.Outputs.{OutputsRecord, datagram_item, outputs_of, reply_item}
 use Rattle.cluster_sim.specs.Journal.{AreHosts, AreLosses, IsAsked, IsHost, IsRecorded, IsRun, IsPutOut, JournalRecord, Letter, SimulationRecord, StartRecord, letter_of, outputs_at, nodes_after, passes_with_pass, sent_items, start_event, starts_with_begun, journal_with, journal_with_outputs, told_world, told_act, told_items, told_turn}
 use Rattle.oath_node.specs.Outputs.{no_outputs}
-use Rattle.cluster_sim.specs.World.{Act, Note, Told, World, acting_node, has_store, node_event_of, world_after_act, begun_with, begun_in, is_from, world_with_made, note_of, acceptance_in, passes_in, with_state, told_reply, world_after_turn, with_told_of}
+use Rattle.cluster_sim.specs.World.{Act, Note, Answer, World, acting_node, has_store, node_event_of, world_after_act, begun_with, begun_in, is_from, world_with_made, note_of, acceptance_in, passes_in, with_state, told_reply, world_after_turn, with_told_of}
 use Rattle.cluster_sim.proofs.Acts.{unheard, unread}
 use Rattle.cluster_sim.proofs.HostLemmas.{has_it, has_none, losses_set}
 use Rattle.cluster_sim.proofs.Shape.{right_nil}
@@ -33,7 +33,7 @@ sent_of key i (x ∷ sends) rs = ap (λ (l : List Letter). letter_of key (envelo
 
 told_replies : (e i : ℕ) (rs : List Reply) → told_items e i (map reply_item rs) ≡ map (told_reply e i) rs
 told_replies e i [] = refl
-told_replies e i (r ∷ rs) = ap (λ (l : List Told). told_reply e i r ∷ l) (told_replies e i rs)
+told_replies e i (r ∷ rs) = ap (λ (l : List Answer). told_reply e i r ∷ l) (told_replies e i rs)
 
 -- and the replies
 told_of : (key : List ℕ) (e i : ℕ) (sends : List (ℕ × Message)) (rs : List Reply) → told_items e i (map (datagram_item key i) sends ++ map reply_item rs) ≡ map (told_reply e i) rs
@@ -80,8 +80,8 @@ taken_told key e i n m w j h = record {
       ∙ ap (λ (l : List Letter). map (letter_of key) w.sent ++ l) (sent_of key i m.sends m.replies) ∙ sym (letters_append key w.sent (map (envelope_from i) m.sends));
   starts = noted_starts key e i n m w j h;
   passes = noted_passes key e i n m w j h;
-  answers = ap (λ (l : List Told). l ++ told_items e i (map (datagram_item key i) m.sends ++ map reply_item m.replies)) h.answers
-      ∙ ap (λ (l : List Told). w.told ++ l) (told_of key e i m.sends m.replies);
+  answers = ap (λ (l : List Answer). l ++ told_items e i (map (datagram_item key i) m.sends ++ map reply_item m.replies)) h.answers
+      ∙ ap (λ (l : List Answer). w.told ++ l) (told_of key e i m.sends m.replies);
 }
 
 taken_kept : (key : List ℕ) (e i n : ℕ) (m : Made) (w : World) (j : JournalRecord) → IsRecorded key w j → IsRecorded key (with_told_of w (world_with_made e i m w)) (journal_with e i false (outputs_of key (record { me = i; n = n }) m) j)
@@ -91,7 +91,7 @@ taken_kept key e i n m w j h = record { sent = h.sent; starts = noted_starts key
 taken_nothing : (e i : ℕ) (b : Bool) (j : JournalRecord) → journal_with e i b no_outputs j ≡ j
 taken_nothing e i true j =
     ap (λ (l : List Letter). record { sent = l; starts = j.starts; passes = j.passes; answers = j.answers ++ []; losses = j.losses; least = j.least }) (right_nil j.sent)
-    ∙ ap (λ (l : List Told). record { sent = j.sent; starts = j.starts; passes = j.passes; answers = l; losses = j.losses; least = j.least }) (right_nil j.answers)
+    ∙ ap (λ (l : List Answer). record { sent = j.sent; starts = j.starts; passes = j.passes; answers = l; losses = j.losses; least = j.least }) (right_nil j.answers)
 taken_nothing e i false j = refl
 
 taken_from : (e i : ℕ) (b : Bool) (o : Option OutputsRecord) (out : OutputsRecord) (j : JournalRecord) → IsPutOut o out → journal_with e i b out j ≡ journal_with_outputs e i b o j

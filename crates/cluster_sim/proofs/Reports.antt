@@ -12,7 +12,7 @@ use Rattle.answer_ring.specs.Answers.{KeptAnswer}
 use Rattle.oath_node.specs.Machine.{Config, NodeState, NodeEvent, Made, Reply, Beginning, quiet_made, stopped_node, opened_node, restarted_node, made_while_running, made_by_event}
 use Rattle.client_lines.specs.Request.{without_lf}
 use Rattle.cluster_sim.specs.Answered.{IsAskedIn, IsSaidIn, BelongsToPass, TellTruth, IsAnsweredIn, AreAnswered}
-use Rattle.cluster_sim.specs.World.{World, Note, Told, Act, Says, Deliver, Ticks, Noise, WorldEvent, Happens, Cut, Restart, Lost, Anew, floor_in, has_store, lost_node, may_be_anew, note_anew, opening_node, world_after_anew, world_after_loss, acting_node, delivered_event, noise_event, node_event_of, place_at, told_reply, note_of, world_with_made, world_after_turn, world_after_act, node_of, world_after_restart, with_told_of, world_after_event, world_after_events, opening_world, begun_with, begun_in, acceptance_in, passes_in, passes_of, world_of, Start}
+use Rattle.cluster_sim.specs.World.{World, Note, Answer, Act, Says, Deliver, Ticks, Noise, WorldEvent, Happens, Cut, Restart, Lost, Anew, floor_in, has_store, lost_node, may_be_anew, note_anew, opening_node, world_after_anew, world_after_loss, acting_node, delivered_event, noise_event, node_event_of, place_at, told_reply, note_of, world_with_made, world_after_turn, world_after_act, node_of, world_after_restart, with_told_of, world_after_event, world_after_events, opening_world, begun_with, begun_in, acceptance_in, passes_in, passes_of, world_of, Start}
 use Rattle.cluster_sim.proofs.Acts.{noise_cases}
 use Rattle.cluster_sim.proofs.BelowLaws.{GroundLaw}
 use Rattle.cluster_sim.proofs.Owners.{get_more}
@@ -26,7 +26,7 @@ record Honest (events : List WorldEvent) (e : ℕ) (w : World) : Type 0 where
 
 -- ---- later
 
-belongs_later : (events : List WorldEvent) (passes more : List Acceptance) (t : Told) → BelongsToPass events passes t → BelongsToPass events (passes ++ more) t
+belongs_later : (events : List WorldEvent) (passes more : List Acceptance) (t : Answer) → BelongsToPass events passes t → BelongsToPass events (passes ++ more) t
 belongs_later events passes more t b =
     let q = b.belongs in
     record {
@@ -46,10 +46,10 @@ belongs_later events passes more t b =
       };
     }
 
-told_later : (events : List WorldEvent) (passes more : List Acceptance) (told : List Told) → Each (ToldBacked events passes) told → Each (ToldBacked events (passes ++ more)) told
+told_later : (events : List WorldEvent) (passes more : List Acceptance) (told : List Answer) → Each (ToldBacked events passes) told → Each (ToldBacked events (passes ++ more)) told
 told_later events passes more told h = each_weaker (ToldBacked events passes) (ToldBacked events (passes ++ more)) (λ t f ok. belongs_later events passes more t (f ok)) told h
 
-answered_later : (events : List WorldEvent) (told more : List Told) (p : Acceptance) (o : Option WorldEvent) → IsAnsweredIn events told p o → IsAnsweredIn events (told ++ more) p o
+answered_later : (events : List WorldEvent) (told more : List Answer) (p : Acceptance) (o : Option WorldEvent) → IsAnsweredIn events told p o → IsAnsweredIn events (told ++ more) p o
 answered_later events told more p None h = h
 answered_later events told more p (Some (Happens a)) h = record {
   place = h.place;
@@ -68,7 +68,7 @@ answered_later events told more p (Some (Restart i)) h = h
 answered_later events told more p (Some (Lost i)) h = h
 answered_later events told more p (Some (Anew i boot floors)) h = h
 
-all_answered_later : (events : List WorldEvent) (told more : List Told) (passes : List Acceptance) → Each (λ (p : Acceptance). IsAnsweredIn events told p (slice_get events p.ended)) passes
+all_answered_later : (events : List WorldEvent) (told more : List Answer) (passes : List Acceptance) → Each (λ (p : Acceptance). IsAnsweredIn events told p (slice_get events p.ended)) passes
     → Each (λ (p : Acceptance). IsAnsweredIn events (told ++ more) p (slice_get events p.ended)) passes
 all_answered_later events told more passes h =
     each_weaker (λ (p : Acceptance). IsAnsweredIn events told p (slice_get events p.ended)) (λ (p : Acceptance). IsAnsweredIn events (told ++ more) p (slice_get events p.ended))
@@ -129,7 +129,7 @@ get_far [] ys k y h = h
 get_far (x ∷ xs) ys k y h = get_far xs ys k y h
 
 -- the pass of this event
-new_answered : (events : List WorldEvent) (e i : ℕ) (begun : ProposalRecord → Option Begun) (told : List Told) (replies : List Reply) (a : Act) → slice_get events e ≡ Some (Happens a)
+new_answered : (events : List WorldEvent) (e i : ℕ) (begun : ProposalRecord → Option Begun) (told : List Answer) (replies : List Reply) (a : Act) → slice_get events e ≡ Some (Happens a)
     → (pass : Option PassRecord) → Replied events i begun pass replies
     → Each (λ (p : Acceptance). IsAnsweredIn events (told ++ map (told_reply e i) replies) p (slice_get events p.ended)) (acceptance_in begun e i pass)
 new_answered events e i begun told replies a at None r = tt
@@ -155,7 +155,7 @@ new_answered events e i begun told replies a at (Some p) r = (
     get_map f (y ∷ xs) (suc k) x h = get_map f xs k x h
 
 -- a stop inside the event owes no answer
-new_stopped : (events : List WorldEvent) (e i : ℕ) (begun : ProposalRecord → Option Begun) (told : List Told) (a : Act) → slice_get events e ≡ Some (Cut true a)
+new_stopped : (events : List WorldEvent) (e i : ℕ) (begun : ProposalRecord → Option Begun) (told : List Answer) (a : Act) → slice_get events e ≡ Some (Cut true a)
     → (pass : Option PassRecord) → Each (λ (p : Acceptance). IsAnsweredIn events told p (slice_get events p.ended)) (acceptance_in begun e i pass)
 new_stopped events e i begun told a at None = tt
 new_stopped events e i begun told a at (Some p) =

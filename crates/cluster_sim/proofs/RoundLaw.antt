@@ -17,7 +17,7 @@ use Rattle.cluster_sim.specs.Answered.{ok_bytes}
 use Rattle.cluster_sim.specs.FrontEnds.{server_at_front, service_at_front, with_server_at}
 use Rattle.cluster_sim.specs.Results.{results_in, results_with_failure, results_with_pass}
 use Rattle.cluster_sim.specs.Rounds.{AreAnswersTo, AreAtLive, HaveNumbers, IsAnswerTo, IsSettled, RoundLine, RoundsAreTheReference, RoundsByCount, ServesAsOne, SweepSettles, as_line, first_of, is_live, line_event, next_at, results_at, round_events, rounds_events, server_after_lines, server_of, sweep_events}
-use Rattle.cluster_sim.specs.World.{Told, World, opening_world, place_at, told_reply, world_after_event, world_after_events, world_of, world_with_made}
+use Rattle.cluster_sim.specs.World.{Answer, World, opening_world, place_at, told_reply, world_after_event, world_after_events, world_of, world_with_made}
 use Rattle.floor_store.specs.Records.{span_of}
 use Rattle.oath_node.specs.Alone.{drifts_in, floors_in}
 use Rattle.oath_node.specs.Grounds.{HasGrounds, IsSameStanding}
@@ -74,7 +74,7 @@ served_is law rules config live w l sound gated calm here =
 
 pub record RoundDone (config : Config) (live : List ℕ) (e end : ℕ) (l : RoundLine) (w v : World) (t : Service) : Type 0 where
   pub calm : IsSettled config live v
-  pub answer : Told
+  pub answer : Answer
   pub told : v.told ≡ w.told ++ answer ∷ []
   pub is : IsAnswerTo e end l t.told.bytes answer
   pub server : server_of live v ≡ with_server_at l.node t.server (server_of live w)

@@ -23,7 +23,7 @@ use Rattle.client_lines.specs.declared.answer.Outcome.TheVariants.{Refused}
 use Rattle.client_lines.specs.declared.answer.Reason.{Reason}
 use Rattle.client_lines.specs.declared.answer.Reason.TheVariants.{Spent, Timeout}
 use Rattle.cluster_sim.specs.Answered.{IsOk, ok_bytes, IsTextOf, IsAskedIn, IsSaidIn, BelongsToPass}
-use Rattle.cluster_sim.specs.World.{WorldEvent, Note, Told, begun_with, begun_in, acceptance_in, passes_in, note_of, told_reply}
+use Rattle.cluster_sim.specs.World.{WorldEvent, Note, Answer, begun_with, begun_in, acceptance_in, passes_in, note_of, told_reply}
 use Rattle.cluster_sim.proofs.BelowLaws.{GroundLaw}
 use Rattle.cluster_sim.proofs.Owners.{get_more, get_new, each_kept, each_kept_all, found_kept, HasOwner, IsOwned, still_owned, owner_more, owner_new, owner_found}
 use Rattle.cluster_sim.proofs.VoteSteps.{Numbered, IsNoAcceptance, Settled, IsStep, message_step, tick_step, propose_step, propose_seq}
@@ -71,7 +71,7 @@ pub record NodeKept (events : List WorldEvent) (h : List Note) (e i : ℕ) (x : 
   pub owned : Each (λ (q : Ballot). HasOwner x.owners q.seq) x.voter.pending
   pub answers : Each (λ (a : KeptAnswer). KeptBacked events (passes_in h) e i a.client a.line a.text) x.answers
 
-abbrev pub ToldBacked : List WorldEvent → List Acceptance → Told → Type 0
+abbrev pub ToldBacked : List WorldEvent → List Acceptance → Answer → Type 0
 ToldBacked events passes t = IsOk t.bytes → BelongsToPass events passes t
 
 -- the pass of an event has its reply

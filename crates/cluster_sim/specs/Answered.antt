@@ -7,7 +7,7 @@ use Rattle.client_lines.specs.Field.{IsNonce}
 use Rattle.client_lines.specs.Request.{Request, IsLine, without_lf}
 use Rattle.client_lines.specs.declared.answer.Answer.TheVariants.{Reply}
 use Rattle.client_lines.specs.declared.answer.Outcome.TheVariants.{Accepted}
-use Rattle.cluster_sim.specs.World.{Act, Says, Deliver, Ticks, Noise, WorldEvent, Happens, Cut, Restart, Lost, Anew, Told}
+use Rattle.cluster_sim.specs.World.{Act, Says, Deliver, Ticks, Noise, WorldEvent, Happens, Cut, Restart, Lost, Anew, Answer}
 
 -- the reply begins as an OK
 abbrev pub IsOk : List ℕ → Type 0
@@ -49,7 +49,7 @@ IsSaidIn node client line _ = ⊥
 
 -- An acceptance for a reply at the reply's node, with the last factor `hi`. The acceptance's line came from the reply's
 -- client with the nonce. If the acceptance ended in an earlier event, the client sent the line again.
-pub record IsPassOf (events : List WorldEvent) (passes : List Acceptance) (told : Told) (nonce : List ℕ)
+pub record IsPassOf (events : List WorldEvent) (passes : List Acceptance) (told : Answer) (nonce : List ℕ)
     (hi : ℕ) : Type 0 where
   pub place : ℕ
   pub pass : Acceptance
@@ -62,27 +62,27 @@ pub record IsPassOf (events : List WorldEvent) (passes : List Acceptance) (told 
   pub again : pass.ended < told.event → IsSaidIn told.node told.client line (slice_get events told.event)
 
 -- the reply is the OK with some nonce and last factor, and has its acceptance
-pub record BelongsToPass (events : List WorldEvent) (passes : List Acceptance) (told : Told) : Type 0 where
+pub record BelongsToPass (events : List WorldEvent) (passes : List Acceptance) (told : Answer) : Type 0 where
   pub nonce : List ℕ
   pub hi : ℕ
   pub bytes : told.bytes ≡ ok_bytes nonce hi
   pub belongs : IsPassOf events passes told nonce hi
 
 -- each reply that begins as an OK belongs to an acceptance
-abbrev pub TellTruth : List WorldEvent → List Acceptance → List Told → Type 0
+abbrev pub TellTruth : List WorldEvent → List Acceptance → List Answer → Type 0
 TellTruth events passes answers =
-    (i : ℕ) (told : Told) → slice_get answers i ≡ Some told → IsOk told.bytes → BelongsToPass events passes told
+    (i : ℕ) (told : Answer) → slice_get answers i ≡ Some told → IsOk told.bytes → BelongsToPass events passes told
 
 -- each OK with a nonce and a factor has its acceptance
-abbrev pub NamePasses : List WorldEvent → List Acceptance → List Told → Type 0
+abbrev pub NamePasses : List WorldEvent → List Acceptance → List Answer → Type 0
 NamePasses events passes answers =
-    (i : ℕ) (told : Told) (nonce : List ℕ) (hi : ℕ) → slice_get answers i ≡ Some told → IsNonce nonce → IsFactor hi
+    (i : ℕ) (told : Answer) (nonce : List ℕ) (hi : ℕ) → slice_get answers i ≡ Some told → IsNonce nonce → IsFactor hi
     → told.bytes ≡ ok_bytes nonce hi → IsPassOf events passes told nonce hi
 
 -- the client whose line began the acceptance gets the OK in the event in which the acceptance ended
-pub record HasAnswer (events : List WorldEvent) (answers : List Told) (pass : Acceptance) : Type 0 where
+pub record HasAnswer (events : List WorldEvent) (answers : List Answer) (pass : Acceptance) : Type 0 where
   pub place : ℕ
-  pub answer : Told
+  pub answer : Answer
   pub is_told : slice_get answers place ≡ Some answer
   pub event : answer.event ≡ pass.ended
   pub node : answer.node ≡ pass.node
@@ -92,7 +92,7 @@ pub record HasAnswer (events : List WorldEvent) (answers : List Told) (pass : Ac
   pub bytes : answer.bytes ≡ ok_bytes nonce pass.hi
 
 -- the acceptance has its OK, unless the node stopped in the event
-abbrev pub IsAnsweredIn : List WorldEvent → List Told → Acceptance → Option WorldEvent → Type 0
+abbrev pub IsAnsweredIn : List WorldEvent → List Answer → Acceptance → Option WorldEvent → Type 0
 IsAnsweredIn events answers pass None = ⊥
 IsAnsweredIn events answers pass (Some (Happens act)) = HasAnswer events answers pass
 IsAnsweredIn events answers pass (Some (Cut true act)) = Unit {0}
@@ -102,7 +102,7 @@ IsAnsweredIn events answers pass (Some (Lost node)) = ⊥
 IsAnsweredIn events answers pass (Some (Anew node boot floors)) = ⊥
 
 -- each acceptance has its OK, unless the node stopped in the event
-abbrev pub AreAnswered : List WorldEvent → List Told → List Acceptance → Type 0
+abbrev pub AreAnswered : List WorldEvent → List Answer → List Acceptance → Type 0
 AreAnswered events answers passes =
     (i : ℕ) (pass : Acceptance) → slice_get passes i ≡ Some pass
     → IsAnsweredIn events answers pass (slice_get events pass.ended)

@@ -7,7 +7,7 @@ use Rattle.oath_node.specs.Machine.{NodeState, stopped_node}
 use Rattle.cluster_sim.specs.Examples.{config, line_at, three, told_outcome}
 use Rattle.cluster_sim.specs.RoundExamples.{round_at}
 use Rattle.cluster_sim.specs.Rounds.{RoundLine}
-use Rattle.cluster_sim.specs.World.{Start, Told, World, WorldEvent, first_start, opening_world, with_state}
+use Rattle.cluster_sim.specs.World.{Start, Answer, World, WorldEvent, first_start, opening_world, with_state}
 
 -- three nodes at the start, and the first two of them
 abbrev pub start_world : World
@@ -50,7 +50,7 @@ raised = first_start ((1 ∷ []) ∷ (1 ∷ []) ∷ (1 ∷ []) ∷ [])
 abbrev pub round_line : RoundLine
 round_line = round_at 1 7 1000 (codes "CHECK a silver 755224 -")
 
-abbrev pub first_ok : Told
+abbrev pub first_ok : Answer
 first_ok = told_outcome 2 1 7 (codes "a") (Accepted 0)
 
 abbrev pub ok_given : List ℕ

@@ -16,7 +16,7 @@ use Rattle.client_lines.specs.declared.answer.Outcome.{Outcome}
 use Rattle.cluster_sim.specs.Answered.{AreAnswered, NamePasses, TellTruth}
 use Rattle.cluster_sim.specs.Drifts.{drift_after, moment_in}
 use Rattle.cluster_sim.specs.Justified.{IsJustified}
-use Rattle.cluster_sim.specs.World.{WorldEvent, Happens, Cut, Restart, Says, Deliver, Ticks, Noise, Told, ReportValue, Start, first_start}
+use Rattle.cluster_sim.specs.World.{WorldEvent, Happens, Cut, Restart, Says, Deliver, Ticks, Noise, Answer, ReportValue, Start, first_start}
 
 -- a user with the secret of the appendix
 abbrev pub user_named : List ℕ → Credential
@@ -62,17 +62,17 @@ abbrev pub tick_of : ℕ → WorldEvent
 tick_of node = Happens (Ticks node)
 
 -- the reply to a client's line with the nonce
-abbrev pub told_outcome : ℕ → ℕ → ℕ → List ℕ → Outcome → Told
+abbrev pub told_outcome : ℕ → ℕ → ℕ → List ℕ → Outcome → Answer
 told_outcome event node client nonce outcome =
     record { event = event; node = node; client = client; bytes = answer_bytes (Reply nonce outcome) }
 
 -- the reply to a client's bad line
-abbrev pub told_bad_line : ℕ → ℕ → ℕ → Told
+abbrev pub told_bad_line : ℕ → ℕ → ℕ → Answer
 told_bad_line event node client =
     record { event = event; node = node; client = client; bytes = answer_bytes BadLine }
 
 -- a report: the acceptances, the replies, and the number of datagrams sent
-abbrev pub report_with : List Acceptance → List Told → ℕ → ReportValue
+abbrev pub report_with : List Acceptance → List Answer → ℕ → ReportValue
 report_with passes answers sent = record { passes = passes; answers = answers; sent = sent }
 
 -- an acceptance of the one user
@@ -329,13 +329,13 @@ abbrev pub first_pass : Acceptance
 first_pass = acceptance 0 2 1 0 0
 
 -- whether a reply is true, if the first pass is the only acceptance
-abbrev pub IsToldTruly : Told → Type 0
+abbrev pub IsToldTruly : Answer → Type 0
 IsToldTruly told = TellTruth second_factor_elsewhere (first_pass ∷ []) (told ∷ [])
 
 -- whether a reply names its acceptance, if the first pass is the only acceptance
-abbrev pub NamesItsPass : Told → Type 0
+abbrev pub NamesItsPass : Answer → Type 0
 NamesItsPass told = NamePasses second_factor_elsewhere (first_pass ∷ []) (told ∷ [])
 
 -- whether the first pass is answered, if these are all replies
-abbrev pub IsAnsweredBy : List Told → Type 0
+abbrev pub IsAnsweredBy : List Answer → Type 0
 IsAnsweredBy answers = AreAnswered second_factor_elsewhere answers (first_pass ∷ [])

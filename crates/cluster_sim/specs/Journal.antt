@@ -15,7 +15,7 @@ use Rattle.oath_node.specs.Machine.{Config, NodeEvent, NodeState, made_by_event}
 use Rattle.oath_node.specs.Outputs.{OutputsRecord, no_outputs, outputs_of}
 use Rattle.oath_node.specs.declared.item.Item.{Item}
 use Rattle.oath_node.specs.declared.item.Item.TheVariants.{Datagram, Reply}
-use Rattle.cluster_sim.specs.World.{World, Told, Act as WorldAct, WorldEvent as Event, begun_in, passes_in, with_state, with_told_of, world_after_act, world_after_event, world_after_events, world_after_turn}
+use Rattle.cluster_sim.specs.World.{World, Answer, Act as WorldAct, WorldEvent as Event, begun_in, passes_in, with_state, with_told_of, world_after_act, world_after_event, world_after_events, world_after_turn}
 
 -- a datagram, with its sender and its receiver
 pub record Letter : Type 0 where
@@ -39,7 +39,7 @@ pub record JournalRecord : Type 0 where
   pub sent : List Letter
   pub starts : List StartRecord
   pub passes : List Acceptance
-  pub answers : List Told
+  pub answers : List Answer
   pub losses : List LossRecord
   pub least : List ℕ
 
@@ -114,7 +114,7 @@ sent_items node (Datagram to bytes ∷ items) =
 sent_items node (Reply client bytes ∷ items) = sent_items node items
 
 -- the replies of the node among the items, in the event
-abbrev pub told_items : ℕ → ℕ → List Item → List Told
+abbrev pub told_items : ℕ → ℕ → List Item → List Answer
 told_items event node [] = []
 told_items event node (Datagram to bytes ∷ items) = told_items event node items
 told_items event node (Reply client bytes ∷ items) =

@@ -12,7 +12,7 @@ use Rattle.oath_node.specs.Machine.{Config}
 use Rattle.oath_node.specs.ReferenceServer.{Front, Line}
 use Rattle.cluster_sim.specs.FrontEnds.{FrontedServer, fronted_after, service_at_front}
 use Rattle.cluster_sim.specs.Results.{results_in}
-use Rattle.cluster_sim.specs.World.{World, WorldEvent, Happens, Says, Deliver, Ticks, Told, has_store, world_after_event, world_after_events, world_of, report_of, Start}
+use Rattle.cluster_sim.specs.World.{World, WorldEvent, Happens, Says, Deliver, Ticks, Answer, has_store, world_after_event, world_after_events, world_of, report_of, Start}
 
 -- ---- Live members
 
@@ -240,7 +240,7 @@ server_after_lines config server (line ∷ lines) =
     server_after_lines config (fronted_after config server line.node (as_line line)) lines
 
 -- the reply goes to the line's client at its node, from event `first` on and before event `end`
-pub record IsAnswerTo (first end : ℕ) (line : RoundLine) (reply : List ℕ) (told : Told) : Type 0 where
+pub record IsAnswerTo (first end : ℕ) (line : RoundLine) (reply : List ℕ) (told : Answer) : Type 0 where
   pub since : first ≤ told.event
   pub before : told.event < end
   pub node : told.node ≡ line.node
@@ -248,7 +248,7 @@ pub record IsAnswerTo (first end : ℕ) (line : RoundLine) (reply : List ℕ) (t
   pub bytes : reply ≡ told.bytes
 
 -- each line has one answer, within its own round, as the server answers it
-abbrev pub AreAnswersTo : Config → List ℕ → ℕ → World → FrontedServer → List RoundLine → List Told → Type 0
+abbrev pub AreAnswersTo : Config → List ℕ → ℕ → World → FrontedServer → List RoundLine → List Answer → Type 0
 AreAnswersTo config live first world server [] answers = answers ≡ []
 AreAnswersTo config live first world server (line ∷ lines) [] = ⊥
 AreAnswersTo config live first world server (line ∷ lines) (answer ∷ answers) =
@@ -262,7 +262,7 @@ AreAnswersTo config live first world server (line ∷ lines) (answer ∷ answers
 -- world are settled, and their server is the server after the lines.
 pub record ServesAsOne (config : Config) (live : List ℕ) (first : ℕ) (old new : World)
     (lines : List RoundLine) : Type 0 where
-  pub answers : List Told
+  pub answers : List Answer
   pub told : new.told ≡ old.told ++ answers
   pub are : AreAnswersTo config live first old (server_of live old) lines answers
   pub settled : IsSettled config live new
@@ -304,8 +304,8 @@ RoundsAreThese =
 -- The report of events that end in rounds. The answers are the earlier ones followed by one to each line, within its
 -- own round, as the server answers it. The live members are settled again.
 pub record AreServed (config : Config) (start : Start) (before rounds : List WorldEvent) (live : List ℕ)
-    (lines : List RoundLine) (answers : List Told) : Type 0 where
-  pub more : List Told
+    (lines : List RoundLine) (answers : List Answer) : Type 0 where
+  pub more : List Answer
   pub told : answers ≡ (report_of config start before).answers ++ more
   pub are : AreAnswersTo config live (length before) (world_of config start before)
       (server_of live (world_of config start before)) lines more

@@ -3,7 +3,7 @@ use Rattle.std.specs.Prelude.{ℕ, suc, ◌==◌, Bool, true, false, if◌then�
 use Rattle.std.specs.List.{range_with_len}
 use Rattle.oath_node.specs.Machine.{Config}
 use Rattle.oath_node.specs.ReferenceServer.{Server, Service, restarted_server, server_at, service_of}
-use Rattle.cluster_sim.specs.World.{Act, Says, Deliver, Ticks, Noise, WorldEvent, Happens, Cut, Restart, Lost, Anew, Told}
+use Rattle.cluster_sim.specs.World.{Act, Says, Deliver, Ticks, Noise, WorldEvent, Happens, Cut, Restart, Lost, Anew, Answer}
 
 -- the service of a client's line
 abbrev pub service_to : Config → Server → ℕ → ℕ → List ℕ → Service
@@ -41,13 +41,13 @@ server_after_event config (Lost node) server = server
 server_after_event config (Anew node boot floors) server = server
 
 -- the answer to a client's line in the event
-abbrev pub told_of_line : Config → ℕ → Server → ℕ → ℕ → List ℕ → Told
+abbrev pub told_of_line : Config → ℕ → Server → ℕ → ℕ → List ℕ → Answer
 told_of_line config event server client moment text =
     let bytes = (service_to config server client moment text).told.bytes in
     record { event = event; node = 1; client = client; bytes = bytes }
 
 -- the answers to an act in the event
-abbrev pub answers_to_act : Config → ℕ → Act → Server → List Told
+abbrev pub answers_to_act : Config → ℕ → Act → Server → List Answer
 answers_to_act config event (Says node client moment text) server =
     if node == 1 then told_of_line config event server client moment text ∷ [] else []
 answers_to_act config event (Deliver node k) server = []
@@ -55,7 +55,7 @@ answers_to_act config event (Ticks node) server = []
 answers_to_act config event (Noise node from read) server = []
 
 -- the answers to the event of the given number
-abbrev pub answers_to_event : Config → ℕ → WorldEvent → Server → List Told
+abbrev pub answers_to_event : Config → ℕ → WorldEvent → Server → List Answer
 answers_to_event config event (Happens act) server = answers_to_act config event act server
 answers_to_event config event (Cut kept act) server = []
 answers_to_event config event (Restart node) server = []
@@ -71,7 +71,7 @@ is_end (Lost node) = node == 1
 is_end (Anew node boot floors) = false
 
 -- the answers to the events, the first of which has the given number; none after the server's store is lost
-unfoldable pub reference_answers : Config → ℕ → List WorldEvent → Server → List Told
+unfoldable pub reference_answers : Config → ℕ → List WorldEvent → Server → List Answer
 reference_answers config first [] server = []
 reference_answers config first (event ∷ events) server =
     if is_end event then []

@@ -24,7 +24,7 @@ pub record Note : Type 0 where
   pub failed : Option (ℕ × ℕ)
 
 -- a reply of a node to a client in an event
-pub record Told : Type 0 where
+pub record Answer : Type 0 where
   pub event : ℕ
   pub node : ℕ
   pub client : ℕ
@@ -41,7 +41,7 @@ pub record World : Type 0 where
   pub least : ℕ → ℕ
   pub sent : List Envelope
   pub history : List Note
-  pub told : List Told
+  pub told : List Answer
 
 -- An act at a node. It is a client's line at a moment, the delivery of a datagram by its number, the passage of time,
 -- or bytes from an address. Numbers are from 0 in the order of sending. The bytes are given by their envelope, if they
@@ -106,7 +106,7 @@ abbrev pub with_state : ℕ → NodeState → (ℕ → NodeState) → ℕ → No
 with_state changed state nodes node = if node == changed then state else nodes node
 
 -- a reply of the node in the event
-abbrev pub told_reply : ℕ → ℕ → Reply → Told
+abbrev pub told_reply : ℕ → ℕ → Reply → Answer
 told_reply event node reply = record { event = event; node = node; client = reply.client; bytes = reply.bytes }
 
 -- the note on the result of the event at the node
@@ -330,7 +330,7 @@ passes_of config start events = passes_in (world_of config start events).history
 -- the report of a run: its acceptances, its answers, and the number of datagrams sent
 pub record ReportValue : Type 0 where
   pub passes : List Acceptance
-  pub answers : List Told
+  pub answers : List Answer
   pub sent : ℕ
 
 -- the report of a run

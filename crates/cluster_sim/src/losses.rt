@@ -12,14 +12,14 @@ ghost use Rattle.cluster_sim.specs.World.{World, floor_in, world_after_anew, wor
 
 use crate::journal::Journal;
 use crate::simulation::{Shared, index_of};
-use floor_store::{FloorStore, MemStore};
+use floor_store::{COUNTS_END, FloorStore, MemStore};
 use oath_node::Node;
 use otp_core::Next;
 use std::alloc::{AllocError, Global};
 use vote_core::{Place, majority};
 
 /// The last boot of a node.
-const LAST_BOOT: u64 = (1 << 62) - 1;
+const LAST_BOOT: u64 = COUNTS_END - 1;
 
 /// Returns the floor 0: no factor is used up.
 fn none_used() -> Next

@@ -50,9 +50,9 @@ pub struct WorldAnswer {
 }
 
 impl Model for WorldAnswer {
-    ghost use Rattle.cluster_sim.specs.World.{Told};
+    ghost use Rattle.cluster_sim.specs.World.{Answer};
 
-    ghost Value = { Told };
+    ghost Value = { Answer };
 
     ghost view = { λ answer. record {
       event = answer.event;

@@ -205,7 +205,7 @@ fn run_script_and_rounds(
         let all = events_with_rounds run.config run.start run.events live.now (round_lines lines.now) in
         IfOk result (λ report. report ≡ report_of run.config run.start all) }
 {
-    // There are at most 10,000 tokens.
+    // For the proof: there are at most 10,000 tokens.
     let _tokens = book.len();
     rulings_have_grounds();
     floors_are_in_range(floors);

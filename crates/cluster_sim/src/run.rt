@@ -37,6 +37,7 @@ fn list_is_in_range(list: &[Next])
     ensures { (token : ℕ) → IsNext (slice_index_or list.now token 0) }
 {
     for next in list {
+        // For the proof: a floor is in range.
         let _value = next.value();
     }
 }
@@ -125,7 +126,7 @@ fn run_script(
     ensures { let run = run_of book.now settings key.now floors.now events.now in
         IfOk result (λ report. report ≡ report_of run.config run.start run.events) }
 {
-    // There are at most 10,000 tokens.
+    // For the proof: there are at most 10,000 tokens.
     let _tokens = book.len();
     rulings_have_grounds();
     floors_are_in_range(floors);

@@ -42,7 +42,7 @@ pub fn stores_are_opened_again<D: Disk, E: Disk>()
 {}
 
 /// Counterexamples: each promise of connections and tables fails for a minimal one.
-pub fn promises_can_be_broken()
+pub fn connections_can_be_broken()
     // A query, a refusal, and a commit.
     ensures read { IsRead (small_state 1 1) (small_state 1 1) }
     ensures read_is_open { IsRead (small_state 1 1) (shut_state 1 1) → ⊥ }

@@ -13,7 +13,7 @@ use crate::schema::{has_own_table, is_floor_schema, is_no_schema};
 use crate::tables::{read_node, read_tables};
 use crate::write::write_all;
 use arrayvec::ArrayVec;
-use floor_store::{FloorStore, Pass, Row, StoreFault};
+use floor_store::{COUNTS_END, FloorStore, Pass, Row, StoreFault};
 use otp_core::Next;
 use sqlite::{Alter, Connection};
 use std::alloc::Global;
@@ -126,7 +126,7 @@ impl<S: Alter> SqlStore<S> {
         ensures refused { IfErr result (λ e. HandsBack S.Store conn e.0
             (MayCommit (Opens node boot floors.now) (state S.Store conn))) }
     {
-        // Outside a transaction the connection shows the last commit.
+        // For the proof: outside a transaction the connection shows the last commit.
         let _ = conn.is_autocommit();
         if has_own_table(conn.schema()) {
             return Err((conn, StoreFault::AlreadyThere));
@@ -172,7 +172,7 @@ impl<S: Alter> SqlStore<S> {
         ensures failure { IfErr result (λ e. IsTrue (is_failure e.1)) }
         ensures refused { IfErr result (λ e. HandsBack S.Store conn e.0 (λ _. ⊥)) }
     {
-        // Outside a transaction the connection shows the last commit.
+        // For the proof: outside a transaction the connection shows the last commit.
         let _ = conn.is_autocommit();
         let (mirror, passes) = match read_tables(alloc, &mut conn, node, tokens) {
             Ok(read) => read,
@@ -216,7 +216,7 @@ impl<S: Alter> SqlStore<S> {
         ensures refused { IfErr result (λ e. HandsBack S.Store conn e.0
             (MayCommit (Migrates node tokens) (state S.Store conn))) }
     {
-        // Outside a transaction the connection shows the last commit.
+        // For the proof: outside a transaction the connection shows the last commit.
         let _ = conn.is_autocommit();
         if is_floor_schema(conn.schema()) {
             return match read_own_node(&mut conn) {
@@ -251,7 +251,7 @@ impl<S: Alter> SqlStore<S> {
         ensures failure { IfErr result (λ e. IsTrue (is_failure e.1)) }
         ensures refused { IfErr result (λ e. HandsBack S.Store conn e.0 (λ _. ⊥)) }
     {
-        // Outside a transaction the connection shows the last commit.
+        // For the proof: outside a transaction the connection shows the last commit.
         let _ = conn.is_autocommit();
         match read_node(&mut conn) {
             Ok(node) => Ok((conn, node)),
@@ -401,7 +401,7 @@ impl<S: Alter> FloorStore for SqlStore<S> {
             return Err(fault);
         }
         let passes = self.staged_passes + pass_count(&pass);
-        if self.passes + passes > 1 << 62 {
+        if self.passes + passes > COUNTS_END {
             self.fault = Some(StoreFault::Unusable);
             return Err(StoreFault::Unusable);
         }
@@ -470,7 +470,7 @@ impl<S: Alter> FloorStore for SqlStore<S> {
             return Err(fault);
         }
         let boot = self.mirror.boot() + 1;
-        if boot == 1 << 62 {
+        if boot == COUNTS_END {
             return Err(StoreFault::Spent);
         }
         match self.write(Some(boot)) {

@@ -73,7 +73,7 @@ pub fn ranges_are_worked()
 {}
 
 /// Counterexamples: each promise of a store's call fails for a minimal one.
-pub fn promises_can_be_broken()
+pub fn store_calls_can_be_broken()
     ensures settled { IsSettled (small_held (store_at 1)) }
     ensures not_settled { IsSettled (small_held (unsettled_at 1 0)) → ⊥ }
     ensures old_or_new { OldOrNew (booted 0) (booted 1) (booted 0) × OldOrNew (booted 0) (booted 1) (booted 1) }

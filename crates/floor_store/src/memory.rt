@@ -4,9 +4,9 @@ ghost use Rattle.floor_store.specs.Range.{IsCount};
 ghost use Rattle.floor_store.specs.declared.fault.StoreFault.TheVariants.{Memory, Spent};
 
 use crate::fault::StoreFault;
-use crate::row::{COUNTS_END, Pass, Row};
+use crate::row::{Pass, Row};
 use crate::store::FloorStore;
-use otp_core::Next;
+use otp_core::{COUNTS_END, Next};
 use std::alloc::Global;
 use std::marker::Model;
 

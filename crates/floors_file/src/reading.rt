@@ -10,20 +10,8 @@ use crate::fault::{FloorsFault, LineFault};
 use crate::fields::{last_number, next_field, number_field};
 use crate::floors::{Floor, Floors, Head};
 use field_text::{cut_at, is_word};
-use otp_core::Next;
+use otp_core::{COUNTS_END, MAX_MEMBERS, MAX_TOKENS, MOMENTS_END, Next};
 use std::alloc::Global;
-
-/// The maximum number of members of a cluster.
-const MAX_MEMBERS: u64 = 9;
-
-/// The maximum number of tokens of a node.
-const MAX_TOKENS: u64 = 10_000;
-
-/// The end of the boots.
-const BOOTS_END: u64 = 1 << 62;
-
-/// The end of the moments.
-const MOMENTS_END: u64 = 1 << 40;
 
 /// The numbers of the first line.
 #[derive(Clone, Copy)]
@@ -47,10 +35,10 @@ fn ranged(
 {
     let is_head = 1 <= node
         && node <= members
-        && members <= MAX_MEMBERS
-        && boot < BOOTS_END
+        && members <= MAX_MEMBERS as u64
+        && boot < COUNTS_END
         && moment < MOMENTS_END
-        && tokens <= MAX_TOKENS;
+        && tokens <= MAX_TOKENS as u64;
     if !is_head {
         return Err(LineFault::Range);
     }

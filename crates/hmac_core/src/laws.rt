@@ -24,7 +24,7 @@ pub fn macs_are_worked()
 ///
 /// The empty key keeps them. A hasher in the place of the other, a state of another hash, and a state of another key
 /// break them.
-pub fn promises_can_be_broken()
+pub fn set_up_keys_can_be_broken()
     ensures set_up { IsKeyed empty_key Hash.Sha1 [] }
     ensures inner_is_the_outer { (keyed : Keyed) → IsKeyed keyed Hash.Sha1 [] →
         IsKeyed (record keyed { inner = keyed.outer }) Hash.Sha1 [] → ⊥ }

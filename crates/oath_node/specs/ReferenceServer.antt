@@ -46,14 +46,14 @@ pub record TokenSpan : Type 0 where
   pub hi : ℕ
 
 -- the answer to a line, as bytes, and its acceptance
-pub record Told : Type 0 where
+pub record Answer : Type 0 where
   pub bytes : List ℕ
   pub accepted : Option TokenSpan
 
 -- the service of a line: the server after it, and the answer
 pub record Service : Type 0 where
   pub server : Server
-  pub told : Told
+  pub told : Answer
 
 -- the floor of a token
 abbrev pub floor_of : Server → ℕ → ℕ
@@ -88,7 +88,7 @@ refusal_bytes nonce reason = answer_bytes (Reply nonce (Refused reason))
 
 -- The answer of a ruling: `OK` with the last factor for a proposal, which is accepted, and otherwise a refusal or a
 -- kept answer. No line waits here, so no ruling is `Waiting`.
-abbrev pub told_by : Ruling → Told
+abbrev pub told_by : Ruling → Answer
 told_by Outside = record { bytes = answer_bytes BadLine; accepted = None }
 told_by (Again text) = record { bytes = text; accepted = None }
 told_by Waiting = record { bytes = []; accepted = None }

@@ -7,7 +7,7 @@ use Rattle.token_file.specs.Credential.{Credential}
 use Rattle.admit_core.specs.Drift.{kept_drift}
 use Rattle.admit_core.specs.Entitled.{IsEntitled}
 use Rattle.admit_core.specs.Throttle.{Result}
-use Rattle.oath_node.specs.ReferenceServer.{Server, Line, TokenSpan, Told, Service, floor_of, results_of, service_of, server_after, server_at}
+use Rattle.oath_node.specs.ReferenceServer.{Server, Line, TokenSpan, Answer, Service, floor_of, results_of, service_of, server_after, server_at}
 use Rattle.client_lines.specs.Request.{Request, IsLine}
 
 -- an accepted line: its number from 0, the token, and the factors that it uses up
@@ -38,7 +38,7 @@ abbrev pub answer_at : ℕ → ℕ → List ℕ → LineAnswer
 answer_at number client bytes = record { line = number; client = client; bytes = bytes }
 
 -- the report with the line's acceptance and answer first
-abbrev pub told_before : ℕ → Line → Told → Report → Report
+abbrev pub told_before : ℕ → Line → Answer → Report → Report
 told_before number line told rest = record {
   passes = passes_at number told.accepted ++ rest.passes;
   answers = answer_at number line.client told.bytes ∷ rest.answers;

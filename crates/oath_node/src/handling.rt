@@ -1,6 +1,6 @@
 //! The effects of each event on a running node.
 
-ghost use Rattle.std.specs.Prelude.{◌≡◌, ◌<◌, ◌≤◌, ◌↔◌, IfErr, IsTrue, None, false, length, nat_le};
+ghost use Rattle.std.specs.Prelude.{◌≡◌, ◌<◌, ◌≤◌, ◌↔◌, IfErr, IsTrue, List, None, false, length, nat_le};
 ghost use Rattle.floor_store.specs.Held.{Breaks, MayPut};
 ghost use Rattle.answer_ring.specs.Answers.{kept_with};
 ghost use Rattle.oath_node.specs.Heard.{IsHeardAs};
@@ -9,7 +9,9 @@ ghost use Rattle.oath_node.specs.Machine.{content_with_failure, made_by_datagram
 ghost use Rattle.oath_node.specs.Outputs.{reply_outputs};
 ghost use Rattle.oath_node.specs.Parts.{Steps, state_in};
 ghost use Rattle.oath_node.specs.Recording.{IfKept, IfProposes, IsRecordable};
+ghost use Rattle.otp_core.specs.Limits.{Limits};
 ghost use Rattle.otp_core.specs.Range.{IsMoment};
+ghost use Rattle.token_file.specs.Credential.{Credential};
 ghost use Rattle.vote_core.specs.Calls.{FitsVoter, IsOther, IsStoreOf};
 ghost use Rattle.vote_core.specs.Rows.{row};
 ghost use Rattle.client_lines.specs.Request.{without_lf as spec_without_lf};
@@ -125,16 +127,16 @@ impl<S: FloorStore> Parts<S> {
     /// member or token.
     pub(crate) fn on_datagram<'k>(
         &mut self,
-        book: &Book,
-        settings: Settings,
         key: &'k ClusterKey,
         from: u8,
         bytes: &[u8],
     ) -> Result<Outputs<'k>, NodeFault>
         requires store { IsStoreOf self.old.voter (S.held self.old.store) }
-        requires rows { length (S.held self.old.store).content.rows ≡ length book.now }
-        ensures { Steps S.held key.now self.old self.new (made_by_datagram
-            (record { book = book.now; limits = settings }) self.old.voter.place from
+        // The result is the same under every configuration whose book has the tokens of the store.
+        ensures { (book : List Credential) (limits : Limits)
+            → length (S.held self.old.store).content.rows ≡ length book
+            → Steps S.held key.now self.old self.new (made_by_datagram
+            (record { book = book; limits = limits }) self.old.voter.place from
             (envelope_at key.now bytes.now)) result }
     {
         let Some((sender, to, message)) = read_message(key, bytes) else {

@@ -164,7 +164,7 @@ pub fn reference_server_is_safe()
 }
 
 /// Counterexamples: each condition on an acceptance of the worked run fails for a minimal one.
-pub fn promises_can_be_broken()
+pub fn justifications_in_runs_can_be_broken()
     ensures token { IsJustifiedInRun (record { began = 2; token = 1; lo = 1; hi = 1 }) → ⊥ }
     ensures factor { IsJustifiedInRun (record { began = 2; token = 0; lo = 0; hi = 0 }) → ⊥ }
     ensures bad_line { IsJustifiedInRun (record { began = 5; token = 0; lo = 1; hi = 1 }) → ⊥ }

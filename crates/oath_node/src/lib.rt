@@ -68,10 +68,11 @@ pub use item::Item;
 pub use items::Items;
 pub use laws::{
     answers_are_given_again, calls_can_be_broken, calls_make_steps, columns_are_worked,
-    drifts_are_worked, events_are_worked, fittings_can_be_broken, one_node_answers_as_the_server,
-    openings_can_be_broken, outputs_are_few, promises_can_be_broken, reference_server_is_safe,
-    refusals_can_be_broken, refused_lines_change_gates_alone, rules_are_worked,
-    rulings_are_told_apart, rulings_have_grounds, runs_are_worked, service_can_be_broken,
+    drifts_are_worked, events_are_worked, fittings_can_be_broken,
+    justifications_in_runs_can_be_broken, one_node_answers_as_the_server, openings_can_be_broken,
+    outputs_are_few, reference_server_is_safe, refusals_can_be_broken,
+    refused_lines_change_gates_alone, rules_are_worked, rulings_are_told_apart,
+    rulings_have_grounds, runs_are_worked, service_can_be_broken,
 };
 pub use node::Node;
 pub use outputs::{Outputs, Scratch};

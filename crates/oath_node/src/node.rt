@@ -114,6 +114,7 @@ impl<'b, S: FloorStore> Node<'b, S> {
         let place = self.parts.voter.place();
         match Voter::open(&mut self.parts.store, place) {
             Ok(voter) => {
+                // For the proof: the number of the boot is in range.
                 let _boot = voter.boot();
                 self.parts.voter = voter;
                 self.parts.owners.clear();
@@ -135,7 +136,7 @@ impl<'b, S: FloorStore> Node<'b, S> {
         ensures place { IsPlace self.now.voter.place }
         ensures few { length self.now.voter.ballots ≤ 32 }
     {
-        // At most 32 lines wait, and there are at most nine members.
+        // For the proof: at most 32 lines wait, and there are at most nine members.
         let _pending = self.parts.voter.pending();
         let place = self.parts.voter.place();
         let _me = place.me();
@@ -183,9 +184,7 @@ impl<'b, S: FloorStore> Node<'b, S> {
         ensures { Takes S.held self.old self.new (Peer from (envelope_at self.old.key bytes.now)) result }
     {
         self.check_running()?;
-        let taken = self
-            .parts
-            .on_datagram(self.book, self.settings, self.key, from, bytes);
+        let taken = self.parts.on_datagram(self.key, from, bytes);
         self.is_running = taken.is_ok();
         taken
     }

@@ -77,7 +77,7 @@ pub fn drifts_are_worked()
 /// One code twice, and an older code after a newer one, break the promises of acceptances. They do so if the factors
 /// overlap at one end alone, at any two nodes, and with another acceptance between them. Codes of another key or of
 /// another length break the promise of codes.
-pub fn promises_can_be_broken()
+pub fn acceptances_can_be_broken()
     ensures twice { HaveSingleUse (accepted_at 0 5 ∷ accepted_at 1 5 ∷ []) → ⊥ }
     ensures twice_at_hi { HaveSingleUse (accepted 0 0 4 5 ∷ accepted_at 1 5 ∷ []) → ⊥ }
     ensures twice_at_lo { HaveSingleUse (accepted 0 0 4 5 ∷ accepted_at 1 4 ∷ []) → ⊥ }

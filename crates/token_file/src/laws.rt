@@ -205,7 +205,7 @@ pub fn files_are_worked()
 {}
 
 /// Counterexamples: each promise of pulls, kept values and texts fails for a minimal one.
-pub fn promises_can_be_broken()
+pub fn pulls_can_be_broken()
     ensures pulls { Pulls (Some (5 ∷ 6 ∷ [])) (Some (6 ∷ [])) (Pulled.Bytes 1) (5 ∷ 9 ∷ []) }
     ensures pulls_at_the_end { Pulls (Some []) (Some []) (Pulled.Bytes 0) (9 ∷ []) }
     ensures pulls_more_than_the_buffer { Pulls (Some (9 ∷ [])) (Some []) (Pulled.Bytes 2) (9 ∷ []) → ⊥ }

@@ -17,8 +17,9 @@ mod write;
 pub use book::{Book, TokenId};
 pub use fault::{FileFault, LineFault};
 pub use field_text::is_word;
+pub use fields::first_field;
 pub use laws::{
-    files_are_worked, files_read_back, promises_can_be_broken, rows_are_worked, rows_read_back,
+    files_are_worked, files_read_back, pulls_can_be_broken, rows_are_worked, rows_read_back,
     tokens_are_credentials,
 };
 pub use reading::{MAX_FILE_LEN, MAX_LINE_LEN, read_book};

@@ -138,6 +138,7 @@ impl Token {
     pub(crate) fn parts_fit(&self)
         ensures { IsTrue (is_credential self.now.name self.now.password self.now.kind self.now.hash) }
     {
+        // For the proof: a read of a field states what holds of every token.
         let _kind = self.kind;
     }
 

@@ -193,7 +193,7 @@ impl Voter {
         ensures { Votes S.held store.old store.new self.old self.new
             (spec_on_message self.old.place from message) result }
     {
-        // There are at most nine members, so the sender has a bit.
+        // For the proof: there are at most nine members, so the sender has a bit.
         let _members = self.place.n();
         self.hear(store, from, message)
     }
@@ -212,7 +212,7 @@ impl Voter {
 fn fits_vote(tokens: u32, node: u8, proposal: Proposal, token: u32, span: Span) -> bool
     ensures { IsTrue result ↔ FitsVote tokens node proposal token span }
 {
-    // A span is one factor, or two consecutive ones.
+    // For the proof: a span is one factor, or two consecutive ones.
     let _last = span.hi();
     token < tokens && proposal.node() == node
 }

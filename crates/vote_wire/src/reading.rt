@@ -9,7 +9,7 @@ use crate::bytes::{number_at, word_at};
 use crate::key::{ClusterKey, TAG_LEN, are_equal, tag};
 use crate::writing::{MARK, VERSION};
 use floor_store::{Proposal, Span};
-use otp_core::{Factor, MAX_TOKENS, Next};
+use otp_core::{Factor, MAX_MEMBERS, MAX_TOKENS, Next};
 use vote_core::Message;
 
 /// The minimum number of bytes before a tag.
@@ -27,7 +27,12 @@ fn has_head(body: &[u8]) -> bool
 fn has_ends(from: u8, to: u8, token: u32) -> bool
     ensures { result ≡ spec.has_ends from to token }
 {
-    1 <= from && from <= 9 && 1 <= to && to <= 9 && from != to && (token as usize) < MAX_TOKENS
+    1 <= from
+        && from <= MAX_MEMBERS
+        && 1 <= to
+        && to <= MAX_MEMBERS
+        && from != to
+        && (token as usize) < MAX_TOKENS
 }
 
 /// Returns the proposal, or None if one of its numbers is out of range.

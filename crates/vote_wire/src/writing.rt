@@ -8,12 +8,13 @@ ghost use Rattle.vote_wire.specs.Datagram.{datagram_bytes};
 
 use crate::key::{ClusterKey, tag};
 use arrayvec::ArrayVec;
+use client_lines::MAX_ANSWER_LEN;
 use floor_store::{Proposal, Span};
 use otp_core::Next;
 use vote_core::Message;
 
 /// The capacity for a datagram that a node sends, in bytes. A datagram to a peer has at most 59, an answer at most 54.
-pub const MAX_SENT_LEN: usize = 64;
+pub const MAX_SENT_LEN: usize = MAX_ANSWER_LEN;
 
 /// The first bytes of a datagram.
 pub(crate) const MARK: [u8; 2] = *b"OV";

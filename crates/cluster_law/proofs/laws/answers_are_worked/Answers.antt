@@ -12,25 +12,25 @@ use Rattle.oath_node.specs.Machine.{NodeState, made_by_proposal, made_by_ruling,
 use Rattle.client_lines.specs.Request.{Request}
 use Rattle.client_lines.proofs.RequestLemmas.{line_of_request, request_of_line}
 use Rattle.cluster_sim.specs.Answered.{IsTextOf, ok_bytes}
-use Rattle.cluster_sim.specs.World.{Told}
+use Rattle.cluster_sim.specs.World.{Answer}
 use Rattle.cluster_law.specs.Answered.{EndsProcess, HasYetToOffer, IsLost, IsOfferedOrEnds}
 use Rattle.cluster_law.specs.Examples.{among_strangers, answers_once, ends_after_the_answer, first_ok, one_node}
-use Rattle.cluster_law.specs.Lives.{Answer, Down, Handout, Site, Up, answered_in, scene_after, scene_after_deed, scene_of}
+use Rattle.cluster_law.specs.Lives.{ToClient, Down, Output, ProcessState, Up, answered_in, cluster_after, cluster_after_action, cluster_of}
 use Rattle.cluster_law.specs.Promises.{IsToldAmong}
 use Rattle.cluster_law.proofs.laws.answers_are_worked.Goals as goal
 
 -- nothing waits there
-abbrev HasNothing : Site → Type 0
+abbrev HasNothing : ProcessState → Type 0
 HasNothing (Down content) = Unit {0}
 HasNothing (Up state []) = Unit {0}
-HasNothing (Up state (handout ∷ waiting)) = ⊥
+HasNothing (Up state (output ∷ waiting)) = ⊥
 
-none_in : (told : Told) (state : NodeState) (waiting : List Handout) (place : ℕ) → HasNothing (Up state waiting) → slice_get waiting place ≡ Some (Answer told) → ⊥
-none_in told state [] place none at = none-some (Answer told) at
-none_in told state (handout ∷ waiting) place none at = none
+none_in : (told : Answer) (state : NodeState) (waiting : List Output) (place : ℕ) → HasNothing (Up state waiting) → slice_get waiting place ≡ Some (ToClient told) → ⊥
+none_in told state [] place none at = none-some (ToClient told) at
+none_in told state (output ∷ waiting) place none at = none
 
-nothing_waits : (told : Told) (site : Site) → HasNothing site → HasYetToOffer told site → ⊥
-nothing_waits told site none h = none_in told h.state h.waiting h.place (subst (λ (s : Site). HasNothing s) h.is_up none) h.is_there
+nothing_waits : (told : Answer) (process : ProcessState) → HasNothing process → HasYetToOffer told process → ⊥
+nothing_waits told process none h = none_in told h.state h.waiting h.place (subst (λ (s : ProcessState). HasNothing s) h.is_up none) h.is_there
 
 -- ---- a process takes a line, and answers
 
@@ -40,43 +40,43 @@ ends_never node (suc zero) h = h
 ends_never node (suc (suc zero)) h = h
 ends_never node (suc (suc (suc k))) h = h
 
-has_offered : HasNothing ((scene_of one_node answers_once).sites 1)
-unfolding code_at first_words schedule rounds compress hash_after digest_bytes sha1 scene_after scene_after_deed made_by_event made_while_running made_by_datagram made_by_ruling made_by_proposal propose propose_alone propose_among tick
+has_offered : HasNothing ((cluster_of one_node answers_once).processes 1)
+unfolding code_at first_words schedule rounds compress hash_after digest_bytes sha1 cluster_after cluster_after_action made_by_event made_while_running made_by_datagram made_by_ruling made_by_proposal propose propose_alone propose_among tick
 has_offered = tt
 
-no_second : HasNothing ((scene_of one_node answers_once).sites 2)
-unfolding code_at first_words schedule rounds compress hash_after digest_bytes sha1 scene_after scene_after_deed made_by_event made_while_running made_by_datagram made_by_ruling made_by_proposal propose propose_alone propose_among tick
+no_second : HasNothing ((cluster_of one_node answers_once).processes 2)
+unfolding code_at first_words schedule rounds compress hash_after digest_bytes sha1 cluster_after cluster_after_action made_by_event made_while_running made_by_datagram made_by_ruling made_by_proposal propose propose_alone propose_among tick
 no_second = tt
 
 are_answers : answered_in one_node answers_once ≡ first_ok ∷ []
-unfolding code_at first_words schedule rounds compress hash_after digest_bytes sha1 scene_after scene_after_deed made_by_event made_while_running made_by_datagram made_by_ruling made_by_proposal propose propose_alone propose_among tick
+unfolding code_at first_words schedule rounds compress hash_after digest_bytes sha1 cluster_after cluster_after_action made_by_event made_while_running made_by_datagram made_by_ruling made_by_proposal propose propose_alone propose_among tick
 are_answers = refl
 
-only : (told : Told) (place : ℕ) → slice_get (first_ok ∷ []) place ≡ Some told → told ≡ first_ok
+only : (told : Answer) (place : ℕ) → slice_get (first_ok ∷ []) place ≡ Some told → told ≡ first_ok
 only told zero e = sym (same_Some first_ok told e)
 only told (suc place) e = absurd (none-some told e)
 
 -- an answer that was offered, is lost or waits is the OK
-is_first : (told : Told) → HasNothing ((scene_of one_node answers_once).sites told.node) → IsOfferedOrEnds one_node answers_once told → told ≡ first_ok
+is_first : (told : Answer) → HasNothing ((cluster_of one_node answers_once).processes told.node) → IsOfferedOrEnds one_node answers_once told → told ≡ first_ok
 is_first told none h =
     ⊎_elim
     (λ (p : IsToldAmong told (answered_in one_node answers_once)). only told p.place (subst (λ ts. slice_get ts p.place ≡ Some told) are_answers p.is_there))
-    (λ (p : IsLost one_node answers_once told ⊎ HasYetToOffer told ((scene_of one_node answers_once).sites told.node)).
+    (λ (p : IsLost one_node answers_once told ⊎ HasYetToOffer told ((cluster_of one_node answers_once).processes told.node)).
     ⊎_elim
     (λ (q : IsLost one_node answers_once told). absurd (ends_never told.node q.event q.ends))
-    (λ (q : HasYetToOffer told ((scene_of one_node answers_once).sites told.node)). absurd (nothing_waits told ((scene_of one_node answers_once).sites told.node) none q))
+    (λ (q : HasYetToOffer told ((cluster_of one_node answers_once).processes told.node)). absurd (nothing_waits told ((cluster_of one_node answers_once).processes told.node) none q))
     p)
     h
 
 pub returns-clause-waits : goal.returns-clause-waits
-unfolding code_at first_words schedule rounds compress hash_after digest_bytes sha1 scene_after scene_after_deed made_by_event made_while_running made_by_datagram made_by_ruling made_by_proposal propose propose_alone propose_among tick
+unfolding code_at first_words schedule rounds compress hash_after digest_bytes sha1 cluster_after cluster_after_action made_by_event made_while_running made_by_datagram made_by_ruling made_by_proposal propose propose_alone propose_among tick
 returns-clause-waits c = record { state = _; waiting = _; is_up = refl; place = 0; is_there = refl }
 
 pub returns-clause-waits_no_more : goal.returns-clause-waits_no_more
-returns-clause-waits_no_more c h = nothing_waits first_ok ((scene_of one_node answers_once).sites 1) has_offered h
+returns-clause-waits_no_more c h = nothing_waits first_ok ((cluster_of one_node answers_once).processes 1) has_offered h
 
 pub returns-clause-lost : goal.returns-clause-lost
-unfolding code_at first_words schedule rounds compress hash_after digest_bytes sha1 scene_after scene_after_deed made_by_event made_while_running made_by_datagram made_by_ruling made_by_proposal propose propose_alone propose_among tick
+unfolding code_at first_words schedule rounds compress hash_after digest_bytes sha1 cluster_after cluster_after_action made_by_event made_while_running made_by_datagram made_by_ruling made_by_proposal propose propose_alone propose_among tick
 returns-clause-lost c = record { event = 2; ends = refl; yet = record { state = _; waiting = _; is_up = refl; place = 0; is_there = refl } }
 
 pub returns-clause-not_lost : goal.returns-clause-not_lost
@@ -93,13 +93,13 @@ ends_last node (suc (suc (suc (suc k)))) h = absurd h
 pub returns-clause-not_lost_once_offered : goal.returns-clause-not_lost_once_offered
 returns-clause-not_lost_once_offered c h =
     let last = ends_last 1 h.event h.ends in
-    nothing_waits first_ok ((scene_of one_node answers_once).sites 1) has_offered
-    (subst (λ event. HasYetToOffer first_ok ((scene_of one_node (take event ends_after_the_answer)).sites 1)) last h.yet)
+    nothing_waits first_ok ((cluster_of one_node answers_once).processes 1) has_offered
+    (subst (λ event. HasYetToOffer first_ok ((cluster_of one_node (take event ends_after_the_answer)).processes 1)) last h.yet)
 
 pub returns-clause-of_another : goal.returns-clause-of_another
 returns-clause-of_another c h =
     let same = is_first (record first_ok { client = 8 }) has_offered h in
-    let client : 8 ≡ 7 = ap (λ (told : Told). told.client) same in
+    let client : 8 ≡ 7 = ap (λ (told : Answer). told.client) same in
     omega (arith, client)
 
 pub returns-clause-stop : goal.returns-clause-stop
@@ -143,18 +143,18 @@ returns-clause-answered c = record {
   becomes = inl (record { place = 0; is_there = ap (λ ts. slice_get ts 0) are_answers });
 }
 
-pub returns-clause-in_another_deed : goal.returns-clause-in_another_deed
-returns-clause-in_another_deed c h =
-    let none = subst (λ node. HasNothing ((scene_of one_node answers_once).sites node)) (sym h.node) has_offered in
+pub returns-clause-in_another_action : goal.returns-clause-in_another_action
+returns-clause-in_another_action c h =
+    let none = subst (λ node. HasNothing ((cluster_of one_node answers_once).processes node)) (sym h.node) has_offered in
     let same = is_first h.answer none h.becomes in
-    let event : 1 ≡ 2 = sym (ap (λ (told : Told). told.event) same) ∙ h.event in
+    let event : 1 ≡ 2 = sym (ap (λ (told : Answer). told.event) same) ∙ h.event in
     omega (arith, event)
 
 pub returns-clause-at_another_node : goal.returns-clause-at_another_node
 returns-clause-at_another_node c h =
-    let none = subst (λ node. HasNothing ((scene_of one_node answers_once).sites node)) (sym h.node) no_second in
+    let none = subst (λ node. HasNothing ((cluster_of one_node answers_once).processes node)) (sym h.node) no_second in
     let same = is_first h.answer none h.becomes in
-    let node : 1 ≡ 2 = sym (ap (λ (told : Told). told.node) same) ∙ h.node in
+    let node : 1 ≡ 2 = sym (ap (λ (told : Answer). told.node) same) ∙ h.node in
     omega (arith, node)
 
 pub returns-clause-loss : goal.returns-clause-loss
@@ -178,30 +178,30 @@ ends_fourth node (suc (suc (suc (suc zero)))) h = refl
 ends_fourth node (suc (suc (suc (suc (suc k))))) h = absurd h
 
 -- but there is none
-none_before : HasNothing ((scene_of one_node (take 4 among_strangers)).sites 2)
-unfolding code_at first_words schedule rounds compress hash_after digest_bytes sha1 scene_after scene_after_deed made_by_event made_while_running made_by_datagram made_by_ruling made_by_proposal propose propose_alone propose_among tick
+none_before : HasNothing ((cluster_of one_node (take 4 among_strangers)).processes 2)
+unfolding code_at first_words schedule rounds compress hash_after digest_bytes sha1 cluster_after cluster_after_action made_by_event made_while_running made_by_datagram made_by_ruling made_by_proposal propose propose_alone propose_among tick
 none_before = tt
 
-none_after : HasNothing ((scene_of one_node among_strangers).sites 2)
-unfolding code_at first_words schedule rounds compress hash_after digest_bytes sha1 scene_after scene_after_deed made_by_event made_while_running made_by_datagram made_by_ruling made_by_proposal propose propose_alone propose_among tick
+none_after : HasNothing ((cluster_of one_node among_strangers).processes 2)
+unfolding code_at first_words schedule rounds compress hash_after digest_bytes sha1 cluster_after cluster_after_action made_by_event made_while_running made_by_datagram made_by_ruling made_by_proposal propose propose_alone propose_among tick
 none_after = tt
 
 none_offered : answered_in one_node among_strangers ≡ []
-unfolding code_at first_words schedule rounds compress hash_after digest_bytes sha1 scene_after scene_after_deed made_by_event made_while_running made_by_datagram made_by_ruling made_by_proposal propose propose_alone propose_among tick
+unfolding code_at first_words schedule rounds compress hash_after digest_bytes sha1 cluster_after cluster_after_action made_by_event made_while_running made_by_datagram made_by_ruling made_by_proposal propose propose_alone propose_among tick
 none_offered = refl
 
 -- no answer of node 2 was offered, is lost or waits
-none_of_second : (told : Told) → told.node ≡ 2 → IsOfferedOrEnds one_node among_strangers told → ⊥
+none_of_second : (told : Answer) → told.node ≡ 2 → IsOfferedOrEnds one_node among_strangers told → ⊥
 none_of_second told node h =
     ⊎_elim
     (λ (p : IsToldAmong told (answered_in one_node among_strangers)). none-some told (subst (λ ts. slice_get ts p.place ≡ Some told) none_offered p.is_there))
-    (λ (p : IsLost one_node among_strangers told ⊎ HasYetToOffer told ((scene_of one_node among_strangers).sites told.node)).
+    (λ (p : IsLost one_node among_strangers told ⊎ HasYetToOffer told ((cluster_of one_node among_strangers).processes told.node)).
     ⊎_elim
     (λ (q : IsLost one_node among_strangers told).
-    let yet = subst (λ event. HasYetToOffer told ((scene_of one_node (take event among_strangers)).sites told.node)) (ends_fourth told.node q.event q.ends) q.yet in
-    nothing_waits told ((scene_of one_node (take 4 among_strangers)).sites told.node) (subst (λ node. HasNothing ((scene_of one_node (take 4 among_strangers)).sites node)) (sym node) none_before) yet)
-    (λ (q : HasYetToOffer told ((scene_of one_node among_strangers).sites told.node)).
-    nothing_waits told ((scene_of one_node among_strangers).sites told.node) (subst (λ node. HasNothing ((scene_of one_node among_strangers).sites node)) (sym node) none_after) q)
+    let yet = subst (λ event. HasYetToOffer told ((cluster_of one_node (take event among_strangers)).processes told.node)) (ends_fourth told.node q.event q.ends) q.yet in
+    nothing_waits told ((cluster_of one_node (take 4 among_strangers)).processes told.node) (subst (λ node. HasNothing ((cluster_of one_node (take 4 among_strangers)).processes node)) (sym node) none_before) yet)
+    (λ (q : HasYetToOffer told ((cluster_of one_node among_strangers).processes told.node)).
+    nothing_waits told ((cluster_of one_node among_strangers).processes told.node) (subst (λ node. HasNothing ((cluster_of one_node among_strangers).processes node)) (sym node) none_after) q)
     p)
     h
 
@@ -223,7 +223,7 @@ other_factor e = let there : 48 ≡ 49 = ap (λ (bytes : List ℕ). slice_index 
 
 pub returns-clause-with_another_factor : goal.returns-clause-with_another_factor
 returns-clause-with_another_factor c h =
-    let none = subst (λ node. HasNothing ((scene_of one_node answers_once).sites node)) (sym h.node) has_offered in
+    let none = subst (λ node. HasNothing ((cluster_of one_node answers_once).processes node)) (sym h.node) has_offered in
     let same = is_first h.answer none h.becomes in
     let nonce = asked_nonce h.line h.nonce h.asked.2 in
-    other_factor (sym (ap (λ (told : Told). told.bytes) same) ∙ h.bytes ∙ ap (λ (nonce : List ℕ). ok_bytes nonce 1) nonce)
+    other_factor (sym (ap (λ (told : Answer). told.bytes) same) ∙ h.bytes ∙ ap (λ (nonce : List ℕ). ok_bytes nonce 1) nonce)

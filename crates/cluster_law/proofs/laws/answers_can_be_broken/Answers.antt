@@ -13,11 +13,11 @@ use Rattle.oath_node.specs.Machine.{made_by_proposal, made_by_ruling, made_by_da
 use Rattle.client_lines.specs.Request.{Request}
 use Rattle.client_lines.proofs.RequestLemmas.{line_of_request, request_of_line}
 use Rattle.cluster_sim.specs.Answered.{IsTextOf, ok_bytes}
-use Rattle.cluster_sim.specs.World.{Told}
+use Rattle.cluster_sim.specs.World.{Answer}
 use Rattle.cluster_law.specs.Broken.{right_text}
 use Rattle.cluster_law.specs.Examples.{answers_once, comes_to_nobody, first_ok, first_pass, one_node}
-use Rattle.cluster_law.specs.Lives.{accepted_in, scene_after, scene_after_deed}
-use Rattle.cluster_law.specs.Promises.{BelongsToAcceptance, IsAskedInDeed}
+use Rattle.cluster_law.specs.Lives.{accepted_in, cluster_after, cluster_after_action}
+use Rattle.cluster_law.specs.Promises.{BelongsToAcceptance, IsAskedInAction}
 use Rattle.cluster_law.proofs.laws.answers_can_be_broken.Goals as goal
 
 -- ---- the line
@@ -80,11 +80,11 @@ returns-clause-said_in_a_stop c h = h
 -- ---- the acceptance
 
 accepted_once : accepted_in one_node answers_once ≡ first_pass ∷ []
-unfolding code_at first_words schedule rounds compress hash_after digest_bytes sha1 scene_after scene_after_deed made_by_event made_while_running made_by_datagram made_by_ruling made_by_proposal propose propose_alone propose_among tick
+unfolding code_at first_words schedule rounds compress hash_after digest_bytes sha1 cluster_after cluster_after_action made_by_event made_while_running made_by_datagram made_by_ruling made_by_proposal propose propose_alone propose_among tick
 accepted_once = refl
 
 accepted_nowhere : accepted_in one_node comes_to_nobody ≡ []
-unfolding code_at first_words schedule rounds compress hash_after digest_bytes sha1 scene_after scene_after_deed made_by_event made_while_running made_by_datagram made_by_ruling made_by_proposal propose propose_alone propose_among tick
+unfolding code_at first_words schedule rounds compress hash_after digest_bytes sha1 cluster_after cluster_after_action made_by_event made_while_running made_by_datagram made_by_ruling made_by_proposal propose propose_alone propose_among tick
 accepted_nowhere = refl
 
 only : (pass : Acceptance) (place : ℕ) → slice_get (first_pass ∷ []) place ≡ Some pass → first_pass ≡ pass
@@ -92,14 +92,14 @@ only pass zero e = same_Some first_pass pass e
 only pass (suc place) e = absurd (none-some pass e)
 
 -- it is the one that there is
-is_first : (told : Told) (b : BelongsToAcceptance one_node answers_once told) → first_pass ≡ b.pass
+is_first : (told : Answer) (b : BelongsToAcceptance one_node answers_once told) → first_pass ≡ b.pass
 is_first told b = only b.pass b.place (subst (λ passes. slice_get passes b.place ≡ Some b.pass) accepted_once b.is_pass)
 
 asked_at : (node client : ℕ) (line nonce : List ℕ) (pass : Acceptance) → first_pass ≡ pass
-    → IsAskedInDeed node client line nonce (slice_get answers_once pass.began)
+    → IsAskedInAction node client line nonce (slice_get answers_once pass.began)
     → (1 ≡ node) × (7 ≡ client) × IsTextOf line nonce right_text
 asked_at node client line nonce pass same asked =
-    subst (λ (p : Acceptance). IsAskedInDeed node client line nonce (slice_get answers_once p.began)) (sym same) asked
+    subst (λ (p : Acceptance). IsAskedInAction node client line nonce (slice_get answers_once p.began)) (sym same) asked
 
 other_factor : ok_bytes (codes "1") 1 ≡ ok_bytes (codes "1") 0 → ⊥
 unfolding digits

@@ -5,7 +5,7 @@ use Rattle.admit_core.specs.Fit.{code_at}
 use Rattle.sha1.specs.Sha1.{first_words, schedule, rounds, compress, hash_after, digest_bytes, sha1}
 use Rattle.vote_core.specs.Voting.{propose, propose_alone, propose_among, tick}
 use Rattle.oath_node.specs.Machine.{made_by_proposal, made_by_ruling, made_by_datagram, made_while_running, made_by_event}
-use Rattle.cluster_law.specs.Lives.{scene_after, scene_after_deed}
+use Rattle.cluster_law.specs.Lives.{cluster_after, cluster_after_action}
 use Rattle.cluster_law.proofs.laws.grounds_are_worked.Goals as goal
 
 pub returns-clause-line : goal.returns-clause-line
@@ -18,46 +18,46 @@ pub returns-clause-no_line : goal.returns-clause-no_line
 returns-clause-no_line c = refl
 
 pub returns-clause-no_drift_yet : goal.returns-clause-no_drift_yet
-unfolding code_at first_words schedule rounds compress hash_after digest_bytes sha1 scene_after scene_after_deed made_by_event made_while_running made_by_datagram made_by_ruling made_by_proposal propose propose_alone propose_among tick
+unfolding code_at first_words schedule rounds compress hash_after digest_bytes sha1 cluster_after cluster_after_action made_by_event made_while_running made_by_datagram made_by_ruling made_by_proposal propose propose_alone propose_among tick
 returns-clause-no_drift_yet c = refl
 
 pub returns-clause-drift : goal.returns-clause-drift
-unfolding code_at first_words schedule rounds compress hash_after digest_bytes sha1 scene_after scene_after_deed made_by_event made_while_running made_by_datagram made_by_ruling made_by_proposal propose propose_alone propose_among tick
+unfolding code_at first_words schedule rounds compress hash_after digest_bytes sha1 cluster_after cluster_after_action made_by_event made_while_running made_by_datagram made_by_ruling made_by_proposal propose propose_alone propose_among tick
 returns-clause-drift c = refl
 
 pub returns-clause-drift_kept : goal.returns-clause-drift_kept
-unfolding code_at first_words schedule rounds compress hash_after digest_bytes sha1 scene_after scene_after_deed made_by_event made_while_running made_by_datagram made_by_ruling made_by_proposal propose propose_alone propose_among tick
+unfolding code_at first_words schedule rounds compress hash_after digest_bytes sha1 cluster_after cluster_after_action made_by_event made_while_running made_by_datagram made_by_ruling made_by_proposal propose propose_alone propose_among tick
 returns-clause-drift_kept c = refl
 
 pub returns-clause-drift_lost : goal.returns-clause-drift_lost
-unfolding code_at first_words schedule rounds compress hash_after digest_bytes sha1 scene_after scene_after_deed made_by_event made_while_running made_by_datagram made_by_ruling made_by_proposal propose propose_alone propose_among tick
+unfolding code_at first_words schedule rounds compress hash_after digest_bytes sha1 cluster_after cluster_after_action made_by_event made_while_running made_by_datagram made_by_ruling made_by_proposal propose propose_alone propose_among tick
 returns-clause-drift_lost c = refl
 
 pub returns-clause-drift_elsewhere : goal.returns-clause-drift_elsewhere
-unfolding code_at first_words schedule rounds compress hash_after digest_bytes sha1 scene_after scene_after_deed made_by_event made_while_running made_by_datagram made_by_ruling made_by_proposal propose propose_alone propose_among tick
+unfolding code_at first_words schedule rounds compress hash_after digest_bytes sha1 cluster_after cluster_after_action made_by_event made_while_running made_by_datagram made_by_ruling made_by_proposal propose propose_alone propose_among tick
 returns-clause-drift_elsewhere c = refl
 
 pub returns-clause-drift_of_another : goal.returns-clause-drift_of_another
-unfolding code_at first_words schedule rounds compress hash_after digest_bytes sha1 scene_after scene_after_deed made_by_event made_while_running made_by_datagram made_by_ruling made_by_proposal propose propose_alone propose_among tick
+unfolding code_at first_words schedule rounds compress hash_after digest_bytes sha1 cluster_after cluster_after_action made_by_event made_while_running made_by_datagram made_by_ruling made_by_proposal propose propose_alone propose_among tick
 returns-clause-drift_of_another c = refl
 
 pub returns-clause-no_result_yet : goal.returns-clause-no_result_yet
-unfolding code_at first_words schedule rounds compress hash_after digest_bytes sha1 scene_after scene_after_deed made_by_event made_while_running made_by_datagram made_by_ruling made_by_proposal propose propose_alone propose_among tick
+unfolding code_at first_words schedule rounds compress hash_after digest_bytes sha1 cluster_after cluster_after_action made_by_event made_while_running made_by_datagram made_by_ruling made_by_proposal propose propose_alone propose_among tick
 returns-clause-no_result_yet c = refl
 
 pub returns-clause-result : goal.returns-clause-result
-unfolding code_at first_words schedule rounds compress hash_after digest_bytes sha1 scene_after scene_after_deed made_by_event made_while_running made_by_datagram made_by_ruling made_by_proposal propose propose_alone propose_among tick
+unfolding code_at first_words schedule rounds compress hash_after digest_bytes sha1 cluster_after cluster_after_action made_by_event made_while_running made_by_datagram made_by_ruling made_by_proposal propose propose_alone propose_among tick
 returns-clause-result c = refl
 
 pub returns-clause-result_stays : goal.returns-clause-result_stays
-unfolding code_at first_words schedule rounds compress hash_after digest_bytes sha1 scene_after scene_after_deed made_by_event made_while_running made_by_datagram made_by_ruling made_by_proposal propose propose_alone propose_among tick
+unfolding code_at first_words schedule rounds compress hash_after digest_bytes sha1 cluster_after cluster_after_action made_by_event made_while_running made_by_datagram made_by_ruling made_by_proposal propose propose_alone propose_among tick
 returns-clause-result_stays c = refl
 
 pub returns-clause-offer : goal.returns-clause-offer
 returns-clause-offer c h = h
 
-pub returns-clause-no_deed : goal.returns-clause-no_deed
-returns-clause-no_deed c h = h
+pub returns-clause-no_action : goal.returns-clause-no_action
+returns-clause-no_action c h = h
 
 pub returns-clause-lost : goal.returns-clause-lost
 returns-clause-lost c h = h
@@ -78,7 +78,7 @@ pub returns-clause-node_in_a_stop : goal.returns-clause-node_in_a_stop
 returns-clause-node_in_a_stop c h = let node : 1 ≡ 2 = h.0 in omega (arith, node)
 
 pub returns-clause-closed : goal.returns-clause-closed
-unfolding code_at first_words schedule rounds compress hash_after digest_bytes sha1 scene_after scene_after_deed made_by_event made_while_running made_by_datagram made_by_ruling made_by_proposal propose propose_alone propose_among tick
+unfolding code_at first_words schedule rounds compress hash_after digest_bytes sha1 cluster_after cluster_after_action made_by_event made_while_running made_by_datagram made_by_ruling made_by_proposal propose propose_alone propose_among tick
 returns-clause-closed c h =
     let is_open : (1 ≡ 0) ⊎ (105 ≤ 104) = h.1.entitled.is_open in
     elim is_open [ inl x ↦ omega (arith, x) | inr x ↦ omega (arith, x) ]

@@ -9,21 +9,21 @@ use Rattle.datagram_port.specs.Port.{PortEvent, Quiet}
 use Rattle.oath_node.specs.Turns.{FromPeer, FromClient, Nothing, Failure, Receipt, entry_of, events_of_turns, offers_in, receipts_in, receives_in}
 use Rattle.cluster_law.specs.Broken.{content_with_pass, just_opened, tick_made, told_by_tick}
 use Rattle.cluster_law.specs.Examples.{content_of_boot, one_node, quiet_node, three_nodes}
-use Rattle.cluster_law.specs.Lives.{Down, Handout, Setting, Site, Takes, Time, Up, content_at, own_offers, own_site, site_half_opened}
-use Rattle.cluster_law.specs.Processes.{IsServed, IsStopped, TakesSome, TakesTurns, offer_of_handout}
+use Rattle.cluster_law.specs.Lives.{Down, Output, Setting, ProcessState, Takes, Time, Up, content_at, own_offers, own_process, process_half_opened}
+use Rattle.cluster_law.specs.Processes.{IsServed, IsStopped, TakesSome, TakesTurns, offer_of_output}
 use Rattle.cluster_law.proofs.laws.promises_of_processes_can_be_broken.Goals as goal
 
 -- ---- openings, and processes that continue
 
-no_half : (raised : Bool) → site_half_opened raised (content_of_boot 3) ≡ Down (content_of_boot 5) → ⊥
-no_half false e = let boot : 3 ≡ 5 = ap (λ (site : Site). (content_at site).boot) e in omega (arith, boot)
-no_half true e = let boot : 4 ≡ 5 = ap (λ (site : Site). (content_at site).boot) e in omega (arith, boot)
+no_half : (raised : Bool) → process_half_opened raised (content_of_boot 3) ≡ Down (content_of_boot 5) → ⊥
+no_half false e = let boot : 3 ≡ 5 = ap (λ (process : ProcessState). (content_at process).boot) e in omega (arith, boot)
+no_half true e = let boot : 4 ≡ 5 = ap (λ (process : ProcessState). (content_at process).boot) e in omega (arith, boot)
 
 pub returns-clause-half_open : goal.returns-clause-half_open
-returns-clause-half_open c = record { raised = true; site = refl }
+returns-clause-half_open c = record { raised = true; process = refl }
 
 pub returns-clause-half_open_at_a_later_boot : goal.returns-clause-half_open_at_a_later_boot
-returns-clause-half_open_at_a_later_boot c h = no_half h.raised h.site
+returns-clause-half_open_at_a_later_boot c h = no_half h.raised h.process
 
 pub returns-clause-fails_to_open : goal.returns-clause-fails_to_open
 returns-clause-fails_to_open c h = h.0 refl
@@ -31,31 +31,31 @@ returns-clause-fails_to_open c h = h.0 refl
 -- ---- what was served
 
 -- whether it runs
-abbrev runs : Site → ℕ
+abbrev runs : ProcessState → ℕ
 runs (Down content) = 0
 runs (Up state waiting) = if state.running then 1 else 0
 
 -- how much is left to offer
-abbrev left_in : Site → ℕ
+abbrev left_in : ProcessState → ℕ
 left_in (Down content) = 0
 left_in (Up state waiting) = length waiting
 
-no_more : (state new : NodeState) (left : List Handout) → Up state [] ≡ Up new left → left ≡ []
+no_more : (state new : NodeState) (left : List Output) → Up state [] ≡ Up new left → left ≡ []
 no_more state new left e = cc
 
 -- a process that did nothing has offered nothing
 offered_none : (setting : Setting) (node : ℕ) (state new : NodeState) (offers : List PortEvent) → IsServed setting node 0 [] state new offers → offers ≡ []
-unfolding own_site own_offers
+unfolding own_process own_offers
 offered_none setting node state new offers h =
-    h.offered ∙ ap (λ (left : List Handout). map (offer_of_handout setting.key) left) (no_more state new h.left h.site)
+    h.offered ∙ ap (λ (left : List Output). map (offer_of_output setting.key) left) (no_more state new h.left h.process)
 
 pub returns-clause-served : goal.returns-clause-served
-unfolding own_site own_offers
-returns-clause-served c = record { left = []; site = refl; offered = refl }
+unfolding own_process own_offers
+returns-clause-served c = record { left = []; process = refl; offered = refl }
 
 pub returns-clause-served_in_another_state : goal.returns-clause-served_in_another_state
-unfolding own_site own_offers
-returns-clause-served_in_another_state c h = let running : 1 ≡ 0 = ap (λ (site : Site). runs site) h.site in omega (arith, running)
+unfolding own_process own_offers
+returns-clause-served_in_another_state c h = let running : 1 ≡ 0 = ap (λ (process : ProcessState). runs process) h.process in omega (arith, running)
 
 pub returns-clause-served_with_an_entry_more : goal.returns-clause-served_with_an_entry_more
 returns-clause-served_with_an_entry_more c h =
@@ -65,8 +65,8 @@ returns-clause-served_with_an_entry_more c h =
 -- ---- what a stop leaves
 
 pub returns-clause-stopped : goal.returns-clause-stopped
-unfolding own_site own_offers
-returns-clause-stopped c = record { new = quiet_node; rest = []; served = record { left = []; site = refl; offered = refl }; stops = refl }
+unfolding own_process own_offers
+returns-clause-stopped c = record { new = quiet_node; rest = []; served = record { left = []; process = refl; offered = refl }; stops = refl }
 
 pub returns-clause-stopped_with_an_entry_more : goal.returns-clause-stopped_with_an_entry_more
 returns-clause-stopped_with_an_entry_more c h =
@@ -74,8 +74,8 @@ returns-clause-stopped_with_an_entry_more c h =
     omega (arith, number)
 
 pub returns-clause-stopped_at_a_later_boot : goal.returns-clause-stopped_at_a_later_boot
-unfolding own_site
-returns-clause-stopped_at_a_later_boot c h = let boot : 1 ≡ 5 = ap (λ (site : Site). (content_at site).boot) h.stops in omega (arith, boot)
+unfolding own_process
+returns-clause-stopped_at_a_later_boot c h = let boot : 1 ≡ 5 = ap (λ (process : ProcessState). (content_at process).boot) h.stops in omega (arith, boot)
 
 -- ---- receipts
 
@@ -137,16 +137,16 @@ returns-clause-ended_after_it_ticked_unasked c h =
     let gone = none_gone h.gone h.later (sym (ap (λ (batches : List (List Receipt)). receipts_in batches) h.split) ∙ none) in
     never_idle (h.served 0 [] tt (takes_none three_nodes (receipts_in h.gone) gone))
 
-none_mapped : (key : List ℕ) (left : List Handout) → [] ≡ map (offer_of_handout key) left → left ≡ []
+none_mapped : (key : List ℕ) (left : List Output) → [] ≡ map (offer_of_output key) left → left ≡ []
 none_mapped key [] e = refl
-none_mapped key (handout ∷ left) e = absurd cc
+none_mapped key (output ∷ left) e = absurd cc
 
 -- a tick leaves two to offer
 never_silent : IsServed three_nodes 1 0 (Takes 1 Time ∷ []) (just_opened three_nodes) (just_opened three_nodes) [] → ⊥
-unfolding own_site own_offers made_by_event made_while_running tick
+unfolding own_process own_offers made_by_event made_while_running tick
 never_silent h =
-    let two : 2 ≡ length h.left = ap (λ (site : Site). left_in site) h.site in
-    let none : length h.left ≡ 0 = ap (λ (left : List Handout). length left) (none_mapped three_nodes.key h.left h.offered) in
+    let two : 2 ≡ length h.left = ap (λ (process : ProcessState). left_in process) h.process in
+    let none : length h.left ≡ 0 = ap (λ (left : List Output). length left) (none_mapped three_nodes.key h.left h.offered) in
     omega (arith, two, none)
 
 pub returns-clause-never_ticked : goal.returns-clause-never_ticked
@@ -156,8 +156,8 @@ returns-clause-never_ticked c h =
 
 -- a stop of a process that did nothing leaves factor 0
 left_behind : IsStopped one_node 1 0 [] (just_opened one_node) [] content_with_pass → ⊥
-unfolding own_site code_at first_words schedule rounds compress hash_after digest_bytes sha1 made_by_event made_while_running made_by_datagram made_by_ruling made_by_proposal propose propose_alone propose_among tick
-left_behind h = let next : 0 ≡ 1 = ap (λ (site : Site). (row (content_at site) 0).next) h.stops in omega (arith, next)
+unfolding own_process code_at first_words schedule rounds compress hash_after digest_bytes sha1 made_by_event made_while_running made_by_datagram made_by_ruling made_by_proposal propose propose_alone propose_among tick
+left_behind h = let next : 0 ≡ 1 = ap (λ (process : ProcessState). (row (content_at process) 0).next) h.stops in omega (arith, next)
 
 pub returns-clause-failed_with_a_line_unasked : goal.returns-clause-failed_with_a_line_unasked
 returns-clause-failed_with_a_line_unasked c h =

@@ -17,7 +17,7 @@ use Rattle.oath_node.specs.Hosted.{envelope_at}
 use Rattle.cluster_sim.specs.Examples.{acceptance, told_bad_line}
 use Rattle.cluster_sim.specs.World.{Act, Says, Deliver, Ticks, Noise, WorldEvent, Happens, Cut, Restart, Lost, Anew, acting_node, passes_of, world_with_made, world_after_turn, world_after_act, world_after_restart, world_after_event, world_after_events}
 use Rattle.cluster_law.specs.Examples.{bytes_of, grant, grant_comes, old_grant_comes, one_node, right_line, three_nodes}
-use Rattle.cluster_law.specs.Lives.{Opens, Stops, Takes, Time, accepted_in, scene_after, scene_after_deed, start_of}
+use Rattle.cluster_law.specs.Lives.{Opens, Stops, Takes, Time, accepted_in, cluster_after, cluster_after_action, start_of}
 use Rattle.cluster_law.specs.Promises.{HasAct, HasEvent, IsActOf, IsEventOf, nothing}
 use Rattle.cluster_law.proofs.Examples.{grant_reads}
 use Rattle.cluster_law.proofs.laws.runs_can_be_broken.Goals as goal
@@ -141,11 +141,11 @@ returns-clause-run_with_another_event c h = stops_only one_node.key (h.each 0 (S
 -- ---- what a history leaves, and what its run does
 
 pub returns-clause-run_with_another_floor : goal.returns-clause-run_with_another_floor
-unfolding code_at first_words schedule rounds compress hash_after digest_bytes sha1 tag_of datagram_bytes datagram_at body_at message_at vote_at denial_at floor_at proposal_at factor_at next_at sha256_steps.first_words sha256_steps.schedule sha256_steps.rounds sha256_steps.compress sha256_steps.hash_after sha256_steps.digest_bytes sha256_steps.sha256 scene_after scene_after_deed world_after_events world_after_event world_after_act world_after_turn world_with_made world_after_restart made_by_event made_while_running made_by_datagram made_by_ruling made_by_proposal propose propose_alone propose_among on_ask accept count_grant on_grant raise count_deny on_deny on_floor on_message tick
+unfolding code_at first_words schedule rounds compress hash_after digest_bytes sha1 tag_of datagram_bytes datagram_at body_at message_at vote_at denial_at floor_at proposal_at factor_at next_at sha256_steps.first_words sha256_steps.schedule sha256_steps.rounds sha256_steps.compress sha256_steps.hash_after sha256_steps.digest_bytes sha256_steps.sha256 cluster_after cluster_after_action world_after_events world_after_event world_after_act world_after_turn world_with_made world_after_restart made_by_event made_while_running made_by_datagram made_by_ruling made_by_proposal propose propose_alone propose_among on_ask accept count_grant on_grant raise count_deny on_deny on_floor on_message tick
 returns-clause-run_with_another_floor c h = let floor : 1 ≡ 2 = h.floors 1 0 2 in omega (arith, floor)
 
 pub returns-clause-run_without_the_answer : goal.returns-clause-run_without_the_answer
-unfolding scene_after scene_after_deed world_after_events world_after_event world_after_act world_after_turn world_with_made world_after_restart made_by_event made_while_running made_by_datagram made_by_ruling made_by_proposal propose propose_alone propose_among on_ask accept count_grant on_grant raise count_deny on_deny on_floor on_message tick
+unfolding cluster_after cluster_after_action world_after_events world_after_event world_after_act world_after_turn world_with_made world_after_restart made_by_event made_while_running made_by_datagram made_by_ruling made_by_proposal propose propose_alone propose_among on_ask accept count_grant on_grant raise count_deny on_deny on_floor on_message tick
 returns-clause-run_without_the_answer c h =
     let among = h.answered 0 (told_bad_line 2 1 7) refl in
     none-some (told_bad_line 2 1 7) among.is_there
@@ -154,7 +154,7 @@ returns-clause-run_without_the_answer c h =
 
 -- the store holds the acceptance
 old_grant_counts : accepted_in three_nodes old_grant_comes ≡ acceptance 1 2 1 0 0 ∷ []
-unfolding code_at first_words schedule rounds compress hash_after digest_bytes sha1 tag_of datagram_bytes datagram_at body_at message_at vote_at denial_at floor_at proposal_at factor_at next_at sha256_steps.first_words sha256_steps.schedule sha256_steps.rounds sha256_steps.compress sha256_steps.hash_after sha256_steps.digest_bytes sha256_steps.sha256 scene_after scene_after_deed made_by_event made_while_running made_by_datagram made_by_ruling made_by_proposal propose propose_alone propose_among on_ask accept count_grant on_grant raise count_deny on_deny on_floor on_message tick
+unfolding code_at first_words schedule rounds compress hash_after digest_bytes sha1 tag_of datagram_bytes datagram_at body_at message_at vote_at denial_at floor_at proposal_at factor_at next_at sha256_steps.first_words sha256_steps.schedule sha256_steps.rounds sha256_steps.compress sha256_steps.hash_after sha256_steps.digest_bytes sha256_steps.sha256 cluster_after cluster_after_action made_by_event made_while_running made_by_datagram made_by_ruling made_by_proposal propose propose_alone propose_among on_ask accept count_grant on_grant raise count_deny on_deny on_floor on_message tick
 old_grant_counts = refl
 
 -- what the opening and the line can be in a run

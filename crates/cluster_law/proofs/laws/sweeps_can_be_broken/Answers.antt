@@ -1,4 +1,4 @@
--- Each scene is computed, and of one history the hash with it.
+-- Each cluster state is computed, and of one history the hash with it.
 use Rattle.std.proofs.Common.{◌≡◌, ℕ, zero, suc, ◌<◌, true, false, List, [], ◌∷◌, length, refl, ap, ◌∙◌, arith}
 use Rattle.admit_core.specs.Fit.{code_at}
 use Rattle.sha1.specs.Sha1.{first_words, schedule, rounds, compress, hash_after, digest_bytes, sha1}
@@ -7,17 +7,17 @@ use Rattle.vote_core.specs.Voting.{Ballot, propose, propose_alone, propose_among
 use Rattle.oath_node.specs.Machine.{NodeState, Owner, made_by_proposal, made_by_ruling, made_by_datagram, made_while_running, made_by_event}
 use Rattle.cluster_law.specs.Broken.{just_opened, owning_node, pending_node}
 use Rattle.cluster_law.specs.Examples.{one_node, one_open}
-use Rattle.cluster_law.specs.Lives.{Down, Handout, Up, made_content, scene_after, scene_after_deed}
+use Rattle.cluster_law.specs.Lives.{Down, Output, Up, made_content, cluster_after, cluster_after_action}
 use Rattle.cluster_law.specs.Sweeps.{greatest_in, next_in}
 use Rattle.cluster_law.proofs.laws.sweeps_can_be_broken.Goals as goal
 
 no_member : false ≡ true → ⊥
 no_member e = cc
 
-no_process : (content : Content) (state : NodeState) (waiting : List Handout) → Down content ≡ Up state waiting → ⊥
+no_process : (content : Content) (state : NodeState) (waiting : List Output) → Down content ≡ Up state waiting → ⊥
 no_process content state waiting e = cc
 
-same_state : (one other : NodeState) (waiting : List Handout) → Up one [] ≡ Up other waiting → one ≡ other
+same_state : (one other : NodeState) (waiting : List Output) → Up one [] ≡ Up other waiting → one ≡ other
 same_state one other waiting e = cc
 
 pub returns-clause-stranger : goal.returns-clause-stranger
@@ -25,12 +25,12 @@ returns-clause-stranger c h = no_member h.member
 
 -- one member holds the greatest of its own
 level : (token : ℕ) → token < 1 → next_in one_open 1 token ≡ greatest_in (1 ∷ []) one_open token
-unfolding scene_after scene_after_deed
+unfolding cluster_after cluster_after_action
 level zero short = refl
 level (suc token) short = absurd (omega (arith, short))
 
 pub returns-clause-swept : goal.returns-clause-swept
-unfolding scene_after scene_after_deed
+unfolding cluster_after cluster_after_action
 returns-clause-swept c = record {
   is_live = record { member = refl; state = just_opened one_node; waiting = []; is_up = refl; running = refl };
   pending = refl;
@@ -54,7 +54,7 @@ returns-clause-line_waits c h =
     omega (arith, number)
 
 pub returns-clause-factor_ahead : goal.returns-clause-factor_ahead
-unfolding code_at first_words schedule rounds compress hash_after digest_bytes sha1 scene_after scene_after_deed made_by_event made_while_running made_by_datagram made_by_ruling made_by_proposal propose propose_alone propose_among tick
+unfolding code_at first_words schedule rounds compress hash_after digest_bytes sha1 cluster_after cluster_after_action made_by_event made_while_running made_by_datagram made_by_ruling made_by_proposal propose propose_alone propose_among tick
 returns-clause-factor_ahead c h =
     let short : 0 < 1 = omega arith in
     let next : 1 ≡ 0 = h.next 0 short in

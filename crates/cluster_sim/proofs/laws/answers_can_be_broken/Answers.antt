@@ -11,7 +11,7 @@ use Rattle.client_lines.proofs.RequestLemmas.{line_of_request, request_of_line}
 use Rattle.cluster_sim.specs.Answered.{BelongsToPass, HasAnswer, IsAskedIn, IsOk, IsPassOf, IsSaidIn, IsTextOf, TellTruth, ok_bytes}
 use Rattle.cluster_sim.specs.Examples.{acceptance, delivery, eight_ticks, first_at_1, first_pass, fresh_token, line_at, nothing_happens, old_grants, second_factor_elsewhere, stop_in_a_line, told_outcome}
 use Rattle.cluster_sim.specs.LossExamples.{after_loss}
-use Rattle.cluster_sim.specs.World.{Anew, Restart, Told, WorldEvent}
+use Rattle.cluster_sim.specs.World.{Anew, Restart, Answer, WorldEvent}
 use Rattle.cluster_sim.proofs.OkLemmas.{text_nonce}
 use Rattle.cluster_sim.proofs.laws.answers_can_be_broken.Goals as goal
 
@@ -30,7 +30,7 @@ same_some x y e = cc
 -- ---- the line that was asked
 
 -- an OK of client 7 at node 1
-abbrev ok : ℕ → ℕ → ℕ → List ℕ → ℕ → Told
+abbrev ok : ℕ → ℕ → ℕ → List ℕ → ℕ → Answer
 ok event node client nonce hi = told_outcome event node client nonce (Accepted hi)
 
 abbrev request : Request
@@ -62,10 +62,10 @@ other_factor e = let there : 49 ≡ 48 = ap (λ (bytes : List ℕ). slice_index 
 
 -- ---- an OK, and the one acceptance that there is
 
-abbrev Truly : Told → Type 0
+abbrev Truly : Answer → Type 0
 Truly told = BelongsToPass second_factor_elsewhere (first_pass ∷ []) told
 
-abbrev Names : Told → ℕ → Type 0
+abbrev Names : Answer → ℕ → Type 0
 Names told hi = IsPassOf second_factor_elsewhere (first_pass ∷ []) told (codes "a") hi
 
 pub returns-clause-no_pass : goal.returns-clause-no_pass
@@ -114,23 +114,23 @@ returns-clause-again c h =
 -- ---- one acceptance and one reply alone
 
 -- it is the acceptance to which the reply belongs
-abbrev Belongs : List WorldEvent → Acceptance → Told → Type 0
+abbrev Belongs : List WorldEvent → Acceptance → Answer → Type 0
 Belongs events pass told = BelongsToPass events (pass ∷ []) told
 
-belongs : (events : List WorldEvent) (pass : Acceptance) (told : Told) → TellTruth events (pass ∷ []) (told ∷ []) → IsOk told.bytes → Belongs events pass told
+belongs : (events : List WorldEvent) (pass : Acceptance) (told : Answer) → TellTruth events (pass ∷ []) (told ∷ []) → IsOk told.bytes → Belongs events pass told
 belongs events pass told h is_ok = h 0 told refl is_ok
 
-same_pass : (events : List WorldEvent) (pass : Acceptance) (told : Told) (b : Belongs events pass told) → pass ≡ b.belongs.pass
+same_pass : (events : List WorldEvent) (pass : Acceptance) (told : Answer) (b : Belongs events pass told) → pass ≡ b.belongs.pass
 same_pass events pass told b = only pass b.belongs.pass b.belongs.place b.belongs.is_pass
 
 -- the event in which it began is a line of the client there
-asked_in : (events : List WorldEvent) (pass : Acceptance) (told : Told) (b : Belongs events pass told)
+asked_in : (events : List WorldEvent) (pass : Acceptance) (told : Answer) (b : Belongs events pass told)
     → IsAskedIn told.node told.client b.belongs.line b.nonce (slice_get events pass.began)
 asked_in events pass told b =
     subst (λ (p : Acceptance). IsAskedIn told.node told.client b.belongs.line b.nonce (slice_get events p.began)) (sym (same_pass events pass told b)) b.belongs.asked
 
 -- a later reply is to the same line
-said_in : (events : List WorldEvent) (pass : Acceptance) (told : Told) (b : Belongs events pass told) → pass.ended < told.event
+said_in : (events : List WorldEvent) (pass : Acceptance) (told : Answer) (b : Belongs events pass told) → pass.ended < told.event
     → IsSaidIn told.node told.client b.belongs.line (slice_get events told.event)
 said_in events pass told b late = b.belongs.again (subst (λ (p : Acceptance). p.ended < told.event) (same_pass events pass told b) late)
 
@@ -270,14 +270,14 @@ pub returns-clause-from_node : goal.returns-clause-from_node
 returns-clause-from_node c h =
     let told = ok 2 2 7 (codes "a") 0 in
     let a : HasAnswer second_factor_elsewhere (told ∷ []) first_pass = h 0 first_pass refl in
-    let node : 2 ≡ 1 = ap (λ (t : Told). t.node) (only told a.answer a.place a.is_told) ∙ a.node in
+    let node : 2 ≡ 1 = ap (λ (t : Answer). t.node) (only told a.answer a.place a.is_told) ∙ a.node in
     omega (arith, node)
 
 pub returns-clause-in_event : goal.returns-clause-in_event
 returns-clause-in_event c h =
     let told = ok 3 1 7 (codes "a") 0 in
     let a : HasAnswer second_factor_elsewhere (told ∷ []) first_pass = h 0 first_pass refl in
-    let event : 3 ≡ 2 = ap (λ (t : Told). t.event) (only told a.answer a.place a.is_told) ∙ a.event in
+    let event : 3 ≡ 2 = ap (λ (t : Answer). t.event) (only told a.answer a.place a.is_told) ∙ a.event in
     omega (arith, event)
 
 pub returns-clause-to_client : goal.returns-clause-to_client
@@ -285,7 +285,7 @@ returns-clause-to_client c h =
     let told = ok 2 1 9 (codes "a") 0 in
     let a : HasAnswer second_factor_elsewhere (told ∷ []) first_pass = h 0 first_pass refl in
     let asked = asked_at 1 a.answer.client a.line a.nonce first_pass refl a.asked in
-    let client : 9 ≡ 7 = ap (λ (t : Told). t.client) (only told a.answer a.place a.is_told) ∙ sym asked.1 in
+    let client : 9 ≡ 7 = ap (λ (t : Answer). t.client) (only told a.answer a.place a.is_told) ∙ sym asked.1 in
     omega (arith, client)
 
 pub returns-clause-with_nonce : goal.returns-clause-with_nonce
@@ -293,14 +293,14 @@ returns-clause-with_nonce c h =
     let told = ok 2 1 7 (codes "c") 0 in
     let a : HasAnswer second_factor_elsewhere (told ∷ []) first_pass = h 0 first_pass refl in
     let asked = asked_at 1 a.answer.client a.line a.nonce first_pass refl a.asked in
-    other_nonce (ap (λ (t : Told). t.bytes) (only told a.answer a.place a.is_told) ∙ a.bytes ∙ ap (λ (n : List ℕ). ok_bytes n 0) (asked_nonce a.line a.nonce asked.2))
+    other_nonce (ap (λ (t : Answer). t.bytes) (only told a.answer a.place a.is_told) ∙ a.bytes ∙ ap (λ (n : List ℕ). ok_bytes n 0) (asked_nonce a.line a.nonce asked.2))
 
 pub returns-clause-with_factor : goal.returns-clause-with_factor
 returns-clause-with_factor c h =
     let told = ok 2 1 7 (codes "a") 1 in
     let a : HasAnswer second_factor_elsewhere (told ∷ []) first_pass = h 0 first_pass refl in
     let asked = asked_at 1 a.answer.client a.line a.nonce first_pass refl a.asked in
-    other_factor (ap (λ (t : Told). t.bytes) (only told a.answer a.place a.is_told) ∙ a.bytes ∙ ap (λ (n : List ℕ). ok_bytes n 0) (asked_nonce a.line a.nonce asked.2))
+    other_factor (ap (λ (t : Answer). t.bytes) (only told a.answer a.place a.is_told) ∙ a.bytes ∙ ap (λ (n : List ℕ). ok_bytes n 0) (asked_nonce a.line a.nonce asked.2))
 
 -- ---- an acceptance that ended in no event that accepts
 

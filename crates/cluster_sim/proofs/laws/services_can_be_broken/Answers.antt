@@ -8,7 +8,7 @@ use Rattle.cluster_sim.specs.Examples.{config, three}
 use Rattle.cluster_sim.specs.FrontEnds.{FrontedServer}
 use Rattle.cluster_sim.specs.RoundExamples.{one_line}
 use Rattle.cluster_sim.specs.Rounds.{AreAnswersTo, AreServed, IsSettled, next_at, server_of}
-use Rattle.cluster_sim.specs.World.{Told, world_with_made, world_after_turn, world_after_act, world_after_event, world_after_events, world_of}
+use Rattle.cluster_sim.specs.World.{Answer, world_with_made, world_after_turn, world_after_act, world_after_event, world_after_events, world_of}
 use Rattle.cluster_sim.proofs.Turns.{at_live}
 use Rattle.cluster_sim.proofs.laws.services_can_be_broken.Goals as goal
 
@@ -84,11 +84,11 @@ unfolding world_after_events
 returns-clause-served_settled c h = no_majority h.settled
 
 -- the answers to one line
-abbrev AnswerOneLine : List Told → Type 0
+abbrev AnswerOneLine : List Answer → Type 0
 AnswerOneLine answers = AreAnswersTo config first_two 0 (world_of config three []) (server_of first_two (world_of config three [])) one_line answers
 
 -- the given answers are all replies in a report without events
-of_one_line : (answers : List Told) → AreServed config three [] [] first_two one_line answers → AnswerOneLine answers
+of_one_line : (answers : List Answer) → AreServed config three [] [] first_two one_line answers → AnswerOneLine answers
 unfolding world_after_events
 of_one_line answers h = let e : answers ≡ h.more = h.told in subst AnswerOneLine (sym e) h.are
 
@@ -97,7 +97,7 @@ returns-clause-answer_missing c h = of_one_line [] h
 
 pub returns-clause-answer_to_another : goal.returns-clause-answer_to_another
 returns-clause-answer_to_another c h =
-    let other : Told = record first_ok { client = 8 } in
+    let other : Answer = record first_ok { client = 8 } in
     let are = of_one_line (other ∷ []) h in
     let client : 8 ≡ 7 = are.0.client in
     omega (arith, client)

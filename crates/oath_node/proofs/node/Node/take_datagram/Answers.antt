@@ -15,7 +15,7 @@ invariant_of-self g c =
     let result = c.on_datagram-taken.result in
     let now = c.is_ok-self-inside in
     let found = c.in_ok-check_running.ensures in
-    let steps = datagram_steps held book limits key old new c.args.from (envelope_at key c.args.bytes.now) result c.on_datagram-taken.ensures in
+    let steps = datagram_steps held book limits key old new c.args.from (envelope_at key c.args.bytes.now) result (c.on_datagram-taken.ensures book limits c.self.invariant.tokens) in
     node_taken held book limits key old new c.self.inside.is_running now.result c.args.self.now (Peer c.args.from (envelope_at key c.args.bytes.now)) result
     c.self.view_is c.self.invariant found.runs now.ensures.value steps
 
@@ -30,6 +30,6 @@ returns g c =
     let result = c.on_datagram-taken.result in
     let now = c.is_ok-self-inside in
     let found = c.in_ok-check_running.ensures in
-    let steps = datagram_steps held book limits key old new c.args.from (envelope_at key c.args.bytes.now) result c.on_datagram-taken.ensures in
+    let steps = datagram_steps held book limits key old new c.args.from (envelope_at key c.args.bytes.now) result (c.on_datagram-taken.ensures book limits c.self.invariant.tokens) in
     node_takes held book limits key old new c.self.inside.is_running now.result c.args.self.now (λ (k : List ℕ). Peer c.args.from (envelope_at k c.args.bytes.now)) result
     c.self.view_is c.self.invariant found.runs found.place found.few now.ensures.value steps
