@@ -1,5 +1,5 @@
 -- The lines of a log as text.
-use Rattle.std.specs.Prelude.{ℕ, ◌/◌, ◌%◌, ◌==◌, ◌&&◌, nat_eq, not, Bool, if◌then◌else◌, List, [], ◌∷◌, ◌++◌, Option, Some, None, codes}
+use Rattle.std.specs.Prelude.{ℕ, ◌-◌, ◌/◌, ◌%◌, ◌^◌, ◌==◌, ◌&&◌, nat_eq, nat_lt, not, Bool, if◌then◌else◌, List, [], ◌∷◌, ◌++◌, Option, Some, None, codes}
 use Rattle.std.specs.Char.{is_ascii_graphic}
 use Rattle.std.specs.Fmt.{decimal}
 use Rattle.std.specs.List.{flat_map, starts_with}
@@ -19,12 +19,17 @@ unfoldable pub shown_user : Option (List ℕ) → List ℕ
 shown_user None = []
 shown_user (Some name) = codes " user=\"" ++ flat_map shown_byte name ++ codes "\""
 
--- the address of a client by its number: an IPv4 address and a port
+-- an address by its number: an IPv4 address and a port
+unfoldable pub address_text : ℕ → List ℕ
+address_text address =
+    (decimal (address / 1099511627776) ++ codes ".") ++ (decimal (address / 4294967296 % 256) ++ codes ".")
+    ++ (decimal (address / 16777216 % 256) ++ codes ".") ++ (decimal (address / 65536 % 256) ++ codes ":")
+    ++ decimal (address % 65536) ++ []
+
+-- a client by its number: its address, or from 2^48 on the number of a client of the clients file
 unfoldable pub client_text : ℕ → List ℕ
 client_text client =
-    (decimal (client / 1099511627776) ++ codes ".") ++ (decimal (client / 4294967296 % 256) ++ codes ".")
-    ++ (decimal (client / 16777216 % 256) ++ codes ".") ++ (decimal (client / 65536 % 256) ++ codes ":")
-    ++ decimal (client % 65536) ++ []
+    if nat_lt client (2 ^ 48) then address_text client else codes "client:" ++ decimal (client - 2 ^ 48)
 
 -- the outcome of a line, by its answer
 abbrev pub event_of : List ℕ → List ℕ
@@ -46,7 +51,7 @@ place_text start = valued (codes " node=") start.node ++ valued (codes " of=") s
 
 -- an address
 unfoldable pub at_text : ℕ → List ℕ
-at_text address = codes " at=" ++ client_text address
+at_text address = codes " at=" ++ address_text address
 
 -- the number of a node's boot, and its number of tokens
 unfoldable pub counts_text : Start → List ℕ

@@ -1,4 +1,4 @@
-ghost use Rattle.std.specs.Prelude.{◌≡◌, ℕ, ◌∷◌, ◌++◌, [], List, None, Some, codes, false, replicate, true};
+ghost use Rattle.std.specs.Prelude.{◌≡◌, ℕ, ◌∷◌, ◌++◌, [], List, None, Some, codes, false, map, replicate, true};
 ghost use Rattle.datagram_port.specs.Port.{Faulted, Offered, Quiet, Received};
 ghost use Rattle.datagram_port.specs.declared.port.Sender.TheVariants.{Client, Peer};
 ghost use Rattle.client_lines.specs.Request.{Request, request_at};
@@ -16,6 +16,11 @@ pub fn texts_are_worked()
     ensures refused { answered_line 281474976710655 None (codes "NO - BADLINE")
         ≡ codes "refused from=255.255.255.255:65535 NO - BADLINE\n" }
     ensures address { client_text 1108152156166 ≡ codes "1.2.3.4:6" }
+    // the clients of the clients file come after the last address
+    ensures sealed { answered_line 281474976710663 (Some (codes "ann")) (codes "OK k1 37")
+        ≡ codes "accepted from=client:7 OK k1 37 user=\"ann\"\n" }
+    ensures clients { map client_text (281474976710656 ∷ 281474976776191 ∷ [])
+        ≡ codes "client:0" ∷ codes "client:65535" ∷ [] }
     ensures name { shown_user (Some (33 ∷ 34 ∷ 92 ∷ 126 ∷ 127 ∷ 10 ∷ 32 ∷ 255 ∷ []))
         ≡ codes " user=\"!\\x22\\x5c~\\x7f\\x0a\\x20\\xff\"" }
     ensures nobody { shown_user None ≡ [] }
@@ -82,7 +87,7 @@ pub fn codes_are_not_told()
 {}
 
 /// Counterexamples: each promise of a log's text and of its remembered lines fails for a minimal one.
-pub fn promises_can_be_broken()
+pub fn logs_can_be_broken()
     ensures tells { Tells false false (Some (98 ∷ [])) (Some (98 ∷ 97 ∷ [])) (97 ∷ []) }
     ensures tells_until_it_fails { Tells false true (Some []) (Some (98 ∷ [])) (97 ∷ []) }
     ensures tells_once_over { Tells true true (Some []) (Some []) (97 ∷ []) }

@@ -14,8 +14,7 @@ mod text;
 
 pub use asked::{Asked, AskedLines, MAX_ASKED};
 pub use laws::{
-    codes_are_not_told, lines_are_worked, promises_can_be_broken, records_are_worked,
-    texts_are_worked,
+    codes_are_not_told, lines_are_worked, logs_can_be_broken, records_are_worked, texts_are_worked,
 };
 pub use log::{Log, MAX_OTHERS};
 pub use members::Member;

@@ -5,10 +5,13 @@ ghost use Rattle.std.specs.Option.{option_copied};
 ghost use Rattle.std.specs.Fmt.{decimal};
 ghost use Rattle.std.specs.Io.KnownBytes.{Appends};
 ghost use Rattle.std.specs.List.{flat_map};
-ghost use Rattle.node_log.specs.Text.{answered_line, at_text, client_text, counts_text, end_line, event_of, is_plain};
+ghost use Rattle.node_log.specs.Text.{address_text, answered_line, at_text, client_text, counts_text, end_line, event_of, is_plain};
 ghost use Rattle.node_log.specs.Text.{place_text, print_text, shown_byte, shown_user, start_line};
 
 use std::io::{self, Write};
+
+/// The end of the numbers of addresses. From here on a number is a client of the clients file.
+const ADDRESSES_END: u64 = 1 << 48;
 
 /// Returns whether the log shows a byte unchanged: a visible ASCII character except a quotation mark and a backslash.
 fn is_plain(byte: u8) -> bool
@@ -63,16 +66,27 @@ fn write_number<W: Write>(writer: &mut W, number: u64, behind: &[u8]) -> io::Res
     writer.write_all(behind)
 }
 
-/// Writes the address of a client by its number: an IPv4 address and a port.
+/// Writes an address by its number: an IPv4 address and a port.
+#[tactic(auto, unfolding(crate::specs::Text::address_text))]
+fn write_address<W: Write>(writer: &mut W, address: u64) -> io::Result<()>
+    ensures { OnOk result (Appends (W.contents writer.old) (W.contents writer.new) (address_text address)) }
+{
+    write_number(writer, address / 1_099_511_627_776, b".")?;
+    write_number(writer, address / 4_294_967_296 % 256, b".")?;
+    write_number(writer, address / 16_777_216 % 256, b".")?;
+    write_number(writer, address / 65_536 % 256, b":")?;
+    write_number(writer, address % 65_536, b"")
+}
+
+/// Writes a client by its number: its address, or the number of a client of the clients file.
 #[tactic(auto, unfolding(crate::specs::Text::client_text))]
 fn write_client<W: Write>(writer: &mut W, client: u64) -> io::Result<()>
     ensures { OnOk result (Appends (W.contents writer.old) (W.contents writer.new) (client_text client)) }
 {
-    write_number(writer, client / 1_099_511_627_776, b".")?;
-    write_number(writer, client / 4_294_967_296 % 256, b".")?;
-    write_number(writer, client / 16_777_216 % 256, b".")?;
-    write_number(writer, client / 65_536 % 256, b":")?;
-    write_number(writer, client % 65_536, b"")
+    if client < ADDRESSES_END {
+        return write_address(writer, client);
+    }
+    write_value(writer, b"client:", client - ADDRESSES_END)
 }
 
 /// Writes the outcome of a line, by its answer.
@@ -152,7 +166,7 @@ fn write_at<W: Write>(writer: &mut W, address: u64) -> io::Result<()>
     ensures { OnOk result (Appends (W.contents writer.old) (W.contents writer.new) (at_text address)) }
 {
     writer.write_all(b" at=")?;
-    write_client(writer, address)
+    write_address(writer, address)
 }
 
 /// Writes the number of a boot, and the number of tokens.

@@ -4,10 +4,11 @@ use Rattle.std.specs.Prelude.{◌⊎◌, ◌&&◌, ◌||◌, not, slice_index}
 use Rattle.std.specs.List.{AllByRecursion, IsDistinct, insert, list_any}
 use Rattle.std.specs.Option.{unwrap_or}
 use Rattle.std.proofs.lemmas.Bool.{eqb-true, eqb-false, ltb-true, le-ltb, leb-true, and_parts, ne_eqb}
+use Rattle.std.proofs.Math.Nat.{le_trans}
 use Rattle.std.proofs.lemmas.List.{take-append-drop}
 use Rattle.std.proofs.lemmas.List.Folds.{list_any-append}
-use Rattle.replay_window.specs.Window.{WindowRecord, behind, is_fresh, is_new, is_timely, last_at, place_of, window_from, with_moment, with_seen}
-use Rattle.replay_window.specs.Lives.{AreInOrder, Arrival, Life, admitted, admitted_in}
+use Rattle.replay_window.specs.Window.{WindowRecord, behind, is_fresh, is_new, is_timely, last_at, place_of, with_moment, with_seen}
+use Rattle.replay_window.specs.Lives.{AreInOrder, Arrival, Life, admitted, admitted_in, window_of}
 
 -- ---- booleans
 
@@ -95,12 +96,12 @@ shifted low (y ∷ ys) x (inr has) =
       | inr later ↦ inr later
     ]
 
-kept_covers : (b : Bool) (low : ℕ) (seen : List ℕ) (x : ℕ) → Covers low seen x
-    → let a : WindowRecord = record { low = low; seen = seen } in
-    let c : WindowRecord = record { low = max low (slice_index seen 0); seen = drop 1 seen } in
+kept_covers : (b : Bool) (window : WindowRecord) (seen : List ℕ) (x : ℕ) → Covers window.low seen x
+    → let a : WindowRecord = record window { seen = seen } in
+    let c : WindowRecord = record window { low = max window.low (slice_index seen 0); seen = drop 1 seen } in
     IsCovered (cond b a c) x
-kept_covers true low seen x h = h
-kept_covers false low seen x h = shifted low seen x h
+kept_covers true window seen x h = h
+kept_covers false window seen x h = shifted window.low seen x h
 
 pub stays_covered : (window : WindowRecord) (m x : ℕ) → IsCovered window x → IsCovered (with_seen window m) x
 stays_covered window m x h =
@@ -109,23 +110,34 @@ stays_covered window m x h =
       | inl le ↦ inl le
       | inr has ↦ inr (keeps_inserted (eqb x) window.seen (place_of m window.seen) m has)
     ] in
-    kept_covers (leb (length seen) 64) window.low seen x more
+    kept_covers (leb (length seen) 64) window seen x more
 
 pub covers_itself : (window : WindowRecord) (m : ℕ) → IsCovered (with_seen window m) m
 covers_itself window m =
     let seen = with_moment window.seen m in
-    kept_covers (leb (length seen) 64) window.low seen m (inr (has_inserted (eqb m) window.seen (place_of m window.seen) m (self_eqb m m refl)))
+    kept_covers (leb (length seen) 64) window seen m (inr (has_inserted (eqb m) window.seen (place_of m window.seen) m (self_eqb m m refl)))
 
 -- the mark never falls
-kept_low : (b : Bool) (low : ℕ) (seen : List ℕ)
-    → let a : WindowRecord = record { low = low; seen = seen } in
-    let c : WindowRecord = record { low = max low (slice_index seen 0); seen = drop 1 seen } in
-    low ≤ (cond b a c).low
-kept_low true low seen = omega arith
-kept_low false low seen = omega arith
+kept_low : (b : Bool) (window : WindowRecord) (seen : List ℕ)
+    → let a : WindowRecord = record window { seen = seen } in
+    let c : WindowRecord = record window { low = max window.low (slice_index seen 0); seen = drop 1 seen } in
+    window.low ≤ (cond b a c).low
+kept_low true window seen = omega arith
+kept_low false window seen = omega arith
+
+-- the lead stays
+kept_ahead : (b : Bool) (window : WindowRecord) (seen : List ℕ)
+    → let a : WindowRecord = record window { seen = seen } in
+    let c : WindowRecord = record window { low = max window.low (slice_index seen 0); seen = drop 1 seen } in
+    (cond b a c).ahead ≡ window.ahead
+kept_ahead true window seen = refl
+kept_ahead false window seen = refl
+
+pub ahead_stays : (window : WindowRecord) (m : ℕ) → (with_seen window m).ahead ≡ window.ahead
+ahead_stays window m = kept_ahead (leb (length (with_moment window.seen m)) 64) window (with_moment window.seen m)
 
 low_rises : (window : WindowRecord) (m : ℕ) → window.low ≤ (with_seen window m).low
-low_rises window m = kept_low (leb (length (with_moment window.seen m)) 64) window.low (with_moment window.seen m)
+low_rises window m = kept_low (leb (length (with_moment window.seen m)) 64) window (with_moment window.seen m)
 
 -- what is covered is not new
 covered_is_old : (window : WindowRecord) (x : ℕ) → IsCovered window x → is_new window x ≡ false
@@ -133,7 +145,7 @@ covered_is_old window x (inl le) = rw (le-ltb window.low x le) refl
 covered_is_old window x (inr has) = rw has (and_false (ltb window.low x))
 
 fresh_is_new : (window : WindowRecord) (now m : ℕ) → is_fresh window now m ≡ true → is_new window m ≡ true
-fresh_is_new window now m h = (and_parts (is_timely now m) (is_new window m) h).1
+fresh_is_new window now m h = (and_parts (is_timely window.ahead now m) (is_new window m) h).1
 
 pub fresh_is_apart : (window : WindowRecord) (now m x : ℕ) → IsCovered window x → is_fresh window now m ≡ true → eqb x m ≡ false
 fresh_is_apart window now m x covered fresh = elim (bool_cases (eqb x m)) [
@@ -184,46 +196,47 @@ above_law window (a ∷ arrivals) =
 
 -- ---- incarnations
 
--- a moment that is admitted is at most so far ahead of the clock
-fresh_is_near : (window : WindowRecord) (now m : ℕ) → is_fresh window now m ≡ true → m ≤ last_at now
+-- an admitted moment is at most the lead ahead of the clock
+pub fresh_is_near : (window : WindowRecord) (now m : ℕ) → is_fresh window now m ≡ true → m ≤ last_at now window.ahead
 fresh_is_near window now m h =
-    let timely = (and_parts (is_timely now m) (is_new window m) h).0 in
-    let near = (and_parts (ltb now (2 ^ 40)) (leb m (last_at now) && leb (now * 1000000) (m + behind)) timely).1 in
-    leb-true m (last_at now) (and_parts (leb m (last_at now)) (leb (now * 1000000) (m + behind)) near).0
+    let timely = (and_parts (is_timely window.ahead now m) (is_new window m) h).0 in
+    let near = (and_parts (ltb now (2 ^ 40)) (leb m (last_at now window.ahead) && leb (now * 1000000) (m + behind)) timely).1 in
+    leb-true m (last_at now window.ahead) (and_parts (leb m (last_at now window.ahead)) (leb (now * 1000000) (m + behind)) near).0
 
-apart_later : (x : ℕ) (lives : List Life) → AllByRecursion (λ later. x ≤ last_at later.start) lives → AllByRecursion (λ y. eqb x y ≡ false) (admitted_in lives)
+apart_later : (x : ℕ) (lives : List Life) → AllByRecursion (λ later. x ≤ (window_of later).low) lives → AllByRecursion (λ y. eqb x y ≡ false) (admitted_in lives)
 apart_later x [] h = tt
 apart_later x (life ∷ lives) h =
-    all_append (λ y. eqb x y ≡ false) (admitted (window_from life.start) life.arrivals) (admitted_in lives)
-    (all_of (λ y. last_at life.start < y) (λ y. eqb x y ≡ false) (λ y above. ne_eqb x y (λ e. absurd (omega (arith, h.0)))) (admitted (window_from life.start) life.arrivals)
-    (above_law (window_from life.start) life.arrivals))
+    all_append (λ y. eqb x y ≡ false) (admitted (window_of life) life.arrivals) (admitted_in lives)
+    (all_of (λ y. (window_of life).low < y) (λ y. eqb x y ≡ false) (λ y above. ne_eqb x y (λ e. absurd (omega (arith, h.0)))) (admitted (window_of life) life.arrivals)
+    (above_law (window_of life) life.arrivals))
     (apart_later x lives h.1)
 
-apart_from_lives : (window : WindowRecord) (arrivals : List Arrival) (lives : List Life)
-    → AllByRecursion (λ later. AllByRecursion (λ arrival. arrival.now ≤ later.start) arrivals) lives
+apart_from_lives : (ahead : ℕ) (window : WindowRecord) (arrivals : List Arrival) (lives : List Life) → window.ahead ≡ ahead
+    → AllByRecursion (λ later. AllByRecursion (λ arrival. last_at arrival.now ahead ≤ (window_of later).low) arrivals) lives
     → AllByRecursion (λ x. AllByRecursion (λ y. eqb x y ≡ false) (admitted_in lives)) (admitted window arrivals)
-apart_from_lives window [] lives h = tt
-apart_from_lives window (a ∷ arrivals) lives h =
+apart_from_lives ahead window [] lives is h = tt
+apart_from_lives ahead window (a ∷ arrivals) lives is h =
     let P : List ℕ → Type 0 = AllByRecursion (λ x. AllByRecursion (λ y. eqb x y ≡ false) (admitted_in lives)) in
-    let rest = all_of (λ later. AllByRecursion (λ arrival. arrival.now ≤ later.start) (a ∷ arrivals)) (λ later. AllByRecursion (λ arrival. arrival.now ≤ later.start) arrivals)
+    let rest = all_of (λ later. AllByRecursion (λ arrival. last_at arrival.now ahead ≤ (window_of later).low) (a ∷ arrivals))
+    (λ later. AllByRecursion (λ arrival. last_at arrival.now ahead ≤ (window_of later).low) arrivals)
     (λ later both. both.1) lives h in
     step P (is_fresh window a.now a.moment)
     (a.moment ∷ admitted (with_seen window a.moment) arrivals) (admitted window arrivals)
     (λ fresh.
-    let near = fresh_is_near window a.now a.moment fresh in (
-      apart_later a.moment lives (all_of (λ later. AllByRecursion (λ arrival. arrival.now ≤ later.start) (a ∷ arrivals)) (λ later. a.moment ≤ last_at later.start)
-          (λ later both. let up : a.now ≤ later.start = both.0 in omega arith) lives h),
-      apart_from_lives (with_seen window a.moment) arrivals lives rest,
+    let near : a.moment ≤ last_at a.now ahead = subst (λ (n : ℕ). a.moment ≤ last_at a.now n) is (fresh_is_near window a.now a.moment fresh) in (
+      apart_later a.moment lives (all_of (λ later. AllByRecursion (λ arrival. last_at arrival.now ahead ≤ (window_of later).low) (a ∷ arrivals)) (λ later. a.moment ≤ (window_of later).low)
+          (λ later both. le_trans near both.0) lives h),
+      apart_from_lives ahead (with_seen window a.moment) arrivals lives (ahead_stays window a.moment ∙ is) rest,
     ))
-    (λ stale. apart_from_lives window arrivals lives rest)
+    (λ stale. apart_from_lives ahead window arrivals lives is rest)
 
 pub lives_law : (lives : List Life) → AreInOrder lives → IsDistinct eqb (admitted_in lives)
 unfolding IsDistinct
 lives_law [] h = tt
 lives_law (life ∷ lives) h =
-    distinct_append (admitted (window_from life.start) life.arrivals) (admitted_in lives)
-    (once_law (window_from life.start) life.arrivals) (lives_law lives h.1)
-    (apart_from_lives (window_from life.start) life.arrivals lives h.0)
+    distinct_append (admitted (window_of life) life.arrivals) (admitted_in lives)
+    (once_law (window_of life) life.arrivals) (lives_law lives h.1)
+    (apart_from_lives life.ahead (window_of life) life.arrivals lives refl h.0)
 
 -- ---- places
 

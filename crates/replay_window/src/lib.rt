@@ -4,13 +4,20 @@
 //! memory. It keeps the 64 latest admitted moments, and a mark up to which it admits none. A moment that leaves raises
 //! the mark (the law [`once_is_enough`]).
 //!
-//! The mark begins ahead of the clock at the start of the process, by the maximum lead of a moment. So no moment is
-//! admitted twice over several incarnations of a process, if the clock is not set back between them (the law
-//! [`lives_are_one`]). No function allocates.
+//! How far a moment may be ahead of the clock is a value of the window, an [`Ahead`]. The mark begins as far ahead of
+//! the clock at the start of the process. So no moment is admitted twice over several incarnations of a process (the
+//! law [`lives_are_one`]), if the clock is not set back between them and a shorter lead waits for the longer one before
+//! it. No function allocates.
 #![tactic(auto)]
 
+mod ahead;
 mod laws;
+mod refusal;
 mod window;
 
-pub use laws::{lives_are_one, once_is_enough, windows_are_worked};
-pub use window::{AHEAD_MICROS, BEHIND_MICROS, Window};
+pub use ahead::Ahead;
+pub use laws::{
+    lives_are_one, lives_can_be_broken, once_is_enough, refusals_have_reasons, windows_are_worked,
+};
+pub use refusal::Refusal;
+pub use window::{BEHIND_MICROS, Window};

@@ -2,13 +2,12 @@
 
 ghost use Rattle.std.specs.Prelude.{◌≡◌, ◌≤◌, ◌<◌, ◌^◌, length, eqb, nat_lt};
 ghost use Rattle.std.specs.List.{list_any, position};
-ghost use Rattle.replay_window.specs.Window.{is_fresh, is_new, is_timely, kept_of, last_at, place_of, window_after, window_from, with_moment, with_seen};
+ghost use Rattle.replay_window.specs.Window.{IsAhead, is_early, is_fresh, is_new, is_timely, kept_of, last_at, place_of, refusal_of, window_after, window_from, with_moment, with_seen};
 
+use crate::ahead::Ahead;
+use crate::refusal::Refusal;
 use arrayvec::ArrayVec;
 use std::marker::Model;
-
-/// The maximum lead of a moment over the clock, in microseconds.
-pub const AHEAD_MICROS: u64 = 5_000_000;
 
 /// The maximum lag of a moment to the clock, in microseconds.
 pub const BEHIND_MICROS: u64 = 60_000_000;
@@ -22,6 +21,7 @@ const SIZE: usize = 64;
 /// The admitted moments of one client.
 #[derive(Drop)]
 pub struct Window {
+    ahead: Ahead,
     low: u64,
     /// The kept moments, with one more place for a moment that enters before another one leaves.
     seen: ArrayVec<u64, 65>,
@@ -33,24 +33,32 @@ impl Model for Window {
 
     ghost Value = { WindowRecord };
 
-    ghost view = { λ w. record { low = w.low; seen = w.seen.items } };
+    ghost view = { λ w. record { ahead = w.ahead; low = w.low; seen = w.seen.items } };
 
     ghost invariant = { λ w. length w.seen.items ≤ 64 };
 }
 
 /// Returns the last microsecond that may be named at the second `now` of the clock.
-fn last_at(now: u64) -> u64
+fn last_at(now: u64, ahead: Ahead) -> u64
     requires { now < 2 ^ 40 }
-    ensures { result ≡ last_at now }
+    ensures value { result ≡ last_at now ahead }
+    ensures limit { result < 2 ^ 62 }
 {
-    now * 1_000_000 + AHEAD_MICROS
+    (now + u64::from(ahead.seconds())) * 1_000_000
+}
+
+/// Returns whether a moment is too far ahead of the clock.
+fn is_early(ahead: Ahead, now: u64, moment: u64) -> bool
+    ensures { result ≡ is_early ahead now moment }
+{
+    now < SECONDS_END && moment > last_at(now, ahead)
 }
 
 /// Returns whether a moment is near the clock.
-fn is_timely(now: u64, moment: u64) -> bool
-    ensures { result ≡ is_timely now moment }
+fn is_timely(ahead: Ahead, now: u64, moment: u64) -> bool
+    ensures { result ≡ is_timely ahead now moment }
 {
-    if now >= SECONDS_END || moment > last_at(now) {
+    if now >= SECONDS_END || moment > last_at(now, ahead) {
         return false;
     }
     now * 1_000_000 <= moment + BEHIND_MICROS
@@ -80,12 +88,15 @@ fn place_of(seen: &[u64], moment: u64) -> usize
 
 impl Window {
     /// Returns the window of a process that begins at the second `start` of the clock.
-    pub fn new(start: u64) -> Self
+    ///
+    /// It admits no moment that is more than `ahead` ahead of the clock.
+    pub fn new(start: u64, ahead: Ahead) -> Self
         requires { start < 2 ^ 40 }
-        ensures { result ≡ window_from start }
+        ensures { result ≡ window_from start ahead }
     {
         Window {
-            low: last_at(start),
+            ahead,
+            low: last_at(start, ahead),
             seen: ArrayVec::new(),
         }
     }
@@ -101,7 +112,22 @@ impl Window {
     pub fn is_fresh(&self, now: u64, moment: u64) -> bool
         ensures { result ≡ is_fresh self.now now moment }
     {
-        is_timely(now, moment) && self.is_new(moment)
+        is_timely(self.ahead, now, moment) && self.is_new(moment)
+    }
+
+    /// Returns why the window refuses a moment at the second `now` of the clock, or None if it admits it.
+    pub fn refusal_of(&self, now: u64, moment: u64) -> Option<Refusal>
+        ensures { result ≡ refusal_of self.now now moment }
+    {
+        if self.is_fresh(now, moment) {
+            None
+        } else if is_timely(self.ahead, now, moment) {
+            Some(Refusal::Again)
+        } else if is_early(self.ahead, now, moment) {
+            Some(Refusal::Early)
+        } else {
+            Some(Refusal::Late)
+        }
     }
 
     /// Keeps one more moment. Removes the first one, which raises the mark, if there are too many.

@@ -1,3 +1,4 @@
+pub mod LifeLemmas
 pub mod OpenLemmas
 pub mod PortLemmas
 pub mod RunLemmas

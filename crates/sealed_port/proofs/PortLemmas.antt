@@ -1,45 +1,56 @@
--- What a gate makes of a receive.
-use Rattle.std.proofs.Common.{◌≡◌, ℕ, Bool, true, false, cond, List, [], ◌∷◌, take, Option, Some, None, refl, sym, ap, ◌∙◌, inl, inr}
-use Rattle.std.proofs.lemmas.List.{append-nil}
-use Rattle.datagram_port.specs.Port.{Grows, PortEvent, Received, event_of_receive}
+-- What a gate makes of the events of the port below.
+use Rattle.std.proofs.Common.{◌≡◌, ℕ, ◌+◌, Bool, true, false, cond, List, [], ◌∷◌, ◌++◌, take, Option, Some, None, refl, sym, ap, subst, ◌∙◌, length-append}
+use Rattle.std.specs.List.{AllByRecursion}
+use Rattle.std.specs.Option.{option_map}
+use Rattle.std.specs.Prelude.{Result, Ok, Err}
+use Rattle.std.specs.Result.{result_err, result_ok}
+use Rattle.std.proofs.lemmas.List.{append_assoc, append-nil, map-append}
+use Rattle.datagram_port.specs.Port.{Grows, PortEvent, Received, Quiet, Faulted, Offered, event_of_receive}
 use Rattle.datagram_port.specs.declared.port.Received.{Received as Receive}
 use Rattle.datagram_port.specs.declared.port.Received.TheVariants.{Datagram, Quiet as QuietReceive, Fault}
 use Rattle.datagram_port.specs.declared.port.Sender.TheVariants.{Client, Peer}
-use Rattle.sealed_port.specs.Gate.{GateRecord, gate_with, is_plain, opened}
-use Rattle.sealed_port.specs.Port.{TakesIn, gate_after, handed_in, handed_line, sealed_from}
+use Rattle.sealed_port.specs.Causes.{counted}
+use Rattle.sealed_port.specs.Gate.{GateRecord, SealedLine, cause_of, gate_with, is_plain, opened, ruling}
+use Rattle.sealed_port.specs.declared.cause.Cause.{Cause}
+use Rattle.sealed_port.specs.Port.{Opens, Passed, PassesOver, TakesIn, counted_after, counted_over, event_of_passed, gate_after, handed_in, handed_line, sealed_from, told_for}
+use Rattle.sealed_port.specs.declared.cause.Unopened.{Unopened}
+
+-- ---- records
 
 -- a record that nothing was added to
 pub stays : {A : Type 0} (record_of : Option (List A)) → Grows record_of record_of []
 stays None = tt
 stays (Some entries) = ap (λ l. Some l) (append-nil entries)
 
+-- a record that grew twice
+pub grows_on : {A : Type 0} (x y z : Option (List A)) (xs ys : List A) → Grows x y xs → Grows y z ys → Grows x z (xs ++ ys)
+grows_on x y None xs ys h k = tt
+grows_on x None (Some c) xs ys h k = absurd cc
+grows_on None (Some b) (Some c) xs ys h k = absurd cc
+grows_on (Some a) (Some b) (Some c) xs ys h k =
+    ap (λ l. Some l) (sym (append_assoc a xs ys)) ∙ ap (option_map (λ zs. zs ++ ys)) h ∙ k
+
+-- ---- one event
+
 -- the claim if the clock isn't asked
-unasked : (moments : Option (List (Option ℕ))) (gate : GateRecord) (entry : PortEvent) → handed_in gate None entry ≡ entry → gate_after gate None entry ≡ gate
-    → TakesIn moments moments gate gate entry entry
-unasked moments gate entry handed same = record {
-  told = [];
+unasked : (moments : Option (List (Option ℕ))) (gate : GateRecord) (unopened : Unopened) (entry : PortEvent)
+    → handed_in gate None entry ≡ Some entry → gate_after gate None entry ≡ gate → told_for gate None entry ≡ [] → counted_after gate unopened None entry ≡ unopened
+    → TakesIn moments moments gate gate unopened unopened entry (Some entry)
+unasked moments gate unopened entry handed same untold uncounted = record {
   now = None;
-  asks = inr (refl, refl);
-  clock = stays moments;
+  clock = subst (Grows moments moments) (sym untold) (stays moments);
   handed_is = sym handed;
   gate_is = sym same;
+  counts = sym uncounted;
 }
 
-plain_handed : (b : Bool) (x y : PortEvent) → b ≡ true → cond b x y ≡ x
-plain_handed true x y e = refl
-plain_handed false x y e = absurd cc
+front : {A : Type 0} (b : Bool) (x y : A) → b ≡ true → cond b x y ≡ x
+front true x y e = refl
+front false x y e = absurd cc
 
-plain_gate : (b : Bool) (x y : GateRecord) → b ≡ true → cond b x y ≡ x
-plain_gate true x y e = refl
-plain_gate false x y e = absurd cc
-
-sealed_handed : (b : Bool) (x y : PortEvent) → b ≡ false → cond b x y ≡ y
-sealed_handed false x y e = refl
-sealed_handed true x y e = absurd cc
-
-sealed_gate : (b : Bool) (x y : GateRecord) → b ≡ false → cond b x y ≡ y
-sealed_gate false x y e = refl
-sealed_gate true x y e = absurd cc
+back : {A : Type 0} (b : Bool) (x y : A) → b ≡ false → cond b x y ≡ y
+back false x y e = refl
+back true x y e = absurd cc
 
 none_is_plain : (b : Bool) (found : ℕ × ℕ) → cond b None (Some found) ≡ None → b ≡ true
 none_is_plain true found e = refl
@@ -50,40 +61,159 @@ some_is_sealed true one found e = absurd cc
 some_is_sealed false one found e = (refl, cc)
 
 -- what isn't from the address of a client who speaks sealed goes through as it is
-pub kept : (moments : Option (List (Option ℕ))) (gate : GateRecord) (received : Receive) (buffer : List ℕ) → sealed_from gate received ≡ None
-    → TakesIn moments moments gate gate (event_of_receive received buffer) (event_of_receive received buffer)
-kept moments gate (Datagram (Client address) len) buffer e =
+pub kept : (moments : Option (List (Option ℕ))) (gate : GateRecord) (unopened : Unopened) (received : Receive) (buffer : List ℕ) → sealed_from gate received ≡ None
+    → TakesIn moments moments gate gate unopened unopened (event_of_receive received buffer) (Some (event_of_receive received buffer))
+kept moments gate unopened (Datagram (Client address) len) buffer e =
+    let bytes = take len buffer in
     let plain = none_is_plain (is_plain gate address) (address, len) e in
-    unasked moments gate (Received (Client address) (take len buffer))
-    (plain_handed (is_plain gate address) (Received (Client address) (take len buffer)) (handed_line (opened gate None (take len buffer))) plain)
-    (plain_gate (is_plain gate address) gate (gate_with gate address (opened gate None (take len buffer))) plain)
-kept moments gate (Datagram (Peer number) len) buffer e = unasked moments gate (Received (Peer number) (take len buffer)) refl refl
-kept moments gate QuietReceive buffer e = unasked moments gate (event_of_receive QuietReceive buffer) refl refl
-kept moments gate Fault buffer e = unasked moments gate (event_of_receive Fault buffer) refl refl
+    unasked moments gate unopened (Received (Client address) bytes)
+    (front (is_plain gate address) (Some (Received (Client address) bytes)) (handed_line (opened gate None bytes)) plain)
+    (front (is_plain gate address) gate (gate_with gate address (opened gate None bytes)) plain)
+    (front (is_plain gate address) [] (None ∷ []) plain)
+    (front (is_plain gate address) unopened (counted unopened (cause_of gate None bytes)) plain)
+kept moments gate unopened (Datagram (Peer number) len) buffer e = unasked moments gate unopened (Received (Peer number) (take len buffer)) refl refl refl refl
+kept moments gate unopened QuietReceive buffer e = unasked moments gate unopened (event_of_receive QuietReceive buffer) refl refl refl refl
+kept moments gate unopened Fault buffer e = unasked moments gate unopened (event_of_receive Fault buffer) refl refl refl refl
 
--- the port returns a datagram from such an address as it opens
-pub taken : (old_clock new_clock : Option (List (Option ℕ))) (gate after : GateRecord) (received : Receive) (buffer : List ℕ) (address len : ℕ) (handed : PortEvent)
+-- a datagram from such an address is opened, or passed over and counted
+pub taken : (old_clock new_clock : Option (List (Option ℕ))) (gate after : GateRecord) (before counts : Unopened) (received : Receive) (buffer : List ℕ) (address len : ℕ) (handed : Option PortEvent)
     → sealed_from gate received ≡ Some (address, len)
     → ((now : Option ℕ) × Grows old_clock new_clock (now ∷ []) × (handed ≡ handed_line (opened gate now (take len buffer)))
-    × (after ≡ gate_with gate address (opened gate now (take len buffer))))
-    → TakesIn old_clock new_clock gate after (event_of_receive received buffer) handed
-taken old_clock new_clock gate after (Datagram (Client from) size) buffer address len handed e answer =
+    × (after ≡ gate_with gate address (opened gate now (take len buffer)))
+    × (counts ≡ counted before (cause_of gate now (take len buffer))))
+    → TakesIn old_clock new_clock gate after before counts (event_of_receive received buffer) handed
+taken old_clock new_clock gate after before counts (Datagram (Client from) size) buffer address len handed e answer =
     let found = some_is_sealed (is_plain gate from) (from, size) (address, len) e in
     let same_from : from ≡ address = ap (λ (p : ℕ × ℕ). p.0) found.1 in
     let same_size : size ≡ len = ap (λ (p : ℕ × ℕ). p.1) found.1 in
     let now = answer.0 in
-    let bytes_same : take size buffer ≡ take len buffer = ap (λ (n : ℕ). take n buffer) same_size in
-    let line : opened gate now (take size buffer) ≡ opened gate now (take len buffer) = ap (opened gate now) bytes_same in
+    let bytes = take size buffer in
+    let bytes_same : take len buffer ≡ bytes = ap (λ (n : ℕ). take n buffer) (sym same_size) in
     record {
-      told = now ∷ [];
       now = now;
-      asks = inl refl;
-      clock = answer.1;
-      handed_is = answer.2 ∙ ap handed_line (sym line)
-          ∙ sym (sealed_handed (is_plain gate from) (Received (Client from) (take size buffer)) (handed_line (opened gate now (take size buffer))) found.0);
-      gate_is = answer.3 ∙ ap (gate_with gate address) (sym line) ∙ ap (λ (a : ℕ). gate_with gate a (opened gate now (take size buffer))) (sym same_from)
-          ∙ sym (sealed_gate (is_plain gate from) gate (gate_with gate from (opened gate now (take size buffer))) found.0);
+      clock = subst (Grows old_clock new_clock) (sym (back (is_plain gate from) [] (now ∷ []) found.0)) answer.1;
+      handed_is = answer.2 ∙ ap (λ (b : List ℕ). handed_line (opened gate now b)) bytes_same
+          ∙ sym (back (is_plain gate from) (Some (Received (Client from) bytes)) (handed_line (opened gate now bytes)) found.0);
+      gate_is = answer.3 ∙ ap (λ (b : List ℕ). gate_with gate address (opened gate now b)) bytes_same ∙ ap (λ (a : ℕ). gate_with gate a (opened gate now bytes)) (sym same_from)
+          ∙ sym (back (is_plain gate from) gate (gate_with gate from (opened gate now bytes)) found.0);
+      counts = answer.4 ∙ ap (λ (b : List ℕ). counted before (cause_of gate now b)) bytes_same
+          ∙ sym (back (is_plain gate from) before (counted before (cause_of gate now bytes)) found.0);
     }
-taken old_clock new_clock gate after (Datagram (Peer number) size) buffer address len handed e answer = absurd cc
-taken old_clock new_clock gate after QuietReceive buffer address len handed e answer = absurd cc
-taken old_clock new_clock gate after Fault buffer address len handed e answer = absurd cc
+taken old_clock new_clock gate after before counts (Datagram (Peer number) size) buffer address len handed e answer = absurd cc
+taken old_clock new_clock gate after before counts QuietReceive buffer address len handed e answer = absurd cc
+taken old_clock new_clock gate after before counts Fault buffer address len handed e answer = absurd cc
+
+-- ---- what is passed over
+
+-- an event that a gate passes over: a client's datagram, for which the clock was asked, and which changes no gate
+record IsPassed (gate : GateRecord) (now : Option ℕ) (event : PortEvent) (before : Unopened) : Type 0 where
+  one : Passed
+  event_is : event_of_passed one ≡ event
+  now_is : one.now ≡ now
+  told_is : told_for gate now event ≡ one.now ∷ []
+  gate_is : gate_after gate now event ≡ gate
+  counts_are : counted_after gate before now event ≡ counted before (cause_of gate one.now one.bytes)
+
+unhanded : (b : Bool) (x : PortEvent) (o : Option SealedLine) → cond b (Some x) (handed_line o) ≡ None → (b ≡ false) × (o ≡ None)
+unhanded true x o e = absurd cc
+unhanded false x None e = (refl, refl)
+unhanded false x (Some line) e = absurd cc
+
+passed_is : (gate : GateRecord) (now : Option ℕ) (event : PortEvent) (before : Unopened) → handed_in gate now event ≡ None → IsPassed gate now event before
+passed_is gate now (Received (Client address) bytes) before e =
+    let u = unhanded (is_plain gate address) (Received (Client address) bytes) (opened gate now bytes) e in
+    record {
+      one = record { now = now; address = address; bytes = bytes };
+      event_is = refl;
+      now_is = refl;
+      told_is = back (is_plain gate address) [] (now ∷ []) u.0;
+      gate_is = back (is_plain gate address) gate (gate_with gate address (opened gate now bytes)) u.0 ∙ ap (gate_with gate address) u.1;
+      counts_are = back (is_plain gate address) before (counted before (cause_of gate now bytes)) u.0;
+    }
+passed_is gate now (Received (Peer number) bytes) before e = absurd cc
+passed_is gate now Quiet before e = absurd cc
+passed_is gate now Faulted before e = absurd cc
+passed_is gate now (Offered to bytes) before e = absurd cc
+
+all_and_one : {X : Type 0} (P : X → Type 0) (xs : List X) (x : X) → AllByRecursion P xs → P x → AllByRecursion P (xs ++ x ∷ [])
+all_and_one P [] x h k = (k, tt)
+all_and_one P (y ∷ xs) x h k = (h.0, all_and_one P xs x h.1 k)
+
+counted_and_one : (gate : GateRecord) (before : Unopened) (passed : List Passed) (one : Passed)
+    → counted_over gate before (passed ++ one ∷ []) ≡ counted (counted_over gate before passed) (cause_of gate one.now one.bytes)
+counted_and_one gate before [] one = refl
+counted_and_one gate before (other ∷ passed) one = counted_and_one gate (counted before (cause_of gate other.now other.bytes)) passed one
+
+-- nothing was passed over yet
+pub none_passed : (port : Option (List PortEvent)) (clock : Option (List (Option ℕ))) (gate : GateRecord) (unopened : Unopened)
+    → PassesOver port port clock clock gate gate unopened unopened 0
+none_passed port clock gate unopened = record {
+  passed = [];
+  are_passed_over = tt;
+  many = refl;
+  port = stays port;
+  clock = stays clock;
+  gate_is = refl;
+  counts = refl;
+}
+
+-- one more is passed over
+pub one_passed : {old_port port new_port : Option (List PortEvent)} {old_clock clock new_clock : Option (List (Option ℕ))} {gate now_gate after : GateRecord} {before counts last : Unopened}
+    {number : ℕ} {event : PortEvent}
+    → PassesOver old_port port old_clock clock gate now_gate before counts number → Grows port new_port (event ∷ [])
+    → TakesIn clock new_clock now_gate after counts last event None
+    → PassesOver old_port new_port old_clock new_clock gate after before last (number + 1)
+one_passed {old_port = old_port} {port = port} {new_port = new_port} {old_clock = old_clock} {clock = clock} {new_clock = new_clock} {gate = gate} {after = after} {before = before} {counts = counts} {last = last} {number = number} {event = event} p grows t =
+    from (subst (λ (g : GateRecord). TakesIn clock new_clock g after counts last event None) p.gate_is t)
+  where
+    from : TakesIn clock new_clock gate after counts last event None → PassesOver old_port new_port old_clock new_clock gate after before last (number + 1)
+    from t =
+        let i = passed_is gate t.now event counts (sym t.handed_is) in
+        let told : Grows clock new_clock (i.one.now ∷ []) = subst (Grows clock new_clock) i.told_is t.clock in
+        let entry : Grows port new_port (event_of_passed i.one ∷ []) = subst (λ (x : PortEvent). Grows port new_port (x ∷ [])) (sym i.event_is) grows in
+        let unhanded_so : handed_in gate i.one.now (event_of_passed i.one) ≡ None =
+        ap (λ (x : PortEvent). handed_in gate i.one.now x) i.event_is ∙ ap (λ (n : Option ℕ). handed_in gate n event) i.now_is ∙ sym t.handed_is in
+        record {
+          passed = p.passed ++ i.one ∷ [];
+          are_passed_over = all_and_one (λ one. handed_in gate one.now (event_of_passed one) ≡ None) p.passed i.one p.are_passed_over unhanded_so;
+          many = length-append p.passed (i.one ∷ []) ∙ ap (λ (n : ℕ). n + 1) p.many;
+          port = subst (Grows old_port new_port) (sym (map-append event_of_passed p.passed (i.one ∷ []))) (grows_on old_port port new_port _ _ p.port entry);
+          clock = subst (Grows old_clock new_clock) (sym (map-append (λ (one : Passed). one.now) p.passed (i.one ∷ []))) (grows_on old_clock clock new_clock _ _ p.clock told);
+          gate_is = t.gate_is ∙ i.gate_is;
+          counts = t.counts ∙ i.counts_are ∙ ap (λ (u : Unopened). counted u (cause_of gate i.one.now i.one.bytes)) p.counts ∙ sym (counted_and_one gate before p.passed i.one);
+        }
+
+-- what is handed in changes no numbers
+uncounted : (gate : GateRecord) (unopened : Unopened) (now : Option ℕ) (event handed : PortEvent) → handed_in gate now event ≡ Some handed → counted_after gate unopened now event ≡ unopened
+uncounted gate unopened now (Received (Client address) bytes) handed e = go (is_plain gate address) (ruling gate now bytes) e
+  where
+    go : (b : Bool) (r : Result SealedLine Cause) → cond b (Some (Received (Client address) bytes)) (handed_line (result_ok r)) ≡ Some handed → cond b unopened (counted unopened (result_err r)) ≡ unopened
+    go true r e = refl
+    go false (Ok line) e = refl
+    go false (Err cause) e = absurd cc
+uncounted gate unopened now (Received (Peer number) bytes) handed e = refl
+uncounted gate unopened now Quiet handed e = refl
+uncounted gate unopened now Faulted handed e = refl
+uncounted gate unopened now (Offered to bytes) handed e = refl
+
+-- then an event is handed in
+pub one_handed : {old_port port new_port : Option (List PortEvent)} {old_clock clock new_clock : Option (List (Option ℕ))} {gate now_gate after : GateRecord} {before counts last : Unopened}
+    {number : ℕ} {event handed : PortEvent}
+    → PassesOver old_port port old_clock clock gate now_gate before counts number → Grows port new_port (event ∷ [])
+    → TakesIn clock new_clock now_gate after counts last event (Some handed)
+    → Opens old_port new_port old_clock new_clock gate after before last handed
+one_handed {old_port = old_port} {port = port} {new_port = new_port} {old_clock = old_clock} {clock = clock} {new_clock = new_clock} {gate = gate} {after = after} {before = before} {counts = counts} {last = last} {event = event} {handed = handed} p grows t =
+    from (subst (λ (g : GateRecord). TakesIn clock new_clock g after counts last event (Some handed)) p.gate_is t)
+  where
+    from : TakesIn clock new_clock gate after counts last event (Some handed) → Opens old_port new_port old_clock new_clock gate after before last handed
+    from t = record {
+      passed = p.passed;
+      are_passed_over = p.are_passed_over;
+      received = event;
+      now = t.now;
+      port = grows_on old_port port new_port _ _ p.port grows;
+      clock = grows_on old_clock clock new_clock _ _ p.clock t.clock;
+      handed_is = sym t.handed_is;
+      gate_is = t.gate_is;
+      counts = t.counts ∙ uncounted gate counts t.now event handed (sym t.handed_is) ∙ p.counts;
+    }

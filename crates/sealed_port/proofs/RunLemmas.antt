@@ -11,9 +11,11 @@ use Rattle.std.proofs.lemmas.Slice.Eq.{bytes_eq-Decides}
 use Rattle.replay_window.specs.Window.{with_seen}
 use Rattle.replay_window.proofs.OnceLemmas.{IsCovered, covers_itself, fresh_is_apart, stays_covered}
 use Rattle.sealed_port.specs.Asked.{AskedRecord, clashes, is_of, line_at, nonce_of, place_of, remembered, without}
-use Rattle.sealed_port.specs.Gate.{GateRecord, Sealed, SealedLine, admits, answer_to, answer_under, answered, answered_place, asked_of, gate_with, if_admitted, is_admitted, named, opened, sealed_line, with_moment}
+use Rattle.sealed_wire.specs.Sealed.{sealed_bytes}
+use Rattle.sealed_port.specs.Gate.{GateRecord, Sealed, SealedLine, admits, answer_head, answer_to, answer_under, answered, answered_place, asked_of, gate_with, is_admitted, named, opened, with_moment}
 use Rattle.sealed_port.specs.Runs.{IsAmong, IsAnswerOf, Step, Comes, Answers, gate_run, gate_step, is_same, opened_by, opened_in, opening_of}
 use Rattle.sealed_port.specs.declared.client.Client.{Client}
+use Rattle.sealed_port.proofs.OpenLemmas.{opened_law}
 
 abbrev present : {A : Type 0} → A → Option A
 present x = Some x
@@ -54,7 +56,7 @@ named_has n (one ∷ rest) client e = go (eqb one.number n) refl (named_has n re
 -- ---- a moment of a client that was seen
 
 -- the client with this number has a window that admits the moment no more
-abbrev IsSeen : GateRecord → ℕ → ℕ → Type 0
+abbrev pub IsSeen : GateRecord → ℕ → ℕ → Type 0
 IsSeen gate number moment = (client : Client) → named number gate.clients ≡ Some client → IsCovered client.window moment
 
 option_cases : {A : Type 0} (o : Option A) → (o ≡ None) ⊎ ((x : A) × (o ≡ Some x))
@@ -109,16 +111,7 @@ seen_now gate address line = λ client e.
 -- a line that a gate opens was admitted
 opened_is_admitted : (gate : GateRecord) (now : Option ℕ) (bytes : List ℕ) (line : SealedLine) → opened gate now bytes ≡ Some line
     → (second : ℕ) × (is_admitted gate second line ≡ true)
-opened_is_admitted gate None bytes line e = absurd cc
-opened_is_admitted gate (Some second) bytes line e = from (sealed_line gate bytes) e
-  where
-    go : (b : Bool) (one : SealedLine) → is_admitted gate second one ≡ b → cond b (present one) None ≡ Some line → (s : ℕ) × (is_admitted gate s line ≡ true)
-    go true one is found = (second, subst (λ (l : SealedLine). is_admitted gate second l ≡ true) (some_is one line found) is)
-    go false one is found = absurd cc
-
-    from : (o : Option SealedLine) → if_admitted gate second o ≡ Some line → (s : ℕ) × (is_admitted gate s line ≡ true)
-    from None found = absurd cc
-    from (Some one) found = go (is_admitted gate second one) one refl found
+opened_is_admitted gate now bytes line e = let o = opened_law gate now bytes line e in (o.second, o.admitted)
 
 admits_apart : (o : Option Client) (now m x : ℕ) → admits o now m ≡ true → ((client : Client) → o ≡ Some client → IsCovered client.window x) → eqb x m ≡ false
 admits_apart None now m x h seen = absurd cc
@@ -140,11 +133,11 @@ apart_from_line gate one line address second seen admitted = elim (bool_cases (e
   | inr apart ↦ rw apart refl
 ]
 
-all_append : {X : Type 0} (P : X → Type 0) (xs ys : List X) → AllByRecursion P xs → AllByRecursion P ys → AllByRecursion P (xs ++ ys)
+pub all_append : {X : Type 0} (P : X → Type 0) (xs ys : List X) → AllByRecursion P xs → AllByRecursion P ys → AllByRecursion P (xs ++ ys)
 all_append P [] ys h k = k
 all_append P (x ∷ xs) ys h k = (h.0, all_append P xs ys h.1 k)
 
-never_again_in : (gate : GateRecord) (steps : List Step) (one : AskedRecord) → IsSeen gate one.client one.moment → AllByRecursion (λ y. is_same one y ≡ false) (opened_in gate steps)
+pub never_again_in : (gate : GateRecord) (steps : List Step) (one : AskedRecord) → IsSeen gate one.client one.moment → AllByRecursion (λ y. is_same one y ≡ false) (opened_in gate steps)
 never_again_in gate [] one seen = tt
 never_again_in gate (Answers client answer ∷ steps) one seen = never_again_in (gate_step gate (Answers client answer)) steps one seen
 never_again_in gate (Comes now address bytes ∷ steps) one seen =
@@ -264,36 +257,74 @@ place_is p xs a e = go (ltb (position_or_len p xs) (length xs)) e
     go true found = find_at p xs ∙ found
     go false found = absurd cc
 
+-- what is sealed for a remembered line
+pub record IsSealedFor (gate : GateRecord) (line : AskedRecord) (answer : List ℕ) (sealed : Sealed) : Type 0 where
+  pub owner : Client
+  pub is_owner : named line.client gate.clients ≡ Some owner
+  pub sealed_is : sealed ≡ record { address = line.address; bytes = sealed_bytes owner.key line.tag (answer_head gate.node line) answer }
+
+pub sealed_for : (gate : GateRecord) (client : ℕ) (answer : List ℕ) (sealed : Sealed) (line : AskedRecord) → line_at (answered_place gate client answer) gate.asked ≡ Some line
+    → answered gate client answer ≡ Some sealed → IsSealedFor gate line answer sealed
+sealed_for gate client answer sealed line there e = fits (leb (length answer) 256) e
+  where
+    under : (o : Option Client) → named line.client gate.clients ≡ o → answer_under gate.node answer line o ≡ Some sealed → IsSealedFor gate line answer sealed
+    under None is found = absurd cc
+    under (Some owner) is found = record {
+      owner = owner;
+      is_owner = is;
+      sealed_is = sym (some_is _ sealed found);
+    }
+
+    fits : (b : Bool) → cond b (answer_to gate answer (line_at (answered_place gate client answer) gate.asked)) None ≡ Some sealed → IsSealedFor gate line answer sealed
+    fits true found = under (named line.client gate.clients) refl (ap (answer_to gate answer) (sym there) ∙ found)
+    fits false found = absurd cc
+
+-- the line that an answer answers is remembered, and has the client and the nonce
+pub record IsRemembered (gate : GateRecord) (client : ℕ) (answer : List ℕ) (line : AskedRecord) : Type 0 where
+  pub is_there : IsAmong gate.asked line
+  pub of_client : line.client ≡ client
+  pub of_nonce : line.nonce ≡ nonce_of answer
+
+pub remembered_is : (gate : GateRecord) (client : ℕ) (answer : List ℕ) (line : AskedRecord) → line_at (answered_place gate client answer) gate.asked ≡ Some line
+    → IsRemembered gate client answer line
+remembered_is gate client answer line there =
+    let p = is_of client (nonce_of answer) in
+    let here = found_is p gate.asked line (place_is p gate.asked line there) in
+    let parts = and_parts (eqb line.client client) (bytes_eq line.nonce (nonce_of answer)) here.0 in
+    record {
+      is_there = here.1;
+      of_client = eqb-true line.client client parts.0;
+      of_nonce = (bytes_eq-Decides line.nonce (nonce_of answer)).0 parts.1;
+    }
+
+-- an answer that is sealed answers a remembered line
+line_there : (gate : GateRecord) (client : ℕ) (answer : List ℕ) (sealed : Sealed) → answered gate client answer ≡ Some sealed
+    → (line : AskedRecord) × (line_at (answered_place gate client answer) gate.asked ≡ Some line)
+line_there gate client answer sealed e = fits (leb (length answer) 256) (line_at (answered_place gate client answer) gate.asked) refl e
+  where
+    fits : (b : Bool) (o : Option AskedRecord) → line_at (answered_place gate client answer) gate.asked ≡ o → cond b (answer_to gate answer o) None ≡ Some sealed
+        → (line : AskedRecord) × (line_at (answered_place gate client answer) gate.asked ≡ Some line)
+    fits true (Some line) is found = (line, is)
+    fits true None is found = absurd cc
+    fits false o is found = absurd cc
+
 answered_is : (gate : GateRecord) (client : ℕ) (answer : List ℕ) (sealed : Sealed) (openings : List AskedRecord) → AreAmong gate.asked openings
     → answered gate client answer ≡ Some sealed → IsAnswerOf gate openings client answer sealed
-answered_is gate client answer sealed openings all e = fits (leb (length answer) 256) e
-  where
-    under : (a : AskedRecord) (o : Option Client) → line_at (answered_place gate client answer) gate.asked ≡ Some a → named a.client gate.clients ≡ o
-        → answer_under gate.node answer a o ≡ Some sealed → IsAnswerOf gate openings client answer sealed
-    under a None there is found = absurd cc
-    under a (Some owner) there is found =
-        let p = is_of client (nonce_of answer) in
-        let here = found_is p gate.asked a (place_is p gate.asked a there) in
-        let parts = and_parts (eqb a.client client) (bytes_eq a.nonce (nonce_of answer)) here.0 in
-        let same = some_is _ sealed found in
-        record {
-          line = a;
-          is_opened = all a here.1;
-          of_client = eqb-true a.client client parts.0;
-          of_nonce = (bytes_eq-Decides a.nonce (nonce_of answer)).0 parts.1;
-          owner = owner;
-          is_owner = is;
-          bytes_are = ap (λ (s : Sealed). s.bytes) (sym same);
-          address_is = ap (λ (s : Sealed). s.address) (sym same);
-        }
-
-    from : (o : Option AskedRecord) → line_at (answered_place gate client answer) gate.asked ≡ o → answer_to gate answer o ≡ Some sealed → IsAnswerOf gate openings client answer sealed
-    from None there found = absurd cc
-    from (Some a) there found = under a (named a.client gate.clients) there refl found
-
-    fits : (b : Bool) → cond b (answer_to gate answer (line_at (answered_place gate client answer) gate.asked)) None ≡ Some sealed → IsAnswerOf gate openings client answer sealed
-    fits true found = from (line_at (answered_place gate client answer) gate.asked) refl found
-    fits false found = absurd cc
+answered_is gate client answer sealed openings all e =
+    let there = line_there gate client answer sealed e in
+    let line = there.0 in
+    let here = remembered_is gate client answer line there.1 in
+    let for = sealed_for gate client answer sealed line there.1 e in
+    record {
+      line = line;
+      is_opened = all line here.is_there;
+      of_client = here.of_client;
+      of_nonce = here.of_nonce;
+      owner = for.owner;
+      is_owner = for.is_owner;
+      bytes_are = ap (λ (s : Sealed). s.bytes) for.sealed_is;
+      address_is = ap (λ (s : Sealed). s.address) for.sealed_is;
+    }
 
 pub answer_law : (gate : GateRecord) (steps : List Step) (client : ℕ) (answer : List ℕ) (sealed : Sealed) → gate.asked ≡ []
     → answered (gate_run gate steps) client answer ≡ Some sealed → IsAnswerOf (gate_run gate steps) (opened_in gate steps) client answer sealed

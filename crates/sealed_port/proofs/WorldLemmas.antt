@@ -1,27 +1,24 @@
 -- An answer that a client reads is one to its line.
 use Rattle.std.proofs.Common.{◌≡◌, ℕ, Bool, true, false, cond, eqb, List, [], ◌∷◌, ◌++◌, Option, Some, None, refl, sym, ap, subst, ◌∙◌, inl, inr}
 use Rattle.std.specs.Option.{option_map}
-use Rattle.std.specs.Str.{bytes_eq}
-use Rattle.std.proofs.lemmas.Bool.{eqb-true, and_parts}
-use Rattle.std.proofs.lemmas.Slice.Eq.{bytes_eq-Decides}
 use Rattle.sealed_wire.specs.Body.{body_bytes}
 use Rattle.sealed_wire.specs.Bytes.{AreBytes}
 use Rattle.sealed_wire.specs.Key.{tag_of}
 use Rattle.sealed_wire.specs.Making.{AreMakings, IsMade, IsUnforged, Making, making_tag}
-use Rattle.sealed_wire.specs.Sealed.{body_of, sealed_at, tag_at}
+use Rattle.sealed_wire.specs.Sealed.{body_of, sealed_at, sealed_bytes, tag_at}
 use Rattle.sealed_wire.specs.declared.head.Head.{Head}
 use Rattle.sealed_wire.specs.declared.head.Kind.TheVariants.{Answer}
 use Rattle.sealed_wire.proofs.BodyLemmas.{AreBytes-take, spelled}
-use Rattle.sealed_wire.proofs.TagLemmas.{takes}
+use Rattle.sealed_wire.proofs.TagLemmas.{spelled_so, takes}
 use Rattle.sealed_wire.proofs.MakingLemmas.{answer_law, made_law}
 use Rattle.replay_window.specs.Window.{with_seen}
-use Rattle.sealed_port.specs.Asked.{AskedRecord, is_of, nonce_in, nonce_of}
-use Rattle.sealed_port.specs.Gate.{GateRecord, SealedLine, asked_of, gate_with, named, opened, with_moment}
+use Rattle.sealed_port.specs.Asked.{AskedRecord, nonce_in}
+use Rattle.sealed_port.specs.Gate.{GateRecord, Sealed, SealedLine, answer_head, answered, asked_of, gate_with, named, opened, with_moment}
 use Rattle.sealed_port.specs.Runs.{Answers, Comes, IsAmong, Step, gate_run, gate_step, line_head, opened_in, opening_of}
-use Rattle.sealed_port.specs.World.{AnswersLine, ComeUnforged, GatesAnswer, HasKey}
+use Rattle.sealed_port.specs.World.{ComeUnforged, GatesAnswer, HasKey, IsAnswered, WasSealed}
 use Rattle.sealed_port.specs.declared.client.Client.{Client}
 use Rattle.sealed_port.proofs.OpenLemmas.{opened_law}
-use Rattle.sealed_port.proofs.RunLemmas.{among_parts, among_run, found_is, named_stays, place_is}
+use Rattle.sealed_port.proofs.RunLemmas.{among_parts, among_run, named_stays, remembered_is, sealed_for}
 
 abbrev present : {A : Type 0} → A → Option A
 present x = Some x
@@ -43,6 +40,25 @@ key_with key client gate address (Some line) h = λ owner e. from (named client 
     from None is e = absurd cc
     from (Some before) is e =
         ap (λ (c : Client). c.key) (sym (some_is _ _ e)) ∙ key_kept (eqb before.number line.client) before line.moment ∙ h before is
+
+key_step : (key : List ℕ) (client : ℕ) (gate : GateRecord) (step : Step) → HasKey key client gate → HasKey key client (gate_step gate step)
+key_step key client gate (Comes now address bytes) h = key_with key client gate address (opened gate now bytes) h
+key_step key client gate (Answers other answer) h = h
+
+key_run : (key : List ℕ) (client : ℕ) (gate : GateRecord) (steps : List Step) → HasKey key client gate → HasKey key client (gate_run gate steps)
+key_run key client gate [] h = h
+key_run key client gate (step ∷ steps) h = key_run key client (gate_step gate step) steps (key_step key client gate step h)
+
+-- ---- a gate's node stays
+
+node_with : (gate : GateRecord) (address : ℕ) (found : Option SealedLine) → (gate_with gate address found).node ≡ gate.node
+node_with gate address None = refl
+node_with gate address (Some line) = refl
+
+node_run : (gate : GateRecord) (steps : List Step) → (gate_run gate steps).node ≡ gate.node
+node_run gate [] = refl
+node_run gate (Comes now address bytes ∷ steps) = node_run (gate_with gate address (opened gate now bytes)) steps ∙ node_with gate address (opened gate now bytes)
+node_run gate (Answers client answer ∷ steps) = node_run (gate_step gate (Answers client answer)) steps
 
 -- ---- a line that was opened was made
 
@@ -116,28 +132,62 @@ opened_is_made key made client gate (Comes now address bytes ∷ steps) line mak
 
 -- ---- the law
 
+-- the head of an answer repeats the line's
+head_repeats : (line : Making) (opening : AskedRecord) (node : ℕ) (head : Head) → head ≡ answer_head node opening → node ≡ line.head.node → opening.client ≡ line.head.client → opening.moment ≡ line.head.moment
+    → head ≡ record line.head { kind = Answer }
+head_repeats line opening node head is of_node of_client of_moment = is ∙ rw (of_node, of_client, of_moment) refl
+
+-- the datagram that is read is what the gate sealed
+bytes_sealed : (key own bytes answer bound tag : List ℕ) (head sealed_head : Head) → bytes ≡ sealed_bytes key bound head answer → own ≡ key → bound ≡ tag → head ≡ sealed_head
+    → sealed_bytes own tag sealed_head answer ≡ bytes
+bytes_sealed key own bytes answer bound tag head sealed_head is same_key same_tag same_head =
+    ap (λ (k : List ℕ). sealed_bytes k tag sealed_head answer) same_key
+    ∙ ap (λ (t : List ℕ). sealed_bytes key t sealed_head answer) (sym same_tag)
+    ∙ ap (λ (h : Head). sealed_bytes key bound h answer) (sym same_head)
+    ∙ sym is
+
+sealed_as : (sealed : Sealed) (address : ℕ) (sealed_to bytes : List ℕ) → sealed ≡ record { address = address; bytes = sealed_to } → sealed_to ≡ bytes → sealed ≡ record { address = address; bytes = bytes }
+sealed_as sealed address sealed_to bytes is same = is ∙ rw same refl
+
 pub world_law : (key bytes answer : List ℕ) (head : Head) (made : List Making) (line : Making) (client : ℕ) → AreBytes bytes → AreMakings key made → IsMade made line
     → GatesAnswer key made client → IsUnforged key made (making_tag key line) bytes → sealed_at key (making_tag key line) bytes ≡ Some (head, answer) → head.kind ≡ Answer
-    → AnswersLine client line head.node answer
+    → IsAnswered line head answer bytes
 world_law key bytes answer head made line client fits makings mine gates unforged read is =
     let a = answer_law key bytes answer head made line fits makings mine unforged read is in
     let w = gates (record { bound = making_tag key line; head = head; text = answer }) a.is_made is in
-    let after = gate_run w.gate w.steps in
-    let here = found_is (is_of client (nonce_of answer)) after.asked w.line (place_is (is_of client (nonce_of answer)) after.asked w.line w.answers) in
-    let parts = and_parts (eqb w.line.client client) (bytes_eq w.line.nonce (nonce_of answer)) here.0 in
-    let of_client : w.line.client ≡ client = eqb-true w.line.client client parts.0 in
-    let among = among_run w.gate w.steps [] (λ x none. let h : IsAmong [] x = subst (λ (l : List AskedRecord). IsAmong l x) w.fresh none in absurd h) w.line here.1 in
-    let m = opened_is_made key made client w.gate w.steps w.line makings w.has_key w.unforged among of_client in
-    let same : m.making ≡ line = a.only m.making m.is_made (m.tag_is ∙ sym w.bound_is) in
-    record {
-      of_client = ap (λ (k : Making). k.head.client) (sym same) ∙ m.client_is ∙ of_client;
-      for_node = ap (λ (k : Making). k.head.node) (sym same) ∙ m.node_is ∙ sym w.node_is;
-      of_nonce = ap (λ (k : Making). nonce_in k.text) (sym same) ∙ m.text_is ∙ (bytes_eq-Decides w.line.nonce (nonce_of answer)).0 parts.1;
-      gate = w.gate;
-      steps = w.steps;
-      opening = w.line;
-      is_opened = among;
-      gate_is = sym w.node_is;
-      line_is = sym m.line_is ∙ ap (λ (k : Making). k.text) same;
-      moment_is = sym m.moment_is ∙ ap (λ (k : Making). k.head.moment) same;
-    }
+    from w a.only
+  where
+    from : WasSealed key made client (record { bound = making_tag key line; head = head; text = answer }) → ((other : Making) → IsMade made other → making_tag key other ≡ making_tag key line → other ≡ line)
+        → IsAnswered line head answer bytes
+    from w only =
+        let after = gate_run w.gate w.steps in
+        let here = remembered_is after client answer w.line w.answers in
+        let among : IsAmong (opened_in w.gate w.steps) w.line =
+        among_run w.gate w.steps [] (λ x none. let h : IsAmong [] x = subst (λ (l : List AskedRecord). IsAmong l x) w.fresh none in absurd h) w.line here.is_there in
+        let m = opened_is_made key made client w.gate w.steps w.line makings w.has_key w.unforged among here.of_client in
+        let bound_is : making_tag key line ≡ w.line.tag = ap (λ (k : Making). k.bound) w.making_is in
+        let head_is : head ≡ answer_head w.gate.node w.line = ap (λ (k : Making). k.head) w.making_is in
+        let same : m.making ≡ line = only m.making m.is_made (m.tag_is ∙ sym bound_is) in
+        let of_client : w.line.client ≡ line.head.client = sym m.client_is ∙ ap (λ (k : Making). k.head.client) same in
+        let of_node : w.gate.node ≡ line.head.node = sym m.node_is ∙ ap (λ (k : Making). k.head.node) same in
+        let moment_is : w.line.moment ≡ line.head.moment = sym m.moment_is ∙ ap (λ (k : Making). k.head.moment) same in
+        let for = sealed_for after client answer w.sealed w.line w.answers w.is_sealed in
+        let own : for.owner.key ≡ key = key_run key client w.gate w.steps w.has_key for.owner (ap (λ (n : ℕ). named n after.clients) (sym here.of_client) ∙ for.is_owner) in
+        let sealed_head : head ≡ answer_head after.node w.line = head_is ∙ ap (λ (n : ℕ). answer_head n w.line) (sym (node_run w.gate w.steps)) in
+        let same_bytes = bytes_sealed key for.owner.key bytes answer (making_tag key line) w.line.tag head (answer_head after.node w.line)
+        (spelled_so key (making_tag key line) bytes answer head fits read) own bound_is sealed_head in
+        let client_is : line.head.client ≡ client = sym of_client ∙ here.of_client in
+        record {
+          gate = w.gate;
+          steps = w.steps;
+          opening = w.line;
+          fresh = w.fresh;
+          of_node = of_node;
+          is_opened = among;
+          of_client = of_client;
+          line_is = sym m.line_is ∙ ap (λ (k : Making). k.text) same;
+          moment_is = moment_is;
+          of_nonce = ap (λ (k : Making). nonce_in k.text) (sym same) ∙ m.text_is ∙ here.of_nonce;
+          sealed_is = ap (λ (n : ℕ). answered after n answer) client_is ∙ w.is_sealed ∙ ap (λ (s : Sealed). Some s) (sealed_as w.sealed w.line.address _ bytes for.sealed_is same_bytes);
+          head_is = head_repeats line w.line w.gate.node head head_is of_node of_client moment_is;
+        }

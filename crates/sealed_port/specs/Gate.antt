@@ -1,11 +1,16 @@
 -- The datagrams that a gate opens, and the answers that it seals.
-use Rattle.std.specs.Prelude.{ℕ, ◌/◌, ◌==◌, ◌&&◌, not, nat_le, Bool, true, false, if◌then◌else◌, List, [], length, map, find, Option, Some, None}
+use Rattle.std.specs.Prelude.{ℕ, ◌/◌, ◌==◌, ◌&&◌, not, nat_le, Bool, true, false, if◌then◌else◌, List, [], length, map, find, Option, Some, None, Result, Ok, Err}
 use Rattle.std.specs.List.{list_any}
-use Rattle.sealed_wire.specs.Sealed.{client_of, sealed_at, sealed_bytes, tag_at}
+use Rattle.std.specs.Result.{result_err, result_ok}
+use Rattle.sealed_wire.specs.Sealed.{head_of, sealed_at, sealed_bytes, tag_at}
 use Rattle.sealed_wire.specs.declared.head.Head.{Head}
 use Rattle.sealed_wire.specs.declared.head.Kind.{Kind}
 use Rattle.sealed_wire.specs.declared.head.Kind.TheVariants.{Line, Answer, Request, Report}
-use Rattle.replay_window.specs.Window.{is_fresh, with_seen}
+use Rattle.replay_window.specs.Window.{is_fresh, refusal_of, with_seen}
+use Rattle.replay_window.specs.declared.refusal.Refusal.{Refusal}
+use Rattle.sealed_port.specs.Causes.{cause_by}
+use Rattle.sealed_port.specs.declared.cause.Cause.{Cause}
+use Rattle.sealed_port.specs.declared.cause.Cause.TheVariants.{Form, Tag, Early}
 use Rattle.sealed_port.specs.Asked.{AskedRecord, clashes, line_at, nonce_in, nonce_of, place_of, remembered, without}
 use Rattle.sealed_port.specs.declared.client.Client.{Client}
 
@@ -37,27 +42,27 @@ is_line Answer = false
 is_line Request = false
 is_line Report = false
 
--- the line for a node in an opened datagram with the given tag
-abbrev pub line_for : ℕ → List ℕ → Option (Head × List ℕ) → Option SealedLine
-line_for node tag None = None
-line_for node tag (Some (head, text)) =
-    if is_line head.kind && (head.node == node)
-    then Some (record { client = head.client; moment = head.moment; tag = tag; line = text })
-    else None
+-- The client whose key the tag of a datagram with the given head must be under. The datagram must be a line for the
+-- gate's node, from a client that the gate knows.
+abbrev pub keeper_of : GateRecord → Option Head → Option Client
+keeper_of gate None = None
+keeper_of gate (Some head) =
+    if is_line head.kind && (head.node == gate.node) then named head.client gate.clients else None
 
--- the line for a node in a datagram under a client's key
-abbrev pub line_under : ℕ → List ℕ → Option Client → Option SealedLine
-line_under node bytes None = None
-line_under node bytes (Some client) = line_for node (tag_at bytes) (sealed_at client.key [] bytes)
+-- the line of an opened datagram with the given tag
+abbrev pub line_of : List ℕ → Option (Head × List ℕ) → Result SealedLine Cause
+line_of tag None = Err Tag
+line_of tag (Some (head, text)) =
+    Ok (record { client = head.client; moment = head.moment; tag = tag; line = text })
 
--- the client that a datagram names
-abbrev pub named_by : List Client → Option ℕ → Option Client
-named_by clients None = None
-named_by clients (Some number) = named number clients
+-- the line of a datagram under a client's key
+abbrev pub line_under : List ℕ → Option Client → Result SealedLine Cause
+line_under bytes None = Err Form
+line_under bytes (Some client) = line_of (tag_at bytes) (sealed_at client.key [] bytes)
 
 -- the line for a gate's node in a datagram, under the key of the client that the datagram names
-abbrev pub sealed_line : GateRecord → List ℕ → Option SealedLine
-sealed_line gate bytes = line_under gate.node bytes (named_by gate.clients (client_of bytes))
+abbrev pub sealed_line : GateRecord → List ℕ → Result SealedLine Cause
+sealed_line gate bytes = line_under bytes (keeper_of gate (head_of bytes))
 
 -- whether a client's window admits a moment
 abbrev pub admits : Option Client → ℕ → ℕ → Bool
@@ -69,16 +74,34 @@ abbrev pub is_admitted : GateRecord → ℕ → SealedLine → Bool
 is_admitted gate now line =
     admits (named line.client gate.clients) now line.moment && not (clashes line.client line.line gate.asked)
 
--- the line, if the gate admits it
-abbrev pub if_admitted : GateRecord → ℕ → Option SealedLine → Option SealedLine
-if_admitted gate now None = None
-if_admitted gate now (Some line) = if is_admitted gate now line then Some line else None
+-- the reason why a client's window refuses a moment, or None
+abbrev pub refusal_in : Option Client → ℕ → ℕ → Option Refusal
+refusal_in None now moment = None
+refusal_in (Some client) now moment = refusal_of client.window now moment
 
--- The line that a gate opens, if the clock tells a second. It is sealed under the key of the client that it names, and
--- for the gate's node. The window of the client admits its moment.
+-- the cause of a line that the gate doesn't admit at a second of the clock
+abbrev pub cause_at : GateRecord → ℕ → SealedLine → Cause
+cause_at gate now line = cause_by (refusal_in (named line.client gate.clients) now line.moment)
+
+-- the ruling on a line: the line if the gate admits it, else the cause; a clock that fails is before all moments
+abbrev pub ruling_on : GateRecord → Option ℕ → Result SealedLine Cause → Result SealedLine Cause
+ruling_on gate now (Err cause) = Err cause
+ruling_on gate None (Ok line) = Err Early
+ruling_on gate (Some now) (Ok line) =
+    if is_admitted gate now line then Ok line else Err (cause_at gate now line)
+
+-- The ruling of a gate on a datagram, with what the clock tells. The gate opens a line that is sealed under the key of
+-- the client that it names, and for the gate's node. The window of the client admits its moment.
+abbrev pub ruling : GateRecord → Option ℕ → List ℕ → Result SealedLine Cause
+ruling gate now bytes = ruling_on gate now (sealed_line gate bytes)
+
+-- the line that a gate opens, or None
 abbrev pub opened : GateRecord → Option ℕ → List ℕ → Option SealedLine
-opened gate None bytes = None
-opened gate (Some now) bytes = if_admitted gate now (sealed_line gate bytes)
+opened gate now bytes = result_ok (ruling gate now bytes)
+
+-- why a gate doesn't open a datagram, or None if it opens it
+abbrev pub cause_of : GateRecord → Option ℕ → List ℕ → Option Cause
+cause_of gate now bytes = result_err (ruling gate now bytes)
 
 -- the client, whose window has seen the moment if the client has the number
 abbrev pub with_moment : ℕ → ℕ → Client → Client

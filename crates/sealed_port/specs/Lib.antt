@@ -1,4 +1,6 @@
 pub mod Asked
+pub mod Causes
+pub mod Examples
 pub mod Gate
 pub mod Port
 pub mod Runs

@@ -1,36 +1,39 @@
--- The datagrams that a gate passes to the node and to its port.
-use Rattle.std.specs.Prelude.{◌≡◌, ◌⊎◌, ℕ, ◌+◌, ◌-◌, ◌^◌, nat_lt, if◌then◌else◌, List, [], ◌∷◌, Option, Some, None}
+-- The datagrams that a gate passes to the node and to its port, and those that it passes over.
+use Rattle.std.specs.Prelude.{◌≡◌, ◌⊎◌, ◌≤◌, ℕ, ◌+◌, ◌-◌, ◌^◌, nat_lt, if◌then◌else◌, List, [], ◌∷◌, ◌++◌, map, length, Option, Some, None}
+use Rattle.std.specs.List.{AllByRecursion}
 use Rattle.datagram_port.specs.Port.{Grows, PortEvent, Received, Quiet, Faulted, Offered}
 use Rattle.datagram_port.specs.declared.port.Received.{Received as Receive}
 use Rattle.datagram_port.specs.declared.port.Received.TheVariants.{Datagram, Quiet as QuietReceive, Fault}
 use Rattle.datagram_port.specs.declared.port.Sender.{Sender}
 use Rattle.datagram_port.specs.declared.port.Sender.TheVariants.{Client, Peer}
-use Rattle.sealed_port.specs.Gate.{GateRecord, Sealed, SealedLine, answered, gate_answered, gate_with, is_plain, opened}
+use Rattle.sealed_port.specs.Causes.{counted}
+use Rattle.sealed_port.specs.Gate.{GateRecord, Sealed, SealedLine, answered, cause_of, gate_answered, gate_with, is_plain, opened}
+use Rattle.sealed_port.specs.declared.cause.Unopened.{Unopened}
 
 -- the number of a client at the node
 abbrev pub node_number : ℕ → ℕ
 node_number client = 2 ^ 48 + client
 
--- The event for an opened line. If nothing was opened, it is an empty datagram of a member that no cluster has, and the
--- node drops it.
-abbrev pub handed_line : Option SealedLine → PortEvent
-handed_line None = Received (Peer 0) []
-handed_line (Some line) = Received (Client (node_number line.client)) line.line
+-- the event for an opened line, or None if nothing was opened
+abbrev pub handed_line : Option SealedLine → Option PortEvent
+handed_line None = None
+handed_line (Some line) = Some (Received (Client (node_number line.client)) line.line)
 
 -- the event for a client's datagram
-abbrev pub handed_client : GateRecord → Option ℕ → ℕ → List ℕ → PortEvent
+abbrev pub handed_client : GateRecord → Option ℕ → ℕ → List ℕ → Option PortEvent
 handed_client gate now address bytes =
-    if is_plain gate address then Received (Client address) bytes else handed_line (opened gate now bytes)
+    if is_plain gate address then Some (Received (Client address) bytes) else handed_line (opened gate now bytes)
 
--- the event for a receive, at the clock's second
-abbrev pub handed_in : GateRecord → Option ℕ → PortEvent → PortEvent
+-- The event that a gate hands in for an event of the port below, with what the clock told. None: the gate passes over
+-- it. That is so exactly for a datagram that it doesn't open, of a client that must not speak plainly.
+abbrev pub handed_in : GateRecord → Option ℕ → PortEvent → Option PortEvent
 handed_in gate now (Received (Client address) bytes) = handed_client gate now address bytes
-handed_in gate now (Received (Peer number) bytes) = Received (Peer number) bytes
-handed_in gate now Quiet = Quiet
-handed_in gate now Faulted = Faulted
-handed_in gate now (Offered to bytes) = Offered to bytes
+handed_in gate now (Received (Peer number) bytes) = Some (Received (Peer number) bytes)
+handed_in gate now Quiet = Some Quiet
+handed_in gate now Faulted = Some Faulted
+handed_in gate now (Offered to bytes) = Some (Offered to bytes)
 
--- the gate after a receive
+-- the gate after an event of the port below
 abbrev pub gate_after : GateRecord → Option ℕ → PortEvent → GateRecord
 gate_after gate now (Received (Client address) bytes) =
     if is_plain gate address then gate else gate_with gate address (opened gate now bytes)
@@ -38,6 +41,23 @@ gate_after gate now (Received (Peer number) bytes) = gate
 gate_after gate now Quiet = gate
 gate_after gate now Faulted = gate
 gate_after gate now (Offered to bytes) = gate
+
+-- what the clock tells for an event: the gate asks it once for a client that must not speak plainly, else not at all
+abbrev pub told_for : GateRecord → Option ℕ → PortEvent → List (Option ℕ)
+told_for gate now (Received (Client address) bytes) = if is_plain gate address then [] else now ∷ []
+told_for gate now (Received (Peer number) bytes) = []
+told_for gate now Quiet = []
+told_for gate now Faulted = []
+told_for gate now (Offered to bytes) = []
+
+-- the numbers of unopened datagrams after an event; a datagram that the gate opens has no cause
+abbrev pub counted_after : GateRecord → Unopened → Option ℕ → PortEvent → Unopened
+counted_after gate unopened now (Received (Client address) bytes) =
+    if is_plain gate address then unopened else counted unopened (cause_of gate now bytes)
+counted_after gate unopened now (Received (Peer number) bytes) = unopened
+counted_after gate unopened now Quiet = unopened
+counted_after gate unopened now Faulted = unopened
+counted_after gate unopened now (Offered to bytes) = unopened
 
 -- the offer of a sealed answer
 abbrev pub offer_of : Option Sealed → List PortEvent
@@ -67,23 +87,75 @@ sealed_from gate (Datagram (Peer number) len) = None
 sealed_from gate QuietReceive = None
 sealed_from gate Fault = None
 
--- the clock was asked once and told `now`, or it was not asked
-abbrev pub Asks : List (Option ℕ) → Option ℕ → Type 0
-Asks told now = (told ≡ now ∷ []) ⊎ ((told ≡ []) × (now ≡ None))
+-- ---- what is passed over
 
--- A gate's handling of a receive: it asks the clock at most once, and passes on what `handed_in` defines.
-pub record TakesIn (old_clock new_clock : Option (List (Option ℕ))) (old new : GateRecord)
-    (received handed : PortEvent) : Type 0 where
-  pub told : List (Option ℕ)
+-- a client's datagram that a gate passed over, with what the clock told when it came
+pub record Passed : Type 0 where
   pub now : Option ℕ
-  pub asks : Asks told now
-  pub clock : Grows old_clock new_clock told
+  pub address : ℕ
+  pub bytes : List ℕ
+
+-- its event at the port below
+abbrev pub event_of_passed : Passed → PortEvent
+event_of_passed passed = Received (Client passed.address) passed.bytes
+
+-- a gate passes over each of the datagrams
+abbrev pub ArePassedOver : GateRecord → List Passed → Type 0
+ArePassedOver gate passed = AllByRecursion (λ one. handed_in gate one.now (event_of_passed one) ≡ None) passed
+
+-- the numbers of unopened datagrams after a gate passed over some
+abbrev pub counted_over : GateRecord → Unopened → List Passed → Unopened
+counted_over gate unopened [] = unopened
+counted_over gate unopened (one ∷ passed) =
+    counted_over gate (counted unopened (cause_of gate one.now one.bytes)) passed
+
+-- A gate's handling of one event of the port below. It asks the clock as `told_for` says, hands in what `handed_in`
+-- says, and is then the gate of `gate_after`. It counts a datagram that it passes over.
+pub record TakesIn (old_clock new_clock : Option (List (Option ℕ))) (old new : GateRecord) (before after : Unopened)
+    (received : PortEvent) (handed : Option PortEvent) : Type 0 where
+  pub now : Option ℕ
+  pub clock : Grows old_clock new_clock (told_for old now received)
   pub handed_is : handed ≡ handed_in old now received
   pub gate_is : new ≡ gate_after old now received
+  pub counts : after ≡ counted_after old before now received
 
--- A receive over a gate: its port received one event, and the gate handled it.
+-- Datagrams that a gate passed over, a given number of them. The port below received them, and the clock told a moment
+-- for each. The gate stays as it is.
+pub record PassesOver (old_port new_port : Option (List PortEvent)) (old_clock new_clock : Option (List (Option ℕ)))
+    (old new : GateRecord) (before after : Unopened) (number : ℕ) : Type 0 where
+  pub passed : List Passed
+  pub are_passed_over : ArePassedOver old passed
+  pub many : length passed ≡ number
+  pub port : Grows old_port new_port (map event_of_passed passed)
+  pub clock : Grows old_clock new_clock (map (λ one. one.now) passed)
+  pub gate_is : new ≡ old
+  pub counts : after ≡ counted_over old before passed
+
+-- A receive or a poll over a gate. The port below received the datagrams that the gate passed over, and then one event
+-- that the gate handed in.
 pub record Opens (old_port new_port : Option (List PortEvent)) (old_clock new_clock : Option (List (Option ℕ)))
-    (old new : GateRecord) (handed : PortEvent) : Type 0 where
+    (old new : GateRecord) (before after : Unopened) (handed : PortEvent) : Type 0 where
+  pub passed : List Passed
+  pub are_passed_over : ArePassedOver old passed
   pub received : PortEvent
-  pub port : Grows old_port new_port (received ∷ [])
-  pub takes : TakesIn old_clock new_clock old new received handed
+  pub now : Option ℕ
+  pub port : Grows old_port new_port (map event_of_passed passed ++ received ∷ [])
+  pub clock : Grows old_clock new_clock (map (λ one. one.now) passed ++ told_for old now received)
+  pub handed_is : handed_in old now received ≡ Some handed
+  pub gate_is : new ≡ gate_after old now received
+  pub counts : after ≡ counted_over old before passed
+
+-- A receive over a gate: it hands in an event, or it is quiet after it passed over its maximum of 2^64 - 1 datagrams.
+abbrev pub Receives : Option (List PortEvent) → Option (List PortEvent) → Option (List (Option ℕ))
+    → Option (List (Option ℕ)) → GateRecord → GateRecord → Unopened → Unopened → PortEvent → Type 0
+Receives old_port new_port old_clock new_clock old new before after handed =
+    Opens old_port new_port old_clock new_clock old new before after handed
+    ⊎ (PassesOver old_port new_port old_clock new_clock old new before after (2 ^ 64 - 1) × (handed ≡ Quiet))
+
+-- a poll over a gate: it hands in an event, or finds nothing after it passed over at most 64 datagrams
+abbrev pub Polls : Option (List PortEvent) → Option (List PortEvent) → Option (List (Option ℕ))
+    → Option (List (Option ℕ)) → GateRecord → GateRecord → Unopened → Unopened → Option PortEvent → Type 0
+Polls old_port new_port old_clock new_clock old new before after None =
+    (number : ℕ) × (number ≤ 64) × PassesOver old_port new_port old_clock new_clock old new before after number
+Polls old_port new_port old_clock new_clock old new before after (Some handed) =
+    Opens old_port new_port old_clock new_clock old new before after handed

@@ -1,5 +1,7 @@
 -- The lines that a gate opens and the answers that it seals in an execution.
-use Rattle.std.specs.Prelude.{◌≡◌, ◌⊎◌, true, ℕ, ◌==◌, ◌&&◌, Bool, List, [], ◌∷◌, ◌++◌, Option, Some, None}
+use Rattle.std.specs.Prelude.{◌≡◌, ◌⊎◌, ◌≤◌, true, ℕ, ◌==◌, ◌&&◌, Bool, List, [], ◌∷◌, ◌++◌, Option, Some, None}
+use Rattle.std.specs.List.{AllByRecursion}
+use Rattle.replay_window.specs.Window.{last_at}
 use Rattle.sealed_wire.specs.Sealed.{sealed_at, sealed_bytes, tag_at}
 use Rattle.sealed_wire.specs.declared.head.Head.{Head}
 use Rattle.sealed_wire.specs.declared.head.Kind.TheVariants.{Line}
@@ -36,6 +38,35 @@ opened_by gate (Answers client answer) = []
 abbrev pub opened_in : GateRecord → List Step → List AskedRecord
 opened_in gate [] = []
 opened_in gate (step ∷ steps) = opened_by gate step ++ opened_in (gate_step gate step) steps
+
+-- an incarnation of a gate's process: the gate at its start, and the steps
+pub record GateLife : Type 0 where
+  pub gate : GateRecord
+  pub steps : List Step
+
+-- the lines that the incarnations open, in order
+abbrev pub opened_over : List GateLife → List AskedRecord
+opened_over [] = []
+opened_over (life ∷ lives) = opened_in life.gate life.steps ++ opened_over lives
+
+-- the clock told the second for a datagram of the steps
+abbrev pub WasTold : ℕ → List Step → Type 0
+WasTold second [] = ⊥
+WasTold second (Comes now address bytes ∷ steps) = (now ≡ Some second) ⊎ WasTold second steps
+WasTold second (Answers client answer ∷ steps) = WasTold second steps
+
+-- An incarnation of a gate is before a later one. For each client of both, the later window's first mark is at or above
+-- every moment that the earlier window could admit.
+abbrev pub IsGateBefore : GateLife → GateLife → Type 0
+IsGateBefore life later =
+    (number second : ℕ) (client next : Client) → WasTold second life.steps →
+    named number life.gate.clients ≡ Some client → named number later.gate.clients ≡ Some next →
+    last_at second client.window.ahead ≤ next.window.low
+
+-- every incarnation is before all later ones
+abbrev pub AreGatesInOrder : List GateLife → Type 0
+AreGatesInOrder [] = Unit {0}
+AreGatesInOrder (life ∷ lives) = AllByRecursion (IsGateBefore life) lives × AreGatesInOrder lives
 
 -- two lines of the same client and moment
 abbrev pub is_same : AskedRecord → AskedRecord → Bool

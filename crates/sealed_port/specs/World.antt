@@ -2,9 +2,10 @@
 use Rattle.std.specs.Prelude.{◌≡◌, ℕ, List, [], ◌∷◌, Option, Some}
 use Rattle.sealed_wire.specs.Bytes.{AreBytes}
 use Rattle.sealed_wire.specs.Making.{IsMade, IsUnforged, Making}
+use Rattle.sealed_wire.specs.declared.head.Head.{Head}
 use Rattle.sealed_wire.specs.declared.head.Kind.TheVariants.{Answer}
 use Rattle.sealed_port.specs.Asked.{AskedRecord, line_at, nonce_in, nonce_of}
-use Rattle.sealed_port.specs.Gate.{GateRecord, answered_place, named}
+use Rattle.sealed_port.specs.Gate.{GateRecord, Sealed, answer_head, answered, answered_place, named}
 use Rattle.sealed_port.specs.Runs.{IsAmong, Step, Comes, Answers, gate_run, opened_in}
 use Rattle.sealed_port.specs.declared.client.Client.{Client}
 
@@ -23,34 +24,44 @@ ComeUnforged key made (Comes now address bytes ∷ steps) =
     AreBytes bytes × IsUnforged key made [] bytes × ComeUnforged key made steps
 ComeUnforged key made (Answers client answer ∷ steps) = ComeUnforged key made steps
 
+-- the making of a gate's sealed answer to a line
+abbrev pub sealing : ℕ → AskedRecord → List ℕ → Making
+sealing node line answer = record { bound = line.tag; head = answer_head node line; text = answer }
+
 -- The gate of a node sealed the answer for a client. At its start it remembered no line. The client has the key at the
--- gate, and no datagram was forged. After the steps the answer answers a remembered line, and is bound to its tag.
+-- gate, and no datagram was forged. After the steps the gate sealed the node's answer to a remembered line.
 pub record WasSealed (key : List ℕ) (made : List Making) (client : ℕ) (making : Making) : Type 0 where
   pub gate : GateRecord
   pub steps : List Step
   pub line : AskedRecord
+  pub sealed : Sealed
   pub fresh : gate.asked ≡ []
   pub has_key : HasKey key client gate
   pub unforged : ComeUnforged key made steps
   pub answers : answered_line (gate_run gate steps) client making.text ≡ Some line
-  pub bound_is : making.bound ≡ line.tag
-  pub node_is : making.head.node ≡ gate.node
+  pub is_sealed : answered (gate_run gate steps) client making.text ≡ Some sealed
+  pub making_is : making ≡ sealing gate.node line making.text
 
 -- gates sealed all answers that were made under the key
 abbrev pub GatesAnswer : List ℕ → List Making → ℕ → Type 0
 GatesAnswer key made client =
     (making : Making) → IsMade made making → making.head.kind ≡ Answer → WasSealed key made client making
 
--- An answer is to a client's line. The gate of the line's node opened exactly the line, at its moment. The node's
--- answer has the line's nonce.
-pub record AnswersLine (client : ℕ) (line : Making) (node : ℕ) (answer : List ℕ) : Type 0 where
-  pub of_client : line.head.client ≡ client
-  pub for_node : line.head.node ≡ node
-  pub of_nonce : nonce_in line.text ≡ nonce_of answer
+-- A datagram is the node's answer to a client's line. In one run, which began without a remembered line, the gate of
+-- the line's node opened exactly the line at its moment, and then sealed the datagram. The datagram is the node's answer
+-- to the line's client, with the line's nonce. It goes to the address that the line came from. Its head repeats the
+-- line's.
+pub record IsAnswered (line : Making) (head : Head) (answer bytes : List ℕ) : Type 0 where
   pub gate : GateRecord
   pub steps : List Step
   pub opening : AskedRecord
+  pub fresh : gate.asked ≡ []
+  pub of_node : gate.node ≡ line.head.node
   pub is_opened : IsAmong (opened_in gate steps) opening
-  pub gate_is : gate.node ≡ node
+  pub of_client : opening.client ≡ line.head.client
   pub line_is : opening.line ≡ line.text
   pub moment_is : opening.moment ≡ line.head.moment
+  pub of_nonce : nonce_in line.text ≡ nonce_of answer
+  pub sealed_is : answered (gate_run gate steps) line.head.client answer
+      ≡ Some (record { address = opening.address; bytes = bytes })
+  pub head_is : head ≡ record line.head { kind = Answer }

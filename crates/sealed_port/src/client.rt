@@ -1,10 +1,12 @@
 //! A client that shares a key with the nodes.
 
 ghost use Rattle.std.specs.Prelude.{◌≡◌, ◌==◌, ◌<◌, ◌^◌};
-ghost use Rattle.replay_window.specs.Window.{is_fresh, window_from};
+ghost use Rattle.replay_window.specs.Window.{is_fresh, refusal_of, window_from};
+ghost use Rattle.sealed_port.specs.Causes.{cause_by};
 ghost use Rattle.sealed_port.specs.Gate.{with_moment};
 
-use replay_window::Window;
+use crate::cause::Cause;
+use replay_window::{Ahead, Refusal, Window};
 use sealed_wire::ClientKey;
 
 /// A client that shares a key with the nodes, and the window of its admitted moments.
@@ -17,14 +19,16 @@ pub struct Client {
 
 impl Client {
     /// Returns a client with a number and a key, for a process that begins at the second `start` of the clock.
-    pub fn new(number: u16, key: ClientKey, start: u64) -> Self
+    ///
+    /// Its window admits no moment that is more than `ahead` ahead of the clock.
+    pub fn new(number: u16, key: ClientKey, ahead: Ahead, start: u64) -> Self
         requires { start < 2 ^ 40 }
-        ensures { result ≡ record { number = number; key = key; window = window_from start } }
+        ensures { result ≡ record { number = number; key = key; window = window_from start ahead } }
     {
         Client {
             number,
             key,
-            window: Window::new(start),
+            window: Window::new(start, ahead),
         }
     }
 
@@ -40,6 +44,17 @@ impl Client {
         ensures { result ≡ is_fresh self.now.window now moment }
     {
         self.window.is_fresh(now, moment)
+    }
+
+    /// Returns the cause of a line with a moment, if the gate doesn't admit the line.
+    pub(crate) fn cause_at(&self, now: u64, moment: u64) -> Cause
+        ensures { result ≡ cause_by (refusal_of self.now.window now moment) }
+    {
+        match self.window.refusal_of(now, moment) {
+            Some(Refusal::Early) => Cause::Early,
+            Some(Refusal::Late) => Cause::Late,
+            Some(Refusal::Again) | None => Cause::Again,
+        }
     }
 
     /// Adds a moment to the client's window, if the client has the number `number`.

@@ -1,15 +1,17 @@
 //! A gate, which opens datagrams and seals answers.
 
 ghost use Rattle.std.specs.Option.{option_map};
-ghost use Rattle.std.specs.Prelude.{◌≡◌, ◌≤◌, ◌==◌, ◌/◌, [], length, map, find, nat_le, if◌then◌else◌, IfSome, Some, None};
+ghost use Rattle.std.specs.Prelude.{◌≡◌, ◌≤◌, ◌==◌, ◌/◌, [], length, map, find, nat_le, if◌then◌else◌, IfOk, IfSome, Some, None};
 ghost use Rattle.std.specs.List.{list_any};
-ghost use Rattle.sealed_wire.specs.Sealed.{client_of, tag_at};
-ghost use Rattle.sealed_port.specs.Gate.{admits, answer_to, answered, gate_answered, gate_with, is_admitted, is_line, is_plain, named, named_by, opened, sealed_line, with_moment};
+ghost use Rattle.std.specs.Result.{result_err, result_map_both, result_ok};
+ghost use Rattle.sealed_wire.specs.Sealed.{head_of, tag_at};
+ghost use Rattle.sealed_port.specs.Gate.{admits, answer_to, answered, cause_at, cause_of, gate_answered, gate_with, is_admitted, is_line, is_plain, keeper_of, named, opened, ruling, sealed_line, with_moment};
 
 use crate::asked::{Asked, AskedLines};
+use crate::cause::Cause;
 use crate::client::Client;
 use arrayvec::ArrayVec;
-use sealed_wire::{Head, Kind, MAX_SEALED_LEN, MAX_TEXT_LEN, TAG_LEN, client_of, open, seal};
+use sealed_wire::{Head, Kind, MAX_SEALED_LEN, MAX_TEXT_LEN, TAG_LEN, head_of, open, seal};
 use std::marker::Model;
 
 /// The maximum number of clients that share keys with the nodes.
@@ -115,19 +117,39 @@ impl Gate {
         self.plain.iter().any(|plain| u64::from(*plain) == ip)
     }
 
-    /// Returns the line for the node in a datagram, under the key of the client that the datagram names, or None.
-    fn sealed_line<'a>(&self, bytes: &'a [u8]) -> Option<SealedLine<'a>>
-        ensures len { IfSome result (λ line. length line.line.now ≤ 256) }
-        ensures line { option_map
-            (λ line. record { client = line.client; moment = line.moment; tag = line.tag; line = line.line.now }) result
-            ≡ sealed_line self.now bytes.now }
+    /// Returns the client whose key the tag of a datagram must be under, or None.
+    ///
+    /// None says that the datagram is no sealed line for the node from a client that the gate knows.
+    fn keeper_of(&self, bytes: &[u8]) -> Option<&Client>
+        ensures keeper { option_map (λ client. client.now) result ≡ keeper_of self.now (head_of bytes.now) }
+        ensures len { IfSome result (λ client. 47 ≤ length bytes.now) }
     {
-        let client = named(&self.clients, client_of(bytes)?)?;
-        let (head, line) = open(&client.key, &[], bytes)?;
+        let head = head_of(bytes)?;
         if !is_line(head.kind) || head.node != self.node {
             return None;
         }
-        Some(SealedLine {
+        named(&self.clients, head.client)
+    }
+
+    /// Returns the line for the node in a datagram, under the key of the client that the datagram names.
+    ///
+    /// # Errors
+    ///
+    /// - Returns `Form` if the datagram is no sealed line for the node from a client that the gate knows.
+    /// - Returns `Tag` if the tag is wrong.
+    fn sealed_line<'a>(&self, bytes: &'a [u8]) -> Result<SealedLine<'a>, Cause>
+        ensures len { IfOk result (λ line. length line.line.now ≤ 256) }
+        ensures line { result_map_both
+            (λ line. record { client = line.client; moment = line.moment; tag = line.tag; line = line.line.now })
+            (λ cause. cause) result ≡ sealed_line self.now bytes.now }
+    {
+        let Some(client) = self.keeper_of(bytes) else {
+            return Err(Cause::Form);
+        };
+        let Some((head, line)) = open(&client.key, &[], bytes) else {
+            return Err(Cause::Tag);
+        };
+        Ok(SealedLine {
             client: head.client,
             moment: head.moment,
             tag: tag_at(bytes),
@@ -152,28 +174,50 @@ impl Gate {
         }
     }
 
-    /// Opens a datagram from an address, if the clock tells a second. Returns its line, or None if the gate doesn't
-    /// admit it.
+    /// Returns the cause of a line that the gate doesn't admit at the second `now` of the clock.
+    fn cause_at(&self, now: u64, line: &SealedLine<'_>) -> Cause
+        ensures { result ≡ cause_at self.now now (record {
+          client = line.now.client;
+          moment = line.now.moment;
+          tag = line.now.tag;
+          line = line.now.line.now;
+        }) }
+    {
+        match named(&self.clients, line.client) {
+            Some(client) => client.cause_at(now, line.moment),
+            None => Cause::Again,
+        }
+    }
+
+    /// Opens a datagram from an address at the second `now` of the clock, which is None if the clock fails. Returns its
+    /// line.
+    ///
+    /// # Errors
+    ///
+    /// Returns the cause if the gate doesn't open the datagram. The gate stays as it is.
     pub fn open<'a>(
         &mut self,
         now: Option<u64>,
         address: u64,
         bytes: &'a [u8],
-    ) -> Option<SealedLine<'a>>
+    ) -> Result<SealedLine<'a>, Cause>
         ensures opened { option_map
-            (λ line. record { client = line.client; moment = line.moment; tag = line.tag; line = line.line.now }) result
-            ≡ opened self.old now bytes.now }
+            (λ line. record { client = line.client; moment = line.moment; tag = line.tag; line = line.line.now })
+            (result_ok result) ≡ opened self.old now bytes.now }
+        ensures cause { result_err result ≡ cause_of self.old now bytes.now }
         ensures gate { self.new ≡ gate_with self.old address (opened self.old now bytes.now) }
-        ensures len { IfSome result (λ line. length line.line.now ≤ 256) }
+        ensures len { IfOk result (λ line. length line.line.now ≤ 256) }
     {
-        let now = now?;
         let line = self.sealed_line(bytes)?;
+        let Some(now) = now else {
+            return Err(Cause::Early);
+        };
         if !self.is_admitted(now, &line) {
-            return None;
+            return Err(self.cause_at(now, &line));
         }
         see(&mut self.clients, line.client, line.moment);
         self.asked.add(Asked::new(line.client, line.line, address, line.moment, line.tag));
-        Some(line)
+        Ok(line)
     }
 
     /// Seals an answer of the node to a client, and forgets the client's line.

@@ -1,45 +1,48 @@
 //! A node's port that opens lines and seals answers.
 
 ghost use Rattle.std.specs.Option.{option_map};
-ghost use Rattle.std.specs.Prelude.{◌≡◌, ◌≤◌, ◌∷◌, [], ◌≢◌, ℕ, Option, Some, None, IfSome, IfNone, length, take};
-ghost use Rattle.datagram_port.specs.Port.{Grows, IsWithin, Offered, PortEvent, entries_of_poll, event_of_receive};
+ghost use Rattle.std.specs.Prelude.{◌≡◌, ◌≤◌, ◌∷◌, [], ◌≢◌, ℕ, Option, Some, None, IfSome, length, take};
+ghost use Rattle.datagram_port.specs.Port.{Grows, IsWithin, Offered, Received as ReceivedEvent, entries_of_poll, event_of_receive};
 ghost use Rattle.datagram_port.specs.declared.port.Received.TheVariants.{Quiet};
-ghost use Rattle.sealed_port.specs.Gate.{gate_with, opened};
-ghost use Rattle.sealed_port.specs.Port.{Opens, TakesIn, gate_offered, handed_line, offered, sealed_from};
+ghost use Rattle.datagram_port.specs.declared.port.Sender.TheVariants.{Client};
+ghost use Rattle.sealed_port.specs.Causes.{counted, nothing};
+ghost use Rattle.sealed_port.specs.Gate.{cause_of, gate_with, opened};
+ghost use Rattle.sealed_port.specs.Port.{Polls, Receives, TakesIn, gate_offered, handed_line, node_number, offered, sealed_from};
 
+use crate::cause::Unopened;
 use crate::gate::{Gate, SealedLine};
+use crate::record::Record;
 use datagram_port::{Clock, Port, Received, Sender};
 
 /// The first number that the node uses for clients that share keys with it.
 const SEALED_CLIENTS: u64 = 1 << 48;
 
-/// The result for a datagram that the gate doesn't open: an empty datagram of a member that no cluster has.
-const NOTHING: Received = Received::Datagram {
-    sender: Sender::Peer(0),
-    len: 0,
-};
+/// The maximum number of datagrams that a receive passes over. The port below is quiet long before.
+const MAX_PASSED_OVER: u64 = u64::MAX;
 
-/// A node's port over another one, with a gate between them.
+/// The maximum number of datagrams that a poll passes over.
+const MAX_POLLED_OVER: u8 = 64;
+
+/// A node's port over another one, with a gate between them. It keeps a record of the events that it handed in and of
+/// the node's offers.
 #[derive(Drop)]
 pub struct SealedPort<P: Port + Drop, C: Clock + Drop> {
     /// The port below. Tests read what it was offered.
     pub(crate) port: P,
     clock: C,
     gate: Gate,
+    unopened: Unopened,
+    calls: Record,
 }
 
 /// Copies an opened line to the beginning of the buffer, and returns the result of the receive.
-fn hand_in(opened: Option<SealedLine<'_>>, buffer: &mut [u8; 512]) -> Received
-    requires { IfSome opened (λ line. length line.line.now ≤ 256) }
+fn hand_in(opened: SealedLine<'_>, buffer: &mut [u8; 512]) -> Received
+    requires { length opened.line.now ≤ 256 }
     ensures within { IsWithin result }
     ensures datagram { result ≢ Quiet }
-    ensures handed { event_of_receive result buffer.new ≡ handed_line (option_map
-        (λ line. record { client = line.client; moment = line.moment; tag = line.tag; line = line.line.now })
-        opened.entry) }
+    ensures handed { event_of_receive result buffer.new
+        ≡ ReceivedEvent (Client (node_number opened.entry.client)) opened.entry.line.now }
 {
-    let Some(opened) = opened else {
-        return NOTHING;
-    };
     let len = opened.line.len();
     buffer[..len].copy_from_slice(opened.line);
     Received::Datagram {
@@ -71,76 +74,115 @@ fn sealed_from(gate: &Gate, received: Received) -> Option<(u64, usize)>
 impl<P: Port + Drop, C: Clock + Drop> SealedPort<P, C> {
     /// Returns a port over `port` with a gate, which asks `clock`.
     pub fn new(port: P, clock: C, gate: Gate) -> Self
-        ensures { result ≡ record { port = port; clock = clock; gate = gate } }
+        ensures parts { (result.port ≡ port) × (result.clock ≡ clock) × (result.gate ≡ gate) }
+        ensures numbers { result.unopened ≡ nothing }
+        ensures events { result.calls.events ≡ [] }
     {
-        SealedPort { port, clock, gate }
-    }
-
-    /// Opens a datagram from a client that must not speak plainly, and returns the result of the receive.
-    fn open(&mut self, address: u64, len: usize, buffer: &mut [u8; 512]) -> Received
-        requires { len ≤ 512 }
-        ensures within { IsWithin result }
-        ensures datagram { result ≢ Quiet }
-        ensures port { self.new.port ≡ self.old.port }
-        ensures takes { (now : Option ℕ) × Grows (C.moments self.old.clock) (C.moments self.new.clock) (now ∷ [])
-            × (event_of_receive result buffer.new ≡ handed_line (opened self.old.gate now (take len buffer.old)))
-            × (self.new.gate ≡ gate_with self.old.gate address (opened self.old.gate now (take len buffer.old))) }
-    {
-        let now = self.clock.moment();
-        let datagram = *buffer;
-        hand_in(self.gate.open(now, address, &datagram[..len]), buffer)
-    }
-
-    /// Handles a receive, and returns its result for the node.
-    #[tactic(auto, using(crate::proofs::PortLemmas::kept, crate::proofs::PortLemmas::taken))]
-    fn take(&mut self, received: Received, buffer: &mut [u8; 512]) -> Received
-        requires { IsWithin received }
-        ensures within { IsWithin result }
-        ensures port { self.new.port ≡ self.old.port }
-        ensures quiet { result ≡ Quiet → received ≡ Quiet }
-        ensures takes { TakesIn (C.moments self.old.clock) (C.moments self.new.clock) self.old.gate self.new.gate
-            (event_of_receive received buffer.old) (event_of_receive result buffer.new) }
-    {
-        let Some((address, len)) = sealed_from(&self.gate, received) else {
-            return received;
-        };
-        self.open(address, len, buffer)
-    }
-}
-
-impl<P: Port + Drop, C: Clock + Drop> Port for SealedPort<P, C> {
-    ghost events = { λ _. None };
-
-    fn receive(&mut self, buffer: &mut [u8; 512]) -> Received
-        ensures within { IsWithin result }
-        ensures event { Grows {A = PortEvent} None None (event_of_receive result buffer.new ∷ []) }
-        ensures opens { Opens (P.events self.old.port) (P.events self.new.port) (C.moments self.old.clock)
-            (C.moments self.new.clock) self.old.gate self.new.gate (event_of_receive result buffer.new) }
-    {
-        let received = self.port.receive(buffer);
-        self.take(received, buffer)
-    }
-
-    fn poll(&mut self, buffer: &mut [u8; 512]) -> Option<Received>
-        ensures within { IfSome result IsWithin }
-        ensures waits { result ≢ Some Quiet }
-        ensures event { Grows {A = PortEvent} None None (entries_of_poll result buffer.new) }
-        ensures opens { IfSome result (λ received. Opens (P.events self.old.port) (P.events self.new.port)
-            (C.moments self.old.clock) (C.moments self.new.clock) self.old.gate self.new.gate
-            (event_of_receive received buffer.new)) }
-        ensures nothing { IfNone result (Grows (P.events self.old.port) (P.events self.new.port) []
-            × (self.new.gate ≡ self.old.gate)) }
-    {
-        match self.port.poll(buffer) {
-            Some(received) => Some(self.take(received, buffer)),
-            None => None,
+        SealedPort {
+            port,
+            clock,
+            gate,
+            unopened: Unopened::new(),
+            calls: Record::new(),
         }
     }
 
-    fn send(&mut self, to: Sender, bytes: &[u8]) -> bool
-        ensures event { Grows {A = PortEvent} None None (Offered to bytes.now ∷ []) }
+    /// Returns the numbers of datagrams that the gate didn't open since the last call, and sets them to zero.
+    pub fn take_unopened(&mut self) -> Unopened
+        ensures numbers { result ≡ self.old.unopened }
+        ensures port { self.new ≡ record self.old { unopened = nothing } }
+    {
+        let unopened = self.unopened;
+        self.unopened = Unopened::new();
+        unopened
+    }
+
+    /// Opens a datagram from a client that must not speak plainly. Returns the result of the receive, or None if the
+    /// gate doesn't open it.
+    fn open(&mut self, address: u64, len: usize, buffer: &mut [u8; 512]) -> Option<Received>
+        requires { len ≤ 512 }
+        ensures within { IfSome result IsWithin }
+        ensures datagram { result ≢ Some Quiet }
+        ensures same { (self.new.port ≡ self.old.port) × (self.new.calls ≡ self.old.calls) }
+        ensures takes { (now : Option ℕ) × Grows (C.moments self.old.clock) (C.moments self.new.clock) (now ∷ [])
+            × (option_map (λ received. event_of_receive received buffer.new) result
+            ≡ handed_line (opened self.old.gate now (take len buffer.old)))
+            × (self.new.gate ≡ gate_with self.old.gate address (opened self.old.gate now (take len buffer.old)))
+            × (self.new.unopened
+            ≡ counted self.old.unopened (cause_of self.old.gate now (take len buffer.old))) }
+    {
+        let now = self.clock.moment();
+        let datagram = *buffer;
+        match self.gate.open(now, address, &datagram[..len]) {
+            Ok(line) => Some(hand_in(line, buffer)),
+            Err(cause) => {
+                self.unopened.count(cause);
+                None
+            }
+        }
+    }
+
+    /// Handles a receive of the port below. Returns its result for the node, or None if the gate passes over it.
+    #[tactic(auto, using(crate::proofs::PortLemmas::kept, crate::proofs::PortLemmas::taken))]
+    fn take(&mut self, received: Received, buffer: &mut [u8; 512]) -> Option<Received>
+        requires { IsWithin received }
+        ensures within { IfSome result IsWithin }
+        ensures same { (self.new.port ≡ self.old.port) × (self.new.calls ≡ self.old.calls) }
+        ensures quiet { result ≡ Some Quiet → received ≡ Quiet }
+        ensures takes { TakesIn (C.moments self.old.clock) (C.moments self.new.clock) self.old.gate self.new.gate
+            self.old.unopened self.new.unopened (event_of_receive received buffer.old)
+            (option_map (λ handed. event_of_receive handed buffer.new) result) }
+    {
+        let Some((address, len)) = sealed_from(&self.gate, received) else {
+            return Some(received);
+        };
+        self.open(address, len, buffer)
+    }
+
+    /// Receives until the gate passes over no event, and returns the result for the node.
+    fn receive_opened(&mut self, buffer: &mut [u8; 512]) -> Received
+        ensures within { IsWithin result }
+        ensures calls { self.new.calls ≡ self.old.calls }
+        ensures receives { Receives (P.events self.old.port) (P.events self.new.port) (C.moments self.old.clock)
+            (C.moments self.new.clock) self.old.gate self.new.gate self.old.unopened self.new.unopened
+            (event_of_receive result buffer.new) }
+    {
+        for _ in 0..MAX_PASSED_OVER {
+            let received = self.port.receive(buffer);
+            match self.take(received, buffer) {
+                Some(handed) => return handed,
+                None => {}
+            }
+        }
+        Received::Quiet
+    }
+
+    /// Polls until the gate passes over no event, and returns the result for the node.
+    fn poll_opened(&mut self, buffer: &mut [u8; 512]) -> Option<Received>
+        ensures within { IfSome result IsWithin }
+        ensures waits { result ≢ Some Quiet }
+        ensures calls { self.new.calls ≡ self.old.calls }
+        ensures polls { Polls (P.events self.old.port) (P.events self.new.port) (C.moments self.old.clock)
+            (C.moments self.new.clock) self.old.gate self.new.gate self.old.unopened self.new.unopened
+            (option_map (λ received. event_of_receive received buffer.new) result) }
+    {
+        for _ in 0..MAX_POLLED_OVER {
+            let Some(received) = self.port.poll(buffer) else {
+                return None;
+            };
+            match self.take(received, buffer) {
+                Some(handed) => return Some(handed),
+                None => {}
+            }
+        }
+        None
+    }
+
+    /// Seals an offer of the node to a client, if the client doesn't speak plainly, and offers it to the port below.
+    fn offer(&mut self, to: Sender, bytes: &[u8]) -> bool
         ensures offers { Grows (P.events self.old.port) (P.events self.new.port) (offered self.old.gate to bytes.now) }
-        ensures gate { self.new.gate ≡ gate_offered self.old.gate to bytes.now }
+        ensures gate { self.new
+            ≡ record self.old { port = self.new.port; gate = gate_offered self.old.gate to bytes.now } }
     {
         let Sender::Client(number) = to else {
             return self.port.send(to, bytes);
@@ -157,5 +199,53 @@ impl<P: Port + Drop, C: Clock + Drop> Port for SealedPort<P, C> {
                 .send(Sender::Client(sealed.address), &sealed.bytes),
             None => false,
         }
+    }
+}
+
+impl<P: Port + Drop, C: Clock + Drop> Port for SealedPort<P, C> {
+    ghost use Rattle.std.specs.Prelude.{Some};
+
+    ghost events = { λ port. Some port.calls.events };
+
+    fn receive(&mut self, buffer: &mut [u8; 512]) -> Received
+        ensures within { IsWithin result }
+        ensures event { Grows (Some self.old.calls.events) (Some self.new.calls.events)
+            (event_of_receive result buffer.new ∷ []) }
+        ensures receives { Receives (P.events self.old.port) (P.events self.new.port) (C.moments self.old.clock)
+            (C.moments self.new.clock) self.old.gate self.new.gate self.old.unopened self.new.unopened
+            (event_of_receive result buffer.new) }
+    {
+        let received = self.receive_opened(buffer);
+        self.calls.note_receive(&received, buffer.as_slice());
+        received
+    }
+
+    fn poll(&mut self, buffer: &mut [u8; 512]) -> Option<Received>
+        ensures within { IfSome result IsWithin }
+        ensures waits { result ≢ Some Quiet }
+        ensures event { Grows (Some self.old.calls.events) (Some self.new.calls.events)
+            (entries_of_poll result buffer.new) }
+        ensures polls { Polls (P.events self.old.port) (P.events self.new.port) (C.moments self.old.clock)
+            (C.moments self.new.clock) self.old.gate self.new.gate self.old.unopened self.new.unopened
+            (option_map (λ received. event_of_receive received buffer.new) result) }
+    {
+        match self.poll_opened(buffer) {
+            Some(received) => {
+                self.calls.note_receive(&received, buffer.as_slice());
+                Some(received)
+            }
+            None => None,
+        }
+    }
+
+    fn send(&mut self, to: Sender, bytes: &[u8]) -> bool
+        ensures event { Grows (Some self.old.calls.events) (Some self.new.calls.events)
+            (Offered to bytes.now ∷ []) }
+        ensures offers { Grows (P.events self.old.port) (P.events self.new.port) (offered self.old.gate to bytes.now) }
+        ensures gate { self.new.gate ≡ gate_offered self.old.gate to bytes.now }
+        ensures same { (self.new.clock ≡ self.old.clock) × (self.new.unopened ≡ self.old.unopened) }
+    {
+        self.calls.note_offer(&to, bytes);
+        self.offer(to, bytes)
     }
 }

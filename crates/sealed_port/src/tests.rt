@@ -1,7 +1,8 @@
 //! A gate over ports in memory.
 
-use crate::{Client, Gate, SealedPort};
+use crate::{Client, Gate, SealedPort, Unopened};
 use datagram_port::{Coming, ListClock, ListPort, Port, PortEntry, Received, Sender};
+use replay_window::Ahead;
 use sealed_wire::ClientKey;
 use std::alloc::Global;
 use std::test::Fail;
@@ -27,7 +28,7 @@ const ANSWER: [u8; 54] = [
 fn gate(alloc: Global) -> Result<Gate, Fail> {
     let key = ClientKey::new(&[0; 32]).ok_or("a key")?;
     let mut clients = Vec::new(alloc);
-    clients.push(Client::new(258, key, 0))?;
+    clients.push(Client::new(258, key, Ahead::default(), 0))?;
     let mut plain = Vec::new(alloc);
     plain.push(0x7f00_0001)?;
     Ok(Gate::new(2, clients, plain))
@@ -41,19 +42,86 @@ fn from<'a>(address: u64, bytes: &'a [u8]) -> Coming<'a> {
     }
 }
 
-/// Returns whether the port returned a datagram that the node drops: an empty one of member 0.
-fn is_nothing(received: Option<Received>) -> bool {
-    received
-        == Some(Received::Datagram {
-            sender: Sender::Peer(0),
-            len: 0,
-        })
+/// The line with another byte at a place.
+fn changed(place: usize, byte: u8) -> [u8; 68] {
+    let mut line = LINE;
+    if place < line.len() {
+        line[place] = byte;
+    }
+    line
 }
 
-/// The port returns a line once, and not a copy of it; a member's datagram and a plain line pass unchanged.
+/// Returns the port over `comings`, with a clock that tells `moments`.
+fn port<'a>(
+    alloc: Global,
+    comings: &'a [Coming<'a>],
+    moments: &'a [u64],
+) -> Result<SealedPort<ListPort<'a>, ListClock<'a>>, Fail> {
+    Ok(SealedPort::new(
+        ListPort::new(alloc, comings),
+        ListClock::new(alloc, moments),
+        gate(alloc)?,
+    ))
+}
+
+/// Returns whether a receive handed in the line of client 258.
+fn is_line(received: Received, buffer: &[u8; 512]) -> bool {
+    received
+        == Received::Datagram {
+            sender: Sender::Client((1 << 48) + 258),
+            len: 21,
+        }
+        && &buffer[..21] == b"CHECK k1 ann 755224 -".as_slice()
+}
+
+/// Returns whether the numbers are these.
+fn are(unopened: Unopened, numbers: [u64; 5]) -> bool {
+    let Unopened {
+        form,
+        tag,
+        early,
+        late,
+        again,
+    } = unopened;
+    [form, tag, early, late, again] == numbers
+}
+
+/// A receive passes over three datagrams that are not opened, and hands in the line after them.
 #[test]
-fn opens_a_line_once(rt: HostRuntime) -> Result<(), Fail> {
-    let alloc = rt.alloc();
+fn receives_the_line_after_junk(rt: HostRuntime) -> Result<(), Fail> {
+    let wrong_tag = changed(67, 0);
+    let other_node = changed(6, 3);
+    let comings = [
+        from(9, b"CHECK"),
+        from(7, &wrong_tag),
+        from(7, &other_node),
+        from(7, &LINE),
+    ];
+    let mut port = port(rt.alloc(), &comings, &[100, 100, 100, 100])?;
+    let mut buffer = [0; 512];
+    let received = port.receive(&mut buffer);
+    assert!(rt; is_line(received, &buffer));
+    assert!(rt; are(port.take_unopened(), [2, 1, 0, 0, 0]));
+    Ok(())
+}
+
+/// A flood of datagrams that are not opened makes no turn: one receive passes over all of them, and is then quiet.
+#[test]
+fn receives_a_flood_as_one_quiet_turn(rt: HostRuntime) -> Result<(), Fail> {
+    let mut comings = [from(9, b"CHECK"); 300];
+    comings[299] = Coming::Quiet;
+    let moments = [100; 299];
+    let mut port = port(rt.alloc(), &comings, &moments)?;
+    let received = port.receive(&mut [0; 512]);
+    assert!(rt; received == Received::Quiet);
+    assert!(rt; are(port.take_unopened(), [299, 0, 0, 0, 0]));
+    assert!(rt; are(port.take_unopened(), [0, 0, 0, 0, 0]));
+    Ok(())
+}
+
+/// A poll passes over a copy of a line, and hands in the member's datagram and the plain line after it.
+#[test]
+fn polls_past_a_copy(rt: HostRuntime) -> Result<(), Fail> {
     let peer = Coming::Datagram {
         sender: Sender::Peer(3),
         bytes: b"OV",
@@ -65,41 +133,50 @@ fn opens_a_line_once(rt: HostRuntime) -> Result<(), Fail> {
         from(0x7f00_0001_0005, b"CHECK"),
         from(9, b"CHECK"),
     ];
-    let mut port = SealedPort::new(
-        ListPort::new(alloc, &comings),
-        ListClock::new(alloc, &[100, 101, 102]),
-        gate(alloc)?,
-    );
+    let mut port = port(rt.alloc(), &comings, &[100, 101, 102])?;
     let mut buffer = [0; 512];
-    let line = port.receive(&mut buffer);
-    let client = Sender::Client((1 << 48) + 258);
-    assert!(rt;
-        line == Received::Datagram {
-            sender: client,
-            len: 21
-        }
-    );
-    assert!(rt; &buffer[..21] == b"CHECK k1 ann 755224 -".as_slice());
-    assert!(rt; is_nothing(port.poll(&mut buffer)));
-    let member = port.receive(&mut buffer);
-    assert!(rt;
-        member
-            == Received::Datagram {
-                sender: Sender::Peer(3),
-                len: 2
-            }
-    );
-    let plain = port.receive(&mut buffer);
-    assert!(rt;
-        plain
-            == Received::Datagram {
-                sender: Sender::Client(0x7f00_0001_0005),
-                len: 5
-            }
-    );
-    let stranger = port.receive(&mut buffer);
-    assert!(rt; is_nothing(Some(stranger)));
+    let line = port.poll(&mut buffer).ok_or("a line")?;
+    assert!(rt; is_line(line, &buffer));
+    let member = Received::Datagram {
+        sender: Sender::Peer(3),
+        len: 2,
+    };
+    assert!(rt; port.poll(&mut buffer) == Some(member));
+    let plain = Received::Datagram {
+        sender: Sender::Client(0x7f00_0001_0005),
+        len: 5,
+    };
+    assert!(rt; port.poll(&mut buffer) == Some(plain));
     assert!(rt; port.poll(&mut buffer).is_none());
+    assert!(rt; are(port.take_unopened(), [1, 0, 0, 0, 1]));
+    Ok(())
+}
+
+/// A poll passes over at most 64 datagrams.
+#[test]
+fn polls_past_64(rt: HostRuntime) -> Result<(), Fail> {
+    let mut comings = [from(9, b"CHECK"); 65];
+    comings[64] = from(7, &LINE);
+    let moments = [100; 65];
+    let mut port = port(rt.alloc(), &comings, &moments)?;
+    let mut buffer = [0; 512];
+    assert!(rt; port.poll(&mut buffer).is_none());
+    let line = port.poll(&mut buffer).ok_or("a line")?;
+    assert!(rt; is_line(line, &buffer));
+    Ok(())
+}
+
+/// The port counts lines that are too early, too late or seen before. The lead is 2 seconds, and the clock may fail.
+#[test]
+fn counts_moments(rt: HostRuntime) -> Result<(), Fail> {
+    let comings = [from(7, &LINE); 6];
+    let mut port = port(rt.alloc(), &comings, &[97, 161, 160, 98, 100])?;
+    let mut buffer = [0; 512];
+    let received = port.receive(&mut buffer);
+    assert!(rt; is_line(received, &buffer));
+    assert!(rt; are(port.take_unopened(), [0, 0, 1, 1, 0]));
+    assert!(rt; port.receive(&mut buffer) == Received::Quiet);
+    assert!(rt; are(port.take_unopened(), [0, 0, 1, 0, 2]));
     Ok(())
 }
 
@@ -119,23 +196,24 @@ fn offers(port: &ListPort<'_>, to: Sender, bytes: &[u8]) -> bool {
     }
 }
 
-/// The port seals an answer once, for the line's address; answers to a member and to a plain client pass unchanged.
+/// The port seals an answer once, for the line's address.
 #[test]
 fn seals_an_answer_once(rt: HostRuntime) -> Result<(), Fail> {
-    let alloc = rt.alloc();
     let comings = [from(7, &LINE)];
-    let mut port = SealedPort::new(
-        ListPort::new(alloc, &comings),
-        ListClock::new(alloc, &[100]),
-        gate(alloc)?,
-    );
-    let mut buffer = [0; 512];
+    let mut port = port(rt.alloc(), &comings, &[100])?;
     let client = Sender::Client((1 << 48) + 258);
-    let _line = port.receive(&mut buffer);
+    let _line = port.receive(&mut [0; 512]);
     assert!(rt; !port.send(client, b"OK k2 0"));
     assert!(rt; port.send(client, b"OK k1 0"));
     assert!(rt; offers(&port.port, Sender::Client(7), &ANSWER));
     assert!(rt; !port.send(client, b"OK k1 0"));
+    Ok(())
+}
+
+/// Answers to a plain client and datagrams for a member pass unchanged.
+#[test]
+fn sends_unsealed(rt: HostRuntime) -> Result<(), Fail> {
+    let mut port = port(rt.alloc(), &[], &[])?;
     assert!(rt; port.send(Sender::Peer(3), b"OV"));
     assert!(rt; offers(&port.port, Sender::Peer(3), b"OV"));
     assert!(rt; port.send(Sender::Client(5), b"NO 1 BUSY"));

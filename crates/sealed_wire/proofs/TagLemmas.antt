@@ -145,7 +145,7 @@ again key bound text head h le =
     tagged_is_read key bound (body ++ tag) tagged ∙ ap read front ∙ rw (head_again head text h le) refl
 
 -- what is read is written so
-spelled_so : (key bound bytes text : List ℕ) (head : Head) → AreBytes bytes → sealed_at key bound bytes ≡ Some (head, text) → bytes ≡ sealed_bytes key bound head text
+pub spelled_so : (key bound bytes text : List ℕ) (head : Head) → AreBytes bytes → sealed_at key bound bytes ≡ Some (head, text) → bytes ≡ sealed_bytes key bound head text
 unfolding sealed_bytes
 spelled_so key bound bytes text head fits e =
     let o = takes key bound bytes head text e in

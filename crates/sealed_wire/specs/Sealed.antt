@@ -38,3 +38,7 @@ sealed_at key bound bytes =
 -- the client that a datagram names, whose key the tag must be under
 abbrev pub client_of : List ℕ → Option ℕ
 client_of bytes = if nat_lt (length bytes) 47 then None else Some (half_at bytes 4)
+
+-- the head of a datagram, whatever its tag
+abbrev pub head_of : List ℕ → Option Head
+head_of bytes = head_at (body_of bytes)

@@ -3,7 +3,7 @@ ghost use Rattle.sealed_wire.specs.Body.{IsHead, head_at, head_bytes};
 ghost use Rattle.sealed_wire.specs.Bytes.{AreBytes};
 ghost use Rattle.sealed_wire.specs.Examples.{answer_head, answer_head_bytes, line_head, line_head_bytes, line_tag, sealed_answer, sealed_line};
 ghost use Rattle.sealed_wire.specs.Making.{AreMakings, IsAnswerTo, IsMade, IsUnforged, Making, bound_len, making_tag};
-ghost use Rattle.sealed_wire.specs.Sealed.{IsSealedOf, client_of, sealed_at, sealed_bytes};
+ghost use Rattle.sealed_wire.specs.Sealed.{IsSealedOf, client_of, head_of, sealed_at, sealed_bytes};
 ghost use Rattle.sealed_wire.specs.declared.head.Head.{Head};
 ghost use Rattle.sealed_wire.specs.declared.head.Kind.TheVariants.{Answer, Report, Request};
 
@@ -16,6 +16,9 @@ pub fn one_spelling()
     // The client whose key opens a datagram is the one that it names.
     ensures client { (key bound bytes text : List ℕ) (head : Head) → sealed_at key bound bytes ≡ Some (head, text) →
         client_of bytes ≡ Some head.client }
+    // Its head is the one that it has whatever its tag.
+    ensures head { (key bound bytes text : List ℕ) (head : Head) → sealed_at key bound bytes ≡ Some (head, text) →
+        head_of bytes ≡ Some head }
 {}
 
 /// Authenticity: a holder of the key made every datagram that is read under it, with the same bound bytes, unless a tag
@@ -57,6 +60,9 @@ pub fn sealed_are_worked()
     ensures no_tag { sealed_at (replicate 32 0) [] (line_head_bytes ++ codes "CHECK k1 ann 755224 -") ≡ None }
     ensures client { client_of sealed_line ≡ Some 258 }
     ensures short { client_of (replicate 46 0) ≡ None }
+    ensures head { head_of sealed_line ≡ Some line_head }
+    ensures head_with_a_wrong_tag { head_of (slice_set sealed_line 67 0) ≡ Some line_head }
+    ensures head_without_a_tag { head_of (take 46 sealed_line) ≡ None }
 {}
 
 /// Worked cases. Heads, and their readings with one other byte.

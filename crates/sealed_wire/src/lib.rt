@@ -18,5 +18,5 @@ pub use laws::{
     answers_are_for_their_lines, heads_are_worked, one_spelling, sealed_are_worked,
     what_is_read_was_made,
 };
-pub use reading::{client_of, open};
+pub use reading::{client_of, head_of, open};
 pub use writing::{MAX_SEALED_LEN, MAX_TEXT_LEN, seal};

@@ -3,7 +3,7 @@
 ghost use Rattle.std.specs.Option.{option_map};
 ghost use Rattle.std.specs.Prelude.{◌≡◌, ◌≤◌, length, IfNone, IfSome, ℕ, List};
 ghost use Rattle.sealed_wire.specs.Body as spec;
-ghost use Rattle.sealed_wire.specs.Sealed.{IsTagged, body_of, client_of, sealed_at, tag_at};
+ghost use Rattle.sealed_wire.specs.Sealed.{IsTagged, body_of, client_of, head_of, sealed_at, tag_at};
 
 use crate::bytes::{half_at, number_at};
 use crate::head::{Head, Kind};
@@ -68,6 +68,15 @@ pub fn client_of(bytes: &[u8]) -> Option<u16>
         return None;
     }
     Some(half_at(bytes, 4))
+}
+
+/// Returns the head of a datagram, whatever its tag, or None if the datagram is not in the format.
+pub fn head_of(bytes: &[u8]) -> Option<Head>
+    ensures head { result ≡ head_of bytes.now }
+    ensures len { IfSome result (λ head. 47 ≤ length bytes.now) }
+{
+    let len = bytes.len().saturating_sub(TAG_LEN);
+    head_at(&bytes[..len])
 }
 
 /// Returns the head and the text of a sealed datagram under a client's key, or None.

@@ -1,2 +1,3 @@
 mod AddressLemmas
 mod PaceLemmas
+mod CallsLemmas

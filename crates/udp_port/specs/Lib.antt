@@ -1,4 +1,5 @@
 pub mod Address
-pub mod Examples
-pub mod Pace
 pub mod Receipt
+pub mod Calls
+pub mod Pace
+pub mod Examples

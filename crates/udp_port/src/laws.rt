@@ -1,4 +1,4 @@
-ghost use Rattle.std.specs.Prelude.{◌≡◌, ℕ, ◌+◌, ◌*◌, Bool, Err, ◌<◌, ◌≤◌, ◌∷◌, [], List, Ok, Some, None, true, false, codes};
+ghost use Rattle.std.specs.Prelude.{◌≡◌, ℕ, ◌+◌, ◌*◌, Bool, Err, ◌<◌, ◌≤◌, ◌∷◌, [], List, Ok, Some, None, true, false, codes, map};
 ghost use Rattle.std.specs.declared.io.ErrorKind.TheVariants.{ConnectionRefused, ConnectionReset, Interrupted, NotFound, TimedOut, WouldBlock};
 ghost use Rattle.std.specs.declared.net.socket_addr.SocketAddr.TheVariants.{V4, V6};
 ghost use Rattle.std.specs.declared.net.socket_addr.SocketAddrV6.{SocketAddrV6};
@@ -7,10 +7,14 @@ ghost use Rattle.std.specs.declared.io.Error.{Error};
 ghost use Rattle.std.specs.IoError.{error_kind};
 ghost use Rattle.datagram_port.specs.declared.port.Sender.TheVariants.{Client, Peer};
 ghost use Rattle.datagram_port.specs.declared.port.Received.TheVariants.{Datagram, Fault, Quiet};
+ghost use Rattle.datagram_port.specs.Port.{Faulted, Offered, Quiet as QuietEvent, Received as ReceivedEvent};
+ghost use Rattle.udp_port.specs.declared.calls.Call.TheVariants.{Hear, Send, Stuck, Turn};
+ghost use Rattle.udp_port.specs.declared.calls.Heard.TheVariants.{Datagram as Came, Failed, Other};
 ghost use Rattle.udp_port.specs.Address.{HasNoAddress, IsAddressOf, number_of, sender_of};
-ghost use Rattle.udp_port.specs.Examples.{at_host, at_local, received_by_one};
+ghost use Rattle.udp_port.specs.Calls.{events_of_calls};
+ghost use Rattle.udp_port.specs.Examples.{at_host, at_local, events_by_one, received_by_one, received_from};
 ghost use Rattle.udp_port.specs.Pace.{AreClose, AreUpTo, due_after_quiet, due_after_start, interval, is_due, last_of, paced_of};
-ghost use Rattle.udp_port.specs.Receipt.{failure_of, is_answer, receipt_of};
+ghost use Rattle.udp_port.specs.Receipt.{failure_of, heard_of, is_answer, is_loopback, receipt_of};
 
 /// Worked cases. Numbers of addresses, and senders.
 pub fn addresses_are_worked()
@@ -38,12 +42,40 @@ pub fn receipts_are_worked()
     // the port ignores bytes that an earlier datagram left in the buffer
     ensures left { received_by_one true 2 (at_local 2) (codes "NO - BADLINE")
         ≡ Some (Datagram (Client 139637976793090) 2) }
+    // a port that takes clients of its host alone passes over another host's client, but not over its member
+    ensures own_host { received_from true (at_local 1) ≡ Some (Datagram (Client 139637976793089) 1) }
+    ensures another_host { received_from true (at_host 126 1) ≡ None }
+    ensures any_host { received_from false (at_host 126 1) ≡ Some (Datagram (Client 138538465165313) 1) }
+    ensures member_elsewhere { received_from true (at_host 10 1) ≡ Some (Datagram (Peer 1) 1) }
+    ensures loopback { map is_loopback (139637976727551 ∷ 139637976727552 ∷ 140737488355327 ∷ 140737488355328 ∷ [])
+        ≡ false ∷ true ∷ true ∷ false ∷ [] }
     ensures no_datagram { failure_of WouldBlock ≡ Some Quiet }
     ensures in_time { failure_of TimedOut ≡ Some Quiet }
     ensures signal { failure_of Interrupted ≡ None }
     ensures nobody { failure_of ConnectionRefused ≡ None }
     ensures gone { failure_of ConnectionReset ≡ None }
     ensures fault { failure_of NotFound ≡ Some Fault }
+{}
+
+/// Worked cases. The events of a port's calls.
+pub fn calls_are_worked()
+    ensures heard { heard_of (Ok (7, V4 (at_local 2))) ≡ Came 7 (at_local 2) }
+    ensures received { events_by_one ((Hear true (Came 1 (at_local 1)), 7 ∷ 8 ∷ []) ∷ [])
+        ≡ ReceivedEvent (Peer 1) (7 ∷ []) ∷ [] }
+    // a wait that ends is a quiet turn, and a poll that finds nothing is no event
+    ensures waited { events_by_one ((Hear true (Failed WouldBlock), []) ∷ []) ≡ QuietEvent ∷ [] }
+    ensures polled { events_by_one ((Hear false (Failed WouldBlock), []) ∷ []) ≡ [] }
+    ensures found { events_by_one ((Hear false (Came 1 (at_local 1)), 7 ∷ 8 ∷ []) ∷ [])
+        ≡ ReceivedEvent (Peer 1) (7 ∷ []) ∷ [] }
+    ensures faults { events_by_one ((Hear true Other, []) ∷ (Hear false Other, []) ∷ (Stuck, []) ∷ [])
+        ≡ Faulted ∷ Faulted ∷ Faulted ∷ [] }
+    // the port passes over a signal and an answer, in a receive and in a poll
+    ensures passed_over { events_by_one ((Hear true (Failed Interrupted), []) ∷ (Hear false (Failed Interrupted), [])
+        ∷ (Hear true (Came 3 (at_local 2)), codes "NO ") ∷ (Hear false (Came 3 (at_local 2)), codes "OK ") ∷ []) ≡ [] }
+    ensures turn { events_by_one ((Turn, []) ∷ []) ≡ QuietEvent ∷ [] }
+    ensures sent { events_by_one ((Send (Peer 2) false, 5 ∷ []) ∷ (Send (Peer 1) true, 6 ∷ []) ∷ [])
+        ≡ Offered (Peer 2) (5 ∷ []) ∷ Offered (Peer 1) (6 ∷ []) ∷ [] }
+    ensures settings { events_of_calls false true [] ((Hear true (Came 1 (at_host 10 1)), 7 ∷ []) ∷ []) ≡ [] }
 {}
 
 /// Worked cases. The due times of quiet turns.
@@ -80,7 +112,7 @@ pub fn quiet_turns_keep_their_pace()
 
 /// Counterexamples: each promise of an address and of moments fails for a minimal one. The result of any receive that
 /// failed is the result of its kind.
-pub fn promises_can_be_broken()
+pub fn addresses_can_be_broken()
     ensures member { IsAddressOf (at_local 1 ∷ at_local 2 ∷ []) (Peer 2) (at_local 2) }
     ensures member_0 { IsAddressOf (at_local 1 ∷ []) (Peer 0) (at_local 1) → ⊥ }
     ensures another_member { IsAddressOf (at_local 1 ∷ at_local 2 ∷ []) (Peer 1) (at_local 2) → ⊥ }
@@ -98,8 +130,8 @@ pub fn promises_can_be_broken()
     ensures far { AreClose 0 (201 ∷ []) → ⊥ }
     ensures back { AreClose 5 (4 ∷ []) → ⊥ }
     ensures second_far { AreClose 0 (200 ∷ 401 ∷ []) → ⊥ }
-    ensures failed { (skips : Bool) (members : List SocketAddrV4) (error : Error) (buffer : List ℕ) →
-        receipt_of skips members (Err error) buffer ≡ failure_of (error_kind error) }
-    ensures of_another_kind { (skips : Bool) (members : List SocketAddrV4) (length : ℕ) (address : SocketAddrV6)
-        (buffer : List ℕ) → receipt_of skips members (Ok (length, V6 address)) buffer ≡ Some Fault }
+    ensures failed { (skips alone : Bool) (members : List SocketAddrV4) (error : Error) (buffer : List ℕ) →
+        receipt_of skips alone members (heard_of (Err error)) buffer ≡ failure_of (error_kind error) }
+    ensures of_another_kind { (skips alone : Bool) (members : List SocketAddrV4) (length : ℕ) (address : SocketAddrV6)
+        (buffer : List ℕ) → receipt_of skips alone members (heard_of (Ok (length, V6 address))) buffer ≡ Some Fault }
 {}

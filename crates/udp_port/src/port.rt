@@ -1,24 +1,28 @@
 //! A port over a UDP socket.
 
-ghost use Rattle.std.specs.Prelude.{◌≡◌, ◌≤◌, true, false, length, IfOk, IfSome, IsTrue};
-ghost use Rattle.datagram_port.specs.Port.{IsWithin};
-ghost use Rattle.udp_port.specs.Receipt.{failure_of, is_answer, is_passed_over, receipt_of};
+ghost use Rattle.std.specs.Prelude.{◌≡◌, ◌≤◌, ◌++◌, ◌∷◌, [], true, false, length, IfSome, IsTrue};
+ghost use Rattle.datagram_port.specs.Port.{IsWithin, entries_of_poll};
+ghost use Rattle.datagram_port.specs.declared.port.Received.TheVariants.{Fault, Quiet as QuietReceive};
+ghost use Rattle.udp_port.specs.Calls.{events_of_calls};
+ghost use Rattle.udp_port.specs.Receipt.{IsHeard, failure_of, is_answer, is_barred, is_loopback, is_passed_over, receipt_of};
+ghost use Rattle.udp_port.specs.declared.calls.Call.TheVariants.{Hear, Send, Stuck, Turn};
 
 use crate::address::{address_of, sender_of};
+use crate::calls::{Call, Calls, Heard, heard_of};
 use crate::clock::NoClock;
 use crate::pace::{Pace, millis_of};
 use datagram_port::{Port, Received, Sender};
-use std::io::{self, ErrorKind};
+use std::io::ErrorKind;
 use std::net::{SocketAddr, SocketAddrV4, UdpSocket};
 use std::time::Clock as TimeSource;
 
 /// The maximum number of members of a cluster.
-pub const MAX_MEMBERS: usize = 9;
+pub const MAX_MEMBERS: usize = otp_core::MAX_MEMBERS as usize;
 
 /// The maximum number of datagrams that a receive passes over.
 const MAX_PASSED_OVER: u8 = 64;
 
-/// A port over a UDP socket. It keeps no record.
+/// A port over a UDP socket. Its record is made of the calls of the socket, which it notes beside each call.
 #[derive(Drop)]
 pub struct UdpPort<R: TimeSource + Drop> {
     socket: UdpSocket,
@@ -26,7 +30,9 @@ pub struct UdpPort<R: TimeSource + Drop> {
     clock: R,
     pace: Pace,
     skips_answers: bool,
+    takes_loopback_alone: bool,
     waits: bool,
+    calls: Calls,
     ghost few: { length members.items ≤ 9 },
 }
 
@@ -62,28 +68,48 @@ fn is_passed_over(skips_answers: bool, sender: Sender, bytes: &[u8]) -> bool
     }
 }
 
+/// Returns whether the address of a client is in 127.0.0.0/8.
+fn is_loopback(client: u64) -> bool
+    ensures { result ≡ is_loopback client }
+{
+    client / (1 << 40) == 127
+}
+
+/// Returns whether the port passes over a sender, by whether it takes clients of its host alone.
+fn is_barred(takes_loopback_alone: bool, sender: Sender) -> bool
+    ensures { result ≡ is_barred takes_loopback_alone sender }
+{
+    match sender {
+        Sender::Peer(_) => false,
+        Sender::Client(client) => takes_loopback_alone && !is_loopback(client),
+    }
+}
+
 /// Returns the result of a socket's receive, or None if the port passes over it.
 fn receipt_of(
     skips_answers: bool,
+    takes_loopback_alone: bool,
     members: &[SocketAddrV4],
-    received: &io::Result<(usize, SocketAddr)>,
+    heard: Heard,
     buffer: &[u8; 512],
 ) -> Option<Received>
     requires few { length members.now ≤ 9 }
-    requires within { IfOk received.now (λ read. read.0 ≤ 512) }
-    ensures receipt { result ≡ receipt_of skips_answers members.now received.now buffer.now }
+    requires heard { IsHeard heard }
+    ensures receipt { result ≡ receipt_of skips_answers takes_loopback_alone members.now heard buffer.now }
     ensures within { IfSome result IsWithin }
 {
-    match received {
-        Ok((len, SocketAddr::V4(address))) => {
-            let sender = sender_of(members, *address);
-            if is_passed_over(skips_answers, sender, &buffer[..*len]) {
+    match heard {
+        Heard::Datagram { len, address } => {
+            let sender = sender_of(members, address);
+            if is_passed_over(skips_answers, sender, &buffer[..len])
+                || is_barred(takes_loopback_alone, sender)
+            {
                 return None;
             }
-            Some(Received::Datagram { sender, len: *len })
+            Some(Received::Datagram { sender, len })
         }
-        Ok((_, SocketAddr::V6(_))) => Some(Received::Fault),
-        Err(error) => failure_of(error.kind()),
+        Heard::Other => Some(Received::Fault),
+        Heard::Failed(kind) => failure_of(kind),
     }
 }
 
@@ -97,6 +123,8 @@ impl<R: TimeSource + Drop> UdpPort<R> {
         requires { length members.items ≤ 9 }
         ensures members { result.members ≡ members }
         ensures skips { result.skips_answers ≡ true }
+        ensures hosts { result.takes_loopback_alone ≡ false }
+        ensures calls { result.calls.made ≡ [] }
     {
         UdpPort {
             socket,
@@ -104,8 +132,23 @@ impl<R: TimeSource + Drop> UdpPort<R> {
             clock,
             pace: Pace::default(),
             skips_answers: true,
+            takes_loopback_alone: false,
             waits: true,
+            calls: Calls::new(),
         }
+    }
+}
+
+impl<R: TimeSource + Drop> UdpPort<R> {
+    /// Returns the port as one that passes over the datagrams of clients outside 127.0.0.0/8. It takes every member.
+    pub fn taking_loopback_alone(mut self) -> UdpPort<R>
+        ensures hosts { result.takes_loopback_alone ≡ true }
+        ensures members { result.members ≡ self.members }
+        ensures skips { result.skips_answers ≡ self.skips_answers }
+        ensures calls { result.calls ≡ self.calls }
+    {
+        self.takes_loopback_alone = true;
+        self
     }
 }
 
@@ -117,6 +160,8 @@ impl UdpPort<NoClock> {
         requires { length members.items ≤ 9 }
         ensures members { result.members ≡ members }
         ensures skips { result.skips_answers ≡ false }
+        ensures hosts { result.takes_loopback_alone ≡ false }
+        ensures calls { result.calls.made ≡ [] }
     {
         UdpPort {
             socket,
@@ -124,7 +169,9 @@ impl UdpPort<NoClock> {
             clock: NoClock,
             pace: Pace::default(),
             skips_answers: false,
+            takes_loopback_alone: false,
             waits: true,
+            calls: Calls::new(),
         }
     }
 }
@@ -144,28 +191,108 @@ impl<R: TimeSource + Drop> UdpPort<R> {
         self.waits = waits;
         true
     }
+
+    /// Calls `recv_from`, and notes the call with the buffer after it.
+    fn hear(&mut self, buffer: &mut [u8; 512]) -> Heard
+        ensures heard { IsHeard result }
+        ensures noted { self.new.calls.made
+            ≡ self.old.calls.made ++ (Hear self.old.waits result, buffer.new) ∷ [] }
+        ensures same { self.new ≡ record self.old { calls = self.new.calls } }
+    {
+        let heard = heard_of(&self.socket.recv_from(buffer));
+        let waits = self.waits;
+        self.calls
+            .note(&Call::Hear { waits, heard }, buffer.as_slice());
+        heard
+    }
+
+    /// Calls `send_to` if `to` has an address, and notes the call with the bytes. Returns whether the socket took them.
+    fn tell(&mut self, to: Sender, bytes: &[u8]) -> bool
+        ensures noted { self.new.calls.made ≡ self.old.calls.made ++ (Send to result, bytes.now) ∷ [] }
+        ensures same { self.new ≡ record self.old { calls = self.new.calls } }
+    {
+        let is_taken = match address_of(&self.members, to) {
+            Some(address) => self.socket.send_to(bytes, SocketAddr::V4(address)).is_ok(),
+            None => false,
+        };
+        self.calls.note(&Call::Send { to, is_taken }, bytes);
+        is_taken
+    }
+
+    /// Notes a quiet turn without a wait, and returns it.
+    fn note_turn(&mut self) -> Received
+        ensures quiet { result ≡ QuietReceive }
+        ensures noted { self.new.calls.made ≡ self.old.calls.made ++ (Turn, []) ∷ [] }
+        ensures same { self.new ≡ record self.old { calls = self.new.calls } }
+    {
+        self.calls.note(&Call::Turn, &[]);
+        Received::Quiet
+    }
+
+    /// Notes a receive for which the socket could not be switched, and returns its fault.
+    fn note_stuck(&mut self) -> Received
+        ensures fault { result ≡ Fault }
+        ensures noted { self.new.calls.made ≡ self.old.calls.made ++ (Stuck, []) ∷ [] }
+        ensures same { self.new ≡ record self.old { calls = self.new.calls } }
+    {
+        self.calls.note(&Call::Stuck, &[]);
+        Received::Fault
+    }
+
+    /// Returns the result of a `recv_from`, or None if the port passes over it.
+    fn receipt(&self, heard: Heard, buffer: &[u8; 512]) -> Option<Received>
+        requires { IsHeard heard }
+        ensures receipt { result ≡ receipt_of self.now.skips_answers self.now.takes_loopback_alone
+            self.now.members.items heard buffer.now }
+        ensures within { IfSome result IsWithin }
+    {
+        receipt_of(
+            self.skips_answers,
+            self.takes_loopback_alone,
+            &self.members,
+            heard,
+            buffer,
+        )
+    }
+
+    /// Receives once: a quiet turn if one is due, or else what the socket gives. Returns None if the port passes over
+    /// it.
+    fn receive_once(&mut self, buffer: &mut [u8; 512]) -> Option<Received>
+        ensures within { IfSome result IsWithin }
+        ensures event { events_of_calls self.new.skips_answers self.new.takes_loopback_alone self.new.members.items
+            self.new.calls.made
+            ≡ events_of_calls self.old.skips_answers self.old.takes_loopback_alone self.old.members.items
+            self.old.calls.made ++ entries_of_poll result buffer.new }
+    {
+        if self.pace.begin(millis_of(&self.clock)) {
+            return Some(self.note_turn());
+        }
+        if !self.set_waits(true) {
+            return Some(self.note_stuck());
+        }
+        let heard = self.hear(buffer);
+        let received = self.receipt(heard, buffer);
+        if received == Some(Received::Quiet) {
+            self.pace.end_wait(millis_of(&self.clock));
+        }
+        received
+    }
 }
 
 impl<R: TimeSource + Drop> Port for UdpPort<R> {
+    ghost use Rattle.std.specs.Prelude.{Some};
+    ghost use Rattle.udp_port.specs.Calls.{events_of_calls};
+
+    ghost events = { λ port. Some (events_of_calls port.skips_answers port.takes_loopback_alone port.members.items
+        port.calls.made) };
+
     fn receive(&mut self, buffer: &mut [u8; 512]) -> Received {
         for _ in 0..MAX_PASSED_OVER {
-            if self.pace.begin(millis_of(&self.clock)) {
-                return Received::Quiet;
-            }
-            if !self.set_waits(true) {
-                return Received::Fault;
-            }
-            let received = self.socket.recv_from(buffer);
-            match receipt_of(self.skips_answers, &self.members, &received, buffer) {
-                Some(Received::Quiet) => {
-                    self.pace.end_wait(millis_of(&self.clock));
-                    return Received::Quiet;
-                }
-                Some(received) => return received,
-                None => {}
+            if let Some(received) = self.receive_once(buffer) {
+                return received;
             }
         }
-        Received::Quiet
+        self.note_turn()
     }
 
     fn poll(&mut self, buffer: &mut [u8; 512]) -> Option<Received> {
@@ -173,8 +300,8 @@ impl<R: TimeSource + Drop> Port for UdpPort<R> {
             return None;
         }
         for _ in 0..MAX_PASSED_OVER {
-            let received = self.socket.recv_from(buffer);
-            match receipt_of(self.skips_answers, &self.members, &received, buffer) {
+            let heard = self.hear(buffer);
+            match self.receipt(heard, buffer) {
                 Some(Received::Quiet) => return None,
                 Some(received) => return Some(received),
                 None => {}
@@ -186,9 +313,6 @@ impl<R: TimeSource + Drop> Port for UdpPort<R> {
     fn send(&mut self, to: Sender, bytes: &[u8]) -> bool {
         // in blocking mode a send waits for room in the socket's buffer, and loses no datagram
         let _waits = self.set_waits(true);
-        match address_of(&self.members, to) {
-            Some(address) => self.socket.send_to(bytes, SocketAddr::V4(address)).is_ok(),
-            None => false,
-        }
+        self.tell(to, bytes)
     }
 }

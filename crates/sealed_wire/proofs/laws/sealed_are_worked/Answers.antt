@@ -45,3 +45,15 @@ returns-clause-node c = refl
 pub returns-clause-no_tag : goal.returns-clause-no_tag
 unfolding tag_of sealed_bytes sealed_at head_at sha256_steps.first_words sha256_steps.schedule sha256_steps.rounds sha256_steps.compress sha256_steps.hash_after sha256_steps.digest_bytes sha256_steps.sha256
 returns-clause-no_tag c = refl
+
+pub returns-clause-head : goal.returns-clause-head
+unfolding head_at
+returns-clause-head c = refl
+
+pub returns-clause-head_with_a_wrong_tag : goal.returns-clause-head_with_a_wrong_tag
+unfolding head_at
+returns-clause-head_with_a_wrong_tag c = refl
+
+pub returns-clause-head_without_a_tag : goal.returns-clause-head_without_a_tag
+unfolding head_at
+returns-clause-head_without_a_tag c = refl

@@ -14,3 +14,15 @@ returns-clause-left c = refl
 pub returns-clause-heard : goal.returns-clause-heard
 unfolding ipv4_bits
 returns-clause-heard c = refl
+
+pub returns-clause-own_host : goal.returns-clause-own_host
+unfolding ipv4_bits
+returns-clause-own_host c = refl
+
+pub returns-clause-another_host : goal.returns-clause-another_host
+unfolding ipv4_bits
+returns-clause-another_host c = refl
+
+pub returns-clause-any_host : goal.returns-clause-any_host
+unfolding ipv4_bits
+returns-clause-any_host c = refl

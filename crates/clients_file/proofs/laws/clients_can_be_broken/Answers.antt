@@ -1,0 +1,69 @@
+-- Each part is computed.
+use Rattle.std.proofs.Common.{◌≡◌, zero, suc, ◌≤◌, lit<, lit≤, refl, ap, arith}
+use Rattle.std.specs.Prelude.{All, slice_index}
+use Rattle.clients_file.specs.Clients.{AreTwo, IsLoopback}
+use Rattle.clients_file.specs.Examples.{client_at, whole_clients}
+use Rattle.std.specs.List.{AllPairs}
+use Rattle.clients_file.proofs.laws.clients_can_be_broken.Goals as goal
+
+seven_and_eight : AreTwo (client_at 7) (client_at 8)
+seven_and_eight = record {
+  numbers = λ e. absurd (omega (arith, e));
+  keys = λ e. let same : 7 ≡ 8 = ap (λ block. slice_index block 15) e in absurd (omega (arith, same));
+}
+
+two_apart : AllPairs AreTwo whole_clients.clients
+two_apart zero zero d before within = absurd (omega (arith, before))
+two_apart zero (suc zero) d before within = seven_and_eight
+two_apart zero (suc (suc j)) d before within = absurd (omega (arith, within))
+two_apart (suc i) zero d before within = absurd (omega (arith, before))
+two_apart (suc i) (suc zero) d before within = absurd (omega (arith, before))
+two_apart (suc i) (suc (suc j)) d before within = absurd (omega (arith, within))
+
+one_loopback : All IsLoopback whole_clients.plain
+one_loopback zero d within = refl
+one_loopback (suc k) d within = absurd (omega (arith, within))
+
+pub returns-clause-clients : goal.returns-clause-clients
+returns-clause-clients c = record {
+  some = lit≤ tt;
+  few = lit≤ tt;
+  apart = two_apart;
+  few_plain = lit≤ tt;
+  plain = one_loopback;
+  least_ahead = lit≤ tt;
+  most_ahead = lit≤ tt;
+}
+
+pub returns-clause-nobody : goal.returns-clause-nobody
+returns-clause-nobody c = λ are. let some : 1 ≤ 0 = are.some in absurd (omega (arith, some))
+
+pub returns-clause-sixty_five : goal.returns-clause-sixty_five
+returns-clause-sixty_five c = λ clients are is. let few = are.few in omega (arith, few, is)
+
+pub returns-clause-same_number : goal.returns-clause-same_number
+returns-clause-same_number c = λ are. (are.apart 0 2 (client_at 0) (lit< tt) (lit< tt)).numbers refl
+
+pub returns-clause-same_key : goal.returns-clause-same_key
+returns-clause-same_key c = λ are. (are.apart 1 2 (client_at 0) (lit< tt) (lit< tt)).keys refl
+
+pub returns-clause-same_block : goal.returns-clause-same_block
+returns-clause-same_block c = λ two. two.keys refl
+
+pub returns-clause-seventeen_addresses : goal.returns-clause-seventeen_addresses
+returns-clause-seventeen_addresses c = λ are. let few : 17 ≤ 16 = are.few_plain in absurd (omega (arith, few))
+
+pub returns-clause-second_address : goal.returns-clause-second_address
+returns-clause-second_address c = λ are. let first : 128 ≡ 127 = are.plain 1 0 (lit< tt) in absurd (omega (arith, first))
+
+pub returns-clause-loopback : goal.returns-clause-loopback
+returns-clause-loopback c = refl
+
+pub returns-clause-below_loopback : goal.returns-clause-below_loopback
+returns-clause-below_loopback c = λ is. let first : 126 ≡ 127 = is in absurd (omega (arith, first))
+
+pub returns-clause-no_seconds : goal.returns-clause-no_seconds
+returns-clause-no_seconds c = λ are. let least : 1 ≤ 0 = are.least_ahead in absurd (omega (arith, least))
+
+pub returns-clause-sixty_one_seconds : goal.returns-clause-sixty_one_seconds
+returns-clause-sixty_one_seconds c = λ are. let most : 61 ≤ 60 = are.most_ahead in absurd (omega (arith, most))

@@ -1,0 +1,26 @@
+-- What every clients file gives.
+use Rattle.std.specs.Prelude.{◌≡◌, ◌≤◌, ℕ, ◌+◌, ◌/◌, ◌^◌, length, All}
+use Rattle.std.specs.List.{AllPairs}
+use Rattle.clients_file.specs.declared.clients.ClientEntry.{ClientEntry}
+use Rattle.clients_file.specs.ClientsFile.{ClientsRecord}
+use Rattle.clients_file.specs.Said.{block_of}
+
+-- two clients with different numbers and different keys; HMAC-SHA-256 takes keys with the same block as the same key
+pub record AreTwo (client other : ClientEntry) : Type 0 where
+  pub numbers : client.number ≡ other.number → ⊥
+  pub keys : block_of client.key ≡ block_of other.key → ⊥
+
+-- an address in 127.0.0.0/8
+abbrev pub IsLoopback : ℕ → Type 0
+IsLoopback address = address / 2 ^ 24 ≡ 127
+
+-- at most 64 clients, each two of them with different numbers and keys, at most 16 loopback addresses, and 1 to 60
+-- seconds
+pub record AreClients (clients : ClientsRecord) : Type 0 where
+  pub some : 1 ≤ length clients.clients + length clients.plain
+  pub few : length clients.clients ≤ 64
+  pub apart : AllPairs AreTwo clients.clients
+  pub few_plain : length clients.plain ≤ 16
+  pub plain : All IsLoopback clients.plain
+  pub least_ahead : 1 ≤ clients.ahead
+  pub most_ahead : clients.ahead ≤ 60

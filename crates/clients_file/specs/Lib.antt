@@ -1,0 +1,6 @@
+pub mod Address
+pub mod Fields
+pub mod Said
+pub mod ClientsFile
+pub mod Clients
+pub mod Examples

@@ -1,0 +1,62 @@
+//! The reasons why a gate doesn't open datagrams, and their numbers.
+
+ghost use Rattle.std.specs.Prelude.{◌≡◌, Some};
+ghost use Rattle.sealed_port.specs.Causes.{counted, nothing};
+
+/// The reason why a gate doesn't open a datagram.
+#[derive(Clone, Copy, Debug, PartialEq, Eq)]
+pub enum Cause {
+    /// The datagram is no sealed line for the gate's node from a client that the gate knows.
+    Form,
+    /// The tag is wrong under the key of the client that the datagram names.
+    Tag,
+    /// The moment is too far ahead of the clock, or the clock fails.
+    Early,
+    /// The moment is too far behind the clock, or the clock tells no second below 2^40.
+    Late,
+    /// The moment was seen or is at or below the mark, or another line with the same nonce waits for its answer.
+    Again,
+}
+
+/// The numbers of datagrams that a gate didn't open, by their causes. None goes beyond `u64::MAX`.
+#[derive(Clone, Copy, Debug, PartialEq, Eq)]
+pub struct Unopened {
+    /// The number of datagrams that are no sealed line for the node from a known client.
+    pub form: u64,
+    /// The number of datagrams with a wrong tag.
+    pub tag: u64,
+    /// The number of lines with a moment too far ahead of the clock.
+    pub early: u64,
+    /// The number of lines with a moment too far behind the clock.
+    pub late: u64,
+    /// The number of lines with a moment that was seen or is at or below the mark, or with the nonce of a waiting line.
+    pub again: u64,
+}
+
+impl Unopened {
+    /// Returns the numbers before any datagram.
+    pub(crate) fn new() -> Self
+        ensures { result ≡ nothing }
+    {
+        Unopened {
+            form: 0,
+            tag: 0,
+            early: 0,
+            late: 0,
+            again: 0,
+        }
+    }
+
+    /// Counts one more datagram of a cause.
+    pub(crate) fn count(&mut self, cause: Cause)
+        ensures { self.new ≡ counted self.old (Some cause) }
+    {
+        match cause {
+            Cause::Form => self.form = self.form.saturating_add(1),
+            Cause::Tag => self.tag = self.tag.saturating_add(1),
+            Cause::Early => self.early = self.early.saturating_add(1),
+            Cause::Late => self.late = self.late.saturating_add(1),
+            Cause::Again => self.again = self.again.saturating_add(1),
+        }
+    }
+}
