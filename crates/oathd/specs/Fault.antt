@@ -1,15 +1,15 @@
 -- The faults that end the program.
 use Rattle.std.specs.Prelude.{ℕ}
-use Rattle.oathd_memory.specs.Fault as memory
+use Rattle.oathd_tasks.specs.Fault as tasks
 use Rattle.oathd_database.specs.Fault as database
-use Rattle.oathd_gates.specs.Unlock.{unlock_status}
+use Rattle.oathd_database.specs.Unlock.{unlock_status}
 use Rattle.oathd.specs.declared.fault.Fault.{Fault}
 use Rattle.oathd.specs.declared.fault.ToldFault.{ToldFault}
-use Rattle.oathd.specs.declared.fault.Fault.TheVariants.{Database, Floors, Memory, Unlock}
+use Rattle.oathd.specs.declared.fault.Fault.TheVariants.{Database, Floors, Task, Unlock}
 
 -- the exit status: the status of the command's fault, or 1 for a fault of floors files
 abbrev pub status_of : Fault → ℕ
-status_of (Memory fault) = memory.status_of fault
+status_of (Task fault) = tasks.status_of fault
 status_of (Database fault) = database.status_of fault
 status_of (Floors fault) = 1
 status_of (Unlock fault) = unlock_status fault

@@ -1,6 +1,6 @@
-use crate::cause::Cause;
 use crate::floors::PathFault;
-use oathd_gates::UnlockFault;
+use oathd_causes::Cause;
+use oathd_database::UnlockFault;
 use program_edge::{OutsideFault, ProgramFault};
 use thiserror::Error;
 
@@ -9,7 +9,7 @@ use thiserror::Error;
 pub(crate) enum Fault<'a> {
     /// A fault of a command without a database, of reading the words, or of reading a file.
     #[error("{0}")]
-    Memory(oathd_memory::Fault<'a>),
+    Task(oathd_tasks::Fault<'a>),
     /// A fault of a command over a database.
     #[error("{0}")]
     Database(oathd_database::Fault),
@@ -28,7 +28,7 @@ impl ProgramFault for Fault<'_> {
 
     fn status(self) -> u8 {
         match self {
-            Fault::Memory(fault) => fault.status(),
+            Fault::Task(fault) => fault.status(),
             Fault::Database(fault) => fault.status(),
             Fault::Floors(fault) => fault.status(),
             Fault::Unlock(fault) => fault.status(),
@@ -56,13 +56,13 @@ impl ProgramFault for ToldFault<'_> {
 
 impl From<OutsideFault> for Fault<'_> {
     fn from(fault: OutsideFault) -> Self {
-        Fault::Memory(oathd_memory::Fault::from(fault))
+        Fault::Task(oathd_tasks::Fault::from(fault))
     }
 }
 
-impl<'a> From<oathd_memory::Fault<'a>> for Fault<'a> {
-    fn from(fault: oathd_memory::Fault<'a>) -> Self {
-        Fault::Memory(fault)
+impl<'a> From<oathd_tasks::Fault<'a>> for Fault<'a> {
+    fn from(fault: oathd_tasks::Fault<'a>) -> Self {
+        Fault::Task(fault)
     }
 }
 

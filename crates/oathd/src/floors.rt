@@ -5,7 +5,7 @@ ghost use Rattle.std.specs.Prelude.{◌≡◌, length, IfOk};
 use crate::fault::Fault;
 use floors_file::{FileFault, FilesFault, FloorsFault, MAX_FLOORS_LEN};
 use oathd_database::GatherFault;
-use oathd_memory::file_text;
+use oathd_tasks::file_text;
 use program_edge::ProgramFault;
 use std::alloc::Global;
 use std::rt::Files;

@@ -1,26 +1,28 @@
 //! The validation server's program.
 #![tactic(auto)]
 
-mod cause;
 mod databases;
 mod fault;
 mod floors;
-mod run;
+mod tasks;
 mod users;
 
+use fault::Fault;
+use oathd_tasks::run;
 use program_edge::process_words;
-use run::run;
 use std::io;
 use std::process::ExitCode;
 
 fn main(rt: HostRuntime) -> ExitCode {
     let alloc = rt.alloc();
     let words = process_words(&rt, alloc);
+    let mut text = Vec::new(alloc);
     let errors = rt.stderr();
-    ExitCode::from(run(
+    ExitCode::from(run::<Fault, _, _, _>(
         alloc,
         &rt,
-        words,
+        &words,
+        &mut text,
         &mut rt.reader(),
         &mut io::writer(&rt),
         &mut io::writer(&errors),

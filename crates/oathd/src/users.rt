@@ -34,7 +34,7 @@ impl<R: Read> Read for Copying<R> {
 pub(crate) fn open_users<'a, F: Files>(files: &F, path: &'a str) -> Result<F::File, Fault<'a>> {
     match fs::open(files, path) {
         Ok(file) => Ok(file),
-        Err(_) => Err(Fault::Memory(oathd_memory::Fault::CannotReadFile(path))),
+        Err(_) => Err(Fault::Task(oathd_tasks::Fault::CannotReadFile(path))),
     }
 }
 

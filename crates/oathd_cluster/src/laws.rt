@@ -40,7 +40,7 @@ pub fn faults_are_worked()
 {}
 
 /// Counterexamples: each promise of the replies and of a cluster's end fails for a minimal one.
-pub fn promises_can_be_broken()
+pub fn clusters_can_be_broken()
     // a reply for each line, in order, and nothing else
     ensures replies { WritesReplies one_line (Some (33 ∷ [])) (Some (codes "!2 -\n")) }
     ensures replies_missing { WritesReplies one_line (Some []) (Some []) → ⊥ }

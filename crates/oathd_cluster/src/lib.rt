@@ -28,5 +28,5 @@ mod sockets;
 mod tests;
 
 pub use fault::Fault;
-pub use laws::{cluster_lines_are_worked, faults_are_worked, promises_can_be_broken};
+pub use laws::{cluster_lines_are_worked, clusters_can_be_broken, faults_are_worked};
 pub use run::run_cluster;

@@ -1,6 +1,7 @@
 -- What the small databases are by which promises are broken.
 use Rattle.std.proofs.Common.{◌≡◌, inl, ◌≤◌, ℕ, List, [], ◌∷◌, ◌++◌, length, Some, None, Bool, true, false, refl, ap, sym, ◌∙◌, subst, arith}
-use Rattle.std.specs.Prelude.{Ok}
+use Rattle.std.specs.Prelude.{Result, Ok, Err}
+use Rattle.std.proofs.lemmas.Option.{same_Some}
 use Rattle.sqlite.specs.Held.{Held as Conn, state}
 use Rattle.sqlite.specs.State.{HasCleanDisk, Survives}
 use Rattle.sqlite.specs.Tree.{Trees}
@@ -17,12 +18,15 @@ use Rattle.floor_sql.specs.Held.{SqlHeld}
 use Rattle.floor_sql.specs.Migrate.{IsMigrated}
 use Rattle.floor_sql.specs.Stored.{Holds}
 use Rattle.floor_sql.proofs.BrokenLemmas.{count_of_none, own_row_is}
+use Rattle.datagram_port.specs.Port.{PortEvent}
 use Rattle.oath_node.specs.Hosted.{Hosted}
 use Rattle.oath_node.specs.TurnServing.{EndsSo, Serves}
 use Rattle.oath_node.specs.Turns.{AreBatches, Receipt, receipts_in}
+use Rattle.oath_node.specs.declared.serve_fault.ServeFault.{ServeFault}
 use Rattle.oath_node.specs.declared.turns.Served.{Served}
 use Rattle.oathd_database.specs.Broken.{IsOfOne, disk_of, fallen, new_store, one_book, small_conn, so_much, store_of}
-use Rattle.oathd_database.specs.Commands.{HasImport}
+use Rattle.oathd_database.specs.Commands.{HasImport, IsServed}
+use Rattle.oathd_database.specs.Fault.{serve_end}
 use Rattle.oathd_database.specs.Tables.{WritesAudit}
 use Rattle.oathd_database.specs.Text.{audit_text}
 use Rattle.oathd_database.specs.Users.{IsImported}
@@ -135,10 +139,19 @@ nothing_handed (batch ∷ batches) formed none =
     absurd (has_one formed.0.before formed.0.last (receipts_in batches)
     (subst (λ (b : List Receipt). length (b ++ receipts_in batches) ≤ 0) formed.0.is none))
 
--- nothing is served in no turn
-pub nothing_served : {S : Type 0} (held : S → Held) (old new : Hosted S) (served : Served) → Serves held old new None None None None 0 (Ok served)
-    → (held new.store).is_clean → served ≡ so_much 0 0
-nothing_served held old new served h clean =
+-- nothing is served in no turn, and nothing recorded
+nothing_ended : {S : Type 0} (held : S → Held) (old new : Hosted S) (events : List PortEvent) (served : Served)
+    (end : Result Served ServeFault) → Ok served ≡ serve_end end → Serves held old new (Some []) (Some events) None None 0 end
+    → (held new.store).is_clean → (served ≡ so_much 0 0) × (events ≡ [])
+nothing_ended held old new events served (Ok other) is h clean =
     let most = h.most in
     let none = nothing_handed h.batches h.formed (omega (arith, most)) in
-    (subst (λ (batches : List (List Receipt)). EndsSo held old new None None batches (Ok served)) none (h.exact clean)).2
+    let same : served ≡ other = cc in
+    let ends = subst (λ (batches : List (List Receipt)). EndsSo held old new (Some []) (Some events) batches (Ok other)) none (h.exact clean) in
+    (same ∙ ends.2, sym (same_Some [] events ends.0.entries))
+nothing_ended held old new events served (Err fault) is h clean = absurd cc
+
+pub nothing_served : {S : Type 0} (held : S → Held) (old new : Hosted S) (served : Served)
+    → (h : IsServed held old new 0 (Ok served)) → (held new.store).is_clean
+    → (served ≡ so_much 0 0) × (h.events ≡ [])
+nothing_served held old new served h clean = nothing_ended held old new h.events served h.end h.ends h.serves clean

@@ -13,12 +13,12 @@ use Rattle.floor_sql.specs.Held.{SqlHeld, sql_held}
 use Rattle.oath_node.specs.Calls.{IsOpened}
 use Rattle.oath_node.specs.Hosted.{Hosted}
 use Rattle.oath_node.specs.declared.fault.NodeFault.TheVariants as node
-use Rattle.oath_node.specs.TurnServing.{Serves}
 use Rattle.oath_node.specs.declared.serve_fault.ServeFault.{ServeFault}
 use Rattle.oath_node.specs.declared.serve_fault.ServeFault.TheVariants as turns
 use Rattle.oath_node.specs.declared.turns.Served.{Served}
-use Rattle.oathd_database.specs.Commands.{EndsOutput, EndsServing, HasAudited, HasExported, HasImport, HasOpened, HasServed, IsRefused}
+use Rattle.oathd_database.specs.Commands.{EndsOutput, EndsServing, HasAudited, HasExported, HasImport, HasOpened, HasServed, IsRefused, IsServed}
 use Rattle.oathd_database.specs.Fault.{IsOpenFault, IsOutputFault, serve_end, serve_fault_of}
+use Rattle.oathd_database.specs.Front.{IsFrontFault}
 use Rattle.oathd_database.specs.NodeKey.{tag_key}
 use Rattle.oathd_database.specs.Tables.{KeepsTables, WritesAudit}
 use Rattle.oathd_database.specs.Text.{export_text}
@@ -99,6 +99,20 @@ module _ (limits : Limits) (moment longest : ℕ) where
       pub ends_socket : (fault : Fault) → fault ≡ Socket → IfSome a (EndsServing limits moment longest fault)
       ends_socket fault is = subst (λ (x : Fault). IfSome a (EndsServing limits moment longest x)) (sym is) has_import
 
+      -- the allocator refuses the memory
+      pub ends_memory : (fault : Fault) → fault ≡ Memory → IfSome a (EndsServing limits moment longest fault)
+      ends_memory fault is =
+          subst (λ (x : Fault). IfSome a (EndsServing limits moment longest x)) (sym is) (IfSome_then a has_import (λ text g. tt))
+
+      -- what stands before the node can't be made
+      pub ends_front : (fault : Fault) → IsFrontFault fault → IfSome a (EndsServing limits moment longest fault)
+      ends_front Memory is = IfSome_then a has_import (λ text g. tt)
+      ends_front CannotWrite is = absurd is
+      ends_front NoClock is = has_import
+      ends_front (Users fault) is = absurd is
+      ends_front (Store fault) is = absurd is
+      ends_front Socket is = absurd is
+
       ends_at : (end : Result Served ServeFault) → IfErr (serve_end end) (λ fault. IfSome a (EndsServing limits moment longest fault))
       ends_at (Ok served) = tt
       ends_at (Err fault) = IfSome_then a has_import (λ text g. failed_turns fault text g)
@@ -139,10 +153,9 @@ module _ {S : Type 0} (g : Ghosts S) (serving : Serving) (a : Option (List ℕ))
     (opened : HasOpened g (Some serving.place.me) (length book) found) (in_boot : IsOpened (sql_held g) found first) (of_book : first.book ≡ book)
     (of_limits : first.limits ≡ serving.settings) (of_key : first.key ≡ tag_key serving.key book) (of_place : first.voter.place ≡ serving.place) where
   -- a node is served
-  pub has_served : (result : Result Served Fault) (end : Result Served ServeFault) → result ≡ serve_end end
-      → Serves (sql_held g) first last None None None None serving.turns end → IfOk result (λ served. IfSome a (HasServed g serving served))
-  has_served (Ok served) (Ok other) is serves =
-      let same : other ≡ served = cc in
+  pub has_served : (result : Result Served Fault) → IsServed (sql_held g) first last serving.turns result
+      → IfOk result (λ served. IfSome a (HasServed g serving served))
+  has_served (Ok served) is =
       IfSome_then a imported (λ text i. record {
         import = record { book = book; floors = floors; imported = i };
         found = found;
@@ -154,10 +167,9 @@ module _ {S : Type 0} (g : Ghosts S) (serving : Serving) (a : Option (List ℕ))
         of_key = of_key;
         of_place = of_place;
         last = last;
-        serves = subst (λ s. Serves (sql_held g) first last None None None None serving.turns (Ok s)) same serves;
+        served_is = is;
       })
-  has_served (Ok served) (Err fault) is serves = absurd cc
-  has_served (Err fault) end is serves = tt
+  has_served (Err fault) is = tt
 
 -- a claim about a text and a result gives another claim about the text
 pub ok_then : {T E : Type 0} (result : Result T E) (a : Option (List ℕ)) (P : T → List ℕ → Type 0) (Q : List ℕ → Type 0)

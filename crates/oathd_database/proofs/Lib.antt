@@ -6,6 +6,8 @@ mod FloorsLemmas
 mod LostLemmas
 mod DriftLemmas
 mod LevelLemmas
+mod GateLemmas
+mod UnlockLemmas
 mod ReachLemmas
 mod KeyLemmas
 mod BootLemmas

@@ -1,13 +1,12 @@
 -- What is written in turn.
-use Rattle.std.proofs.Common.{◌≡◌, ℕ, ◌+◌, ◌<◌, ◌≤◌, List, [], ◌∷◌, ◌++◌, zero, suc, length, take, Option, Some, None, get_or, sym, ap, subst, ◌∙◌, arith}
+use Rattle.std.proofs.Common.{◌≡◌, ℕ, ◌+◌, ◌<◌, List, [], ◌∷◌, ◌++◌, zero, suc, length, take, Option, Some, None, get_or, sym, ap, subst, ◌∙◌, arith}
 use Rattle.std.specs.Prelude.{slice_get}
 use Rattle.std.specs.Io.KnownBytes.{Appends}
-use Rattle.std.proofs.lemmas.List.{append-nil, append_assoc, take_more, length-take, take_all}
+use Rattle.std.proofs.lemmas.List.{append-nil, append_assoc, take_more, length-take}
 use Rattle.std.proofs.lemmas.Option.{none-some, same_Some}
 use Rattle.token_file.specs.Credential.{Credential}
-use Rattle.token_file.specs.Writing.{row_text}
 use Rattle.floor_store.specs.Records.{PassRecord, RowRecord}
-use Rattle.oathd_database.specs.Text.{WritesToken, audit_text, export_text, pass_line, pass_lines}
+use Rattle.oathd_database.specs.Text.{WritesToken, audit_text, pass_line, pass_lines, rows_text}
 
 -- one text, followed by another
 append_more : (old middle new : Option (List ℕ)) (front back : List ℕ) → Appends old middle front → Appends middle new back
@@ -43,31 +42,27 @@ append_pass passes place pass old middle new within is h k =
 
 -- ---- rows
 
--- one token more
-rows_on : (place : ℕ) (book : List Credential) (rows : List RowRecord) (token : Credential) (row : RowRecord)
-    → slice_get book place ≡ Some token → slice_get rows place ≡ Some row
-    → export_text (take (suc place) book) (take (suc place) rows) ≡ export_text (take place book) (take place rows) ++ row_text token row.next
-rows_on place [] rows token row is_token is_row = absurd (none-some token is_token)
-rows_on place (first ∷ book) [] token row is_token is_row = absurd (none-some row is_row)
-rows_on zero (first ∷ book) (top ∷ rows) token row is_token is_row =
-    append-nil (row_text first top.next)
-    ∙ ap (λ (t : Credential). row_text t top.next) (same_Some first token is_token)
-    ∙ ap (λ (r : RowRecord). row_text token r.next) (same_Some top row is_row)
-rows_on (suc place) (first ∷ book) (top ∷ rows) token row is_token is_row =
-    ap (λ l. row_text first top.next ++ l) (rows_on place book rows token row is_token is_row)
-    ∙ sym (append_assoc (row_text first top.next) (export_text (take place book) (take place rows)) (row_text token row.next))
+module _ (text : Credential → RowRecord → List ℕ) where
+  -- one token more
+  rows_on : (place : ℕ) (book : List Credential) (rows : List RowRecord) (token : Credential) (row : RowRecord)
+      → slice_get book place ≡ Some token → slice_get rows place ≡ Some row
+      → rows_text text (take (suc place) book) (take (suc place) rows) ≡ rows_text text (take place book) (take place rows) ++ text token row
+  rows_on place [] rows token row is_token is_row = absurd (none-some token is_token)
+  rows_on place (first ∷ book) [] token row is_token is_row = absurd (none-some row is_row)
+  rows_on zero (first ∷ book) (top ∷ rows) token row is_token is_row =
+      append-nil (text first top)
+      ∙ ap (λ (t : Credential). text t top) (same_Some first token is_token)
+      ∙ ap (text token) (same_Some top row is_row)
+  rows_on (suc place) (first ∷ book) (top ∷ rows) token row is_token is_row =
+      ap (λ l. text first top ++ l) (rows_on place book rows token row is_token is_row)
+      ∙ sym (append_assoc (text first top) (rows_text text (take place book) (take place rows)) (text token row))
 
--- the tokens up to a place, followed by the token there
-pub append_token : (book : List Credential) (rows : List RowRecord) (place : ℕ) (old middle new : Option (List ℕ))
-    → Appends old middle (export_text (take place book) (take place rows)) → WritesToken book rows place middle new
-    → Appends old new (export_text (take (place + 1) book) (take (place + 1) rows))
-append_token book rows place old middle new h k =
-    let on : place + 1 ≡ suc place = omega arith in
-    let texts : export_text (take (place + 1) book) (take (place + 1) rows) ≡ export_text (take place book) (take place rows) ++ row_text k.token k.row.next =
-    ap (λ n. export_text (take n book) (take n rows)) on ∙ rows_on place book rows k.token k.row k.token_is k.row_is in
-    subst (Appends old new) (sym texts) (append_more old middle new (export_text (take place book) (take place rows)) (row_text k.token k.row.next) h k.written)
-
--- all of them
-pub all_rows : (book : List Credential) (rows : List RowRecord) (place : ℕ) → length book ≤ place → length rows ≤ place
-    → export_text (take place book) (take place rows) ≡ export_text book rows
-all_rows book rows place h k = ap (λ b. export_text b (take place rows)) (take_all place book h) ∙ ap (export_text book) (take_all place rows k)
+  -- the tokens up to a place, followed by the token there
+  pub append_token : (book : List Credential) (rows : List RowRecord) (place : ℕ) (old middle new : Option (List ℕ))
+      → Appends old middle (rows_text text (take place book) (take place rows)) → WritesToken text book rows place middle new
+      → Appends old new (rows_text text (take (place + 1) book) (take (place + 1) rows))
+  append_token book rows place old middle new h k =
+      let on : place + 1 ≡ suc place = omega arith in
+      let texts : rows_text text (take (place + 1) book) (take (place + 1) rows) ≡ rows_text text (take place book) (take place rows) ++ text k.token k.row =
+      ap (λ n. rows_text text (take n book) (take n rows)) on ∙ rows_on place book rows k.token k.row k.token_is k.row_is in
+      subst (Appends old new) (sym texts) (append_more old middle new (rows_text text (take place book) (take place rows)) (text k.token k.row) h k.written)

@@ -33,8 +33,11 @@ use Rattle.oathd_database.specs.declared.fault.Fault.TheVariants.{Users}
 use Rattle.oathd_database.specs.declared.gather.GatherFault.{GatherFault}
 use Rattle.oathd_database.specs.declared.gather.GatherFault.TheVariants.{Floors}
 use Rattle.oathd_database.specs.declared.lost.LostNode.{LostNode}
+use Rattle.oathd_database.specs.declared.gate.ClientLines.TheVariants.{Anybody}
 use Rattle.oathd_database.specs.declared.node_key.NodeKey.TheVariants.{Own}
 use Rattle.oathd_database.specs.declared.serving.Serving.{Serving}
+use Rattle.oathd_database.specs.declared.unlock.UnlockFault.{UnlockFault}
+use Rattle.oathd_database.specs.declared.unlock.UnlockFault.TheVariants.{NoUser}
 
 -- ---- databases
 
@@ -208,6 +211,12 @@ floors_fault number line kind = Floors number (record { line = line; kind = kind
 abbrev pub failing : Content → SmallStore
 failing content = record (holding content) { fault = Some Disk; failures = 1 }
 
+-- ---- gates
+
+-- a fault of a name that no token has
+abbrev pub no_user : List ℕ → UnlockFault
+no_user name = NoUser (record { ref_ptr = (0, 0); now = name })
+
 -- ---- a node
 
 -- a number of datagrams and of replies
@@ -223,6 +232,8 @@ serving_for address = record {
   key = Own [];
   turns = 0;
   is_logged = false;
+  lines = Anybody;
+  clients_said = (lit≤ tt, lit≤ tt);
   few = lit≤ tt;
   each = refl;
   settings_agreed = refl;

@@ -1,7 +1,7 @@
 -- The effects of the commands over a users file and a database.
 --
 -- Floor: the first free factor of a token at a node.
-use Rattle.std.specs.Prelude.{◌≡◌, ℕ, List, Option, None, Some, IfSome, Ok, length}
+use Rattle.std.specs.Prelude.{◌≡◌, ℕ, List, [], Option, None, Some, IfSome, Result, Ok, length}
 use Rattle.std.specs.Io.KnownBytes.{Appends}
 use Rattle.sqlite.specs.Store.{Ghosts}
 use Rattle.sqlite.specs.Held as sql
@@ -14,7 +14,11 @@ use Rattle.floor_sql.specs.Migrate.{IsMigrated}
 use Rattle.oath_node.specs.Calls.{IsOpened as IsOpenedNode}
 use Rattle.oath_node.specs.Hosted.{Hosted}
 use Rattle.oath_node.specs.TurnServing.{Serves}
+use Rattle.oath_node.specs.declared.serve_fault.ServeFault.{ServeFault}
 use Rattle.oath_node.specs.declared.turns.Served.{Served}
+use Rattle.datagram_port.specs.Port.{PortEvent}
+use Rattle.floor_store.specs.Held.{Held}
+use Rattle.oathd_database.specs.Fault.{serve_end}
 use Rattle.oathd_database.specs.NodeKey.{tag_key}
 use Rattle.oathd_database.specs.Tables.{KeepsTables, WritesAudit}
 use Rattle.oathd_database.specs.Text.{export_text}
@@ -22,6 +26,18 @@ use Rattle.oathd_database.specs.Users.{IsImported, IsUnread, drifted_floors}
 use Rattle.oathd_database.specs.declared.fault.Fault.{Fault}
 use Rattle.oathd_database.specs.declared.fault.Fault.TheVariants.{Memory, CannotWrite, NoClock, Users, Store, Socket}
 use Rattle.oathd_database.specs.declared.serving.Serving.{Serving}
+
+-- ---- Serving
+
+-- A node was served for some turns over a port that kept a record and had received and offered nothing. The run ended
+-- with `result`.
+pub record IsServed {S : Type 0} (held : S → Held) (old new : Hosted S) (turns : ℕ) (result : Result Served Fault)
+    : Type 0 where
+  -- the port's record at the end
+  pub events : List PortEvent
+  pub end : Result Served ServeFault
+  pub serves : Serves held old new (Some []) (Some events) None None turns end
+  pub ends : result ≡ serve_end end
 
 -- ---- The users file
 
@@ -87,7 +103,7 @@ module _ {S : Type 0} (g : Ghosts S) where
     pub of_key : first.key ≡ tag_key serving.key import.book
     pub of_place : first.voter.place ≡ serving.place
     pub last : Hosted (SqlHeld S)
-    pub serves : Serves (sql_held g) first last None None None None serving.turns (Ok served)
+    pub served_is : IsServed (sql_held g) first last serving.turns (Ok served)
 
 -- ---- The faults
 

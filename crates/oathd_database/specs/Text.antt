@@ -7,20 +7,28 @@ use Rattle.token_file.specs.Credential.{Credential}
 use Rattle.token_file.specs.Writing.{row_text}
 use Rattle.floor_store.specs.Records.{PassRecord, RowRecord}
 
--- a users file: the tokens of a book in order, with the floors (first free factors) of their rows
-abbrev pub export_text : List Credential → List RowRecord → List ℕ
-export_text [] rows = []
-export_text (token ∷ book) [] = []
-export_text (token ∷ book) (row ∷ rows) = row_text token row.next ++ export_text book rows
+-- the texts of a book's tokens in order, each with its row
+abbrev pub rows_text : (Credential → RowRecord → List ℕ) → List Credential → List RowRecord → List ℕ
+rows_text text [] rows = []
+rows_text text (token ∷ book) [] = []
+rows_text text (token ∷ book) (row ∷ rows) = text token row ++ rows_text text book rows
 
--- the row of the token `number` is written, and nothing else
-pub record WritesToken (book : List Credential) (rows : List RowRecord) (number : ℕ)
-    (old new : Option (List ℕ)) : Type 0 where
+-- the text of the token `number` with its row is written, and nothing else
+pub record WritesToken (text : Credential → RowRecord → List ℕ) (book : List Credential) (rows : List RowRecord)
+    (number : ℕ) (old new : Option (List ℕ)) : Type 0 where
   pub token : Credential
   pub token_is : slice_get book number ≡ Some token
   pub row : RowRecord
   pub row_is : slice_get rows number ≡ Some row
-  pub written : Appends old new (row_text token row.next)
+  pub written : Appends old new (text token row)
+
+-- the row of a users file for a token, with its floor, the first free factor
+abbrev pub exported_row : Credential → RowRecord → List ℕ
+exported_row token row = row_text token row.next
+
+-- a users file: the tokens of a book in order, with the floors of their rows
+abbrev pub export_text : List Credential → List RowRecord → List ℕ
+export_text = rows_text exported_row
 
 -- a space followed by a number
 abbrev pub spaced_number : ℕ → List ℕ

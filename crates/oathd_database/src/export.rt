@@ -1,37 +1,34 @@
 //! The command `export`: prints a users file with the content of a store.
 
-ghost use Rattle.std.specs.Prelude.{◌≡◌, ◌<◌, length, IfErr, IfOk, IfSome, OnOk};
+ghost use Rattle.std.specs.Prelude.{◌≡◌, length, IfErr, IfOk, IfSome, OnOk};
 ghost use Rattle.std.specs.Io.KnownBytes.{Appends};
 ghost use Rattle.otp_core.specs.Limits.{default_limits};
 ghost use Rattle.oathd_database.specs.Commands.{EndsOutput, HasExported, HasImport};
 ghost use Rattle.oathd_database.specs.Fault.{IsOutputFault};
-ghost use Rattle.oathd_database.specs.Text.{WritesToken, export_text};
+ghost use Rattle.oathd_database.specs.Text.{export_text};
 
 use crate::database::{Database, open_store};
 use crate::fault::Fault;
 use crate::file::DatabaseFile;
-use floor_store::FloorStore;
+use crate::rows::{RowText, write_tokens};
+use floor_store::{FloorStore, Row};
 use otp_core::Settings;
 use sqlite::Alter;
 use std::alloc::Global;
-use std::io::{Read, Write};
-use token_file::{Book, TokenId, write_row};
+use std::io::{self, Read, Write};
+use token_file::{Book, Token, write_row};
 
-/// Writes the row of a token with its floor, the first free factor.
-fn write_token<S: FloorStore, W: Write>(
-    book: &Book,
-    store: &S,
-    writer: &mut W,
-    id: TokenId,
-) -> Result<(), Fault>
-    requires book { id < length book.now }
-    requires store { id < length (S.held store.now).content.rows }
-    ensures written { (S.held store.now).is_clean → OnOk result (WritesToken book.now (S.held store.now).content.rows id
-        (W.contents writer.old) (W.contents writer.new)) }
-    ensures fault { IfErr result (IsOutputFault (S.held store.now).fault) }
-{
-    let row = store.row(id.value())?;
-    write_row(writer, book.token(id), row.next()).map_err(|_| Fault::CannotWrite)
+/// The row of a token with its floor, the first free factor.
+struct Exported;
+
+impl RowText for Exported {
+    ghost use Rattle.oathd_database.specs.Text.{exported_row};
+
+    ghost text_of = { exported_row };
+
+    fn write_text<W: Write>(writer: &mut W, token: &Token, row: Row) -> io::Result<()> {
+        write_row(writer, token, row.next())
+    }
 }
 
 /// Writes the row of each token of `book` with its floor in `store`, and flushes. Does not allocate.
@@ -53,11 +50,7 @@ pub fn write_rows<S: FloorStore, W: Write>(
         (W.contents writer.new) (export_text book.now (S.held store.now).content.rows)) }
     ensures fault { IfErr result (IsOutputFault (S.held store.now).fault) }
 {
-    for token in 0..store.tokens() {
-        let id = TokenId::new(token).unwrap();
-        write_token(book, store, writer, id)?;
-    }
-    writer.flush().map_err(|_| Fault::CannotWrite)
+    write_tokens::<Exported, S, W>(book, store, writer)
 }
 
 /// Writes each token of the users file with its floor in the store. The store belongs to the node that the database

@@ -5,6 +5,7 @@
 ghost use Rattle.std.specs.Prelude.{◌≡◌, ◌≤◌, ℕ, ◌+◌, List, [], ◌∷◌, ◌++◌, None, Ok, Some, codes, length, map, slice_index, true};
 ghost use Rattle.std.specs.declared.fs.attrs.Metadata.{Metadata};
 ghost use Rattle.std.specs.declared.net.socket_addr.SocketAddrV4.{SocketAddrV4};
+ghost use Rattle.otp_core.specs.Gate.{clear_gate};
 ghost use Rattle.otp_core.specs.Limits.{Limits, default_limits};
 ghost use Rattle.token_file.specs.Credential.{Credential};
 ghost use Rattle.token_file.specs.Examples.{event_token, time_token};
@@ -32,21 +33,29 @@ ghost use Rattle.oath_node.specs.declared.fault.NodeFault.TheVariants.{Spent as 
 ghost use Rattle.oath_node.specs.declared.fault.OpenFault.TheVariants.{Memory as OpenMemory, Store as OpenStore};
 ghost use Rattle.oath_node.specs.declared.serve_fault.ServeFault.TheVariants.{Clock, Node, Port};
 ghost use Rattle.oathd_database.specs.Anew.{AreAbove, AreMadeAnew, IsSameUser};
-ghost use Rattle.oathd_database.specs.Broken.{IsOfClock, IsOfOne, asked_for, booting, conn_of, drifting, failing, fallen, floors_fault, floors_text, lost_nodes, migrating, new_store, no_floors, no_users, one_book, serving_for, small_conn, so_much, still, two_disks, users_fault, whole};
+ghost use Rattle.oathd_database.specs.Broken.{IsOfClock, IsOfOne, asked_for, booting, conn_of, drifting, failing, fallen, floors_fault, floors_text, lost_nodes, migrating, new_store, no_floors, no_user, no_users, one_book, serving_for, small_conn, so_much, still, two_disks, users_fault, whole};
 ghost use Rattle.oathd_database.specs.Commands.{EndsOutput, EndsServing, HasAudited, HasExported, HasImport, HasMade, HasMigrated, HasOpened, HasServed, IsRefused};
-ghost use Rattle.oathd_database.specs.Examples.{opening_at, told_alone};
+ghost use Rattle.oathd_database.specs.Examples.{gate_with, opening_at, row_with, store_with, told_alone, two_closed};
 ghost use Rattle.oathd_database.specs.Fault.{IsOpenFault, IsOutputFault, open_fault_of, serve_fault_of, status_of};
 ghost use Rattle.oathd_database.specs.File.{IsEmptyFile};
 ghost use Rattle.oathd_database.specs.Floors.{HasToldFloors, IsToldFault, told_floors, told_rows};
+ghost use Rattle.clients_file.specs.declared.clients.Clients.{Clients};
+ghost use Rattle.oathd_database.specs.Front.{IsFrontFault, IsFrontOf};
+ghost use Rattle.oathd_database.specs.Gate.{IsSaid, gate_from};
+ghost use Rattle.oathd_database.specs.declared.gate.ClientLines.TheVariants.{Anybody, Of, ThisMachine};
+ghost use Rattle.oathd_database.specs.declared.gate.Front.TheVariants as fronts;
+ghost use Rattle.oathd_database.specs.Gates.{HasToldGates, gate_line, gate_row, gate_text, gates_text};
 ghost use Rattle.oathd_database.specs.Gather.{gather_status};
 ghost use Rattle.oathd_database.specs.Level.{HasLevelled, IsNotLevelled, IsPartLevelled, Levels, levelled, levelled_rows, told_by};
 ghost use Rattle.oathd_database.specs.Lost.{HasFault, HasRemade, IsGathered, IsNotRemade, IsUngathered, IsUngatheredFor};
 ghost use Rattle.oathd_database.specs.Reach.{AreFound, AreReadAfter, IsLastLoss};
 ghost use Rattle.oathd_database.specs.Tables.{KeepsTables, WritesAudit};
-ghost use Rattle.oathd_database.specs.Text.{audit_text, export_text};
+ghost use Rattle.oathd_database.specs.Text.{WritesToken, audit_text, export_text};
+ghost use Rattle.oathd_database.specs.Unlock.{HasUser, IsNotUnlocked, LacksUser, Unlocks, unlock_status, unlocked_content};
 ghost use Rattle.oathd_database.specs.Users.{IsImported, IsUnread, drifted_floors};
 ghost use Rattle.oathd_database.specs.declared.fault.Fault.TheVariants.{CannotWrite, Memory, NoClock, Socket, Store};
 ghost use Rattle.oathd_database.specs.declared.gather.GatherFault.TheVariants.{Command, Files};
+ghost use Rattle.oathd_database.specs.declared.unlock.UnlockFault.TheVariants.{Command as UnlockCommand};
 
 use vote_core::floors_tell_all;
 
@@ -299,7 +308,22 @@ pub fn commands_can_be_broken()
         → (h : HasServed booting (serving_for address) (so_much 0 0) []) → h.first.key ≡ [] }
     ensures served_place { (address : SocketAddrV4)
         → (h : HasServed booting (serving_for address) (so_much 0 0) []) → h.first.voter.place.n ≡ 1 }
+    ensures served_record { (address : SocketAddrV4)
+        → (h : HasServed booting (serving_for address) (so_much 0 0) []) → h.served_is.events ≡ [] }
     ensures served_serves { (address : SocketAddrV4) → HasServed booting (serving_for address) (so_much 1 0) [] → ⊥ }
+{}
+
+/// Counterexamples: each promise of what stands between a socket and its clients fails for a minimal one.
+pub fn fronts_can_be_broken()
+    ensures plain { IsFrontOf 1 Anybody fronts.Anybody × IsFrontOf 1 ThisMachine fronts.ThisMachine }
+    ensures another { (IsFrontOf 1 Anybody fronts.ThisMachine → ⊥) × (IsFrontOf 1 ThisMachine fronts.Anybody → ⊥) }
+    ensures gate { (clients : Clients) → IsFrontOf 1 (Of clients) (fronts.Gate (gate_from 1 5 clients)) }
+    ensures no_gate { (clients : Clients) → (IsFrontOf 1 (Of clients) fronts.Anybody → ⊥)
+        × (IsFrontOf 1 (Of clients) fronts.ThisMachine → ⊥) }
+    ensures gate_of_another { (clients : Clients) → IsFrontOf 1 (Of clients) (fronts.Gate (gate_from 2 5 clients)) → ⊥ }
+    ensures said { (clients : Clients) → clients.ahead ≡ 60 → IsSaid (Of clients) }
+    ensures said_too_much { (clients : Clients) → clients.ahead ≡ 61 → IsSaid (Of clients) → ⊥ }
+    ensures fault { IsFrontFault Memory × IsFrontFault NoClock × (IsFrontFault Socket → ⊥) }
 {}
 
 /// Counterexamples: each promise of a command over floors files fails for a minimal one.
@@ -434,4 +458,81 @@ pub fn faults_are_worked()
     ensures openings { map open_fault_of (OpenMemory ∷ OpenStore Unusable ∷ []) ≡ Memory ∷ Store Unusable ∷ [] }
     ensures turns { map serve_fault_of (Node (NodeStore Unusable) ∷ Node Stopped ∷ Node NodeSpent ∷ Port ∷ Clock ∷ [])
         ≡ Store Unusable ∷ Store Spent ∷ Store Spent ∷ Socket ∷ NoClock ∷ [] }
+{}
+
+/// Worked cases. Gates as text: a token without failures has no line, whatever its moment.
+pub fn gates_are_worked()
+    ensures line { gate_line (codes "ann") (gate_with 3 115) ≡ codes "gate ann 3 115\n" }
+    ensures one { gate_text (event_token (codes "ann")) (gate_with 1 0) ≡ codes "gate ann 1 0\n" }
+    ensures none { gate_text (event_token (codes "ann")) (gate_with 0 115) ≡ [] }
+    ensures rows { gates_text (event_token (codes "a") ∷ event_token (codes "b") ∷ event_token (codes "c") ∷ [])
+        (row_with (gate_with 2 10) ∷ row_with clear_gate ∷ row_with (gate_with 10000 1099511677775) ∷ [])
+        ≡ codes "gate a 2 10\ngate c 10000 1099511677775\n" }
+    ensures no_rows { gates_text [] [] ≡ [] }
+{}
+
+/// Worked cases. Unlocking clears the gate of one row. The other rows, the rest of the row, the boot and the last pass
+/// stay. The number of no token changes nothing.
+pub fn unlocking_is_worked()
+    ensures first { unlocked_content (store_with two_closed) 0
+        ≡ store_with (row_with clear_gate ∷ row_with (gate_with 1 105) ∷ []) }
+    ensures second { unlocked_content (store_with two_closed) 1
+        ≡ store_with (row_with (gate_with 3 115) ∷ row_with clear_gate ∷ []) }
+    ensures open_one { unlocked_content (store_with (row_with clear_gate ∷ [])) 0
+        ≡ store_with (row_with clear_gate ∷ []) }
+    ensures no_token { unlocked_content (store_with two_closed) 2 ≡ store_with two_closed }
+{}
+
+/// Counterexamples: each promise of `gates` and `unlock` fails for a minimal one.
+pub fn gates_can_be_broken()
+    // a user in a users file, and a user that it lacks
+    ensures user { (users : List ℕ) → IsOfOne 0 11 users → HasUser default_limits 11 (codes "a") users }
+    ensures user_import { HasUser default_limits 11 (codes "a") no_users → ⊥ }
+    ensures user_of_nobody { (users : List ℕ) → IsOfOne 0 11 users → HasUser default_limits 11 (codes "b") users → ⊥ }
+    ensures lacks { LacksUser default_limits 11 (codes "a") [] }
+    ensures lacks_import { LacksUser default_limits 11 (codes "a") no_users → ⊥ }
+    ensures lacks_longest { LacksUser default_limits 5 (codes "a") (codes "# none") → ⊥ }
+    ensures lacks_known { (users : List ℕ) → IsOfOne 0 11 users → LacksUser default_limits 11 (codes "a") users → ⊥ }
+
+    // a user's token is unlocked, or no token is
+    ensures unlocks { (users : List ℕ) → IsOfOne 0 11 users
+        → Unlocks fallen default_limits 11 1 (codes "a") (new_store 4 (0 ∷ [])) users }
+    ensures unlocks_known { (users : List ℕ) → IsOfOne 0 11 users
+        → Unlocks fallen default_limits 11 1 (codes "b") (new_store 4 (0 ∷ [])) users → ⊥ }
+    ensures unlocks_opened { (users : List ℕ) → IsOfOne 0 11 users
+        → Unlocks (still (tables_at 4 [])) default_limits 11 1 (codes "a") (new_store 4 []) users → ⊥ }
+    ensures unlocks_writes { (users : List ℕ) → IsOfOne 0 11 users → Unlocks fallen default_limits 11 1 (codes "a")
+        (record (new_store 4 (0 ∷ [])) { fault = Some Disk }) users → ⊥ }
+    ensures not_unlocked { (users : List ℕ) → IsOfOne 0 11 users
+        → IsNotUnlocked default_limits 11 (codes "a") (UnlockCommand (Store Disk)) users }
+    ensures not_unlocked_output { IsNotUnlocked default_limits 11 (codes "a") (UnlockCommand CannotWrite) [] → ⊥ }
+    ensures not_unlocked_before_import { IsNotUnlocked default_limits 11 (codes "a") (UnlockCommand (Store Disk)) no_users
+        → ⊥ }
+    ensures nobody { IsNotUnlocked default_limits 11 (codes "b") (no_user (codes "b")) [] }
+    ensures nobody_else { IsNotUnlocked default_limits 11 (codes "c") (no_user (codes "b")) [] → ⊥ }
+    ensures nobody_known { (users : List ℕ) → IsOfOne 0 11 users
+        → IsNotUnlocked default_limits 11 (codes "a") (no_user (codes "a")) users → ⊥ }
+    ensures statuses { map unlock_status (UnlockCommand Memory ∷ UnlockCommand (Store Disk) ∷ UnlockCommand Socket ∷ no_user (codes "b")
+        ∷ []) ≡ 1 ∷ 3 ∷ 4 ∷ 1 ∷ [] }
+
+    // the gate of a token is written
+    ensures gate { WritesToken gate_row (event_token (codes "a") ∷ []) (row_with (gate_with 2 10) ∷ []) 0 (Some [])
+        (Some (codes "gate a 2 10\n")) }
+    ensures gate_token { WritesToken gate_row (event_token (codes "a") ∷ []) (row_with (gate_with 2 10) ∷ []) 0 (Some [])
+        (Some (codes "gate b 2 10\n")) → ⊥ }
+    ensures gate_row { WritesToken gate_row (event_token (codes "a") ∷ []) (row_with (gate_with 2 10) ∷ []) 0 (Some [])
+        (Some (codes "gate a 3 10\n")) → ⊥ }
+    ensures gate_written { WritesToken gate_row (event_token (codes "a") ∷ []) (row_with clear_gate ∷ []) 0 (Some [])
+        (Some (codes "x")) → ⊥ }
+
+    // the gates of a store are written
+    ensures told { (users : List ℕ) → IsOfOne 0 11 users
+        → HasToldGates fallen default_limits 11 1 (Some []) (Some []) users }
+    ensures told_import { HasToldGates fallen default_limits 11 1 (Some []) (Some []) no_users → ⊥ }
+    ensures told_longest { HasToldGates fallen default_limits 5 1 (Some []) (Some []) (codes "# none") → ⊥ }
+    ensures told_opened { HasToldGates (still (tables_at 4 [])) default_limits 11 2 (Some []) (Some []) [] → ⊥ }
+    ensures told_tokens { (users : List ℕ) → IsOfOne 0 11 users
+        → HasToldGates (still (tables_at 4 [])) default_limits 11 1 (Some []) (Some []) users → ⊥ }
+    ensures told_written { HasToldGates (still (tables_at 4 [])) default_limits 11 1 (Some []) (Some (codes "x")) []
+        → ⊥ }
 {}

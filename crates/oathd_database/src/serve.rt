@@ -1,16 +1,17 @@
 //! The command `serve`: runs a node over a store and a socket.
 
-ghost use Rattle.std.specs.Prelude.{◌≡◌, ◌<◌, ◌^◌, None, length, Result, IfErr, IfOk, IfSome};
+ghost use Rattle.std.specs.Prelude.{◌≡◌, ◌≤◌, ◌<◌, ◌^◌, [], None, length, Result, IfErr, IfOk, IfSome};
 ghost use Rattle.oath_node.specs.TurnServing.{Serves};
 ghost use Rattle.oath_node.specs.declared.serve_fault.ServeFault.{ServeFault};
 ghost use Rattle.oath_node.specs.declared.turns.Served.{Served};
 ghost use Rattle.oath_node.specs.Calls.{IsOpened};
-ghost use Rattle.oathd_database.specs.Commands.{EndsServing, HasImport, HasServed};
+ghost use Rattle.oathd_database.specs.Commands.{EndsServing, HasImport, HasServed, IsServed};
 ghost use Rattle.oathd_database.specs.Fault.{IsOpenFault, serve_end};
 
 use crate::database::{Database, open_store};
 use crate::fault::Fault;
 use crate::file::DatabaseFile;
+use crate::gate::{Front, front_of};
 use crate::node_key::tag_key;
 use crate::serving::Serving;
 use arrayvec::ArrayVec;
@@ -20,6 +21,7 @@ use floor_store::FloorStore;
 use node_log::{LogPort, MAX_OTHERS, Member, Start, write_start};
 use oath_node::{Node, Served, run_turns};
 use otp_core::Settings;
+use sealed_port::SealedPort;
 use sqlite::Alter;
 use std::alloc::Global;
 use std::io::{Read, Write};
@@ -116,45 +118,78 @@ fn other_members(place: Place) -> ArrayVec<Member, MAX_OTHERS> {
     others
 }
 
-/// Serves a node over a socket, as [`serve_node`] does, with a log. A failed write ends the log, but not the node.
-fn serve_logged<S: FloorStore, N: TimeSource, W: Write>(
+/// Serves a node over a port, as [`serve_node`] does, with a log. A failed write ends the log, but not the node.
+fn serve_logged<S: FloorStore, P: Port + Drop, N: TimeSource, W: Write>(
     node: &mut Node<'_, S>,
-    port: UdpPort<&N>,
-    clock: &mut SystemClock<'_, N>,
+    port: P,
+    outside: &N,
     turns: u64,
     log: ServeLog,
     writer: &mut W,
 ) -> Result<Served, Fault>
-    requires { turns < 2 ^ 54 }
-    ensures turns { (end : Result Served ServeFault)
-        × Serves S.held node.old node.new None None None None turns end × (result ≡ serve_end end) }
+    requires turns { turns < 2 ^ 54 }
+    requires fresh { IfSome (P.events port) (λ entries. entries ≡ []) }
+    ensures turns { (end : Result Served ServeFault) × (last : P)
+        × Serves S.held node.old node.new (P.events port) (P.events last) None None turns end
+        × (result ≡ serve_end end) }
 {
     let _written = write_start(writer, log.start);
+    let mut clock = SystemClock::new(outside);
     let mut port = LogPort::new(port, writer, log.members);
-    let served = serve_node(node, &mut port, clock, turns)?;
+    let served = serve_node(node, &mut port, &mut clock, turns)?;
     port.end(served.received, served.replied);
     Ok(served)
 }
 
-/// Serves a node over a socket, as [`serve_node`] does, with a log if there is one.
-fn serve_port<S: FloorStore, N: TimeSource, W: Write>(
+/// Serves a node over a port, as [`serve_node`] does, with a log if there is one.
+fn serve_port<S: FloorStore, P: Port + Drop, N: TimeSource, W: Write>(
     node: &mut Node<'_, S>,
-    port: UdpPort<&N>,
+    port: P,
     outside: &N,
     turns: u64,
     log: Option<ServeLog>,
     writer: &mut W,
 ) -> Result<Served, Fault>
-    requires { turns < 2 ^ 54 }
-    ensures turns { (end : Result Served ServeFault)
-        × Serves S.held node.old node.new None None None None turns end × (result ≡ serve_end end) }
+    requires turns { turns < 2 ^ 54 }
+    requires fresh { IfSome (P.events port) (λ entries. entries ≡ []) }
+    ensures turns { (end : Result Served ServeFault) × (last : P)
+        × Serves S.held node.old node.new (P.events port) (P.events last) None None turns end
+        × (result ≡ serve_end end) }
 {
-    let mut clock = SystemClock::new(outside);
     match log {
-        Some(log) => serve_logged(node, port, &mut clock, turns, log, writer),
+        Some(log) => serve_logged(node, port, outside, turns, log, writer),
         None => {
             let mut port = port;
+            let mut clock = SystemClock::new(outside);
             serve_node(node, &mut port, &mut clock, turns)
+        }
+    }
+}
+
+/// Serves a node over a socket, as [`serve_node`] does, for the clients that `front` lets through, with a log if there
+/// is one.
+fn serve_front<S: FloorStore, N: TimeSource, W: Write>(
+    node: &mut Node<'_, S>,
+    port: UdpPort<&N>,
+    outside: &N,
+    front: Front,
+    turns: u64,
+    log: Option<ServeLog>,
+    writer: &mut W,
+) -> Result<Served, Fault>
+    requires turns { turns < 2 ^ 54 }
+    requires calls { port.calls.made ≡ [] }
+    ensures turns { IsServed S.held node.old node.new turns result }
+{
+    match front {
+        Front::Anybody => serve_port(node, port, outside, turns, log, writer),
+        Front::ThisMachine => {
+            let port = port.taking_loopback_alone();
+            serve_port(node, port, outside, turns, log, writer)
+        }
+        Front::Gate(gate) => {
+            let port = SealedPort::new(port, SystemClock::new(outside), gate);
+            serve_port(node, port, outside, turns, log, writer)
         }
     }
 }
@@ -191,13 +226,14 @@ fn log_of(is_logged: bool, start: Start, place: Place) -> Option<ServeLog> {
 /// Opens a node over its store in a new boot, binds a UDP socket to its address, and serves it for the given turns.
 ///
 /// The store has the tokens of the users file. A turn is one receive of at most 200 milliseconds. A datagram from a
-/// member's address is that member's; a datagram from any other address is a client's. With a log, its lines go to the
-/// writer; a failed write ends the log, but not the node.
+/// member's address is that member's; a datagram from any other address is a client's. `serving` says which lines of
+/// clients the node takes. With a log, its lines go to the writer; a failed write ends the log, but not the node.
 ///
 /// # Errors
 /// - Returns the errors of [`open_store`].
 /// - Returns the errors of [`open_node`].
 /// - Returns `Socket` if the socket cannot be bound.
+/// - Returns the errors of [`front_of`].
 /// - Returns the errors of [`serve_node`].
 pub fn serve_store<R: Read + Drop, S: Alter + Drop, D: Database<S>, N: Net + TimeSource, W: Write>(
     alloc: Global,
@@ -218,6 +254,7 @@ pub fn serve_store<R: Read + Drop, S: Alter + Drop, D: Database<S>, N: Net + Tim
         key,
         turns,
         is_logged,
+        lines,
     } = serving;
     let (users, store) = open_store(alloc, users, settings, Some(place.me()), database)?;
     let key = tag_key(alloc, key, &users.book)?;
@@ -225,8 +262,9 @@ pub fn serve_store<R: Read + Drop, S: Alter + Drop, D: Database<S>, N: Net + Tim
     let start = start_of(place, address, store.boot()?, &users.book, &key);
     let mut node = open_node(alloc, &users.book, settings, place, &key, store)?;
     let port = UdpPort::new(socket_at(outside, address)?, members, outside);
+    let front = front_of(alloc, place.me(), lines, outside)?;
     let log = log_of(is_logged, start, place);
-    serve_port(&mut node, port, outside, turns, log, writer)
+    serve_front(&mut node, port, outside, front, turns, log, writer)
 }
 
 /// Serves a node over the store in the file at `path`, as [`serve_store`] does.

@@ -75,7 +75,7 @@ pub fn runs_are_worked()
 {}
 
 /// Counterexamples: each promise of a run's end, and of a failure within its users file, fails for a minimal one.
-pub fn promises_can_be_broken()
+pub fn runs_can_be_broken()
     ensures kept { EndsSo answered (Err (InputLine 7)) (Some []) (Some (codes "OK 1 0\nNO 2 INVALID\n")) }
     ensures lost_answer { EndsSo answered (Err (InputLine 7)) (Some []) (Some (codes "OK 1 0\n")) → ⊥ }
     ensures other_line { EndsSo answered (Err (InputLine 8)) (Some []) (Some (codes "OK 1 0\nNO 2 INVALID\n")) → ⊥ }

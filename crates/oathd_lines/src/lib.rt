@@ -23,6 +23,6 @@ mod lines;
 mod secret;
 
 pub use fault::Fault;
-pub use laws::{client_lines_are_worked, promises_can_be_broken, runs_are_worked};
+pub use laws::{client_lines_are_worked, runs_are_worked, runs_can_be_broken};
 pub use lines::serve_lines;
 pub use secret::print_secret;

@@ -2,3 +2,9 @@ mod FaultLemmas
 mod PartsLemmas
 mod RunLemmas
 mod ScriptLemmas
+mod FloorLemmas
+mod GrammarLemmas
+mod LineLemmas
+mod ReportLemmas
+mod RoundLemmas
+mod TurnLemmas

@@ -22,9 +22,9 @@ use Rattle.cluster_sim.specs.declared.script.Act as acts
 use Rattle.cluster_sim.specs.declared.script.Act.TheVariants.{Client, Deliver, Tick, Noise}
 use Rattle.cluster_sim.specs.declared.script.WorldEvent as events
 use Rattle.cluster_sim.specs.declared.script.WorldEvent.TheVariants.{Happens, Cut, Restart, Lost, Anew}
-use Rattle.sim_script.specs.Event.{ScriptRecord, act_of, event_of, script_value}
-use Rattle.sim_script.specs.declared.script.Script.{Script}
-use Rattle.sim_script.specs.ReportText.{report_text}
+use Rattle.oathd_sim.specs.Event.{ScriptRecord, act_of, event_of, script_value}
+use Rattle.oathd_sim.specs.declared.script.Script.{Script}
+use Rattle.oathd_sim.specs.ReportText.{report_text}
 use Rattle.users_input.specs.Input.{lines_between, lines_of, pieces_of, rest_part, users_part}
 use Rattle.oathd_sim.specs.Parts.{HasParts, IsGivenUp, IsUnread}
 use Rattle.oathd_sim.specs.Sim.{EndsSo, IsCutSo, IsTaken, Setup, Sim, Reports, act_under, end_of, event_under, script_events, script_lines, script_read, sim_of_script, sim_of_users, sim_read}

@@ -3,12 +3,12 @@ use Rattle.std.proofs.Common.{◌≡◌, ℕ, ◌+◌, ◌-◌, ◌<◌, ◌≤�
 use Rattle.std.specs.Prelude.{Result, Ok, Err, ◌==◌, count_by}
 use Rattle.std.proofs.lemmas.Bool.Decides.{nat_tests}
 use Rattle.std.proofs.lemmas.List.Splits.{length-slice_split}
-use Rattle.sim_script.specs.Event.{ScriptRecord, empty_script}
-use Rattle.sim_script.specs.Reading.{IsRefused}
-use Rattle.sim_script.specs.Script.{script_of, with_line}
-use Rattle.sim_script.specs.Turns.{state_after, value_then}
-use Rattle.sim_script.specs.declared.fault.ScriptFault.{ScriptFault}
-use Rattle.sim_script.specs.declared.fault.ScriptFault.TheVariants.{Line, Memory}
+use Rattle.oathd_sim.specs.Event.{ScriptRecord, empty_script}
+use Rattle.oathd_sim.specs.Reading.{IsRefused}
+use Rattle.oathd_sim.specs.Script.{script_of, with_line}
+use Rattle.oathd_sim.specs.Turns.{state_after, value_then}
+use Rattle.oathd_sim.specs.declared.script_fault.ScriptFault.{ScriptFault}
+use Rattle.oathd_sim.specs.declared.script_fault.ScriptFault.TheVariants.{Line, Memory}
 use Rattle.users_input.specs.Input.{TextLine, lines_between, pieces_of}
 use Rattle.users_input.specs.Users.{NumberedLine, numbered}
 use Rattle.oathd_sim.specs.Sim.{script_lines, with_text_line}

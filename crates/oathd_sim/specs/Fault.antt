@@ -1,6 +1,6 @@
 -- The faults that end a simulation.
-use Rattle.sim_script.specs.declared.fault.ScriptFault.{ScriptFault}
-use Rattle.sim_script.specs.declared.fault.ScriptFault.TheVariants as script
+use Rattle.oathd_sim.specs.declared.script_fault.ScriptFault.{ScriptFault}
+use Rattle.oathd_sim.specs.declared.script_fault.ScriptFault.TheVariants as script
 use Rattle.users_input.specs.declared.fault.InputFault.{InputFault}
 use Rattle.users_input.specs.declared.fault.InputFault.TheVariants as input
 use Rattle.users_input.specs.declared.fault.UsersFault.{UsersFault}

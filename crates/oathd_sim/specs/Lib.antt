@@ -3,3 +3,10 @@ pub mod Examples
 pub mod Fault
 pub mod Parts
 pub mod Sim
+pub mod Event
+pub mod Grammar
+pub mod Lines
+pub mod Reading
+pub mod Script
+pub mod Turns
+pub mod ReportText

@@ -11,10 +11,10 @@ use Rattle.oath_node.specs.Machine.{Config}
 use Rattle.cluster_sim.specs.World as world
 use Rattle.cluster_sim.specs.World.{ReportValue, first_start, report_of}
 use Rattle.cluster_sim.specs.Rounds.{events_with_rounds}
-use Rattle.sim_script.specs.Event.{Act, Says, Deliver, Ticks, Noise, Event, Happens, Cut, Restart, Lost, Anew, ScriptRecord, empty_script}
-use Rattle.sim_script.specs.ReportText.{report_text}
-use Rattle.sim_script.specs.Script.{with_line}
-use Rattle.sim_script.specs.Turns.{state_after}
+use Rattle.oathd_sim.specs.Event.{Act, Says, Deliver, Ticks, Noise, Event, Happens, Cut, Restart, Lost, Anew, ScriptRecord, empty_script}
+use Rattle.oathd_sim.specs.ReportText.{report_text}
+use Rattle.oathd_sim.specs.Script.{with_line}
+use Rattle.oathd_sim.specs.Turns.{state_after}
 use Rattle.users_input.specs.Input.{TextLine, lines_of, rest_part, users_file, users_part}
 use Rattle.oathd_sim.specs.declared.fault.Fault.{Fault}
 use Rattle.oathd_sim.specs.declared.fault.Fault.TheVariants.{Memory, CannotRead, CannotWrite, Users, ScriptLine}

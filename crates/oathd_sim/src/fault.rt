@@ -1,7 +1,7 @@
 ghost use Rattle.std.specs.Prelude.{◌≡◌};
 
+use crate::script_fault::ScriptFault;
 use cluster_sim::SimFault;
-use sim_script::ScriptFault;
 use std::alloc::{AllocError, AllocFailed};
 use thiserror::Error;
 use token_file::FileFault;

@@ -7,8 +7,8 @@ ghost use Rattle.oath_node.specs.Hosted.{envelope_at};
 ghost use Rattle.oath_node.specs.Machine.{Config};
 ghost use Rattle.cluster_sim.specs.World as world;
 ghost use Rattle.cluster_sim.specs.World.{ReportValue, first_start, report_of};
-ghost use Rattle.sim_script.specs.ReportText.{report_text};
-ghost use Rattle.sim_script.specs.declared.fault.ScriptFault.TheVariants as script;
+ghost use Rattle.oathd_sim.specs.ReportText.{report_text};
+ghost use Rattle.oathd_sim.specs.declared.script_fault.ScriptFault.TheVariants as script;
 ghost use Rattle.users_input.specs.declared.fault.InputFault.TheVariants as input;
 ghost use Rattle.users_input.specs.declared.fault.UsersFault.TheVariants as users;
 ghost use Rattle.oathd_sim.specs.Broken.{IsUnreadFor, fault_at, one_tick};
@@ -16,8 +16,8 @@ ghost use Rattle.oathd_sim.specs.Examples.{IsCutAt, line_of_15, one_node, printe
 ghost use Rattle.oathd_sim.specs.Fault.{input_fault_of, script_fault_of, users_fault_of};
 ghost use Rattle.oathd_sim.specs.Parts.{HasParts, IsGivenUp, IsUnread};
 ghost use Rattle.oathd_sim.specs.declared.fault.Fault.TheVariants.{CannotRead, CannotWrite, Memory, ScriptLine, Users};
-ghost use Rattle.sim_script.specs.Event.{Anew, Cut, Deliver, Happens, Lost, Noise, Restart, Says, Ticks};
-ghost use Rattle.sim_script.specs.Event.{empty_script, eventful};
+ghost use Rattle.oathd_sim.specs.Event.{Anew, Cut, Deliver, Happens, Lost, Noise, Restart, Says, Ticks};
+ghost use Rattle.oathd_sim.specs.Event.{empty_script, eventful};
 ghost use Rattle.oathd_sim.specs.Sim.{BadScript, EndsSo, IsTaken, Refused, Reports};
 ghost use Rattle.oathd_sim.specs.Sim.{event_under, output_of, script_events, script_read, sim_of, sim_of_script};
 
@@ -79,7 +79,7 @@ pub fn faults_are_worked()
 
 /// Counterexamples: each promise of a simulation's end, of an input's parts, and of a failure within its users file
 /// fails for a minimal one.
-pub fn promises_can_be_broken()
+pub fn simulations_can_be_broken()
     ensures reported { (report : ReportValue) →
         EndsSo (Reports report) (Ok tt) (Some []) (Some (report_text report)) }
     ensures reported_more { (report : ReportValue) →

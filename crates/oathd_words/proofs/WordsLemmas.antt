@@ -13,7 +13,7 @@ use Rattle.oathd_words.specs.Words.{AsksForNothing, AsksToCheck}
 use Rattle.oathd_words.specs.declared.nodes_words.NodesWords.{NodesWords}
 use Rattle.oathd_words.specs.declared.store_words.Action.{Action}
 use Rattle.oathd_words.specs.declared.store_words.Action.TheVariants.{Init, Remake, Serve, Export, Audit, Migrate, Floors, Level, Gates, Unlock}
-use Rattle.oathd_words.specs.declared.words.Task.TheVariants.{Lines, Sim, Cluster, Store, Check, Secret}
+use Rattle.oathd_words.specs.declared.words.Task.TheVariants.{Lines, Sim, Cluster, Store, Check, NewKey, Secret}
 
 -- a number that distinguishes the names of the commands
 abbrev mark : List ℕ → ℕ
@@ -30,7 +30,7 @@ apart name a b p q below =
 abbrev action_name : Action → List ℕ
 action_name (Init node import moment) = codes "init"
 action_name (Remake node import moment former) = codes "init"
-action_name (Serve cluster turns is_logged) = codes "serve"
+action_name (Serve cluster turns is_logged clients) = codes "serve"
 action_name Export = codes "export"
 action_name (Audit node) = codes "audit"
 action_name (Migrate node) = codes "migrate"
@@ -46,7 +46,7 @@ is_store_name name = list_any (bytes_eq name) (codes "init" ∷ codes "serve" �
 store_named : (action : Action) → is_store_name (action_name action) ≡ true
 store_named (Init node import moment) = refl
 store_named (Remake node import moment former) = refl
-store_named (Serve cluster turns is_logged) = refl
+store_named (Serve cluster turns is_logged clients) = refl
 store_named Export = refl
 store_named (Audit node) = refl
 store_named (Migrate node) = refl
@@ -59,7 +59,7 @@ store_named (Unlock node user) = refl
 pub named_so : (name : List ℕ) (found : Found) (action : Action) → AsksForAction name found action → name ≡ action_name action
 named_so name found (Init node import moment) asks = asks.0
 named_so name found (Remake node import moment former) asks = asks.0
-named_so name found (Serve cluster turns is_logged) asks = asks.0
+named_so name found (Serve cluster turns is_logged clients) asks = asks.0
 named_so name found Export asks = asks
 named_so name found (Audit node) asks = asks.0
 named_so name found (Migrate node) asks = asks.0
@@ -73,13 +73,14 @@ no_store : (name other : List ℕ) (found : Found) → name ≡ other → is_sto
 no_store name other found is others action asks =
     false≢true (sym others ∙ ap is_store_name (sym is ∙ named_so name found action asks) ∙ store_named action)
 
--- ---- The other names in order of their marks: check, cluster, lines, sim, secret
+-- ---- The other names in order of their marks: check, cluster, lines, new-key, sim, secret
 
 module _ (name : List ℕ) (found : Found) where
   pub not_for_lines : name ≡ codes "lines"
       → ((nodes : NodesWords) (moment : ℕ) → AsksForNodes (λ n. n ≡ 1) found nodes → GivesMoment found (Some moment) → ⊥)
       → AsksForNothing name found
   not_for_lines is none (Lines nodes moment) asks = none nodes moment asks.1 asks.2
+  not_for_lines is none NewKey asks = apart name _ _ is asks (lit< tt)
   not_for_lines is none (Secret hex) asks = apart name _ _ is asks.0 (lit< tt)
   not_for_lines is none (Check users cluster) asks = apart name _ _ asks.0 is (lit< tt)
   not_for_lines is none (Sim nodes moment) asks = apart name _ _ is asks.0 (lit< tt)
@@ -90,6 +91,7 @@ module _ (name : List ℕ) (found : Found) where
       → ((nodes : NodesWords) (moment : ℕ) → AsksForNodes (GivesMember found (codes "N")) found nodes → GivesMoment found (Some moment) → ⊥)
       → AsksForNothing name found
   not_for_sim is none (Lines nodes moment) asks = apart name _ _ asks.0 is (lit< tt)
+  not_for_sim is none NewKey asks = apart name _ _ asks is (lit< tt)
   not_for_sim is none (Secret hex) asks = apart name _ _ is asks.0 (lit< tt)
   not_for_sim is none (Check users cluster) asks = apart name _ _ asks.0 is (lit< tt)
   not_for_sim is none (Sim nodes moment) asks = none nodes moment asks.1 asks.2
@@ -101,6 +103,7 @@ module _ (name : List ℕ) (found : Found) where
       → AsksForNodes (GivesMember found (codes "N")) found nodes → GivesMoment found (Some moment) → ⊥)
       → AsksForNothing name found
   not_for_cluster is none (Lines nodes moment) asks = apart name _ _ is asks.0 (lit< tt)
+  not_for_cluster is none NewKey asks = apart name _ _ is asks (lit< tt)
   not_for_cluster is none (Secret hex) asks = apart name _ _ is asks.0 (lit< tt)
   not_for_cluster is none (Check users cluster) asks = apart name _ _ asks.0 is (lit< tt)
   not_for_cluster is none (Sim nodes moment) asks = apart name _ _ is asks.0 (lit< tt)
@@ -109,6 +112,7 @@ module _ (name : List ℕ) (found : Found) where
 
   pub not_for_secret : name ≡ codes "secret" → first_value found (codes "HEX") ≡ None → AsksForNothing name found
   not_for_secret is none (Lines nodes moment) asks = apart name _ _ asks.0 is (lit< tt)
+  not_for_secret is none NewKey asks = apart name _ _ asks is (lit< tt)
   not_for_secret is none (Secret hex) asks = let clash = sym none ∙ asks.1 in cc
   not_for_secret is none (Check users cluster) asks = apart name _ _ asks.0 is (lit< tt)
   not_for_secret is none (Sim nodes moment) asks = apart name _ _ asks.0 is (lit< tt)
@@ -117,6 +121,7 @@ module _ (name : List ℕ) (found : Found) where
 
   pub not_for_check : name ≡ codes "check" → ((users cluster : List ℕ) → AsksToCheck found users cluster → ⊥) → AsksForNothing name found
   not_for_check is none (Lines nodes moment) asks = apart name _ _ is asks.0 (lit< tt)
+  not_for_check is none NewKey asks = apart name _ _ is asks (lit< tt)
   not_for_check is none (Secret hex) asks = apart name _ _ is asks.0 (lit< tt)
   not_for_check is none (Check users cluster) asks = none _ _ asks.1
   not_for_check is none (Sim nodes moment) asks = apart name _ _ is asks.0 (lit< tt)
@@ -125,22 +130,23 @@ module _ (name : List ℕ) (found : Found) where
 
   -- a name of no other command
   pub not_for_store : (name ≡ codes "lines" → ⊥) → (name ≡ codes "sim" → ⊥) → (name ≡ codes "cluster" → ⊥) → (name ≡ codes "check" → ⊥)
-      → (name ≡ codes "secret" → ⊥)
+      → (name ≡ codes "new-key" → ⊥) → (name ≡ codes "secret" → ⊥)
       → ((database users : List ℕ) (action : Action) → AsksForStore name found database users action → ⊥)
       → AsksForNothing name found
-  not_for_store lines sim cluster check secret none (Lines nodes moment) asks = lines asks.0
-  not_for_store lines sim cluster check secret none (Secret hex) asks = secret asks.0
-  not_for_store lines sim cluster check secret none (Check users file) asks = check asks.0
-  not_for_store lines sim cluster check secret none (Sim nodes moment) asks = sim asks.0
-  not_for_store lines sim cluster check secret none (Cluster users nodes moment) asks = cluster asks.0
-  not_for_store lines sim cluster check secret none (Store database users action) asks = none _ _ _ asks
+  not_for_store lines sim cluster check new_key secret none (Lines nodes moment) asks = lines asks.0
+  not_for_store lines sim cluster check new_key secret none NewKey asks = new_key asks
+  not_for_store lines sim cluster check new_key secret none (Secret hex) asks = secret asks.0
+  not_for_store lines sim cluster check new_key secret none (Check users file) asks = check asks.0
+  not_for_store lines sim cluster check new_key secret none (Sim nodes moment) asks = sim asks.0
+  not_for_store lines sim cluster check new_key secret none (Cluster users nodes moment) asks = cluster asks.0
+  not_for_store lines sim cluster check new_key secret none (Store database users action) asks = none _ _ _ asks
 
 -- without a node's number nothing is asked for by `init`
 pub no_init_node : (found : Found) → ((number : ℕ) → GivesMember found (codes "node") number → ⊥) → (action : Action)
     → AsksForAction (codes "init") found action → ⊥
 no_init_node found none (Init node import moment) asks = none node asks.2
 no_init_node found none (Remake node import moment former) asks = none node asks.2
-no_init_node found none (Serve cluster turns is_logged) asks = apart (codes "init") _ _ refl asks.0 (lit< tt)
+no_init_node found none (Serve cluster turns is_logged clients) asks = apart (codes "init") _ _ refl asks.0 (lit< tt)
 no_init_node found none Export asks = apart (codes "init") _ _ asks refl (lit< tt)
 no_init_node found none (Audit node) asks = apart (codes "init") _ _ asks.0 refl (lit< tt)
 no_init_node found none (Migrate node) asks = apart (codes "init") _ _ refl asks.0 (lit< tt)

@@ -10,6 +10,7 @@ use Rattle.oathd_words.specs.declared.former_words.FormerWords.{FormerWords}
 use Rattle.oathd_words.specs.declared.nodes_words.NodesWords.{NodesWords}
 use Rattle.oathd_words.specs.declared.nodes_words.NodesWords.TheVariants as nodes
 use Rattle.oathd_words.specs.declared.store_words.Action.{Action}
+use Rattle.oathd_words.specs.declared.store_words.ClientWords.TheVariants.{Anybody, ThisMachine}
 use Rattle.oathd_words.specs.declared.store_words.Action.TheVariants.{Init, Remake, Serve, Floors, Level, Unlock}
 use Rattle.oathd_words.specs.declared.store_words.ClusterWords.{ClusterWords}
 use Rattle.oathd_words.specs.declared.store_words.ClusterWords.TheVariants as clusters
@@ -74,11 +75,11 @@ usual_remake former = Remake 1 (imports.Given default_limits) None former
 
 -- a run of `turns` receives for a node of the cluster file
 abbrev pub serve_for : ℕ → ℕ → Action
-serve_for turns node = Serve (named_cluster node) turns false
+serve_for turns node = Serve (named_cluster node) turns false ThisMachine
 
 -- a run for the first of `members`
 abbrev pub usual_serve : Vec SocketAddrV4 → Action
-usual_serve members = Serve (given_cluster 1 members) 0 false
+usual_serve members = Serve (given_cluster 1 members) 0 false Anybody
 
 -- a floors file for nine members, or for the members of the cluster file
 abbrev pub floors_of : ℕ → Action

@@ -1,5 +1,5 @@
 -- The command line of the commands over a database, as values that clap found.
-use Rattle.std.specs.Prelude.{◌≡◌, ◌<◌, ◌≤◌, ◌^◌, ◌-◌, ℕ, nat_lt, false, true, if◌then◌else◌, List, length, map, Option, Some, None, codes}
+use Rattle.std.specs.Prelude.{◌≡◌, ◌<◌, ◌≤◌, ◌^◌, ◌-◌, ◌||◌, ℕ, Bool, is_none, nat_lt, false, true, if◌then◌else◌, List, length, map, Option, Some, None, codes}
 use Rattle.clap.specs.Matches.{first_value}
 use Rattle.clap.specs.declared.parser.matches.Found.{Found}
 use Rattle.command_line.specs.Number.{number_at}
@@ -12,6 +12,9 @@ use Rattle.oathd_words.specs.FormerWords.{AsksForCount, former_given, former_val
 use Rattle.oathd_words.specs.Given.{GivesLimits, GivesMember, is_flag}
 use Rattle.oathd_words.specs.Members.{AreMembers}
 use Rattle.oathd_words.specs.declared.store_words.Action.{Action}
+use Rattle.oathd_words.specs.declared.store_words.ClientWords.{ClientWords}
+use Rattle.oathd_words.specs.declared.store_words.ClientWords.TheVariants as clients
+use Rattle.oathd_words.specs.declared.store_words.ClientWords.TheVariants.{Anybody, ThisMachine}
 use Rattle.oathd_words.specs.declared.store_words.ClusterWords.{ClusterWords}
 use Rattle.oathd_words.specs.declared.store_words.ClusterWords.TheVariants.{Given, Named}
 use Rattle.oathd_words.specs.declared.store_words.ImportWords.{ImportWords}
@@ -71,6 +74,20 @@ AsksForCluster found (Given settings place members key) =
 AsksForCluster found (Named node path) =
     (first_value found (codes "cluster") ≡ Some path.now) × GivesMember found (codes "node") node
 
+-- Whether a node takes plain lines from any address, if there is no clients file. A node without a cluster file does,
+-- and one with the option.
+abbrev pub takes_anybody : Found → Bool
+takes_anybody found =
+    is_flag (first_value found (codes "plain-lines")) || is_none (first_value found (codes "cluster"))
+
+-- the lines that a node takes: those that a clients file at a path says, or plain ones
+abbrev pub AsksForClients : Found → ClientWords → Type 0
+AsksForClients found Anybody =
+    (first_value found (codes "clients") ≡ None) × (takes_anybody found ≡ true)
+AsksForClients found ThisMachine =
+    (first_value found (codes "clients") ≡ None) × (takes_anybody found ≡ false)
+AsksForClients found (clients.Named path) = first_value found (codes "clients") ≡ Some path.now
+
 -- the action that the command `name` asks for with the values found
 abbrev pub AsksForAction : List ℕ → Found → Action → Type 0
 AsksForAction name found (Init node import moment) =
@@ -79,9 +96,9 @@ AsksForAction name found (Init node import moment) =
 AsksForAction name found (Remake node import moment former) =
     (name ≡ codes "init") × (is_of_former found ≡ true) × GivesMember found (codes "node") node
     × AsksForImport found import × GivesMoment found moment × (former_given found ≡ Some (former_value former))
-AsksForAction name found (Serve cluster turns is_logged) =
+AsksForAction name found (Serve cluster turns is_logged clients) =
     (name ≡ codes "serve") × AsksForCluster found cluster × (turns_given found ≡ Some turns)
-    × (is_logged ≡ is_flag (first_value found (codes "log")))
+    × (is_logged ≡ is_flag (first_value found (codes "log"))) × AsksForClients found clients
 AsksForAction name found Export = name ≡ codes "export"
 AsksForAction name found (Audit node) = (name ≡ codes "audit") × GivesMember found (codes "node") node
 AsksForAction name found (Migrate node) = (name ≡ codes "migrate") × GivesMember found (codes "node") node
@@ -112,7 +129,7 @@ IsActionInRange (Init node import None) = (1 ≤ node) × (node ≤ 9)
 IsActionInRange (Init node import (Some moment)) = (1 ≤ node) × (node ≤ 9) × IsMoment moment
 IsActionInRange (Remake node import None former) = (1 ≤ node) × (node ≤ 9)
 IsActionInRange (Remake node import (Some moment) former) = (1 ≤ node) × (node ≤ 9) × IsMoment moment
-IsActionInRange (Serve cluster turns is_logged) = IsClusterInRange cluster × (turns < 2 ^ 54)
+IsActionInRange (Serve cluster turns is_logged clients) = IsClusterInRange cluster × (turns < 2 ^ 54)
 IsActionInRange Export = Unit {0}
 IsActionInRange (Audit node) = (1 ≤ node) × (node ≤ 9)
 IsActionInRange (Migrate node) = (1 ≤ node) × (node ≤ 9)

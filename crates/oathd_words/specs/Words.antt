@@ -15,7 +15,7 @@ use Rattle.oathd_words.specs.declared.store_words.ClusterWords.TheVariants.{Give
 use Rattle.oathd_words.specs.declared.store_words.ImportWords.{ImportWords}
 use Rattle.oathd_words.specs.declared.store_words.ImportWords.TheVariants as imports
 use Rattle.oathd_words.specs.declared.words.Task.{Task}
-use Rattle.oathd_words.specs.declared.words.Task.TheVariants.{Lines, Sim, Cluster, Store, Check, Secret}
+use Rattle.oathd_words.specs.declared.words.Task.TheVariants.{Lines, Sim, Cluster, Store, Check, NewKey, Secret}
 
 -- the paths of a users file and of a cluster file
 abbrev pub AsksToCheck : Found → List ℕ → List ℕ → Type 0
@@ -34,6 +34,7 @@ AsksFor name found (Cluster users nodes moment) =
 AsksFor name found (Store database users action) = AsksForStore name found database.now users.now action
 AsksFor name found (Check users cluster) =
     (name ≡ codes "check") × AsksToCheck found users.now cluster.now
+AsksFor name found NewKey = name ≡ codes "new-key"
 AsksFor name found (Secret hex) = (name ≡ codes "secret") × (first_value found (codes "HEX") ≡ Some hex.now)
 
 -- the command `name` asks for nothing with the values found
@@ -47,6 +48,7 @@ IsInRange (Sim nodes moment) = AreNodesInRange nodes × IsMoment moment
 IsInRange (Cluster users nodes moment) = AreNodesInRange nodes × IsMoment moment
 IsInRange (Store database users action) = IsActionInRange action
 IsInRange (Check users cluster) = Unit {0}
+IsInRange NewKey = Unit {0}
 IsInRange (Secret hex) = Unit {0}
 
 -- the path of the cluster file, if a node is served by one
@@ -68,7 +70,7 @@ count_path (counts.Named path) = Some path.now
 abbrev pub path_of_action : Action → Option (List ℕ)
 path_of_action (Init node import moment) = import_path import
 path_of_action (Remake node import moment former) = import_path import
-path_of_action (Serve cluster turns is_logged) = named_path cluster
+path_of_action (Serve cluster turns is_logged clients) = named_path cluster
 path_of_action Export = None
 path_of_action (Audit node) = None
 path_of_action (Migrate node) = None
@@ -84,4 +86,5 @@ cluster_path_of (Sim nodes moment) = nodes_path nodes
 cluster_path_of (Cluster users nodes moment) = nodes_path nodes
 cluster_path_of (Store database users action) = path_of_action action
 cluster_path_of (Check users cluster) = Some cluster.now
+cluster_path_of NewKey = None
 cluster_path_of (Secret hex) = None

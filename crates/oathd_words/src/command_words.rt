@@ -2,14 +2,14 @@
 
 use crate::help::{
     AUDIT_HELP, CHECK_HELP, CLUSTER_HELP, EXPORT_HELP, FLOORS_HELP, GATES_HELP, INIT_HELP,
-    LEVEL_HELP, LINES_HELP, MIGRATE_HELP, PROGRAM_HELP, SECRET_HELP, SERVE_HELP, SERVE_USAGE,
-    SIM_HELP, UNLOCK_HELP, VERSION_HELP,
+    LEVEL_HELP, LINES_HELP, MIGRATE_HELP, NEW_KEY_HELP, PROGRAM_HELP, SECRET_HELP, SERVE_HELP,
+    SERVE_USAGE, SIM_HELP, UNLOCK_HELP, VERSION_HELP,
 };
 use crate::option_words::{
-    ANEW, CHECKED_CLUSTER, CLOCK_MOMENT, CLUSTER, COUNT_CLUSTER, DATABASE, DRIFT, FLOORS, FOREVER,
-    FORMER_FLOORS, HEX, IMPORT_CLUSTER, IMPORT_DRIFT, KEY, KEY_OR_ZEROS, LOG, LOOK_AHEAD, LOST,
-    MEMBER_COUNT, MEMBERS, MOMENT, NODE, NODE_CLUSTER, NODE_COUNT, NODES_CLUSTER, RANGE, SINCE,
-    SINCE_NUMBER, SKEW, TURNS, USER, USERS, Word,
+    ANEW, CHECKED_CLUSTER, CLIENTS, CLOCK_MOMENT, CLUSTER, COUNT_CLUSTER, DATABASE, DRIFT, FLOORS,
+    FOREVER, FORMER_FLOORS, HEX, IMPORT_CLUSTER, IMPORT_DRIFT, KEY, KEY_OR_ZEROS, LOG, LOOK_AHEAD,
+    LOST, MEMBER_COUNT, MEMBERS, MOMENT, NODE, NODE_CLUSTER, NODE_COUNT, NODES_CLUSTER,
+    PLAIN_LINES, RANGE, SINCE, SINCE_NUMBER, SKEW, TURNS, USER, USERS, Word,
 };
 use crate::store_words::is_given;
 use clap::error::ErrorKind;
@@ -30,52 +30,51 @@ pub(crate) struct CommandWords {
     after_help: &'static str,
     /// Whether its help describes each option on the next line.
     next_line_help: bool,
-    words: &'static [Word],
-    /// The numbers among its values, with their ranges.
-    numbers: &'static [NumberOption],
+    /// Its arguments and options in the order of its help, in groups that commands share.
+    words: &'static [&'static [Word]],
 }
+
+/// How far a code is searched.
+const SETTINGS: &[Word] = &[
+    Word::Number(LOOK_AHEAD),
+    Word::Number(SKEW),
+    Word::Number(RANGE),
+    Word::Number(DRIFT),
+];
+
+/// What a command over the store of a node names.
+const STORE: &[Word] = &[Word::Text(DATABASE), Word::Text(USERS), Word::Text(NODE)];
 
 /// The command that prints the version, as `--version` does.
 pub(crate) const VERSION_COMMAND: &str = "version";
 
 /// The commands in the order of the help. Clap's own command `help` follows.
-pub(crate) const COMMANDS: [CommandWords; 15] = [
+pub(crate) const COMMANDS: [CommandWords; 16] = [
     CommandWords {
         word: "lines",
         whole: "oathd lines",
-        about: "Answers lines of clients, behind a users file",
+        about: "Answers the lines of clients after a users file",
         usage: None,
         after_help: LINES_HELP,
         next_line_help: true,
         words: &[
-            Word::Text(NODE_CLUSTER),
-            Word::Number(LOOK_AHEAD),
-            Word::Number(SKEW),
-            Word::Number(RANGE),
-            Word::Number(DRIFT),
-            Word::Number(MOMENT),
-            Word::Text(KEY_OR_ZEROS),
+            &[Word::Text(NODE_CLUSTER)],
+            SETTINGS,
+            &[Word::Number(MOMENT), Word::Text(KEY_OR_ZEROS)],
         ],
-        numbers: &[LOOK_AHEAD, SKEW, RANGE, DRIFT, MOMENT],
     },
     CommandWords {
         word: "sim",
         whole: "oathd sim",
-        about: "Runs a script of what happens to the nodes of a cluster",
+        about: "Runs a script of events over the nodes of a cluster",
         usage: None,
         after_help: SIM_HELP,
         next_line_help: true,
         words: &[
-            Word::Text(NODE_COUNT),
-            Word::Text(NODES_CLUSTER),
-            Word::Number(LOOK_AHEAD),
-            Word::Number(SKEW),
-            Word::Number(RANGE),
-            Word::Number(DRIFT),
-            Word::Number(MOMENT),
-            Word::Text(KEY_OR_ZEROS),
+            &[Word::Text(NODE_COUNT), Word::Text(NODES_CLUSTER)],
+            SETTINGS,
+            &[Word::Number(MOMENT), Word::Text(KEY_OR_ZEROS)],
         ],
-        numbers: &[LOOK_AHEAD, SKEW, RANGE, DRIFT, MOMENT],
     },
     CommandWords {
         word: "cluster",
@@ -85,39 +84,35 @@ pub(crate) const COMMANDS: [CommandWords; 15] = [
         after_help: CLUSTER_HELP,
         next_line_help: true,
         words: &[
-            Word::Text(USERS),
-            Word::Text(NODE_COUNT),
-            Word::Text(NODES_CLUSTER),
-            Word::Number(LOOK_AHEAD),
-            Word::Number(SKEW),
-            Word::Number(RANGE),
-            Word::Number(DRIFT),
-            Word::Number(MOMENT),
-            Word::Text(KEY_OR_ZEROS),
+            &[
+                Word::Text(USERS),
+                Word::Text(NODE_COUNT),
+                Word::Text(NODES_CLUSTER),
+            ],
+            SETTINGS,
+            &[Word::Number(MOMENT), Word::Text(KEY_OR_ZEROS)],
         ],
-        numbers: &[LOOK_AHEAD, SKEW, RANGE, DRIFT, MOMENT],
     },
     CommandWords {
         word: "init",
         whole: "oathd init",
-        about: "Makes the store of a node in a database",
+        about: "Creates the store of a node in a database",
         usage: None,
         after_help: INIT_HELP,
         next_line_help: true,
         words: &[
-            Word::Text(DATABASE),
-            Word::Text(USERS),
-            Word::Text(NODE),
-            Word::Text(IMPORT_CLUSTER),
-            Word::Number(SKEW),
-            Word::Number(IMPORT_DRIFT),
-            Word::Text(CLOCK_MOMENT),
-            Word::List(LOST),
-            Word::Flag(ANEW),
-            Word::List(FORMER_FLOORS),
-            Word::Text(SINCE),
+            STORE,
+            &[
+                Word::Text(IMPORT_CLUSTER),
+                Word::Number(SKEW),
+                Word::Number(IMPORT_DRIFT),
+                Word::Ranged(CLOCK_MOMENT, MOMENT),
+                Word::List(LOST),
+                Word::Flag(ANEW),
+                Word::List(FORMER_FLOORS),
+                Word::Text(SINCE),
+            ],
         ],
-        numbers: &[SKEW, IMPORT_DRIFT, MOMENT],
     },
     CommandWords {
         word: "serve",
@@ -127,31 +122,21 @@ pub(crate) const COMMANDS: [CommandWords; 15] = [
         after_help: SERVE_HELP,
         next_line_help: true,
         words: &[
-            Word::Text(DATABASE),
-            Word::Text(USERS),
-            Word::Text(NODE),
-            Word::Text(CLUSTER),
-            Word::Text(MEMBERS),
-            Word::Text(KEY),
-            Word::Number(LOOK_AHEAD),
-            Word::Number(SKEW),
-            Word::Number(RANGE),
-            Word::Number(DRIFT),
-            Word::Number(TURNS),
-            Word::Flag(FOREVER),
-            Word::Flag(LOG),
+            STORE,
+            &[Word::Text(CLUSTER), Word::Text(MEMBERS), Word::Text(KEY)],
+            SETTINGS,
+            &[Word::Text(CLIENTS), Word::Flag(PLAIN_LINES)],
+            &[Word::Number(TURNS), Word::Flag(FOREVER), Word::Flag(LOG)],
         ],
-        numbers: &[LOOK_AHEAD, SKEW, RANGE, DRIFT, TURNS],
     },
     CommandWords {
         word: "export",
         whole: "oathd export",
-        about: "Prints a users file with the first free factors of a store",
+        about: "Prints a users file with the floors of a store",
         usage: None,
         after_help: EXPORT_HELP,
         next_line_help: true,
-        words: &[Word::Text(DATABASE), Word::Text(USERS)],
-        numbers: &[],
+        words: &[&[Word::Text(DATABASE), Word::Text(USERS)]],
     },
     CommandWords {
         word: "audit",
@@ -160,49 +145,37 @@ pub(crate) const COMMANDS: [CommandWords; 15] = [
         usage: None,
         after_help: AUDIT_HELP,
         next_line_help: true,
-        words: &[Word::Text(DATABASE), Word::Text(USERS), Word::Text(NODE)],
-        numbers: &[],
+        words: &[STORE],
     },
     CommandWords {
         word: "migrate",
         whole: "oathd migrate",
-        about: "Makes the store of a node one of the present version",
+        about: "Upgrades the store of a node to the present version",
         usage: None,
         after_help: MIGRATE_HELP,
         next_line_help: true,
-        words: &[Word::Text(DATABASE), Word::Text(USERS), Word::Text(NODE)],
-        numbers: &[],
+        words: &[STORE],
     },
     CommandWords {
         word: "floors",
         whole: "oathd floors",
-        about: "Prints the first free factors of a node, for other nodes",
+        about: "Prints the floors of a node, for other nodes",
         usage: None,
         after_help: FLOORS_HELP,
         next_line_help: true,
         words: &[
-            Word::Text(DATABASE),
-            Word::Text(USERS),
-            Word::Text(NODE),
-            Word::Text(MEMBER_COUNT),
-            Word::Text(COUNT_CLUSTER),
+            STORE,
+            &[Word::Text(MEMBER_COUNT), Word::Text(COUNT_CLUSTER)],
         ],
-        numbers: &[],
     },
     CommandWords {
         word: "level",
         whole: "oathd level",
-        about: "Raises the first free factors of a node to those of other nodes",
+        about: "Raises the floors of a node to those of other nodes",
         usage: None,
         after_help: LEVEL_HELP,
         next_line_help: true,
-        words: &[
-            Word::Text(DATABASE),
-            Word::Text(USERS),
-            Word::Text(NODE),
-            Word::List(FLOORS),
-        ],
-        numbers: &[],
+        words: &[STORE, &[Word::List(FLOORS)]],
     },
     CommandWords {
         word: "gates",
@@ -211,8 +184,7 @@ pub(crate) const COMMANDS: [CommandWords; 15] = [
         usage: None,
         after_help: GATES_HELP,
         next_line_help: true,
-        words: &[Word::Text(DATABASE), Word::Text(USERS), Word::Text(NODE)],
-        numbers: &[],
+        words: &[STORE],
     },
     CommandWords {
         word: "unlock",
@@ -221,23 +193,25 @@ pub(crate) const COMMANDS: [CommandWords; 15] = [
         usage: None,
         after_help: UNLOCK_HELP,
         next_line_help: true,
-        words: &[
-            Word::Text(DATABASE),
-            Word::Text(USERS),
-            Word::Text(NODE),
-            Word::Text(USER),
-        ],
-        numbers: &[],
+        words: &[STORE, &[Word::Text(USER)]],
     },
     CommandWords {
         word: "check",
         whole: "oathd check",
-        about: "Prints what the members of a cluster have to share",
+        about: "Prints what the members of a cluster share",
         usage: None,
         after_help: CHECK_HELP,
         next_line_help: true,
-        words: &[Word::Text(USERS), Word::Text(CHECKED_CLUSTER)],
-        numbers: &[],
+        words: &[&[Word::Text(USERS), Word::Text(CHECKED_CLUSTER)]],
+    },
+    CommandWords {
+        word: "new-key",
+        whole: "oathd new-key",
+        about: "Prints a new key for a client of the nodes",
+        usage: None,
+        after_help: NEW_KEY_HELP,
+        next_line_help: false,
+        words: &[],
     },
     CommandWords {
         word: "secret",
@@ -246,8 +220,7 @@ pub(crate) const COMMANDS: [CommandWords; 15] = [
         usage: None,
         after_help: SECRET_HELP,
         next_line_help: false,
-        words: &[Word::Text(HEX)],
-        numbers: &[],
+        words: &[&[Word::Text(HEX)]],
     },
     CommandWords {
         word: VERSION_COMMAND,
@@ -257,9 +230,30 @@ pub(crate) const COMMANDS: [CommandWords; 15] = [
         after_help: VERSION_HELP,
         next_line_help: false,
         words: &[],
-        numbers: &[],
     },
 ];
+
+/// Adds arguments and options to a command.
+fn with_words<'a>(
+    alloc: Global,
+    mut command: Command<'a>,
+    words: &[Word],
+) -> Result<Command<'a>, AllocError> {
+    for word in words {
+        command = command.arg(word.arg(alloc)?)?;
+    }
+    Ok(command)
+}
+
+/// Adds the numbers among `words` to `numbers`.
+fn add_numbers(numbers: &mut Vec<NumberOption>, words: &[Word]) -> Result<(), AllocError> {
+    for word in words {
+        if let Some(number) = word.number() {
+            numbers.push(number)?;
+        }
+    }
+    Ok(())
+}
 
 impl CommandWords {
     /// Returns the command for clap.
@@ -272,10 +266,19 @@ impl CommandWords {
             Some(usage) => command.override_usage(usage),
             None => command,
         };
-        for word in self.words {
-            command = command.arg(word.arg(alloc)?)?;
+        for group in self.words {
+            command = with_words(alloc, command, group)?;
         }
         Ok(command)
+    }
+
+    /// Returns the numbers among its values, with their ranges.
+    fn numbers(&self, alloc: Global) -> Result<Vec<NumberOption>, AllocError> {
+        let mut numbers = Vec::new(alloc);
+        for group in self.words {
+            add_numbers(&mut numbers, group)?;
+        }
+        Ok(numbers)
     }
 
     /// Returns the command under its whole name, which errors print.
@@ -338,7 +341,7 @@ fn addresses_error(
     members: &str,
 ) -> Result<Error, AllocError> {
     let text = format!(in alloc;
-        "invalid value '{members}' for '--members <A,B,..>': A,B,.. is 1 to 9 IPv4 addresses with ports, each another, \
+        "invalid value '{members}' for '--members <A,B,..>': A,B,.. is 1 to 9 IPv4 addresses with ports, all different, \
         and one of them the node's"
     )?;
     usage.error(ErrorKind::ValueValidation, text.as_str())
@@ -431,7 +434,10 @@ pub(crate) fn value_error(
     matches: &ArgMatches<'_>,
 ) -> Result<Error, AllocError> {
     match find_command(commands, name) {
-        Some(words) => error_of(alloc, &mut words.usage(alloc)?, words.numbers, matches),
+        Some(words) => {
+            let numbers = words.numbers(alloc)?;
+            error_of(alloc, &mut words.usage(alloc)?, &numbers, matches)
+        }
         None => error_of(alloc, &mut bare_program(alloc), &[], matches),
     }
 }

@@ -9,11 +9,12 @@ ghost use Rattle.clap.specs.declared.parser.matches.MatchedArg.{MatchedArg};
 ghost use Rattle.oathd_words.specs.FormerWords.{former_of, is_of_former, lost_said, moment_or_0, nodes_in};
 ghost use Rattle.oathd_words.specs.Members.{AreMembers, SayAddresses, are_different};
 ghost use Rattle.oathd_words.specs.NodesWords.{AreNodesInRange};
-ghost use Rattle.oathd_words.specs.StoreWords.{IsActionInRange, IsClusterInRange};
+ghost use Rattle.oathd_words.specs.StoreWords.{AsksForClients, IsActionInRange, IsClusterInRange, takes_anybody};
 ghost use Rattle.oathd_words.specs.Words.{IsInRange, cluster_path_of, path_of_action};
 ghost use Rattle.oathd_words.specs.declared.former_words.FormerWords.{FormerWords as AnyFormer};
 ghost use Rattle.oathd_words.specs.declared.store_words.Action.TheVariants.{Audit, Export, Gates, Migrate};
-ghost use Rattle.oathd_words.specs.declared.words.Task.TheVariants.{Check, Secret};
+ghost use Rattle.oathd_words.specs.declared.store_words.ClientWords.TheVariants.{Anybody, Named, ThisMachine};
+ghost use Rattle.oathd_words.specs.declared.words.Task.TheVariants.{Check, NewKey, Secret};
 
 /// Counterexamples: the smallest list of members is accepted, and each part of the rule fails for a minimal one.
 pub fn members_can_be_broken()
@@ -148,4 +149,26 @@ pub fn former_words_are_worked()
         → value.vals.items ≡ word (codes "true") ∷ [] → is_of_former found ≡ true }
     ensures not_of_anew { (found : Found) (value : MatchedArg) → found.entries.items ≡ (word (codes "anew"), value) ∷ []
         → value.vals.items ≡ word (codes "false") ∷ [] → is_of_former found ≡ false }
+{}
+
+/// Worked cases. The lines of clients that a node takes, by the options `--clients`, `--plain-lines` and `--cluster`.
+pub fn client_words_are_worked()
+    ensures no_option { (found : Found) → found.entries.items ≡ [] → takes_anybody found ≡ true }
+    ensures cluster { (found : Found) (value : MatchedArg) → found.entries.items ≡ (word (codes "cluster"), value) ∷ []
+        → value.vals.items ≡ word (codes "c") ∷ [] → takes_anybody found ≡ false }
+    ensures plain_lines { (found : Found) (value flag : MatchedArg) → found.entries.items
+        ≡ (word (codes "cluster"), value) ∷ (word (codes "plain-lines"), flag) ∷ []
+        → value.vals.items ≡ word (codes "c") ∷ [] → flag.vals.items ≡ word (codes "true") ∷ []
+        → takes_anybody found ≡ true }
+    ensures no_plain_lines { (found : Found) (value flag : MatchedArg) → found.entries.items
+        ≡ (word (codes "cluster"), value) ∷ (word (codes "plain-lines"), flag) ∷ []
+        → value.vals.items ≡ word (codes "c") ∷ [] → flag.vals.items ≡ word (codes "false") ∷ []
+        → takes_anybody found ≡ false }
+    ensures anybody { (found : Found) → found.entries.items ≡ [] → AsksForClients found Anybody
+        × (AsksForClients found ThisMachine → ⊥) × (AsksForClients found (Named (word (codes "f"))) → ⊥) }
+    ensures named { (found : Found) (value : MatchedArg) → found.entries.items ≡ (word (codes "clients"), value) ∷ []
+        → value.vals.items ≡ word (codes "f") ∷ [] → AsksForClients found (Named (word (codes "f")))
+        × (AsksForClients found (Named (word (codes "g"))) → ⊥) × (AsksForClients found Anybody → ⊥)
+        × (AsksForClients found ThisMachine → ⊥) }
+    ensures new_key { cluster_path_of NewKey ≡ None }
 {}

@@ -116,6 +116,8 @@ impl ListWord {
 #[derive(Clone, Copy)]
 pub(crate) enum Word {
     Number(NumberOption),
+    /// An option without a default whose value is a number, with its range.
+    Ranged(TextWord, NumberOption),
     Text(TextWord),
     List(ListWord),
     Flag(FlagWord),
@@ -126,9 +128,17 @@ impl Word {
     pub(crate) fn arg<'a>(&self, alloc: Global) -> Result<Arg<'a>, AllocError> {
         match self {
             Word::Number(option) => Ok(option.arg(alloc)),
-            Word::Text(word) => word.arg(alloc),
+            Word::Text(word) | Word::Ranged(word, _) => word.arg(alloc),
             Word::List(list) => list.arg(alloc),
             Word::Flag(flag) => flag.arg(alloc),
+        }
+    }
+
+    /// Returns its range, if its value is a number of many digits.
+    pub(crate) fn number(&self) -> Option<NumberOption> {
+        match self {
+            Word::Number(option) | Word::Ranged(_, option) => Some(*option),
+            _ => None,
         }
     }
 }
@@ -140,7 +150,7 @@ pub(crate) const LOOK_AHEAD: NumberOption = NumberOption {
     value_name: "COUNT",
     most: 100,
     default: "10",
-    help: "How far past the first free factor a code is looked for,\n0 to 100",
+    help: "How many factors past the floor a code is searched,\n0 to 100",
 };
 
 /// The number of time steps that a time token may be off.
@@ -151,7 +161,7 @@ pub(crate) const SKEW: NumberOption = NumberOption {
     most: 10,
     default: "1",
     help: "How many time steps before and after the present one a time token may\n\
-        be at, 0 to 10",
+        be, 0 to 10",
 };
 
 /// The number of factors past the floor at which two successive codes are searched.
@@ -161,7 +171,7 @@ pub(crate) const RANGE: NumberOption = NumberOption {
     value_name: "COUNT",
     most: 1000,
     default: "100",
-    help: "How far past the first free factor a resynchronization looks,\n0 to 1000",
+    help: "How many factors past the floor a resynchronization searches,\n0 to 1000",
 };
 
 /// The number of time steps by which the window of a time token follows its clock.
@@ -193,7 +203,7 @@ pub(crate) const TURNS: NumberOption = NumberOption {
     value_name: "T",
     most: 4_294_967_295,
     default: "1000000",
-    help: "How many receives the node has, each of 200 milliseconds at most,\n0 to 4294967295",
+    help: "How many receives the node has, each of at most 200 milliseconds,\n0 to 4294967295",
 };
 
 /// The number of nodes.
@@ -272,7 +282,7 @@ pub(crate) const MEMBERS: TextWord = TextWord {
     conflicts: &[],
     is_digit: false,
     help: "The addresses of the members in order of their numbers, 1 to 9 of\n\
-        the form 127.0.0.1:7001, each another",
+        the form 127.0.0.1:7001, all different",
 };
 
 /// The key file, which is required.
@@ -295,7 +305,28 @@ pub(crate) const CLUSTER: TextWord = TextWord {
     conflicts: &["members", "key", "look-ahead", "skew", "range", "drift"],
     is_digit: false,
     help: "A cluster file, which says the members, the key and how far a code is\n\
-        looked for in place of those options",
+        searched, in place of those options",
+};
+
+/// The clients file.
+pub(crate) const CLIENTS: TextWord = TextWord {
+    name: "clients",
+    value_name: Some("FILE"),
+    is_required: false,
+    unless: None,
+    conflicts: &["plain-lines"],
+    is_digit: false,
+    help: "A clients file: lines are taken from clients that share a key with\n\
+        the node. Without it, and with a cluster file, they are taken from\n\
+        addresses of this machine (127.0.0.0/8) alone",
+};
+
+/// The flag that lets anybody ask.
+pub(crate) const PLAIN_LINES: FlagWord = FlagWord {
+    name: "plain-lines",
+    conflicts: &["clients"],
+    needs: &[],
+    help: "Take the lines of anybody, also with a cluster file",
 };
 
 /// The flag that lets a node run until it is stopped.
@@ -334,8 +365,8 @@ pub(crate) const IMPORT_DRIFT: NumberOption = NumberOption {
     value_name: "STEPS",
     most: 10,
     default: "0",
-    help: "The drift with which the tokens were served before: a time token\n\
-        begins so many steps later, 0 to 10",
+    help: "The drift with which the tokens were served before, 0 to 10: a time\n\
+        token begins that many steps later",
 };
 
 /// The nodes whose databases are lost.
@@ -355,7 +386,7 @@ pub(crate) const ANEW: FlagWord = FlagWord {
     name: "anew",
     conflicts: &["lost"],
     needs: &["floors"],
-    help: "The databases of all nodes are made anew",
+    help: "The databases of all nodes are replaced",
 };
 
 /// The floors files of the other nodes, from which a replacement is made.
@@ -366,8 +397,8 @@ pub(crate) const FORMER_FLOORS: ListWord = ListWord {
     conflicts: &[],
     needs: &[],
     are_nodes: false,
-    help: "What oathd floors printed of a node; once for each node that is not\n\
-        lost, or with --anew for so many that each majority has one",
+    help: "What oathd floors printed of a node: once for each node that is not\n\
+        lost, or with --anew such that each majority has one",
 };
 
 /// The floors files that floors are raised to.
@@ -378,7 +409,7 @@ pub(crate) const FLOORS: ListWord = ListWord {
     conflicts: &[],
     needs: &[],
     are_nodes: false,
-    help: "What oathd floors printed of another node; once for each file",
+    help: "What oathd floors printed of another node, once for each file",
 };
 
 /// The moment from which on the floors files were read.
@@ -444,8 +475,8 @@ pub(crate) const NODE_CLUSTER: TextWord = TextWord {
     unless: None,
     conflicts: &["key", "look-ahead", "skew", "range", "drift"],
     is_digit: false,
-    help: "A cluster file, which says the key and how far a code is looked for\n\
-        in place of those options",
+    help: "A cluster file, which says the key and how far a code is searched, in\n\
+        place of those options",
 };
 
 /// The cluster file of the commands `sim` and `cluster`, which replaces the number of nodes.
@@ -457,7 +488,7 @@ pub(crate) const NODES_CLUSTER: TextWord = TextWord {
     conflicts: &["N", "key", "look-ahead", "skew", "range", "drift"],
     is_digit: false,
     help: "A cluster file, which says how many nodes there are, the key and how\n\
-        far a code is looked for in place of N and those options",
+        far a code is searched, in place of N and those options",
 };
 
 /// The cluster file of the command `check`.

@@ -9,7 +9,7 @@ ghost use Rattle.otp_core.specs.Limits.{Limits};
 ghost use Rattle.vote_core.specs.NodeSet.{PlaceRecord};
 ghost use Rattle.oathd_words.specs.FormerWords.{former_given, former_value, is_of_former as spec_is_of_former};
 ghost use Rattle.oathd_words.specs.Given.{is_flag};
-ghost use Rattle.oathd_words.specs.StoreWords.{AsksForAction, AsksForCluster, AsksForImport, GivesImport, GivesMoment, GivesPlace, few_turns, turns_given};
+ghost use Rattle.oathd_words.specs.StoreWords.{AsksForAction, AsksForClients, AsksForCluster, AsksForImport, GivesImport, GivesMoment, GivesPlace, few_turns, takes_anybody, turns_given};
 ghost use Rattle.oathd_words.specs.Words.{path_of_action};
 ghost use Rattle.oathd_words.specs.declared.store_words.Action.{Action as AnyAction};
 ghost use Rattle.oathd_words.specs.declared.store_words.ClusterWords.{ClusterWords as AnyCluster};
@@ -47,6 +47,17 @@ pub enum ClusterWords<'a> {
         /// The path of the cluster file.
         path: &'a str,
     },
+}
+
+/// The lines of clients that a node takes.
+#[derive(Clone, Copy, Drop)]
+pub enum ClientWords<'a> {
+    /// Plain lines from any address.
+    Anybody,
+    /// Plain lines from the addresses of this machine.
+    ThisMachine,
+    /// The lines that the clients file at this path says.
+    Named(&'a str),
 }
 
 /// Where the settings of an import come from.
@@ -87,6 +98,7 @@ pub enum Action<'a> {
         turns: u64,
         /// Whether the node writes a log.
         is_logged: bool,
+        clients: ClientWords<'a>,
     },
     /// Prints a users file with the store's content.
     Export,
@@ -198,6 +210,13 @@ pub(crate) fn is_given(matches: &ArgMatches<'_>, name: &str) -> bool
         Some(text) => text.as_bytes() == b"true".as_slice(),
         None => false,
     }
+}
+
+/// Returns whether a node takes plain lines from any address, if there is no clients file.
+fn takes_anybody(matches: &ArgMatches<'_>) -> bool
+    ensures { result ≡ takes_anybody (found_of matches.now) }
+{
+    is_given(matches, "plain-lines") || matches.get_str("cluster").is_none()
 }
 
 /// Returns `turns` if it is below 2^32, or `None`.
@@ -338,6 +357,17 @@ fn cluster_words<'a>(
     }
 }
 
+/// Returns the lines that `serve` takes.
+fn client_words<'a>(matches: &ArgMatches<'a>) -> ClientWords<'a>
+    ensures { AsksForClients (found_of matches.now) result }
+{
+    match matches.get_str("clients") {
+        Some(path) => ClientWords::Named(path),
+        None if takes_anybody(matches) => ClientWords::Anybody,
+        None => ClientWords::ThisMachine,
+    }
+}
+
 /// Returns the action of `serve`, or `None` if a value is missing or wrong.
 fn serve_action<'a>(
     alloc: Global,
@@ -354,10 +384,12 @@ fn serve_action<'a>(
         return Ok(None);
     };
     let is_logged = is_given(matches, "log");
+    let clients = client_words(matches);
     Ok(Some(Action::Serve {
         cluster,
         turns,
         is_logged,
+        clients,
     }))
 }
 

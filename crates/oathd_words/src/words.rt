@@ -56,6 +56,8 @@ pub enum Task<'a> {
         /// The path of the cluster file.
         cluster: &'a str,
     },
+    /// Prints a new key of a client.
+    NewKey,
     /// Prints the base32 text of a secret.
     Secret {
         /// The secret in hexadecimal, two digits for each byte. It may be any text here: running the task refuses a
@@ -75,7 +77,7 @@ impl<'a> Task<'a> {
             }
             Task::Store { action, .. } => action.cluster_path(),
             Task::Check { cluster, .. } => Some(*cluster),
-            Task::Secret { .. } => None,
+            Task::NewKey | Task::Secret { .. } => None,
         }
     }
 }
@@ -220,6 +222,7 @@ fn task_of<'a>(
         "sim" => Ok(sim_task(matches)),
         "cluster" => Ok(cluster_task(matches)),
         "check" => Ok(check_task(matches)),
+        "new-key" => Ok(Some(Task::NewKey)),
         "secret" => Ok(secret_task(matches)),
         _ => store_task(alloc, name, matches),
     }

@@ -39,7 +39,7 @@ pub fn inputs_are_worked()
 {}
 
 /// Counterexamples: each promise of the next line of an input fails for a minimal one.
-pub fn promises_can_be_broken()
+pub fn inputs_can_be_broken()
     ensures takes { TakesLine Whole (codes "a\n") 5 (codes "a\nb") 3 (Some (codes "b")) }
     ensures takes_cut { TakesLine Cut (codes "a") 1 (codes "ab") 0 (Some (codes "b")) }
     ensures takes_end { TakesLine End [] 5 [] 5 (Some []) }

@@ -25,6 +25,6 @@ mod users;
 
 pub use fault::{InputFault, UsersFault};
 pub use input::{HoldsLine, Input, LimitedText, NextLine, text_of};
-pub use laws::{inputs_are_worked, promises_can_be_broken, stages_are_worked};
+pub use laws::{inputs_are_worked, inputs_can_be_broken, stages_are_worked};
 pub use retry::Retrying;
 pub use users::UsersFile;

@@ -214,6 +214,10 @@ returns-clause-served_in_boot c address h =
 
 pub returns-clause-served_serves : goal.returns-clause-served_serves
 returns-clause-served_serves c address h =
-    let none = nothing_served (sql_held booting) h.first h.last (so_much 1 0) h.serves (clean_is (λ disk. tables_at (4 + disk) []) h.last.store.conn) in
-    let e : 1 ≡ 0 = ap (λ (served : Served). served.received) none in
+    let none = nothing_served (sql_held booting) h.first h.last (so_much 1 0) h.served_is (clean_is (λ disk. tables_at (4 + disk) []) h.last.store.conn) in
+    let e : 1 ≡ 0 = ap (λ (served : Served). served.received) none.0 in
     omega (arith, e)
+
+pub returns-clause-served_record : goal.returns-clause-served_record
+returns-clause-served_record c address h =
+    (nothing_served (sql_held booting) h.first h.last (so_much 0 0) h.served_is (clean_is (λ disk. tables_at (4 + disk) []) h.last.store.conn)).1

@@ -2,7 +2,7 @@ use Rattle.std.proofs.Common.{◌≡◌, ℕ, List, length, subst, ap, map, repl
 use Rattle.std.specs.Prelude.{IfOk, Some, slice_get}
 use Rattle.cluster_sim.specs.World.{ReportValue, first_start, report_of}
 use Rattle.oath_node.specs.Machine.{Config}
-use Rattle.sim_script.specs.Event.{script_value}
+use Rattle.oathd_sim.specs.Event.{script_value}
 use Rattle.users_input.specs.Input.{lines_between, pieces_of}
 use Rattle.oathd_sim.specs.Sim.{script_events, script_lines}
 use Rattle.oathd_sim.proofs.RunLemmas.{copy_at, told_by}

@@ -1,0 +1,82 @@
+//! Carries out the tasks of the program, and reports their faults with their causes.
+
+use crate::databases::Site;
+use crate::fault::{Fault, ToldFault};
+use oathd_causes::{Cause, Names, database_cause, task_cause};
+use oathd_database::UnlockFault;
+use oathd_tasks::{PROGRAM, TaskFault, perform};
+use oathd_words::Task;
+use program_edge::exit_status;
+use std::alloc::Global;
+use std::io::{Read, Write};
+
+/// Returns the cause of the fault that ended a command over a database, or None if the fault has none.
+///
+/// `text` is the content of the cluster file that the words name.
+fn cause_of<'a>(
+    alloc: Global,
+    rt: &HostRuntime,
+    names: Names<'a>,
+    text: &'a [u8],
+    fault: Fault<'a>,
+) -> Option<Cause<'a>> {
+    match fault {
+        Fault::Task(fault) => task_cause(alloc, rt, names, text, fault),
+        Fault::Database(fault) | Fault::Unlock(UnlockFault::Command(fault)) => {
+            database_cause(alloc, rt, names, text, fault)
+        }
+        Fault::Floors(_) | Fault::Unlock(UnlockFault::NoUser(_)) => None,
+    }
+}
+
+impl<'a> TaskFault<'a> for Fault<'a> {
+    /// The names in the words of a command over a database.
+    type Names = Option<Names<'a>>;
+
+    fn names_of(task: &Task<'a>) -> Option<Names<'a>> {
+        Names::of(task)
+    }
+
+    fn perform_task<R: Read, O: Write>(
+        alloc: Global,
+        rt: &HostRuntime,
+        task: Task<'a>,
+        cluster: &'a [u8],
+        reader: &mut R,
+        held: &mut O,
+    ) -> Result<(), Self> {
+        match task {
+            Task::Store {
+                database,
+                users,
+                action,
+            } => Site::new(alloc, rt, database, users, cluster).perform(action, held),
+            task => match perform(alloc, rt, &task, cluster, reader, held) {
+                Ok(()) => Ok(()),
+                Err(fault) => Err(Fault::Task(fault)),
+            },
+        }
+    }
+
+    /// Its cause follows on the next line if the task names a database.
+    fn report<E: Write>(
+        self,
+        alloc: Global,
+        rt: &HostRuntime,
+        names: Option<Names<'a>>,
+        cluster: &'a [u8],
+        errors: &mut E,
+    ) -> u8 {
+        let cause = match names {
+            Some(names) => cause_of(alloc, rt, names, cluster, self),
+            None => None,
+        };
+        match cause {
+            Some(cause) => {
+                let told = ToldFault { fault: self, cause };
+                exit_status::<E, ToldFault>(errors, PROGRAM, Err(told))
+            }
+            None => exit_status::<E, Self>(errors, PROGRAM, Err(self)),
+        }
+    }
+}

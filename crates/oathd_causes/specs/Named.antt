@@ -1,0 +1,25 @@
+-- The reasons why a store is not the one that a command needs, from its tables.
+use Rattle.std.specs.Prelude.{ℕ, ◌==◌, if◌then◌else◌, Option, Some, None}
+use Rattle.std.specs.Option.{option_or}
+use Rattle.oathd_causes.specs.declared.named.Named.{Named}
+use Rattle.oathd_causes.specs.declared.named.StoreCause.{StoreCause}
+use Rattle.oathd_causes.specs.declared.named.StoreCause.TheVariants.{VersionOne, Version, OtherNode, OtherRows}
+
+-- the reason in a version
+abbrev pub version_cause : ℕ → Option StoreCause
+version_cause version = if version == 1 then Some VersionOne else if version == 2 then None else Some (Version version)
+
+-- the reason in a node that is not the asked one
+abbrev pub node_cause : ℕ → Option ℕ → Option StoreCause
+node_cause node None = None
+node_cause node (Some asked) = if node == asked then None else Some (OtherNode node asked)
+
+-- the reason in a number of tokens that is not the number of rows
+abbrev pub tokens_cause : ℕ → Option ℕ → Option StoreCause
+tokens_cause tokens None = None
+tokens_cause tokens (Some rows) = if tokens == rows then None else Some (OtherRows tokens rows)
+
+-- the first of these reasons
+abbrev pub named_cause : Named → Option ℕ → Option ℕ → Option StoreCause
+named_cause named node rows =
+    option_or (version_cause named.version) (option_or (node_cause named.node node) (tokens_cause named.tokens rows))

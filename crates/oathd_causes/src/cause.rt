@@ -1,0 +1,133 @@
+//! Finds the cause of a fault of a command over a database, which has a line of its own.
+
+use crate::address::{AddressCause, address_cause, address_in};
+use crate::database::{Expected, store_cause};
+use crate::file::{FileCause, file_cause};
+use crate::key::{KeyCause, key_cause};
+use crate::named::StoreCause;
+use crate::names::Names;
+use crate::socket::{SocketCause, socket_cause};
+use cluster_file::{ClusterFault, LineFault};
+use floor_store::StoreFault;
+use oathd_database::read_users;
+use otp_core::Settings;
+use std::alloc::Global;
+use std::fs;
+use std::net::SocketAddrV4;
+use thiserror::Error;
+
+/// The path or the address of a fault, and what was found there afterwards.
+#[derive(Clone, Copy, Debug, PartialEq, Eq, Error)]
+pub enum Cause<'a> {
+    #[error("{0}")]
+    Path(&'a str),
+    #[error("{0}: {1}")]
+    File(&'a str, FileCause),
+    #[error("{0}: {1}")]
+    Key(&'a str, KeyCause),
+    #[error("{0}: {1}")]
+    Member(&'a str, AddressCause),
+    #[error("{0}: {1}")]
+    Store(&'a str, StoreCause),
+    #[error("{0}")]
+    Address(SocketAddrV4),
+    #[error("{0}: {1}")]
+    Socket(SocketAddrV4, SocketCause),
+}
+
+/// Returns the number of rows of the users file at `path`, or None if it cannot be read.
+fn rows_of(alloc: Global, rt: &HostRuntime, path: &str) -> Option<u64> {
+    let file = fs::open(rt, path).ok()?;
+    let users = read_users(alloc, file, Settings::default(), 0).ok()?;
+    Some(users.book.len() as u64)
+}
+
+/// Returns the cause of a fault of a store.
+fn of_store<'a>(alloc: Global, rt: &HostRuntime, names: Names<'a>, fault: StoreFault) -> Cause<'a> {
+    let rows = match fault {
+        StoreFault::Unusable => rows_of(alloc, rt, names.users),
+        _ => None,
+    };
+    let expected = Expected {
+        node: names.node.map(u64::from),
+        rows,
+        is_new: names.is_new,
+    };
+    match store_cause(rt, names.database, fault, expected) {
+        Some(cause) => Cause::Store(names.database, cause),
+        None => Cause::Path(names.database),
+    }
+}
+
+/// Returns the cause of a fault of a socket at `address`.
+fn of_socket<'a>(rt: &HostRuntime, address: SocketAddrV4) -> Cause<'a> {
+    match socket_cause(rt, address) {
+        Some(cause) => Cause::Socket(address, cause),
+        None => Cause::Address(address),
+    }
+}
+
+/// Returns the cause of a fault of the file at `path`.
+fn of_file<'a>(rt: &HostRuntime, path: &'a str) -> Cause<'a> {
+    match file_cause(rt, path) {
+        Some(cause) => Cause::File(path, cause),
+        None => Cause::Path(path),
+    }
+}
+
+/// Returns the cause of a fault of the cluster file with this text.
+fn of_cluster<'a>(path: &'a str, text: &[u8], fault: ClusterFault) -> Cause<'a> {
+    match (fault.kind, address_in(text, fault.line)) {
+        (LineFault::BadAddress, Some(address)) => Cause::Member(path, address_cause(address)),
+        _ => Cause::Path(path),
+    }
+}
+
+/// Returns the cause of a fault of a command that reads files, or None if the fault has none.
+///
+/// `text` is the content of the cluster file that the words name.
+pub fn task_cause<'a>(
+    alloc: Global,
+    rt: &HostRuntime,
+    names: Names<'a>,
+    text: &'a [u8],
+    fault: oathd_tasks::Fault<'a>,
+) -> Option<Cause<'a>> {
+    match fault {
+        oathd_tasks::Fault::CannotReadFile(path) => match file_cause(rt, path) {
+            Some(cause) => Some(Cause::File(path, cause)),
+            None => None,
+        },
+        oathd_tasks::Fault::Run(oathd_lines::Fault::BadKey(fault)) => {
+            let path = names.key_path(alloc, text)?;
+            Some(Cause::Key(path, key_cause(fault)))
+        }
+        oathd_tasks::Fault::ClusterFile(fault) => Some(of_cluster(names.cluster?, text, fault)),
+        oathd_tasks::Fault::NoMember(_) | oathd_tasks::Fault::KeyPath => {
+            Some(Cause::Path(names.cluster?))
+        }
+        oathd_tasks::Fault::ClientsFile(_) => Some(Cause::Path(names.clients?)),
+        _ => None,
+    }
+}
+
+/// Returns the cause of a fault of a command over a database, or None if the fault has none.
+///
+/// `text` is the content of the cluster file that the words name.
+pub fn database_cause<'a>(
+    alloc: Global,
+    rt: &HostRuntime,
+    names: Names<'a>,
+    text: &[u8],
+    fault: oathd_database::Fault,
+) -> Option<Cause<'a>> {
+    match fault {
+        oathd_database::Fault::Store(fault) => Some(of_store(alloc, rt, names, fault)),
+        oathd_database::Fault::Users(_) => Some(of_file(rt, names.users)),
+        oathd_database::Fault::Socket => {
+            let address = names.own_address(alloc, text)?;
+            Some(of_socket(rt, address))
+        }
+        _ => None,
+    }
+}

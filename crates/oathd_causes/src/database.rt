@@ -1,0 +1,100 @@
+//! Looks at the path of a database for the cause of a fault.
+//!
+//! Looking opens the database as the command did, which locks the file meanwhile, and writes no row.
+
+use crate::file::{FileCause, file_cause_of};
+use crate::named::{Named, StoreCause, named_cause};
+use floor_store::StoreFault;
+use sqlite::{Connection, Error, ErrorCode, Row};
+use std::fs::{self, OpenOptions};
+use std::io::Read;
+
+/// The first bytes of a database of SQLite.
+const MAGIC: &[u8; 16] = b"SQLite format 3\0";
+
+/// The row that names the node of a store.
+const SELECT_SELF: &str = "SELECT version, node, tokens FROM self WHERE id = 1";
+
+/// The store that a command needs, as far as it is known.
+#[derive(Clone, Copy, Debug)]
+pub struct Expected {
+    /// The number of its node.
+    pub node: Option<u64>,
+    /// The number of rows of the users file.
+    pub rows: Option<u64>,
+    /// Whether the command creates it.
+    pub is_new: bool,
+}
+
+/// Returns the reason why a file cannot be read and written now, or None without a known reason.
+fn access_cause(rt: &HostRuntime, path: &str) -> Option<FileCause> {
+    match OpenOptions::new().read(true).write(true).open(rt, path) {
+        Ok(_file) => None,
+        Err(error) => file_cause_of(error.kind()),
+    }
+}
+
+/// Returns whether the file at `path` begins as a database does.
+fn is_database(rt: &HostRuntime, path: &str) -> bool {
+    let Ok(mut file) = fs::open(rt, path) else {
+        return false;
+    };
+    let mut first = [0; 16];
+    file.read_exact(&mut first).is_ok() && &first == MAGIC
+}
+
+/// Returns the reason why the database at `path` cannot be opened now, or None without a known reason.
+fn open_cause(rt: &HostRuntime, path: &str, is_new: bool) -> Option<StoreCause> {
+    match access_cause(rt, path) {
+        Some(FileCause::Missing) if is_new => return Some(StoreCause::NotMade),
+        Some(cause) => return Some(StoreCause::File(cause)),
+        None => {}
+    }
+    match Connection::open(rt, path) {
+        Err(Error::SqliteFailure(ErrorCode::DatabaseBusy)) => Some(StoreCause::Held),
+        Err(_) if !is_database(rt, path) => Some(StoreCause::NoDatabase),
+        _ => None,
+    }
+}
+
+/// Returns the number in a column of a row, or None if it is not an integer of at least 0.
+fn number_at(row: &Row, column: usize) -> Option<u64> {
+    let number: i64 = row.get(column).ok()?;
+    u64::try_from(number).ok()
+}
+
+/// Returns what the tables of the database at `path` say of their store, or `None` if they are not a store's. Does not
+/// open an empty file: that would make it a database.
+fn named_in(rt: &HostRuntime, path: &str) -> Option<Named> {
+    if !is_database(rt, path) {
+        return None;
+    }
+    let mut conn = Connection::open(rt, path).ok()?;
+    let row = conn.query_row(SELECT_SELF, &[]).ok()?;
+    Some(Named {
+        version: number_at(&row, 0)?,
+        node: number_at(&row, 1)?,
+        tokens: number_at(&row, 2)?,
+    })
+}
+
+/// Returns the reason why the store in the file at `path` cannot be used now, or `None` without a known reason.
+///
+/// Called after the fault of a store has ended a command.
+pub fn store_cause(
+    rt: &HostRuntime,
+    path: &str,
+    fault: StoreFault,
+    expected: Expected,
+) -> Option<StoreCause> {
+    match fault {
+        StoreFault::Disk => open_cause(rt, path, expected.is_new),
+        StoreFault::AlreadyThere => Some(StoreCause::HasStore),
+        StoreFault::Unusable if expected.is_new => Some(StoreCause::OtherTables),
+        StoreFault::Unusable => match named_in(rt, path) {
+            Some(named) => named_cause(named, expected.node, expected.rows),
+            None => Some(StoreCause::NoStore),
+        },
+        StoreFault::Memory | StoreFault::Spent => None,
+    }
+}

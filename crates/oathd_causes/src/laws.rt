@@ -1,0 +1,39 @@
+ghost use Rattle.std.specs.Prelude.{◌≡◌, ◌∷◌, [], map, codes, Some, None};
+ghost use Rattle.std.specs.declared.io.ErrorKind.TheVariants.{AddrInUse, AddrNotAvailable, IsADirectory, NotADirectory, NotFound, PermissionDenied, ReadOnlyFilesystem, TimedOut};
+ghost use Rattle.secret_text.specs.declared.fault.SecretFault.{SecretFault};
+ghost use Rattle.oathd_causes.specs.Causes.{address_cause, file_cause_of, key_cause, socket_cause_of};
+ghost use Rattle.oathd_causes.specs.Named.{named_cause};
+ghost use Rattle.oathd_causes.specs.declared.address.AddressCause.{AddressCause};
+ghost use Rattle.oathd_causes.specs.declared.file.FileCause.{FileCause};
+ghost use Rattle.oathd_causes.specs.declared.key.KeyCause.{KeyCause};
+ghost use Rattle.oathd_causes.specs.declared.named.StoreCause.{StoreCause};
+ghost use Rattle.oathd_causes.specs.declared.socket.SocketCause.{SocketCause};
+
+/// Worked cases. The cause of each error.
+pub fn causes_are_worked()
+    ensures files { map file_cause_of (NotFound ∷ NotADirectory ∷ IsADirectory ∷ PermissionDenied ∷ ReadOnlyFilesystem
+        ∷ TimedOut ∷ []) ≡ Some FileCause.Missing ∷ Some FileCause.Missing ∷ Some FileCause.Folder
+        ∷ Some FileCause.Denied ∷ Some FileCause.ReadOnly ∷ None ∷ [] }
+    ensures sockets { map socket_cause_of (AddrInUse ∷ AddrNotAvailable ∷ PermissionDenied ∷ NotFound ∷ [])
+        ≡ Some SocketCause.InUse ∷ Some SocketCause.Elsewhere ∷ Some SocketCause.Denied ∷ None ∷ [] }
+    ensures keys { map key_cause (SecretFault.BadCharacter 4 ∷ SecretFault.BadLength ∷ SecretFault.TooLong
+        ∷ SecretFault.Empty ∷ []) ≡ KeyCause.Character 4 ∷ KeyCause.Length ∷ KeyCause.Length ∷ KeyCause.Length ∷ [] }
+    ensures addresses { map address_cause (codes "otp1.example:7101" ∷ codes "[::1]:7101" ∷ codes "192.0.2.1"
+        ∷ codes "192.0.2.256:7101" ∷ codes "Z" ∷ [])
+        ≡ AddressCause.HostName ∷ AddressCause.Ipv6 ∷ AddressCause.NoPort ∷ AddressCause.Other ∷ AddressCause.HostName
+        ∷ [] }
+{}
+
+/// Worked cases. The order of causes is: the version, the node, the number of rows.
+pub fn store_causes_are_worked()
+    ensures none { named_cause (record { version = 2; node = 1; tokens = 50 }) (Some 1) (Some 50) ≡ None }
+    ensures unknown { named_cause (record { version = 2; node = 1; tokens = 50 }) None None ≡ None }
+    ensures one { named_cause (record { version = 1; node = 3; tokens = 51 }) (Some 1) (Some 50)
+        ≡ Some StoreCause.VersionOne }
+    ensures version { named_cause (record { version = 3; node = 1; tokens = 50 }) (Some 1) (Some 50)
+        ≡ Some (StoreCause.Version 3) }
+    ensures node { named_cause (record { version = 2; node = 1; tokens = 51 }) (Some 2) (Some 50)
+        ≡ Some (StoreCause.OtherNode 1 2) }
+    ensures rows { named_cause (record { version = 2; node = 1; tokens = 51 }) (Some 1) (Some 50)
+        ≡ Some (StoreCause.OtherRows 51 50) }
+{}

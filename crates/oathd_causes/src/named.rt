@@ -1,0 +1,85 @@
+ghost use Rattle.std.specs.Prelude.{◌≡◌};
+ghost use Rattle.oathd_causes.specs.Named.{named_cause, node_cause, tokens_cause, version_cause};
+
+use crate::file::FileCause;
+use thiserror::Error;
+
+/// The reason why the store of a database cannot be used.
+#[derive(Clone, Copy, Debug, PartialEq, Eq, Error)]
+pub enum StoreCause {
+    #[error("{0}")]
+    File(FileCause),
+    #[error("can't be made there")]
+    NotMade,
+    #[error("held by another process")]
+    Held,
+    #[error("not a database")]
+    NoDatabase,
+    #[error("holds no store: oathd init makes one")]
+    NoStore,
+    #[error("holds tables of a store already")]
+    HasStore,
+    #[error("holds other tables than a store's")]
+    OtherTables,
+    #[error("a store of version 1: oathd migrate makes version 2 of it")]
+    VersionOne,
+    /// The store has a version that this program doesn't know.
+    #[error("a store of version {0}")]
+    Version(u64),
+    /// The node of the store, and the node that the command needs.
+    #[error("the store of node {0}, not {1}")]
+    OtherNode(u64, u64),
+    /// The number of the store's tokens, and the number of the users file's rows.
+    #[error("{0} rows, {1} in the users file")]
+    OtherRows(u64, u64),
+}
+
+/// What the tables of a store say of it: its version, the number of its node, and its number of tokens.
+#[derive(Clone, Copy, Debug, PartialEq, Eq)]
+pub struct Named {
+    pub version: u64,
+    pub node: u64,
+    pub tokens: u64,
+}
+
+/// Returns the reason why a store of this version cannot be used, or None.
+fn version_cause(version: u64) -> Option<StoreCause>
+    ensures { result ≡ version_cause version }
+{
+    match version {
+        1 => Some(StoreCause::VersionOne),
+        2 => None,
+        _ => Some(StoreCause::Version(version)),
+    }
+}
+
+/// Returns the reason why the store is not the node's, or None.
+fn node_cause(node: u64, asked: Option<u64>) -> Option<StoreCause>
+    ensures { result ≡ node_cause node asked }
+{
+    match asked {
+        Some(asked) if node != asked => Some(StoreCause::OtherNode(node, asked)),
+        _ => None,
+    }
+}
+
+/// Returns the reason why the store is not the users file's, or None.
+fn tokens_cause(tokens: u64, rows: Option<u64>) -> Option<StoreCause>
+    ensures { result ≡ tokens_cause tokens rows }
+{
+    match rows {
+        Some(rows) if tokens != rows => Some(StoreCause::OtherRows(tokens, rows)),
+        _ => None,
+    }
+}
+
+/// Returns the reason why a store is not the one that a command needs, or None.
+///
+/// A command needs version 2, and, as far as they are known, the node and the number of rows.
+pub fn named_cause(named: Named, node: Option<u64>, rows: Option<u64>) -> Option<StoreCause>
+    ensures { result ≡ named_cause named node rows }
+{
+    version_cause(named.version)
+        .or(node_cause(named.node, node))
+        .or(tokens_cause(named.tokens, rows))
+}

@@ -1,0 +1,14 @@
+use Rattle.std.proofs.Common.{IfSome, subst}
+use Rattle.otp_core.specs.Limits.{Limits, default_limits}
+use Rattle.oathd_database.specs.Users.{IsImported}
+use Rattle.oathd_database.proofs.GateLemmas.{has_told}
+use Rattle.oathd_database.proofs.gates.gates_store.Goals as goal
+
+pub returns-clause-told : goal.returns-clause-told
+returns-clause-told g c =
+    let a = g.R.Read.remaining c.args.users in
+    let book = c.in_ok-users.users.book in
+    let floors = c.in_ok-users.users.floors.items in
+    let imported = subst (λ (limits : Limits). IfSome a (IsImported limits 0 16777216 book floors)) c.default.ensures c.in_ok-users.ensures.users in
+    has_told default_limits 16777216 a book floors imported g.S.Store c.args.node (g.W.Write.contents c.args.writer.now)
+    (g.W.Write.contents c.write_gates.new.writer) c.in_ok-users.store c.in_ok-users.ensures.opened c.write_gates.result c.write_gates.ensures.written

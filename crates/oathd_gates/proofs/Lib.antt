@@ -1,2 +1,0 @@
-mod GateLemmas
-mod UnlockLemmas

@@ -1,4 +1,0 @@
-pub mod Broken
-pub mod Examples
-pub mod Gates
-pub mod Unlock

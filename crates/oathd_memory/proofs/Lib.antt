@@ -1,5 +1,0 @@
-pub mod CheckLemmas
-mod FlushLemmas
-mod LawLemmas
-mod LinesLemmas
-mod SetupLemmas

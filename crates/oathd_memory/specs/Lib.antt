@@ -1,4 +1,0 @@
-pub mod Broken
-pub mod Check
-pub mod Fault
-pub mod Nodes

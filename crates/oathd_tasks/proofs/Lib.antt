@@ -1,0 +1,6 @@
+pub mod CheckLemmas
+mod ClientsLemmas
+mod FlushLemmas
+mod LawLemmas
+mod LinesLemmas
+mod SetupLemmas

@@ -1,0 +1,28 @@
+//! The commands of `oathd` without a database: `lines`, `sim`, `cluster`, `check`, `new-key` and `secret`.
+//!
+//! They keep nothing between two runs. [`perform`] carries out a task over an input and an output; a [`Fault`] ends it.
+//! [`run`] is the whole run of a program, with or without the commands over a database ([`TaskFault`]).
+//! The commands over a database are in other crates, so that a program without them needs no SQLite.
+#![tactic(auto)]
+
+mod check;
+mod clients;
+mod cluster;
+mod commands;
+mod fault;
+mod key;
+mod laws;
+mod new_key;
+mod program;
+mod setup;
+
+pub use clients::clients_at;
+pub use cluster::{cluster_in, cluster_key, cluster_text, member_place};
+pub use commands::perform;
+pub use fault::Fault;
+pub use key::{file_text, read_key};
+pub use laws::{
+    checks_can_be_broken, clients_can_be_broken, ends_can_be_broken, keys_can_be_broken,
+    setups_can_be_broken, tasks_can_be_broken,
+};
+pub use program::{PROGRAM, TaskFault, run};

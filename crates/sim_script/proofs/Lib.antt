@@ -1,6 +1,0 @@
-mod FloorLemmas
-mod GrammarLemmas
-mod LineLemmas
-mod ReportLemmas
-mod RoundLemmas
-mod TurnLemmas

@@ -1,8 +1,0 @@
-use Rattle.std.proofs.Common.{length}
-use Rattle.sim_script.specs.Lines.{fields_of}
-use Rattle.sim_script.proofs.FloorLemmas.{HasFloors}
-use Rattle.sim_script.proofs.line.read_floors.Given as goal
-
--- the yielded fields are read
-abbrev pub invariant-loop-field : goal.invariant-loop-field
-invariant-loop-field l = HasFloors (fields_of l.fn.text) l.floors.items (length l.yielded)

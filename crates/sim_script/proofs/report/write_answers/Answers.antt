@@ -1,9 +1,0 @@
-use Rattle.std.proofs.Common.{arith}
-use Rattle.sim_script.specs.ReportText.{answer_line}
-use Rattle.sim_script.proofs.ReportLemmas.{append_item}
-use Rattle.sim_script.proofs.report.write_answers.Goals as goal
-
-pub loop-answer-preserved : goal.loop-answer-preserved
-loop-answer-preserved g c =
-    append_item answer_line c.args.answers.now c.loop-answer.answer-index c.answer-item.result (g.W.Write.contents c.args.writer.now) (g.W.Write.contents c.loop-answer.writer)
-    (g.W.Write.contents c.write_answer.new.writer) (omega arith) c.answer-item.is c.loop-answer.invariant c.in_ok-write_answer.ensures.written
