@@ -6,6 +6,8 @@
  *       again. The lines are those of the file LINES in order, the first of each place and then those that follow by the
  *       number of places. It ends after so many seconds, or when a place has no line left. TURN is 0, or says whose
  *       turn it works in
+ *       With CLIENT_KEY in the environment, as NUMBER:FILE, each line is sealed for the node at the place of its port
+ *       when it is sent, and an answer's tag is not looked at
  *   serve-client echo PORT
  *       answers each line with OK at once, for ever
  *
@@ -19,9 +21,14 @@
 #include <string.h>
 #include <sys/resource.h>
 #include <sys/socket.h>
+#include <time.h>
 #include <unistd.h>
 
 #include "serve-turns.h"
+#ifdef SEALED
+#include "wakdulg.h"
+static struct wakdulg_cluster sealing;
+#endif
 
 enum { MAX_PLACES = 64, MAX_ANSWERS = 4000000 };
 static const double PATIENCE = 1.0;
@@ -29,6 +36,7 @@ static const double PATIENCE = 1.0;
 /* A line on its way. */
 struct place {
     size_t client;    /* whose it is */
+    size_t node;      /* the number of the node that it is for */
     size_t next;      /* its number */
     double begun;     /* when the line on its way was first sent */
     double sent;      /* when it was last sent */
@@ -91,8 +99,21 @@ static void read_lines(const char *path)
 static void send_line(struct place *place, struct pollfd *fds, double moment)
 {
     const char *line = lines[place->next];
+    size_t len = strlen(line);
     place->sent = moment;
-    if (send(fds[place->client].fd, line, strlen(line), 0) < 0) fail("serve-client: send");
+#ifdef SEALED
+    static uint64_t last;
+    static uint8_t datagram[512];
+    if (sealing.is_sealed) {
+        struct timespec time;
+        clock_gettime(CLOCK_REALTIME, &time);
+        uint64_t micros = (uint64_t)time.tv_sec * 1000000 + (uint64_t)time.tv_nsec / 1000;
+        last = micros > last ? micros : last + 1;
+        len = wakdulg_seal(&sealing, 1, (uint8_t)place->node, last, NULL, (const uint8_t *)line, len, datagram);
+        line = (const char *)datagram;
+    }
+#endif
+    if (send(fds[place->client].fd, line, len, 0) < 0) fail("serve-client: send");
 }
 
 static void begin_line(struct place *place, struct pollfd *fds)
@@ -116,6 +137,9 @@ static struct place *take_answer(struct place *place, size_t places, size_t clie
     char answer[513];
     ssize_t got = recv(fds[client].fd, answer, sizeof answer - 1, 0);
     if (got < 0) fail("serve-client: recv");
+#ifdef SEALED
+    if (sealing.is_sealed && got >= 47) memmove(answer, answer + 15, (size_t)(got -= 47));
+#endif
     answer[got] = 0;
     for (size_t k = 0; k < places; k++) {
         if (place[k].client != client || !is_answer_to(answer, lines[place[k].next])) continue;
@@ -192,7 +216,14 @@ int main(int argc, char **argv)
         fds[k] = (struct pollfd){ .fd = socket(AF_INET, SOCK_DGRAM, 0), .events = POLLIN };
         if (connect(fds[k].fd, (struct sockaddr *)&address, sizeof address) < 0) fail("serve-client: connect");
     }
-    for (size_t k = 0; k < places; k++) place[k] = (struct place){ .client = k % clients, .next = k };
+    for (size_t k = 0; k < places; k++) {
+        size_t client = k % clients;
+        place[k] = (struct place){ .client = client, .node = 1 + client % (size_t)(argc - 6), .next = k };
+    }
+#ifdef SEALED
+    const char *key = getenv("CLIENT_KEY");
+    if (wakdulg_set_nodes(&sealing, "127.0.0.1:1") < 0 || (key && wakdulg_set_key(&sealing, key) < 0)) return 2;
+#endif
     double start = now();
     double slept = ask(atof(argv[2]), atoi(argv[3]), clients, places, place, fds);
     report(now() - start - slept);

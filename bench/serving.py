@@ -27,8 +27,10 @@ def key_of(token):
 
 
 def client_of(port, seconds):
-    """A socket for lines to the node at a port. It is told where nobody is there."""
+    """A socket for lines to the node at a port, from an address of its own, since nodes with a clients file take its lines
+    plainly. It is told where nobody is there."""
     client = socket.socket(socket.AF_INET, socket.SOCK_DGRAM)
+    client.bind(("127.0.0.9", 0))
     client.connect(("127.0.0.1", port))
     client.settimeout(seconds)
     return client
@@ -122,6 +124,12 @@ class Nodes:
         self.options = list(options)
         # that of the nodes' processes; None is that of this one
         self.environment = None
+        # Whether they have a clients file, with client 7 and the key of the file client.key.
+        self.is_sealed = False
+        client_key = random.randbytes(32).hex()
+        with open(self.path("client.key"), "w") as key, open(self.path("clients"), "w") as clients:
+            key.write(client_key)
+            clients.write("client 7 %s\nplain 127.0.0.9\n" % client_key)
         # Whether they keep a log. Each process has a file of its own for it, log.NODE.LIFE.
         self.is_logged, self.lives = False, [0] * count
         self.processes = [None] * count
@@ -145,8 +153,9 @@ class Nodes:
         return [tuple(int(number) for number in line.split()[1:]) for line in lines]
 
     def serving_words(self, node, *words):
+        sealed = ["--clients", self.path("clients")] if self.is_sealed else []
         return [PROGRAM, "serve", self.database(node), self.users, "--node", str(node + 1), "--key", self.key,
-                "--members", ",".join(self.members[node]), *self.options, *words]
+                "--members", ",".join(self.members[node]), *self.options, *sealed, *words]
 
     def start(self, node):
         """Starts a node, and waits until it answers."""

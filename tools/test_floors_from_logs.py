@@ -72,6 +72,10 @@ class Case(unittest.TestCase):
 
 
 class Counters(Case):
+    def test_a_client_of_the_clients_file(self):
+        first, second = self.logs(accepted("ann", 7).replace(FROM, "from=client:65535"))
+        self.assertEqual(self.counters(first, second), [8, 0])
+
     def test_the_greatest_of_all_says(self):
         logs = self.logs(accepted("ann", 9) + accepted("ann", 8), start(2, 1) + accepted("ann", 11) + start(2, 2))
         self.assertEqual(self.counters(*logs), [12, 0])

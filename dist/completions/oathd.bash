@@ -1,14 +1,14 @@
 # bash completion for oathd(8)
 _oathd() {
     local cur prev words cword split command options= files=
-    local commands='lines sim cluster init serve export audit migrate floors level gates unlock check secret version help'
+    local commands='lines sim cluster init serve export audit migrate floors level gates unlock check new-key secret version help'
     _init_completion -s || return
     if ((cword == 1)); then
         COMPREPLY=($(compgen -W "$commands --help --version" -- "$cur"))
         return
     fi
     case $prev in
-        --key | --cluster | --floors) _filedir; return ;;
+        --key | --cluster | --clients | --floors) _filedir; return ;;
         --members)
             [[ ${words[1]} != floors ]] || COMPREPLY=($(compgen -W '1 2 3 4 5 6 7 8 9' -- "$cur"))
             return ;;
@@ -20,13 +20,15 @@ _oathd() {
         lines | sim) options='--cluster --look-ahead --skew --range --drift --moment --key' ;;
         cluster) options='--cluster --look-ahead --skew --range --drift --moment --key' files=yes ;;
         init) options='--node --cluster --skew --drift --moment --lost --anew --floors --since' files=yes ;;
-        serve) options='--node --cluster --members --key --look-ahead --skew --range --drift --turns --forever --log' files=yes ;;
+        serve)
+            options='--node --cluster --members --key --look-ahead --skew --range --drift --clients --plain-lines'
+            options+=' --turns --forever --log' files=yes ;;
         export) files=yes ;;
         audit | migrate | gates | unlock) options='--node' files=yes ;;
         floors) options='--node --members --cluster' files=yes ;;
         level) options='--node --floors' files=yes ;;
         check) options='--cluster' files=yes ;;
-        secret | version) ;;
+        new-key | secret | version) ;;
         help) ((cword == 2)) && COMPREPLY=($(compgen -W "$commands" -- "$cur")); return ;;
         *) return ;;
     esac

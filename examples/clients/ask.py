@@ -1,8 +1,11 @@
 #!/usr/bin/env python3
 """Asks the nodes of a cluster one line, a node after the other until one has decided, and prints the last answer.
 
-    ask.py LINE|- ADDRESS:PORT..     status 0 for OK, 1 for NO, 2 where no node answered or the words are wrong
+    ask.py [--key-file NUMBER:FILE] LINE|- ADDRESS:PORT..
+                                     status 0 for OK, 1 for NO, 2 where no node answered or the words are wrong
 
+With a key, which WAKDULG_KEY_FILE may name too, the line is sealed for each node: the nodes stand in the order of their
+numbers, from 1 on, or each has its number before it, as 2=ADDRESS:PORT.
 LINE is `CHECK nonce user code password` or `RESYNC nonce user code next-code password`. With `-` it is the first line
 of standard input: the words of a command are seen by every user of the machine. A line with a field less has no nonce,
 and a random one is put into it. The line is the same for each node, so that its code is used up once at most. A
@@ -32,21 +35,33 @@ def read_line(word):
     return sys.stdin.buffer.readline(512).rstrip(b"\n") if word == "-" else os.fsencode(word)
 
 
+def read_words(words):
+    """Returns the line, and each node's address with what it is asked."""
+    key_word = os.environ.get("WAKDULG_KEY_FILE")
+    if words[:1] == ["--key-file"]:
+        key_word, *words = words[1:]
+    key = wakdulg.read_key(key_word) if key_word else None
+    numbered = [wakdulg.read_numbered(word, number) for number, word in enumerate(words[1:], 1)]
+    if not numbered:
+        raise ValueError("no ADDRESS:PORT")
+    line = with_nonce(read_line(words[0]))
+    return [(node, wakdulg.Sealed(line, key, number) if key else wakdulg.Plain(line)) for number, node in numbered]
+
+
 def main():
     try:
-        nodes = [wakdulg.read_node(word) for word in sys.argv[2:]]
-        line = with_nonce(read_line(sys.argv[1])) if nodes else b""
-    except (IndexError, ValueError):
-        nodes = []
-    if not nodes:
-        print(__doc__, end="", file=sys.stderr)
+        asked = read_words(sys.argv[1:])
+    except (IndexError, ValueError, OSError) as fault:
+        print("%sask.py: %s" % (__doc__, fault), file=sys.stderr)
         sys.exit(2)
     last = None
-    for node in nodes:
+    for node, line in asked:
         last = wakdulg.hear(node, line) or last
         if last and last.decode().split(" ")[2] not in wakdulg.OF_THE_NODE:
             break
     if not last:
+        print("ask.py: no node answers" + (wakdulg.SEALED_HINT if isinstance(asked[0][1], wakdulg.Sealed) else ""),
+              file=sys.stderr)
         sys.exit(2)
     print(last.decode())
     sys.exit(0 if last.startswith(b"OK ") else 1)

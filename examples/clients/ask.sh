@@ -5,7 +5,8 @@
 #
 # With - the line is the first one of standard input: the words of a command are seen by every user of the machine.
 # It does what ask.py does, which says how. dd takes a datagram whole; bash's own read would take its first byte and
-# lose the rest. An LF or a byte 0 of a datagram is read as a question mark, which no answer has.
+# lose the rest. An LF or a byte 0 of a datagram is read as a question mark, which no answer has. It asks plainly: a line
+# under a client's key is asked by ask.py, or by ask of wakdulg.c.
 set -u -o pipefail
 export LC_ALL=C
 of_the_node='TIMEOUT|BUSY|CLOCK'
@@ -56,6 +57,6 @@ for node in "${@:2}"; do
     exec 3>&-
     [[ -z $answer || $answer =~ \ ($of_the_node)$ ]] || break
 done
-[ -n "$answer" ] || exit 2
+[ -n "$answer" ] || { echo 'ask.sh: no node answers' >&2; exit 2; }
 echo "$answer"
 [ "${answer%% *}" = OK ]

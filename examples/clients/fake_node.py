@@ -15,11 +15,15 @@ NO_ANSWERS = [
 
 class FakeNode(threading.Thread):
     """A node that answers its k-th datagram by the k-th of these lists, the last one for all that follow. Of an answer
-    it writes {} as the nonce and [] as the user of the line. A number in a list is so many seconds in which it does
-    nothing, and a function is called with the sender and the nonce."""
+    it writes {} as the nonce and [] as the user of the line. A number in a list is the seconds in which it does
+    nothing, and a function is called with the sender and the nonce.
 
-    def __init__(self, *replies):
+    With the key of a client it opens lines as the node with the number, and seals its answers for the datagram. A
+    datagram that it can't open has the user and nonce `-`. `datagrams` are those that came, as they came."""
+
+    def __init__(self, *replies, key=None, number=1):
         super().__init__(daemon=True)
+        self.key, self.number, self.datagrams = key, number, []
         self.port = socket.socket(socket.AF_INET, socket.SOCK_DGRAM)
         self.port.bind(("127.0.0.1", 0))
         self.address = self.port.getsockname()
@@ -29,10 +33,12 @@ class FakeNode(threading.Thread):
 
     def run(self):
         while True:
-            line, sender = self.port.recvfrom(512)
-            if line == b"stop":
+            data, sender = self.port.recvfrom(512)
+            if data == b"stop":
                 return
-            self.heard.append(line.decode())
+            self.datagrams.append(data)
+            line = self.opened(data) if self.key else data
+            self.heard.append(line.decode(errors="replace"))
             self.senders.append(sender)
             _, nonce, user, *_ = line.split(b" ") + [b"", b""]
             for reply in self.replies[min(len(self.heard), len(self.replies)) - 1]:
@@ -41,8 +47,20 @@ class FakeNode(threading.Thread):
                 elif callable(reply):
                     reply(sender, nonce)
                 else:
-                    data = reply if isinstance(reply, bytes) else reply.encode()
-                    self.port.sendto(data.replace(b"{}", nonce).replace(b"[]", user), sender)
+                    text = reply if isinstance(reply, bytes) else reply.encode()
+                    self.port.sendto(self.sealed(text.replace(b"{}", nonce).replace(b"[]", user), data), sender)
+
+    def opened(self, data):
+        """Returns the text of a line under the key, for this node; `- - -` of anything else."""
+        moment = int.from_bytes(data[7:15], "big")
+        is_sealed = data == self.key.seal(data[15:-32], self.number, moment=moment)
+        return data[15:-32] if is_sealed else b"- - -"
+
+    def sealed(self, text, data):
+        """Returns an answer as this node sends it to a datagram."""
+        if not self.key:
+            return text
+        return self.key.seal(text, self.number, self.key.ANSWER, int.from_bytes(data[7:15], "big"), data[-32:])
 
     def stop(self):
         """Nobody is there from now on."""

@@ -4,8 +4,10 @@
 tools/clients calls it. It takes some seconds, also on a busy machine: a test that waits for an answer waits long, and
 only those in which nobody answers have short pauses.
 """
+import os
 import socket
 import sys
+import tempfile
 import threading
 import time
 import unittest
@@ -16,6 +18,7 @@ import wakdulg
 from fake_node import NO_ANSWERS, FakeNode
 
 PATIENT = {"pauses": (0.2, 30.0), "total": 60.0, "avoid": 300.0}
+KEY, OTHER = wakdulg.Key(7, bytes(range(32))), wakdulg.Key(8, bytes(range(1, 33)))
 SHORT = (0.3, 1.5)
 
 
@@ -24,7 +27,10 @@ class Tests(unittest.TestCase):
         """The client of these nodes, which asks them in this order."""
         for node in nodes:
             self.addCleanup(node.stop)
-        made = wakdulg.Cluster(",".join("%s:%d" % node.address for node in nodes), **{**PATIENT, **settings})
+        return self.made(",".join("%s:%d" % node.address for node in nodes), {**PATIENT, **settings})
+
+    def made(self, nodes, settings):
+        made = wakdulg.Cluster(nodes, **settings)
         made.order = lambda user: sorted(made.nodes, key=lambda node: node in made._silent_until)
         return made
 
@@ -168,6 +174,89 @@ class Tests(unittest.TestCase):
                 wakdulg.Cluster(text)
         self.assertEqual({cluster.order("u%d" % k)[0] for k in range(20)}, set(cluster.nodes))
         self.assertEqual(cluster.order("ann"), cluster.order("ann"))
+
+    def test_vectors_of_sealed_datagrams(self):
+        key, line, moment = wakdulg.Key(258, bytes(32)), b"CHECK k1 ann 755224 -", 1000000
+        data = key.seal(line, 2, moment=moment)
+        self.assertEqual(data[:15].hex(), "4f530101010202" "00000000000f4240")
+        self.assertEqual(data[-32:].hex(), "1826527d092e827b43da651ce435ffb7e283a810ee64a5cd927555f3b8c2d844")
+        answer = key.seal(b"OK k1 0", 2, key.ANSWER, moment, data[-32:])
+        self.assertEqual(answer[-32:].hex(), "faf24c1682c6a296996f2e7463fd93930c75e1dd9831f4c21102b1db626e591a")
+        self.assertEqual(key.open(answer, 2, data[-32:]), b"OK k1 0")
+        for place in range(len(answer)):
+            changed = bytearray(answer)
+            changed[place] ^= 1
+            self.assertIsNone(key.open(bytes(changed), 2, data[-32:]), place)
+        for wrong in answer[:-1], answer + b"\0", b"", bytes(400), data:
+            self.assertIsNone(key.open(wrong, 2, data[-32:]))
+        self.assertIsNone(key.open(answer, 2, bytes(32)))
+        self.assertIsNone(key.open(answer, 1, data[-32:]))
+
+    def test_a_line_is_sealed_for_each_node_and_for_each_sending(self):
+        silent, busy = FakeNode([], [], key=KEY), FakeNode(["NO {} BUSY"], key=KEY, number=2)
+        good = FakeNode([], ["OK {} 3"], key=KEY, number=3)
+        cluster = self.cluster(silent, busy, good, pauses=SHORT, key=KEY)
+        self.assertEqual(cluster.check("ann", "123456").factor, 3)
+        self.assertEqual(len({*silent.heard, *busy.heard, *good.heard}), 1)
+        sent = silent.datagrams + busy.datagrams + good.datagrams
+        self.assertEqual((len(sent), len({data[7:15] for data in sent})), (5, 5))
+        self.assertTrue(all(cluster.answers(node) for node in (busy.address, good.address)))
+
+    def test_only_an_answer_that_is_sealed_for_the_line_counts(self):
+        last = []
+
+        def forge(sender, nonce):
+            data, text = node.datagrams[-1], b"OK %b 1" % nonce
+            moment = int.from_bytes(data[7:15], "big")
+            forged = [text, OTHER.seal(text, 1, OTHER.ANSWER, moment, data[-32:]),
+                      KEY.seal(text, 2, KEY.ANSWER, moment, data[-32:]), KEY.seal(text, 1, KEY.ANSWER, moment),
+                      KEY.seal(text, 1, KEY.LINE, moment, data[-32:]), KEY.seal(text, 1, KEY.ANSWER, moment + 1, data[-32:]),
+                      wakdulg.Key(7, bytes(32)).seal(text, 1, KEY.ANSWER, moment, data[-32:]), data, b"OS", *last]
+            for each in forged:
+                node.port.sendto(each, sender)
+            last.append(KEY.seal(text, 1, KEY.ANSWER, moment, data[-32:]))
+
+        node = FakeNode([forge, b"NO {} INVALID"], key=KEY)
+        cluster = self.cluster(node, key=KEY)
+        for _ in range(3):
+            self.assertEqual(str(self.refusal(cluster)), "INVALID")
+        self.assertEqual(len(last), 3)
+
+    def test_a_node_that_opens_nothing_is_silent_and_the_refusal_says_where_to_look(self):
+        spoofer = FakeNode(["OK {} 1"])
+        refusal = self.refusal(self.cluster(spoofer, pauses=(0.2, 0.5), key=KEY), wakdulg.Undecided)
+        self.assertEqual(str(refusal), "SILENT (in doubt): look at the key, at its number, and at this machine's clock")
+
+    def test_an_answer_to_an_earlier_sending_counts(self):
+        node = FakeNode([0.5, "OK {} 1"], [], key=KEY)
+        self.assertEqual(self.cluster(node, key=KEY).check("ann", "123456").factor, 1)
+
+    def test_keys_and_their_files(self):
+        with tempfile.TemporaryDirectory() as folder:
+            path = os.path.join(folder, "key")
+            for text, is_good in (("00" * 32 + "\n", True), ("aB" * 16, True), ("00" * 64, True), ("00" * 15, False),
+                                  ("00" * 65, False), ("", False), ("0" * 33, False), ("zz" * 16, False),
+                                  ("00" * 16 + "\n\n", False), ("00 " * 16, False)):
+                with open(path, "w") as file:
+                    file.write(text)
+                if is_good:
+                    self.assertEqual(repr(wakdulg.read_key("7:" + path)), "Key(7, ..)")
+                else:
+                    with self.assertRaises(ValueError, msg=text):
+                        wakdulg.read_key("7:" + path)
+            for word in path, ":" + path, "65536:" + path, "-1:" + path, "x:" + path:
+                with self.assertRaises(ValueError, msg=word):
+                    wakdulg.read_key(word)
+        for nodes in "127.0.0.1:1,127.0.0.1:1", "2=127.0.0.1:1,127.0.0.1:2", "0=127.0.0.1:1":
+            with self.assertRaises(ValueError, msg=nodes):
+                wakdulg.Cluster(nodes, key=KEY)
+        cluster = wakdulg.Cluster("3=127.0.0.1:1 1=127.0.0.1:2", key=KEY)
+        self.assertEqual([cluster._numbers[node] for node in cluster.nodes], [3, 1])
+
+    def test_moments_do_not_come_again(self):
+        with ThreadPoolExecutor(16) as threads:
+            moments = list(threads.map(lambda _: KEY.moment(), range(2000)))
+        self.assertEqual(len({*moments}), 2000)
 
     def test_a_name_forges_no_line_of_a_log(self):
         for outcome, said in (wakdulg.Accepted(7), "accepted from=192.0.2.9 OK 7"), (wakdulg.Refused("INVALID", True),

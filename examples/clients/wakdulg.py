@@ -1,6 +1,6 @@
 """A client of a cluster of `oathd serve` nodes, for login services: one file, Python 3.8, its standard library alone.
 
-    cluster = wakdulg.Cluster("127.0.0.1:7101,127.0.0.1:7102,127.0.0.1:7103")
+    cluster = wakdulg.Cluster("127.0.0.1:7101,127.0.0.1:7102,127.0.0.1:7103", key=wakdulg.read_key("7:/etc/my/key"))
     try:
         accepted = cluster.check("ann", "755224", password=None)
     except wakdulg.Refused as refusal:
@@ -10,13 +10,19 @@ Only a call that returns lets a user in. One call is one submission: its line ha
 each node that is asked. A node that says nothing is sent the line again from the same socket, and then the next node is
 asked; so it is after TIMEOUT, BUSY and CLOCK, which are about the node. Every other answer decides. A call has sockets
 of its own, and may be made by any number of threads at once. docs/reference/clients.md says why each of these things is so.
+
+With a key the line is sealed for each node, anew each time that it is sent, and only an answer that is sealed for that
+very datagram counts. Without a key whoever takes a node's port, or sees the traffic, can let in whom he likes.
 """
 import hashlib
+import hmac
 import ipaddress
 import json
 import re
 import secrets
 import socket
+import struct
+import threading
 import time
 from typing import NamedTuple
 
@@ -60,15 +66,113 @@ class Throttled(Refused):
 
 
 class Undecided(Refused):
-    """No node has decided: TIMEOUT, BUSY, CLOCK, or SILENT where none said anything."""
+    """No node has decided: TIMEOUT, BUSY, CLOCK, or SILENT where none said anything. `hint` says what to look at."""
+    hint = ""
+
+    def __str__(self):
+        return super().__str__() + self.hint
+
+
+# Of a client with a key: a node answers nothing that it doesn't open.
+SEALED_HINT = ": look at the key, at its number, and at this machine's clock"
 
 
 def read_node(text):
-    """The address and the port. A name isn't taken, since to look it up may take its time."""
+    """Returns the address and the port. A name isn't taken, since to look it up may take its time."""
     host, _, port = text.partition(":")
     if not re.fullmatch("[0-9]{1,5}", port) or not 0 < int(port) < 65536:
         raise ValueError("not an ADDRESS:PORT: " + text)
     return str(ipaddress.IPv4Address(host)), int(port)
+
+
+def read_numbered(text, number):
+    """Returns the number of a node and its address: `2=ADDRESS:PORT`, or ADDRESS:PORT for the given number."""
+    found = re.fullmatch("([1-9])=(.*)", text)
+    return (int(found[1]), read_node(found[2])) if found else (number, read_node(text))
+
+
+class Key:
+    """A client's number and the key that it shares with the nodes. It shows no byte of the key."""
+    LINE, ANSWER, MAX_TEXT, TAG_LEN = 1, 2, 256, 32
+    HEAD = struct.Struct(">2sBBHBQ")    # mark, version, kind, client, node, moment in microseconds
+
+    def __init__(self, client, key):
+        if not 0 <= client < 1 << 16:
+            raise ValueError("a client number is 0 to 65535")
+        if not 16 <= len(key) <= 64:
+            raise ValueError("a client's key has 16 to 64 bytes")
+        self.client, self._key, self._last, self._lock = client, bytes(key), 0, threading.Lock()
+
+    def __repr__(self):
+        return "Key(%d, ..)" % self.client
+
+    def moment(self):
+        """Returns the time in microseconds since 1970, later than each one before."""
+        with self._lock:
+            self._last = max(self._last + 1, time.time_ns() // 1000)
+            return self._last
+
+    def _tag(self, body, bound):
+        return hmac.new(self._key, body + bound, hashlib.sha256).digest()
+
+    def seal(self, text, node, kind=LINE, moment=None, bound=b""):
+        """Returns the datagram of a line for a node, or of an answer of a node that is bound to a line's tag."""
+        moment = self.moment() if moment is None else moment
+        body = self.HEAD.pack(b"OS", 1, kind, self.client, node, moment) + text
+        return body + self._tag(body, bound)
+
+    def open(self, data, node, bound):
+        """Returns the text of an answer of a node that is bound to a line's tag, or None."""
+        if not self.HEAD.size + self.TAG_LEN <= len(data) <= self.HEAD.size + self.MAX_TEXT + self.TAG_LEN:
+            return None
+        body, tag = data[:-self.TAG_LEN], data[-self.TAG_LEN:]
+        if self.HEAD.unpack_from(body)[:5] != (b"OS", 1, self.ANSWER, self.client, node):
+            return None
+        return body[self.HEAD.size:] if hmac.compare_digest(tag, self._tag(body, bound)) else None
+
+
+def read_key(word):
+    """Returns the key of `NUMBER:FILE`. The file has the key in hexadecimal, on one line, as `oathd new-key` writes it."""
+    number, colon, path = word.partition(":")
+    if not colon or not re.fullmatch("[0-9]{1,5}", number):
+        raise ValueError("not a NUMBER:FILE: " + word)
+    with open(path, encoding="ascii", errors="replace") as file:
+        text = file.read(1024)
+    if not re.fullmatch("([0-9A-Fa-f]{2})+\n?", text):
+        raise ValueError("not one line of hexadecimal digits: " + path)
+    return Key(int(number), bytes.fromhex(text.strip()))
+
+
+class Plain:
+    """A line to a node, as it is sent and answered without a key."""
+
+    def __init__(self, line):
+        self.line = line
+
+    def datagram(self):
+        return self.line
+
+    def opened(self, data):
+        return data
+
+
+class Sealed:
+    """A line to a node under a key, sealed anew each time that it is sent. An answer is to one of the sendings."""
+
+    def __init__(self, line, key, node):
+        self.line, self.key, self.node, self._tags = line, key, node, {}
+
+    def datagram(self):
+        moment = self.key.moment()
+        data = self.key.seal(self.line, self.node, moment=moment)
+        self._tags[moment] = data[-Key.TAG_LEN:]
+        return data
+
+    def opened(self, data):
+        """Returns the text of an answer to one of the sendings, or None."""
+        moment = Key.HEAD.unpack_from(data)[5] if len(data) >= Key.HEAD.size else None
+        tag = self._tags.get(moment)
+        return None if tag is None else self.key.open(data, self.node, tag)
 
 
 def is_answer(data, nonce):
@@ -78,10 +182,10 @@ def is_answer(data, nonce):
     return re.fullmatch(answer, data) is not None
 
 
-def hear(node, line, pauses=PAUSES, deadline=float("inf")):
-    """Returns the answer of a node to a line; None if there is none; b"" if there is none and no node took the line. A
-    connected socket hears no other, and tells where nobody is there."""
-    nonce, begin, sent = (line.split(b" ") + [b""])[1], time.monotonic(), 0
+def hear(node, asked, pauses=PAUSES, deadline=float("inf")):
+    """Returns the answer of a node to a line, `Plain` or `Sealed`; None if there is none; b"" if there is none and no
+    node took the line. A connected socket hears no other, and tells where nobody is there."""
+    nonce, begin, sent = (asked.line.split(b" ") + [b""])[1], time.monotonic(), 0
     with socket.socket(socket.AF_INET, socket.SOCK_DGRAM) as client:
         try:
             client.connect(node)
@@ -89,15 +193,15 @@ def hear(node, line, pauses=PAUSES, deadline=float("inf")):
                 end = min(begin + pause, deadline)
                 if time.monotonic() >= end:
                     break
-                client.send(line)
+                client.send(asked.datagram())
                 sent += 1
                 while (left := end - time.monotonic()) > 0:
                     client.settimeout(left)
                     try:
-                        data = client.recv(512)
+                        data = asked.opened(client.recv(512))
                     except socket.timeout:
                         break
-                    if is_answer(data, nonce):
+                    if data is not None and is_answer(data, nonce):
                         return data
         except ConnectionRefusedError:
             # It is about the first datagram, if no second one went out: so the node has none.
@@ -127,13 +231,18 @@ def _field(text, form, what):
 
 
 class Cluster:
-    """Nodes as `ADDRESS:PORT,ADDRESS:PORT`. A call has `total` seconds; a silent node is asked last for `avoid`."""
+    """Nodes as `ADDRESS:PORT,ADDRESS:PORT`. With a key they stand in the order of their numbers, from 1 on, or each has
+    its number before it: `2=ADDRESS:PORT`. A call has `total` seconds; a silent node is asked last for `avoid`."""
 
-    def __init__(self, nodes, pauses=PAUSES, total=8.0, avoid=30.0):
-        self.nodes = [read_node(word) for word in nodes.replace(",", " ").split()]
+    def __init__(self, nodes, pauses=PAUSES, total=8.0, avoid=30.0, key=None):
+        numbered = [read_numbered(word, number) for number, word in enumerate(nodes.replace(",", " ").split(), 1)]
+        self.nodes = [node for _, node in numbered]
         if not self.nodes:
             raise ValueError("no ADDRESS:PORT")
-        self.pauses, self.total, self.avoid = pauses, total, avoid
+        self._numbers = {node: number for number, node in numbered}
+        if key and not len({*self.nodes}) == len({*self._numbers.values()}) == len(self.nodes):
+            raise ValueError("a node twice")
+        self.pauses, self.total, self.avoid, self.key = pauses, total, avoid, key
         self._silent_until = {}
 
     def check(self, user, code, password=None):
@@ -147,7 +256,10 @@ class Cluster:
     def answers(self, node):
         """Whether this node answers. That says nothing of a majority."""
         nonce = new_nonce()
-        return bool(hear(node, b"CHECK %b %b 000000 -" % (nonce, nonce), self.pauses))
+        return bool(hear(node, self._asked(node, b"CHECK %b %b 000000 -" % (nonce, nonce)), self.pauses))
+
+    def _asked(self, node, line):
+        return Sealed(line, self.key, self._numbers[node]) if self.key else Plain(line)
 
     def order(self, user):
         """The nodes as they are asked: the user's own first, for that one knows the token's drift; silent ones last."""
@@ -161,6 +273,7 @@ class Cluster:
         fields += [b"-" if password is None else _field(password, rb"(?!-$)[^ \t\r\n]{1,64}", "not a password")]
         line, deadline = b" ".join([word, new_nonce(), *fields]), time.monotonic() + self.total
         refusal, in_doubt = Undecided(SILENT), False
+        refusal.hint = SEALED_HINT if self.key else ""
         for node in self.order(user):
             if not (data := self._hear(node, line, deadline)):
                 in_doubt = in_doubt or data is None
@@ -180,7 +293,7 @@ class Cluster:
         if time.monotonic() >= deadline:
             return b""
         try:
-            data = hear(node, line, self.pauses, deadline)
+            data = hear(node, self._asked(node, line), self.pauses, deadline)
         except OSError as fault:
             raise Undecided("no socket: %s" % fault, True) from fault
         if data:

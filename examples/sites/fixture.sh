@@ -5,24 +5,25 @@
 #   enter_namespace               runs the script once more in a mount namespace of its own, with $work in memory
 #   make_root                     makes a Debian of its own in $root, over that of CHROOT, else by debootstrap
 #   find_programs                 sets oathd and oathtool to program files
-#   make_cluster                  makes in $work: key, users (u1 to u99, an event token each with the secret of RFC
-#                                 4226; pin with the password hunter2; plus with the password +; eight of 8 digits;
-#                                 clock1, clock2 and clock3, time tokens, the last one with the password watchword),
-#                                 and three databases; and starts the nodes
+#   make_cluster                  makes in $work: key, front.key, clients (client 7 has front.key), users (u1 to u99,
+#                                 an event token each with the secret of RFC 4226; pin with the password hunter2; plus
+#                                 with the password +; eight of 8 digits; clock1, clock2 and clock3, time tokens, the
+#                                 last one with the password watchword), and three databases; and starts the nodes
 #   start_node I; kill_node I     starts node I and waits until it answers; ends it at once
 #   begin STEP                    names what comes next
 #   same WHAT WANTED GOT          ends the script where both differ
 #   await COMMAND..               waits until it succeeds, two minutes at most
 #   code N                        the code of counter N
 #
-# $nodes has the three addresses, $free a fourth port, which nobody has by UDP nor by TCP. What `pids` names is killed
-# at the end, and $work is removed. OATHD is the program, else ./oathd. At a fault the status is 1, and standard error
-# names the step, after the last lines of the files that `logs` names.
+# $front_key is `7:FILE`, as clients take it. $nodes has the three addresses, $free a fourth port, which nobody has by
+# UDP nor by TCP. What `pids` names is killed at the end, and $work is removed. OATHD is the program, else ./oathd. At a
+# fault the status is 1, and standard error names the step, after the last lines of the files that `logs` names.
 set -eu
 top=$(cd "$(dirname "${BASH_SOURCE[0]}")/../.." && pwd)
 oathd=${OATHD:-$top/oathd}
 secret=3132333435363738393031323334353637383930
 step='the beginning'
+front_key=
 pids=()
 logs=()
 work=$(mktemp -d)
@@ -164,7 +165,9 @@ make_cluster() {
     take_ports
     (
         umask 077
-        od -An -v -tx1 -N32 /dev/urandom | tr -d ' \n' > "$work/key"
+        "$oathd" new-key > "$work/key"
+        "$oathd" new-key > "$work/front.key"
+        echo "client 7 $(cat "$work/front.key")" > "$work/clients"
         {
             for user in {1..99}; do echo "HOTP u$user - $secret"; done
             echo "HOTP pin hunter2 $secret"
@@ -177,6 +180,7 @@ make_cluster() {
             "$oathd" init "$work/node$node.db" "$work/users" --node $node --moment 0
         done
     )
+    front_key=7:$work/front.key
     for node in 1 2 3; do
         start_node $node
     done
@@ -185,12 +189,13 @@ make_cluster() {
 # Whether a node answers. It has to be running.
 answers() {
     kill -0 "${pids[$1]}" || { echo "$site: node $1 has ended" >&2; exit 1; }
-    [ "$("$top/examples/clients/ask.py" 'CHECK up nobody 000000 -' "127.0.0.1:${port[$1 - 1]}")" = 'NO up UNKNOWN' ]
+    [ "$("$top/examples/clients/ask.py" ${front_key:+--key-file "$front_key"} 'CHECK up nobody 000000 -' \
+        "$1=127.0.0.1:${port[$1 - 1]}" 2> /dev/null)" = 'NO up UNKNOWN' ]
 }
 
 start_node() {
     "$oathd" serve "$work/node$1.db" "$work/users" --node "$1" --key "${2:-$work/key}" --members "$nodes" \
-        --forever &
+        --clients "$work/clients" --forever &
     pids[$1]=$!
     await answers "$1"
 }
