@@ -17,12 +17,12 @@ use Rattle.clients_file.specs.declared.clients.ClientEntry.{ClientEntry}
 use Rattle.clients_file.specs.declared.fault.LineFault.{LineFault}
 use Rattle.clients_file.specs.declared.fault.LineFault.TheVariants.{BadAddress, BadNumber, Twice, SameKey, NotLoopback, TooMany, NoClient, TooLong}
 use Rattle.clients_file.specs.declared.word.Word.{Word}
-use Rattle.clients_file.specs.declared.word.Word.TheVariants.{Client, Plain, Ahead}
+use Rattle.clients_file.specs.declared.word.Word.TheVariants.{Client, Plain, Ahead, Failures}
 use Rattle.clients_file.specs.Address.{is_loopback, loopback_of, number_of_octets, octets_of}
 use Rattle.clients_file.specs.Clients.{AreClients, AreTwo, IsLoopback}
 use Rattle.clients_file.specs.ClientsFile.{ClientsRecord, after_lines, at_line, clients_of, finished, outcome_of}
 use Rattle.clients_file.specs.Fields.{◌>>=◌, key_of, number_within, one_field, two_fields, word_of}
-use Rattle.clients_file.specs.Said.{Said, after_fields, after_named, after_word, ahead_of, block_of, client_of, has_block, has_number, if_room, is_remark, new_key, new_number, nothing_said, plain_of, unless_given}
+use Rattle.clients_file.specs.Said.{Said, after_fields, after_named, after_word, ahead_of, block_of, client_of, failures_of, has_block, has_number, if_room, is_remark, new_key, new_number, nothing_said, plain_of, unless_given}
 use Rattle.clients_file.proofs.AddressLemmas.{left_over}
 
 -- ---- steps that may fail
@@ -176,6 +176,14 @@ ahead_fits before fields end e =
     let fits = within_fits 1 60 (number_of text.middle) seconds.middle seconds.before in
     (omega (arith, fits.0, same), omega (arith, fits.1, same))
 
+failures_fit : (before : Option ℕ) (fields : List (List ℕ)) (end : ℕ) → failures_of before fields ≡ Ok end → (1 ≤ end) × (end ≤ 65535)
+failures_fit before fields end e =
+    let text = steps (one_field fields) (λ text. number_within 1 65535 (number_of text) >>= λ failures. unless_given before failures) end e in
+    let failures = steps (number_within 1 65535 (number_of text.middle)) (λ failures. unless_given before failures) end text.after in
+    let same = given_fits before failures.middle end failures.after in
+    let fits = within_fits 1 65535 (number_of text.middle) failures.middle failures.before in
+    (omega (arith, fits.0, same), omega (arith, fits.1, same))
+
 -- ---- lines
 
 -- what lines can give
@@ -185,6 +193,7 @@ record CanBeSaid (said : Said) : Type 0 where
   few_plain : length said.plain ≤ 16
   plain : All IsLoopback said.plain
   ahead : IfSome said.ahead (λ seconds. (1 ≤ seconds) × (seconds ≤ 60))
+  failures : IfSome said.failures (λ failures. (1 ≤ failures) × (failures ≤ 65535))
 
 word_keeps : (said : Said) (word : Word) (fields : List (List ℕ)) (end : Said) → CanBeSaid said → after_word said word fields ≡ Ok end → CanBeSaid end
 word_keeps said Client fields end can e =
@@ -197,6 +206,7 @@ word_keeps said Client fields end can e =
       few_plain = can.few_plain;
       plain = can.plain;
       ahead = can.ahead;
+      failures = can.failures;
     })
 word_keeps said Plain fields end can e =
     let s = steps (plain_of said.plain fields) (λ address. Ok (record said { plain = said.plain ++ address ∷ [] })) end e in
@@ -208,6 +218,7 @@ word_keeps said Plain fields end can e =
       few_plain = let room = next.0 in omega (arith, length-append said.plain (s.middle ∷ []));
       plain = All-push IsLoopback said.plain s.middle can.plain next.1;
       ahead = can.ahead;
+      failures = can.failures;
     })
 word_keeps said Ahead fields end can e =
     let s = steps (ahead_of said.ahead fields) (λ seconds. Ok (record said { ahead = Some seconds })) end e in
@@ -218,6 +229,18 @@ word_keeps said Ahead fields end can e =
       few_plain = can.few_plain;
       plain = can.plain;
       ahead = ahead_fits said.ahead fields s.middle s.before;
+      failures = can.failures;
+    })
+word_keeps said Failures fields end can e =
+    let s = steps (failures_of said.failures fields) (λ failures. Ok (record said { failures = Some failures })) end e in
+    let same : record said { failures = Some s.middle } ≡ end = same_ok _ end s.after in
+    subst CanBeSaid same (record {
+      few = can.few;
+      apart = can.apart;
+      few_plain = can.few_plain;
+      plain = can.plain;
+      ahead = can.ahead;
+      failures = failures_fit said.failures fields s.middle s.before;
     })
 
 named_keeps : (said : Said) (word : Option Word) (fields : List (List ℕ)) (end : Said) → CanBeSaid said → after_named said word fields ≡ Ok end → CanBeSaid end
@@ -250,6 +273,7 @@ nothing_keeps = record {
   few_plain = omega arith;
   plain = λ k d within. absurd (omega (arith, within));
   ahead = tt;
+  failures = tt;
 }
 
 -- ---- the whole file
@@ -265,7 +289,7 @@ finished_fits : (said : Said) (end : ClientsRecord) → CanBeSaid said → finis
 finished_fits said end can e = by (length said.clients == 0 && length said.plain == 0) refl e
   where
     made : ClientsRecord
-    made = record { clients = said.clients; plain = said.plain; ahead = unwrap_or said.ahead 2 }
+    made = record { clients = said.clients; plain = said.plain; ahead = unwrap_or said.ahead 2; failures = said.failures }
 
     by : (none : Bool) → (length said.clients == 0 && length said.plain == 0) ≡ none → (if none then Err NoClient else Ok made) ≡ Ok end
         → AreClients end
@@ -280,6 +304,7 @@ finished_fits said end can e = by (length said.clients == 0 && length said.plain
           plain = can.plain;
           least_ahead = ahead.0;
           most_ahead = ahead.1;
+          failures = can.failures;
         })
 
 outcome_fits : (limit : ℕ) (text : List ℕ) (end : ClientsRecord) → outcome_of limit text ≡ Ok end → AreClients end

@@ -1,5 +1,5 @@
 -- What every clients file gives.
-use Rattle.std.specs.Prelude.{◌≡◌, ◌≤◌, ℕ, ◌+◌, ◌/◌, ◌^◌, length, All}
+use Rattle.std.specs.Prelude.{◌≡◌, ◌≤◌, ℕ, ◌+◌, ◌/◌, ◌^◌, length, All, IfSome}
 use Rattle.std.specs.List.{AllPairs}
 use Rattle.clients_file.specs.declared.clients.ClientEntry.{ClientEntry}
 use Rattle.clients_file.specs.ClientsFile.{ClientsRecord}
@@ -15,7 +15,7 @@ abbrev pub IsLoopback : ℕ → Type 0
 IsLoopback address = address / 2 ^ 24 ≡ 127
 
 -- at most 64 clients, each two of them with different numbers and keys, at most 16 loopback addresses, and 1 to 60
--- seconds
+-- seconds; a limit of failures is 1 to 65535
 pub record AreClients (clients : ClientsRecord) : Type 0 where
   pub some : 1 ≤ length clients.clients + length clients.plain
   pub few : length clients.clients ≤ 64
@@ -24,3 +24,4 @@ pub record AreClients (clients : ClientsRecord) : Type 0 where
   pub plain : All IsLoopback clients.plain
   pub least_ahead : 1 ≤ clients.ahead
   pub most_ahead : clients.ahead ≤ 60
+  pub failures : IfSome clients.failures (λ failures. (1 ≤ failures) × (failures ≤ 65535))

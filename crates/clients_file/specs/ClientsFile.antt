@@ -1,5 +1,5 @@
 -- The content of a clients file. The first fault of the first faulty line decides; without one a missing value does.
-use Rattle.std.specs.Prelude.{ℕ, ◌+◌, ◌==◌, ◌&&◌, nat_le, Bool, true, false, List, [], ◌∷◌, length, take, Result, Ok, Err, unwrap_or, if◌then◌else◌}
+use Rattle.std.specs.Prelude.{ℕ, ◌+◌, ◌==◌, ◌&&◌, nat_le, Bool, true, false, List, [], ◌∷◌, length, take, Option, Result, Ok, Err, unwrap_or, if◌then◌else◌}
 use Rattle.token_file.specs.Fields.{fields_of, lines_of}
 use Rattle.clients_file.specs.declared.clients.ClientEntry.{ClientEntry}
 use Rattle.clients_file.specs.declared.clients.Clients.{Clients}
@@ -13,17 +13,28 @@ pub record ClientsRecord : Type 0 where
   pub clients : List ClientEntry
   pub plain : List ℕ
   pub ahead : ℕ
+  pub failures : Option ℕ
 
 -- the value of the clients
 abbrev pub clients_value : Clients → ClientsRecord
 clients_value clients =
-    record { clients = clients.clients.items; plain = clients.plain.items; ahead = clients.ahead }
+    record {
+      clients = clients.clients.items;
+      plain = clients.plain.items;
+      ahead = clients.ahead;
+      failures = clients.failures;
+    }
 
--- the clients of all lines, 2 seconds ahead by default, or the fault of a missing value
+-- the clients of all lines, by default 2 seconds ahead and without a limit of failures, or the fault of a missing value
 abbrev pub finished : Said → Result ClientsRecord LineFault
 finished said =
     if length said.clients == 0 && length said.plain == 0 then Err NoClient
-    else Ok (record { clients = said.clients; plain = said.plain; ahead = unwrap_or said.ahead 2 })
+    else Ok (record {
+      clients = said.clients;
+      plain = said.plain;
+      ahead = unwrap_or said.ahead 2;
+      failures = said.failures;
+    })
 
 -- an outcome with the line number of a fault
 abbrev pub at_line : {A : Type 0} → ℕ → Result A LineFault → Result A (ℕ × LineFault)

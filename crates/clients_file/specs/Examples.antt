@@ -1,5 +1,5 @@
 -- Worked cases: lines of a clients file, and their values.
-use Rattle.std.specs.Prelude.{ℕ, ◌+◌, List, [], ◌∷◌, ◌++◌, map, replicate, codes, Some, Result}
+use Rattle.std.specs.Prelude.{ℕ, ◌+◌, List, [], ◌∷◌, ◌++◌, map, replicate, codes, Some, None, Result}
 use Rattle.std.specs.List.{flat_map}
 use Rattle.token_file.specs.Fields.{fields_of}
 use Rattle.clients_file.specs.declared.clients.ClientEntry.{ClientEntry}
@@ -44,6 +44,10 @@ with_plain lasts = record nothing_said { plain = map local_at lasts }
 abbrev pub with_ahead : ℕ → Said
 with_ahead seconds = record nothing_said { ahead = Some seconds }
 
+-- the values of a `failures` line alone
+abbrev pub with_failures : ℕ → Said
+with_failures failures = record nothing_said { failures = Some failures }
+
 -- the values after a line
 abbrev pub after_text : Said → List ℕ → Result Said LineFault
 after_text said line = after_fields said (fields_of line)
@@ -62,17 +66,18 @@ small_file = client_line (codes "7") (codes "07") ∷ []
 
 -- the client of the small file
 abbrev pub small_clients : ClientsRecord
-small_clients = record { clients = client_at 7 ∷ []; plain = []; ahead = 2 }
+small_clients = record { clients = client_at 7 ∷ []; plain = []; ahead = 2; failures = None }
 
 -- a whole file of two clients and an address
 abbrev pub whole_file : List (List ℕ)
 whole_file =
     codes "# two" ∷ client_line (codes "7") (codes "07") ∷ [] ∷ client_line (codes "8") (codes "08")
-    ∷ codes "  plain  127.0.0.1 " ∷ codes "ahead 5" ∷ []
+    ∷ codes "  plain  127.0.0.1 " ∷ codes "ahead 5" ∷ codes "failures 20" ∷ []
 
 -- the clients of the file of two clients
 abbrev pub whole_clients : ClientsRecord
-whole_clients = record { clients = client_at 7 ∷ client_at 8 ∷ []; plain = local_at 1 ∷ []; ahead = 5 }
+whole_clients =
+    record { clients = client_at 7 ∷ client_at 8 ∷ []; plain = local_at 1 ∷ []; ahead = 5; failures = Some 20 }
 
 -- each fault
 abbrev pub faults : List LineFault

@@ -9,7 +9,7 @@ use Rattle.sealed_wire.specs.Key.{key_refusal_of}
 use Rattle.clients_file.specs.declared.fault.LineFault.{LineFault}
 use Rattle.clients_file.specs.declared.fault.LineFault.TheVariants.{MissingField, SurplusField, BadNumber, BadKey}
 use Rattle.clients_file.specs.declared.word.Word.{Word}
-use Rattle.clients_file.specs.declared.word.Word.TheVariants.{Client, Plain, Ahead}
+use Rattle.clients_file.specs.declared.word.Word.TheVariants.{Client, Plain, Ahead, Failures}
 
 -- the result of the next step, or the first fault
 infixl 10 ◌>>=◌
@@ -23,6 +23,7 @@ word_of text =
     if bytes_eq text (codes "client") then Some Client
     else if bytes_eq text (codes "plain") then Some Plain
     else if bytes_eq text (codes "ahead") then Some Ahead
+    else if bytes_eq text (codes "failures") then Some Failures
     else None
 
 -- the field of a list of one

@@ -8,19 +8,21 @@ use Rattle.clients_file.specs.declared.clients.ClientEntry.{ClientEntry}
 use Rattle.clients_file.specs.declared.fault.LineFault.{LineFault}
 use Rattle.clients_file.specs.declared.fault.LineFault.TheVariants.{UnknownWord, Twice, SameKey, TooMany}
 use Rattle.clients_file.specs.declared.word.Word.{Word}
-use Rattle.clients_file.specs.declared.word.Word.TheVariants.{Client, Plain, Ahead}
+use Rattle.clients_file.specs.declared.word.Word.TheVariants.{Client, Plain, Ahead, Failures}
 use Rattle.clients_file.specs.Address.{loopback_of, octets_of}
 use Rattle.clients_file.specs.Fields.{◌>>=◌, key_of, number_within, one_field, two_fields, word_of}
 
--- the values of some lines: the clients and the plain addresses in order, and the given seconds ahead
+-- the values of some lines: the clients and the plain addresses in order, the given seconds ahead, and the given limit
+-- of failures
 pub record Said : Type 0 where
   pub clients : List ClientEntry
   pub plain : List ℕ
   pub ahead : Option ℕ
+  pub failures : Option ℕ
 
 -- the values of no line
 abbrev pub nothing_said : Said
-nothing_said = record { clients = []; plain = []; ahead = None }
+nothing_said = record { clients = []; plain = []; ahead = None; failures = None }
 
 -- whether one of the clients has a number
 abbrev pub has_number : ℕ → List ClientEntry → Bool
@@ -78,6 +80,13 @@ ahead_of before fields = do
   seconds ← number_within 1 60 (number_of text)
   unless_given before seconds
 
+-- the limit of failures of a line: 1 to 65535
+abbrev pub failures_of : Option ℕ → List (List ℕ) → Result ℕ LineFault
+failures_of before fields = do
+  text ← one_field fields
+  failures ← number_within 1 65535 (number_of text)
+  unless_given before failures
+
 -- the values after a line of a word
 abbrev pub after_word : Said → Word → List (List ℕ) → Result Said LineFault
 after_word said Client fields = do
@@ -89,6 +98,9 @@ after_word said Plain fields = do
 after_word said Ahead fields = do
   seconds ← ahead_of said.ahead fields
   Ok (record said { ahead = Some seconds })
+after_word said Failures fields = do
+  failures ← failures_of said.failures fields
+  Ok (record said { failures = Some failures })
 
 -- the values after a line of a word, or a fault if its first field is not one
 abbrev pub after_named : Said → Option Word → List (List ℕ) → Result Said LineFault

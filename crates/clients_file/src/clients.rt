@@ -18,4 +18,6 @@ pub struct Clients {
     pub plain: Vec<u32>,
     /// The number of seconds by which a line's moment may be ahead of the node's clock: 1 to 60.
     pub ahead: u8,
+    /// The maximum number of failures of a client in a minute, 1 to 65,535, or None without a limit.
+    pub failures: Option<u64>,
 }

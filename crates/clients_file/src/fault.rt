@@ -25,7 +25,7 @@ pub enum LineFault {
     /// The number is not in decimal digits, or is not in the word's range.
     #[error("BadNumber")]
     BadNumber,
-    /// An earlier line has the same client number, or is an earlier `ahead`.
+    /// An earlier line has the same client number, or is an earlier `ahead` or `failures`.
     #[error("Twice")]
     Twice,
     /// The key is not 16 to 64 bytes in hexadecimal.

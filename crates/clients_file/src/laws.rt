@@ -5,7 +5,7 @@ ghost use Rattle.sealed_wire.specs.Key.{IsClientKey, tag_of};
 ghost use Rattle.clients_file.specs.Address.{is_loopback, loopback_of, octets_of};
 ghost use Rattle.clients_file.specs.Clients.{AreClients, AreTwo, IsLoopback};
 ghost use Rattle.clients_file.specs.ClientsFile.{ClientsRecord, clients_of, is_memory, outcome_of};
-ghost use Rattle.clients_file.specs.Examples.{after_each, after_text, client_at, client_line, faults, key_at, key_text, local_at, small_clients, small_file, text_of, whole_clients, whole_file, with_ahead, with_clients, with_plain, zeros};
+ghost use Rattle.clients_file.specs.Examples.{after_each, after_text, client_at, client_line, faults, key_at, key_text, local_at, small_clients, small_file, text_of, whole_clients, whole_file, with_ahead, with_clients, with_failures, with_plain, zeros};
 ghost use Rattle.clients_file.specs.Fields.{key_of, number_within, word_of};
 ghost use Rattle.clients_file.specs.Said.{block_of, has_block, has_number, nothing_said};
 ghost use Rattle.clients_file.specs.declared.fault.LineFault.{LineFault};
@@ -26,8 +26,8 @@ pub fn same_blocks_have_same_tags()
 
 /// Worked cases. The fields of lines.
 pub fn fields_are_worked()
-    ensures words { map word_of (codes "client" ∷ codes "plain" ∷ codes "ahead" ∷ [])
-        ≡ Some Word.Client ∷ Some Word.Plain ∷ Some Word.Ahead ∷ [] }
+    ensures words { map word_of (codes "client" ∷ codes "plain" ∷ codes "ahead" ∷ codes "failures" ∷ [])
+        ≡ Some Word.Client ∷ Some Word.Plain ∷ Some Word.Ahead ∷ Some Word.Failures ∷ [] }
     ensures no_words { map word_of (codes "clients" ∷ codes "Client" ∷ codes "plai" ∷ codes "operator" ∷ [] ∷ [])
         ≡ replicate 5 None }
     ensures numbers { map (λ text. number_within 1 60 (number_of text)) (codes "1" ∷ codes "060" ∷ codes "0" ∷ codes "61"
@@ -88,12 +88,18 @@ pub fn lines_are_worked()
     ensures bad_ahead { after_each (with_ahead 2) (codes "ahead 0" ∷ codes "ahead 61" ∷ codes "ahead x" ∷ [])
         ≡ replicate 3 (Err LineFault.BadNumber) }
     ensures twice_ahead { after_text (with_ahead 2) (codes "ahead 2") ≡ Err LineFault.Twice }
+    ensures failures { after_each (with_ahead 2) (codes "failures 1" ∷ codes "failures 65535" ∷ [])
+        ≡ Ok (record (with_ahead 2) { failures = Some 1 }) ∷ Ok (record (with_ahead 2) { failures = Some 65535 }) ∷ [] }
+    ensures bad_failures { after_each (with_failures 2) (codes "failures 0" ∷ codes "failures 65536"
+        ∷ codes "failures x" ∷ []) ≡ replicate 3 (Err LineFault.BadNumber) }
+    ensures twice_failures { after_text (with_failures 2) (codes "failures 2") ≡ Err LineFault.Twice }
     ensures unknown { after_each nothing_said (codes "clients" ∷ codes "operator 900 x" ∷ codes "x #" ∷ [])
         ≡ replicate 3 (Err LineFault.UnknownWord) }
-    ensures missing { after_each (with_ahead 2) (codes "client" ∷ codes "client x" ∷ codes "plain" ∷ codes "ahead" ∷ [])
-        ≡ replicate 4 (Err LineFault.MissingField) }
-    ensures surplus { after_each (with_ahead 2) (codes "client x y #" ∷ codes "plain x #" ∷ codes "ahead x #" ∷ [])
-        ≡ replicate 3 (Err LineFault.SurplusField) }
+    ensures missing { after_each (with_ahead 2) (codes "client" ∷ codes "client x" ∷ codes "plain" ∷ codes "ahead"
+        ∷ codes "failures" ∷ [])
+        ≡ replicate 5 (Err LineFault.MissingField) }
+    ensures surplus { after_each (with_ahead 2) (codes "client x y #" ∷ codes "plain x #" ∷ codes "ahead x #"
+        ∷ codes "failures x #" ∷ []) ≡ replicate 4 (Err LineFault.SurplusField) }
 {}
 
 /// Worked cases. Clients files.
@@ -101,7 +107,7 @@ pub fn files_are_worked()
     ensures small { clients_of (text_of small_file) ≡ Ok small_clients }
     ensures whole { clients_of (text_of whole_file) ≡ Ok whole_clients }
     ensures no_last_end { clients_of (codes "plain 127.0.0.1" ++ 13 ∷ 10 ∷ codes "ahead 60")
-        ≡ Ok (record { clients = []; plain = local_at 1 ∷ []; ahead = 60 }) }
+        ≡ Ok (record { clients = []; plain = local_at 1 ∷ []; ahead = 60; failures = None }) }
     ensures no_client { map clients_of ([] ∷ (10 ∷ []) ∷ codes "ahead 5" ∷ text_of (codes "# client" ∷ []) ∷ [])
         ≡ Err (1, LineFault.NoClient) ∷ Err (2, LineFault.NoClient) ∷ Err (1, LineFault.NoClient)
         ∷ Err (2, LineFault.NoClient) ∷ [] }
@@ -133,4 +139,6 @@ pub fn clients_can_be_broken()
     ensures below_loopback { IsLoopback 2130706431 → ⊥ }
     ensures no_seconds { AreClients (record whole_clients { ahead = 0 }) → ⊥ }
     ensures sixty_one_seconds { AreClients (record whole_clients { ahead = 61 }) → ⊥ }
+    ensures no_failures { AreClients (record whole_clients { failures = Some 0 }) → ⊥ }
+    ensures many_failures { AreClients (record whole_clients { failures = Some 65536 }) → ⊥ }
 {}

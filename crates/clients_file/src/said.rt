@@ -1,7 +1,7 @@
 ghost use Rattle.std.specs.Prelude.{◌≡◌, ◌≤◌, ◌<◌, IfErr, IfOk, OnOk, Ok, Err, false, length};
 ghost use Rattle.token_file.specs.Fields.{fields_of};
 ghost use Rattle.clients_file.specs.ClientsFile.{clients_value, finished, is_memory};
-ghost use Rattle.clients_file.specs.Said.{after_fields, after_word, ahead_of, block_of, client_of, has_block, has_number, is_remark, new_key, new_number, nothing_said, plain_of};
+ghost use Rattle.clients_file.specs.Said.{after_fields, after_word, ahead_of, block_of, client_of, failures_of, has_block, has_number, is_remark, new_key, new_number, nothing_said, plain_of};
 
 use crate::address::read_loopback;
 use crate::clients::{ClientEntry, Clients};
@@ -31,6 +31,12 @@ const MAX_AHEAD: u64 = 60;
 /// The seconds ahead of a file without an `ahead` line.
 const DEFAULT_AHEAD: u8 = 2;
 
+/// The minimum of a limit of failures.
+const MIN_FAILURES: u64 = 1;
+
+/// The maximum of a limit of failures.
+const MAX_FAILURES: u64 = 65_535;
+
 /// The length of a block of SHA-256, in bytes.
 const BLOCK_LEN: usize = 64;
 
@@ -40,6 +46,7 @@ pub(crate) struct Said {
     clients: Vec<ClientEntry>,
     plain: Vec<u32>,
     ahead: Option<u8>,
+    failures: Option<u64>,
 }
 
 impl Model for Said {
@@ -48,7 +55,12 @@ impl Model for Said {
 
     ghost Value = { Said };
 
-    ghost view = { λ said. record { clients = said.clients.items; plain = said.plain.items; ahead = said.ahead } };
+    ghost view = { λ said. record {
+      clients = said.clients.items;
+      plain = said.plain.items;
+      ahead = said.ahead;
+      failures = said.failures;
+    } };
 
     ghost invariant = { λ said.
         (length said.clients.items ≤ 64) × (length said.plain.items ≤ 16)
@@ -64,6 +76,7 @@ impl Said {
             clients: Vec::new(alloc),
             plain: Vec::new(alloc),
             ahead: None,
+            failures: None,
         }
     }
 
@@ -105,6 +118,7 @@ impl Said {
                 }
             }
             Word::Ahead => self.ahead = Some(new_ahead(self.ahead, rest)?),
+            Word::Failures => self.failures = Some(new_failures(self.failures, rest)?),
         }
         Ok(())
     }
@@ -118,6 +132,7 @@ impl Said {
         ensures fault { IfErr result (λ fault. finished self ≡ Err fault) }
     {
         let ahead = self.ahead.unwrap_or(DEFAULT_AHEAD);
+        let failures = self.failures;
         let (clients, plain) = (self.clients, self.plain);
         if clients.is_empty() && plain.is_empty() {
             return Err(LineFault::NoClient);
@@ -126,6 +141,7 @@ impl Said {
             clients,
             plain,
             ahead,
+            failures,
         })
     }
 }
@@ -224,4 +240,15 @@ fn new_ahead(before: Option<u8>, rest: &[u8]) -> Result<u8, LineFault>
         return Err(LineFault::Twice);
     }
     Ok(seconds)
+}
+
+/// Returns the limit of failures that a line gives.
+fn new_failures(before: Option<u64>, rest: &[u8]) -> Result<u64, LineFault>
+    ensures { result ≡ failures_of before (fields_of rest.now) }
+{
+    let failures = number_within(MIN_FAILURES, MAX_FAILURES, one_field(rest)?)?;
+    if before.is_some() {
+        return Err(LineFault::Twice);
+    }
+    Ok(failures)
 }

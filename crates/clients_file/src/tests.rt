@@ -4,12 +4,13 @@ use crate::{Clients, read_clients};
 use std::alloc::Global;
 use std::test::Fail;
 
-/// Two clients, an address and the seconds ahead.
+/// Two clients, an address, the seconds ahead and a limit of failures.
 const FILE: &[u8] = b"# two clients\n\
     client 7 000102030405060708090a0b0c0d0e0f\n\
     client 65535 0f0e0d0c0b0a09080706050403020100\n\
     plain 127.0.0.1\n\
-    ahead 5\n";
+    ahead 5\n\
+    failures 20\n";
 
 /// Returns whether `clients` is the content of [`FILE`].
 fn are_of_file(clients: &Clients) -> bool {
@@ -22,6 +23,7 @@ fn are_of_file(clients: &Clients) -> bool {
         && second.key.as_slice()[15] == 0
         && *address == 0x7f00_0001
         && clients.ahead == 5
+        && clients.failures == Some(20)
 }
 
 /// Returns whether a file has the fault with the text.

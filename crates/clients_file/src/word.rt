@@ -11,6 +11,8 @@ pub(crate) enum Word {
     Plain,
     /// The number of seconds by which a line's moment may be ahead of the clock.
     Ahead,
+    /// The maximum number of failures of a client in a minute.
+    Failures,
 }
 
 /// Returns whether two texts have the same bytes.
@@ -30,6 +32,8 @@ pub(crate) fn read_word(text: &[u8]) -> Option<Word>
         Word::Plain
     } else if is_same(text, b"ahead") {
         Word::Ahead
+    } else if is_same(text, b"failures") {
+        Word::Failures
     } else {
         return None;
     };

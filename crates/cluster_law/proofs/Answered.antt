@@ -1,20 +1,25 @@
 -- What becomes of an answer that was made.
-use Rattle.std.proofs.Common.{◌≡◌, ℕ, zero, suc, ◌+◌, ◌⊎◌, inl, inr, ⊎_elim, Bool, true, false, cond, List, [], ◌∷◌, ◌++◌, map, take, Option, Some, refl, sym, ap, ◌∙◌, subst, eqb}
+use Rattle.std.proofs.Common.{◌≡◌, ℕ, zero, suc, ◌⊎◌, inl, inr, ⊎_elim, Bool, true, false, cond, List, [], ◌∷◌, ◌++◌, map, take, Option, Some, refl, sym, ap, ◌∙◌, subst, eqb}
 use Rattle.std.specs.List.{slice_get}
 use Rattle.std.proofs.lemmas.Bool.{cond-true, cond-false, cases_Bool, eqb-true, eq-eqb}
 use Rattle.std.proofs.lemmas.Option.{same_Some, none-some}
 use Rattle.otp_core.specs.Acceptance.{Acceptance}
 use Rattle.vote_core.specs.Schedule.{Envelope, envelope_from}
 use Rattle.oath_node.specs.Machine.{NodeState, Reply}
+use Rattle.vote_core.proofs.Basics.{each_get}
+use Rattle.cluster_sim.proofs.BelowLaws.{GateLaw, GroundLaw}
 use Rattle.cluster_sim.proofs.Owners.{get_more}
 use Rattle.cluster_sim.specs.Answered.{HasAnswer, IsAnsweredIn, IsAskedIn}
-use Rattle.cluster_sim.specs.World.{Answer, WorldEvent, Happens, Restart, Lost as LostEvent, Anew, told_reply, world_of}
+use Rattle.cluster_sim.specs.World.{Answer, WorldEvent, passes_in, told_reply}
 use Rattle.cluster_law.specs.Answered.{AnswersAll, EndsProcess, HasOk, HasYetToOffer, IsAnsweredInAction, IsLost, IsOfferedOrEnds}
-use Rattle.cluster_law.specs.Lives.{Action, Opens, FailsToOpen, Takes, Offers, Stops, StopsIn, Loses, Remakes, Output, ToPeer, ToClient, IsHistory, ClusterState, Setting, ProcessState, Down, Up, answers_among, can_be, first_cluster, outputs_of_step, made_by_input, node_of_action, offers_by, cluster_after, cluster_after_action, cluster_at, process_after, start_of}
-use Rattle.cluster_law.specs.Promises.{HasAct, IsAskedInAction, IsEventOf, IsToldAmong, nothing}
+use Rattle.cluster_law.specs.Lives.{Action, Opens, FailsToOpen, Takes, Offers, Stops, StopsIn, Loses, Remakes, Unlocks, Raises, Output, ToPeer, ToClient, IsHistory, ClusterState, Setting, ProcessState, Down, Up, answers_among, can_be, first_cluster, outputs_of_step, made_by_input, node_of_action, offers_by, cluster_after, cluster_after_action, cluster_at, process_after, start_of}
+use Rattle.cluster_law.specs.Promises.{IsAskedInAction, IsToldAmong}
 use Rattle.cluster_law.proofs.Follow.{answers_by, answers_made, get_after}
-use Rattle.cluster_law.proofs.Histories.{AnsweredLaw, Whole, answers_in, whole_run}
-use Rattle.cluster_law.proofs.Told.{asked_action, at_place}
+use Rattle.cluster_law.proofs.Commands.{IsBaseOf, Walk, walk}
+use Rattle.cluster_law.proofs.Histories.{answers_in}
+use Rattle.cluster_law.proofs.StepLaws.{all_fit, events_in}
+use Rattle.cluster_law.proofs.Steps.{world_of_steps}
+use Rattle.cluster_law.proofs.Told.{asked_action, at_place, by_base, silent_none}
 
 -- ---- lists
 
@@ -74,6 +79,8 @@ at_up setting e (Stops i) s waiting t place at = inr refl
 at_up setting e (StopsIn i kept input) s waiting t place at = inr refl
 at_up setting e (Loses i) s waiting t place at = inr refl
 at_up setting e (Remakes i boot floors) s waiting t place at = inl (inr (record { state = s; waiting = waiting; is_up = refl; place = place; is_there = at }))
+at_up setting e (Unlocks i token) s waiting t place at = inl (inr (record { state = s; waiting = waiting; is_up = refl; place = place; is_there = at }))
+at_up setting e (Raises i token floor) s waiting t place at = inl (inr (record { state = s; waiting = waiting; is_up = refl; place = place; is_there = at }))
 
 -- at the process state of its own node
 own_action : (setting : Setting) (e : ℕ) (d : Action) (cluster : ClusterState) (t : Answer) (can : Bool) → t.node ≡ node_of_action d → HasYetToOffer t (cluster.processes t.node)
@@ -168,6 +175,8 @@ made_at setting e (Stops i) a k t h = absurd (none-some t h)
 made_at setting e (StopsIn i kept input) a k t h = absurd (none-some t h)
 made_at setting e (Loses i) a k t h = absurd (none-some t h)
 made_at setting e (Remakes i boot floors) a k t h = absurd (none-some t h)
+made_at setting e (Unlocks i token) a k t h = absurd (none-some t h)
+made_at setting e (Raises i token floor) a k t h = absurd (none-some t h)
 
 waits_at : (setting : Setting) (e : ℕ) (d : Action) (cluster : ClusterState) (k : ℕ) (t : Answer) (can : Bool) → slice_get (cond can (answers_made setting e d (cluster.processes (node_of_action d))) []) k ≡ Some t
     → HasYetToOffer t ((cond can (cluster_at setting e d (cluster.processes (node_of_action d)) cluster) cluster).processes t.node)
@@ -205,44 +214,35 @@ becomes setting history t h =
     inr (inl is))
     h
 
-has_ok : (setting : Setting) (history : List Action) (x : Whole setting history) (p : Acceptance) → HasAnswer x.events (world_of setting.config (start_of setting) x.events).told p → HasOk setting history p
+has_ok : (setting : Setting) (history : List Action) (x : Walk setting history) (p : Acceptance) → HasAnswer (events_in x.steps) (world_of_steps setting.config (start_of setting) x.steps).told p → HasOk setting history p
 has_ok setting history x p a = record {
   answer = a.answer;
   event = a.event;
   node = a.node;
   line = a.line;
   nonce = a.nonce;
-  asked = at_place (λ o. IsAskedIn p.node a.answer.client a.line a.nonce o) (λ o. IsAskedInAction p.node a.answer.client a.line a.nonce o) setting history x.events p.began x.run
+  asked = at_place (λ o. IsAskedIn p.node a.answer.client a.line a.nonce o) (λ o. IsAskedInAction p.node a.answer.client a.line a.nonce o) setting history x p.began
       (λ z. z) (λ d e. asked_action setting.key p.node a.answer.client a.line a.nonce d e) a.asked;
   bytes = a.bytes;
   becomes = becomes setting history a.answer
       (fated setting 0 history (first_cluster setting) a.place a.answer (subst (λ ts. slice_get ts a.place ≡ Some a.answer) x.told a.is_told));
 }
 
-abbrev InWorld : (setting : Setting) (history : List Action) → Whole setting history → Acceptance → Option WorldEvent → Type 0
-InWorld setting history x p o = IsAnsweredIn x.events (world_of setting.config (start_of setting) x.events).told p o
+abbrev InWorld : (setting : Setting) (history : List Action) → Walk setting history → Acceptance → Option WorldEvent → Type 0
+InWorld setting history x p o = IsAnsweredIn (events_in x.steps) (world_of_steps setting.config (start_of setting) x.steps).told p o
 
-answered_action : (setting : Setting) (history : List Action) (x : Whole setting history) (p : Acceptance) (d : Action) (e : WorldEvent) → IsEventOf setting.key d e
+answered_action : (setting : Setting) (history : List Action) (x : Walk setting history) (p : Acceptance) (d : Action) (e : WorldEvent) → IsBaseOf setting.key d e
     → InWorld setting history x p (Some e) → IsAnsweredInAction setting history p (Some d)
-answered_action setting history x p (Opens i) e is h =
-    ⊎_elim (λ (q : e ≡ nothing). absurd (subst (λ z. InWorld setting history x p (Some z)) q h)) (λ (q : e ≡ Restart i). absurd (subst (λ z. InWorld setting history x p (Some z)) q h)) is
-answered_action setting history x p (FailsToOpen i raised) e is h =
-    ⊎_elim (λ (q : e ≡ nothing). absurd (subst (λ z. InWorld setting history x p (Some z)) q h)) (λ (q : e ≡ Restart i). absurd (subst (λ z. InWorld setting history x p (Some z)) q h)) is
-answered_action setting history x p (Takes i input) e is h =
-    ⊎_elim (λ (q : e ≡ nothing). absurd (subst (λ z. InWorld setting history x p (Some z)) q h))
-    (λ (a : HasAct setting.key i input (λ act. Happens act) e). has_ok setting history x p (subst (λ z. InWorld setting history x p (Some z)) a.event_is h)) is
-answered_action setting history x p (Offers i) e is h = absurd (subst (λ z. InWorld setting history x p (Some z)) is h)
-answered_action setting history x p (Stops i) e is h = absurd (subst (λ z. InWorld setting history x p (Some z)) is h)
-answered_action setting history x p (StopsIn i false input) e is h = absurd (subst (λ z. InWorld setting history x p (Some z)) is h)
-answered_action setting history x p (StopsIn i true input) e is h = tt
-answered_action setting history x p (Loses i) e is h =
-    ⊎_elim (λ (q : e ≡ nothing). absurd (subst (λ z. InWorld setting history x p (Some z)) q h)) (λ (q : e ≡ LostEvent i). absurd (subst (λ z. InWorld setting history x p (Some z)) q h)) is
-answered_action setting history x p (Remakes i boot floors) e is h =
-    ⊎_elim (λ (q : e ≡ nothing). absurd (subst (λ z. InWorld setting history x p (Some z)) q h)) (λ (q : e ≡ Anew i (boot + 1) floors). absurd (subst (λ z. InWorld setting history x p (Some z)) q h)) is
+answered_action setting history x p d e is h =
+    by_base (λ y. InWorld setting history x p (Some y)) (λ y. IsAnsweredInAction setting history p (Some y)) setting.key d e is h
+    (λ y silent q. silent_none (λ z. InWorld setting history x p (Some z)) y silent q (λ a z. z) (λ i z. z) (λ i z. z)) (λ i boot floors z. z)
+    (λ i input act is_act q. has_ok setting history x p q) (λ i input act is_act q. tt)
 
-pub answers_all : AnsweredLaw → (setting : Setting) (history : List Action) → IsHistory setting history → AnswersAll setting history
-answers_all law setting history g = λ i p at.
-    let x = whole_run setting history g in
-    at_place (λ o. InWorld setting history x p o) (λ o. IsAnsweredInAction setting history p o) setting history x.events p.ended x.run
+pub answers_all : GroundLaw → GateLaw → (setting : Setting) (history : List Action) → IsHistory setting history → AnswersAll setting history
+answers_all grounds gates setting history g = λ i p at.
+    let x = walk setting history g in
+    let w = world_of_steps setting.config (start_of setting) x.steps in
+    let fits = all_fit grounds gates setting.config (start_of setting) x.steps in
+    at_place (λ o. InWorld setting history x p o) (λ o. IsAnsweredInAction setting history p o) setting history x p.ended
     (λ z. z) (λ d e is h. answered_action setting history x p d e is h)
-    (law setting.config (start_of setting) x.events i p (subst (λ ps. slice_get ps i ≡ Some p) x.run.accepted at))
+    (each_get (λ (q : Acceptance). InWorld setting history x q (slice_get (events_in x.steps) q.ended)) (passes_in w.history) i p fits.honest.answered (subst (λ ns. slice_get (passes_in ns) i ≡ Some p) (sym x.whole.matches.notes) at))

@@ -1,5 +1,5 @@
--- What justifies an acceptance in the world, in the words of the history.
-use Rattle.std.proofs.Common.{◌≡◌, ℕ, zero, suc, ◌+◌, ⊎_elim, true, false, cond, ◌&&◌, List, [], ◌∷◌, ◌++◌, take, Option, Some, None, refl, sym, ap, ◌∙◌, subst, eqb}
+-- What justifies an acceptance in a run of steps, in the words of the history.
+use Rattle.std.proofs.Common.{◌≡◌, ℕ, zero, suc, true, false, cond, ◌&&◌, List, [], ◌∷◌, ◌++◌, take, Option, Some, None, refl, sym, ap, ◌∙◌, subst, eqb}
 use Rattle.std.specs.Prelude.{ℤ, pos}
 use Rattle.std.specs.List.{slice_get}
 use Rattle.std.proofs.lemmas.Bool.{cond_both}
@@ -7,15 +7,17 @@ use Rattle.otp_core.specs.Acceptance.{Acceptance}
 use Rattle.admit_core.specs.Throttle.{Result}
 use Rattle.vote_core.proofs.Basics.{Each, each_append}
 use Rattle.oath_node.specs.Machine.{Config}
-use Rattle.cluster_sim.specs.Drifts.{drift_after, drift_before, drift_by, moment_in, moment_of, passes_since}
+use Rattle.cluster_sim.proofs.BelowLaws.{GateLaw, GroundLaw, VoteLaw}
+use Rattle.cluster_sim.specs.Drifts.{drift_after, drift_by, moment_in, moment_of, passes_since}
 use Rattle.cluster_sim.specs.Justified.{IsGroundIn, IsGroundOf}
-use Rattle.cluster_sim.specs.Results.{results_before, results_in}
-use Rattle.cluster_sim.specs.World.{MayStart, Act, Note, WorldEvent, Happens, Cut, Restart, Lost, Anew, acceptance_in, begun_in, floor_before, passes_in, passes_of, world_of}
+use Rattle.cluster_sim.specs.World.{MayStart, Act, Note, WorldEvent, acceptance_in, begun_in, passes_in}
 use Rattle.cluster_law.specs.Justified.{IsGroundInAction, JustifiesAll, drift_in, drift_of_pass, drift_with, moment_in_action, results_held}
-use Rattle.cluster_law.specs.Lives.{Action, Opens, FailsToOpen, Takes, Offers, Stops, StopsIn, Loses, Remakes, IsHistory, Setting, start_of}
-use Rattle.cluster_law.specs.Promises.{HasAct, IsEventOf, IsRunOf, nothing}
-use Rattle.cluster_law.proofs.Histories.{JustifiedLaw, is_run}
-use Rattle.cluster_law.proofs.Told.{at_place, by_line}
+use Rattle.cluster_law.specs.Lives.{Action, Takes, StopsIn, IsHistory, Setting, cluster_of, start_of}
+use Rattle.cluster_law.proofs.Commands.{IsBaseOf, Walk, walk}
+use Rattle.cluster_law.proofs.Follow.{same_next}
+use Rattle.cluster_law.proofs.StepLaws.{drift_of_steps, events_in, results_of_steps, steps_justified}
+use Rattle.cluster_law.proofs.Steps.{Step, event_in, floor_of_steps, passes_of_steps, world_of_steps}
+use Rattle.cluster_law.proofs.Told.{at_place, by_base, by_line, silent_none}
 
 -- what an acceptance has in the world, and in the history: a ground, and this moment
 abbrev Ground : Config → ℕ → ℤ → List Result → Acceptance → Option ℕ → Option WorldEvent → Type 0
@@ -27,29 +29,17 @@ GroundBy config next drift results p moment act = IsGroundIn config next drift r
 abbrev IsTimedGround : Config → ℕ → ℤ → List Result → Acceptance → Option ℕ → Option Action → Type 0
 IsTimedGround config next drift results p moment o = IsGroundInAction config next drift results p o × (moment_in_action o ≡ moment)
 
-ground_action : (key : List ℕ) (config : Config) (next : ℕ) (drift : ℤ) (results : List Result) (p : Acceptance) (moment : Option ℕ) (d : Action) (e : WorldEvent) → IsEventOf key d e
+ground_action : (key : List ℕ) (config : Config) (next : ℕ) (drift : ℤ) (results : List Result) (p : Acceptance) (moment : Option ℕ) (d : Action) (e : WorldEvent) → IsBaseOf key d e
     → Ground config next drift results p moment (Some e) → IsTimedGround config next drift results p moment (Some d)
-ground_action key config next drift results p moment (Opens i) e is g =
-    ⊎_elim (λ (q : e ≡ nothing). absurd (subst (λ x. Ground config next drift results p moment (Some x)) q g).0) (λ (q : e ≡ Restart i). absurd (subst (λ x. Ground config next drift results p moment (Some x)) q g).0) is
-ground_action key config next drift results p moment (FailsToOpen i raised) e is g =
-    ⊎_elim (λ (q : e ≡ nothing). absurd (subst (λ x. Ground config next drift results p moment (Some x)) q g).0) (λ (q : e ≡ Restart i). absurd (subst (λ x. Ground config next drift results p moment (Some x)) q g).0) is
-ground_action key config next drift results p moment (Takes i input) e is g =
-    ⊎_elim (λ (q : e ≡ nothing). absurd (subst (λ x. Ground config next drift results p moment (Some x)) q g).0)
-    (λ (h : HasAct key i input (λ act. Happens act) e).
-    let r = by_line (λ a. GroundBy config next drift results p moment a) key i input h.act h.is_act (subst (λ x. Ground config next drift results p moment (Some x)) h.event_is g) (λ k z. z.0) (λ from bytes z. z.0) (λ z. z.0) in
-    subst (λ x. IsTimedGround config next drift results p moment (Some (Takes i x))) (sym r.3) r.4) is
-ground_action key config next drift results p moment (Offers i) e is g = absurd (subst (λ x. Ground config next drift results p moment (Some x)) is g).0
-ground_action key config next drift results p moment (Stops i) e is g = absurd (subst (λ x. Ground config next drift results p moment (Some x)) is g).0
-ground_action key config next drift results p moment (StopsIn i false input) e is g = absurd (subst (λ x. Ground config next drift results p moment (Some x)) is g).0
-ground_action key config next drift results p moment (StopsIn i true input) e is g =
-    ⊎_elim (λ (q : e ≡ nothing). absurd (subst (λ x. Ground config next drift results p moment (Some x)) q g).0)
-    (λ (h : HasAct key i input (λ act. Cut true act) e).
-    let r = by_line (λ a. GroundBy config next drift results p moment a) key i input h.act h.is_act (subst (λ x. Ground config next drift results p moment (Some x)) h.event_is g) (λ k z. z.0) (λ from bytes z. z.0) (λ z. z.0) in
-    subst (λ x. IsTimedGround config next drift results p moment (Some (StopsIn i true x))) (sym r.3) r.4) is
-ground_action key config next drift results p moment (Loses i) e is g =
-    ⊎_elim (λ (q : e ≡ nothing). absurd (subst (λ x. Ground config next drift results p moment (Some x)) q g).0) (λ (q : e ≡ Lost i). absurd (subst (λ x. Ground config next drift results p moment (Some x)) q g).0) is
-ground_action key config next drift results p moment (Remakes i boot floors) e is g =
-    ⊎_elim (λ (q : e ≡ nothing). absurd (subst (λ x. Ground config next drift results p moment (Some x)) q g).0) (λ (q : e ≡ Anew i (boot + 1) floors). absurd (subst (λ x. Ground config next drift results p moment (Some x)) q g).0) is
+ground_action key config next drift results p moment d e is g =
+    by_base (λ x. Ground config next drift results p moment (Some x)) (λ x. IsTimedGround config next drift results p moment (Some x)) key d e is g
+    (λ x silent q. silent_none (λ y. Ground config next drift results p moment (Some y)) x silent q (λ a z. z.0) (λ i z. z.0) (λ i z. z.0)) (λ i boot floors z. z.0)
+    (λ i input act is_act q.
+    let r = by_line (λ a. GroundBy config next drift results p moment a) key i input act is_act q (λ k z. z.0) (λ from bytes z. z.0) (λ z. z.0) in
+    subst (λ x. IsTimedGround config next drift results p moment (Some (Takes i x))) (sym r.3) r.4)
+    (λ i input act is_act q.
+    let r = by_line (λ a. GroundBy config next drift results p moment a) key i input act is_act q (λ k z. z.0) (λ from bytes z. z.0) (λ z. z.0) in
+    subst (λ x. IsTimedGround config next drift results p moment (Some (StopsIn i true x))) (sym r.3) r.4)
 
 -- an item of a prefix is an item of the whole list
 taken_there : {A : Type 0} (P : Option A → Type 0) (n : ℕ) (xs : List A) (k : ℕ) → (P None → ⊥) → P (slice_get (take n xs) k) → P (slice_get xs k)
@@ -66,25 +56,32 @@ each_of P (x ∷ xs) h = (h zero x refl, each_of P xs (λ k y e. h (suc k) y e))
 abbrev SameMoment : List Action → List WorldEvent → Acceptance → Type 0
 SameMoment history events p = moment_in (slice_get events p.began) ≡ moment_in_action (slice_get history p.began)
 
-in_action : (setting : Setting) (history : List Action) (events : List WorldEvent) → IsRunOf setting history events → (next : ℕ) (drift : ℤ) (results : List Result) (p : Acceptance)
-    → IsGroundOf setting.config next drift results p (slice_get events p.began)
-    → IsTimedGround setting.config next drift results p (moment_in (slice_get events p.began)) (slice_get history p.began)
-in_action setting history events run next drift results p g =
-    let m = moment_in (slice_get events p.began) in
-    at_place (λ o. Ground setting.config next drift results p m o) (λ o. IsTimedGround setting.config next drift results p m o) setting history events p.began run
+in_action : (setting : Setting) (history : List Action) (x : Walk setting history) (next : ℕ) (drift : ℤ) (results : List Result) (p : Acceptance)
+    → IsGroundOf setting.config next drift results p (slice_get (events_in x.steps) p.began)
+    → IsTimedGround setting.config next drift results p (moment_in (slice_get (events_in x.steps) p.began)) (slice_get history p.began)
+in_action setting history x next drift results p g =
+    let m = moment_in (slice_get (events_in x.steps) p.began) in
+    at_place (λ o. Ground setting.config next drift results p m o) (λ o. IsTimedGround setting.config next drift results p m o) setting history x p.began
     (λ z. z.0) (λ d e is h. ground_action setting.key setting.config next drift results p m d e is h) (g, refl)
 
-same_moments : JustifiedLaw → (setting : Setting) (history : List Action) (events : List WorldEvent) → MayStart setting.config (start_of setting) → IsRunOf setting history events → (event : ℕ) → Each (SameMoment history events) (passes_of setting.config (start_of setting) (take event events))
-same_moments law setting history events may run event =
+events_taken : (n : ℕ) (ss : List Step) → events_in (take n ss) ≡ take n (events_in ss)
+events_taken zero ss = refl
+events_taken (suc n) [] = refl
+events_taken (suc n) (s ∷ ss) = ap (λ xs. event_in s ∷ xs) (events_taken n ss)
+
+same_moments : GroundLaw → GateLaw → VoteLaw → (setting : Setting) (history : List Action) (x : Walk setting history) → MayStart setting.config (start_of setting) → (event : ℕ)
+    → Each (SameMoment history (events_in x.steps)) (passes_of_steps setting.config (start_of setting) (take event x.steps))
+same_moments grounds gates votes setting history x may event =
     let config = setting.config in
     let start = start_of setting in
-    let front = take event events in
-    each_of (SameMoment history events) (passes_of config start front) (λ k p at.
-    let next = floor_before config start front p.node p.token p.began in
-    let drift = drift_before config start front p.node p.token p.began in
-    let results = results_before config start front p.node p.token p.began in
-    let there = taken_there (λ o. IsGroundOf config next drift results p o) event events p.began (λ z. z) (law config start front may k p at) in
-    sym (in_action setting history events run next drift results p there).1)
+    let front = take event x.steps in
+    each_of (SameMoment history (events_in x.steps)) (passes_of_steps config start front) (λ k p at.
+    let next = floor_of_steps config start front p.node p.token p.began in
+    let drift = drift_of_steps config start front p.node p.token p.began in
+    let results = results_of_steps config start front p.node p.token p.began in
+    let early = steps_justified grounds gates votes config start front may k p at in
+    let there = taken_there (λ o. IsGroundOf config next drift results p o) event (events_in x.steps) p.began (λ z. z) (subst (λ xs. IsGroundOf config next drift results p (slice_get xs p.began)) (events_taken event x.steps) early) in
+    sym (in_action setting history x next drift results p there).1)
 
 same_drift : (setting : Setting) (history : List Action) (events : List WorldEvent) (node token : ℕ) (drift : ℤ) (passes : List Acceptance) → Each (SameMoment history events) passes
     → drift_after setting.config events node token drift passes ≡ drift_with setting history node token drift passes
@@ -107,24 +104,28 @@ since_each P node (x ∷ notes) h =
     each_parts P [] ys h = (tt, h)
     each_parts P (x ∷ xs) ys h = let r = each_parts P xs ys h.1 in ((h.0, r.0), r.1)
 
-drift_same : JustifiedLaw → (setting : Setting) (history : List Action) (events : List WorldEvent) → MayStart setting.config (start_of setting) → IsRunOf setting history events → (node token event : ℕ)
-    → drift_before setting.config (start_of setting) events node token event ≡ drift_in setting history node token event
-drift_same law setting history events may run node token event =
-    let notes = (world_of setting.config (start_of setting) (take event events)).history in
-    same_drift setting history events node token (pos 0) (passes_since node notes) (since_each (SameMoment history events) node notes (same_moments law setting history events may run event))
-    ∙ ap (λ ns. drift_with setting history node token (pos 0) (passes_since node ns)) (sym (run.notes_before event))
+drift_same : GroundLaw → GateLaw → VoteLaw → (setting : Setting) (history : List Action) (x : Walk setting history) → MayStart setting.config (start_of setting) → (node token event : ℕ)
+    → drift_of_steps setting.config (start_of setting) x.steps node token event ≡ drift_in setting history node token event
+drift_same grounds gates votes setting history x may node token event =
+    let notes = (world_of_steps setting.config (start_of setting) (take event x.steps)).history in
+    same_drift setting history (events_in x.steps) node token (pos 0) (passes_since node notes) (since_each (SameMoment history (events_in x.steps)) node notes (same_moments grounds gates votes setting history x may event))
+    ∙ ap (λ ns. drift_with setting history node token (pos 0) (passes_since node ns)) (x.parts event).matches.notes
 
-pub justifies_all : JustifiedLaw → (setting : Setting) (history : List Action) → IsHistory setting history → JustifiesAll setting history
-justifies_all law setting history g = λ i p at.
-    let r = is_run setting history g in
-    let events = r.0 in
+pub justifies_all : GroundLaw → GateLaw → VoteLaw → (setting : Setting) (history : List Action) → IsHistory setting history → JustifiesAll setting history
+justifies_all grounds gates votes setting history g = λ i p at.
+    let x = walk setting history g in
     let config = setting.config in
     let start = start_of setting in
-    let next = floor_before config start events p.node p.token p.began in
-    let drift = drift_before config start events p.node p.token p.began in
-    let results = results_before config start events p.node p.token p.began in
-    let ground = law config start events g.starts i p (subst (λ ps. slice_get ps i ≡ Some p) r.1.accepted at) in
-    let here : IsGroundInAction config next drift results p (slice_get history p.began) = (in_action setting history events r.1 next drift results p ground).0 in
-    subst (λ n. IsGroundInAction config n (drift_in setting history p.node p.token p.began) (results_held setting history p.node p.token p.began) p (slice_get history p.began)) (sym (r.1.floors p.node p.token p.began))
-    (subst (λ d. IsGroundInAction config next d (results_held setting history p.node p.token p.began) p (slice_get history p.began)) (drift_same law setting history events g.starts r.1 p.node p.token p.began)
-    (subst (λ rs. IsGroundInAction config next drift rs p (slice_get history p.began)) (ap (λ ns. results_in ns p.node p.token) (sym (r.1.notes_before p.began))) here))
+    let k = p.began in
+    let next = floor_of_steps config start x.steps p.node p.token k in
+    let drift = drift_of_steps config start x.steps p.node p.token k in
+    let results = results_of_steps config start x.steps p.node p.token k in
+    let part = x.parts k in
+    let v = world_of_steps config start (take k x.steps) in
+    let cluster = cluster_of setting (take k history) in
+    let ground = steps_justified grounds gates votes config start x.steps g.starts i p (subst (λ ns. slice_get (passes_in ns) i ≡ Some p) (sym x.whole.matches.notes) at) in
+    let here : IsGroundInAction config next drift results p (slice_get history k) = (in_action setting history x next drift results p ground).0 in
+    subst (λ n. IsGroundInAction config n (drift_in setting history p.node p.token k) (results_held setting history p.node p.token k) p (slice_get history k))
+    (same_next false v (cluster.lost p.node) (cluster.processes p.node) (v.nodes p.node) p.token (part.matches.processes p.node))
+    (subst (λ d. IsGroundInAction config next d (results_held setting history p.node p.token k) p (slice_get history k)) (drift_same grounds gates votes setting history x g.starts p.node p.token k)
+    (subst (λ rs. IsGroundInAction config next drift rs p (slice_get history k)) (part.results p.node p.token) here))

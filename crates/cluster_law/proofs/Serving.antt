@@ -17,7 +17,7 @@ use Rattle.oath_node.specs.declared.serve_fault.ServeFault.{ServeFault}
 use Rattle.oath_node.specs.declared.serve_fault.ServeFault.TheVariants.{Clock, Node, Port}
 use Rattle.datagram_port.specs.Port.{PortEvent}
 use Rattle.oath_node.specs.Turns.{Receipt, Run, entry_of, events_of_turns, member_of, offer_of, offers_in, receipts_in, receives_in, run_at, run_with_batches, run_with_event, run_with_events, run_with_receipts}
-use Rattle.cluster_law.specs.Lives.{Action, Opens, FailsToOpen, Takes, Offers, Stops, StopsIn, Loses, Remakes, Output, Input, ClusterState, Setting, ProcessState, Down, Up, LeaveStore, LeavesStore, can_be, event_of, outputs_of_step, has_store, lost_after, made_by_input, node_of_action, nodes_of, offers_by, own_offers, own_process, place_in, cluster_after, cluster_after_action, cluster_at, process_after}
+use Rattle.cluster_law.specs.Lives.{Action, Opens, FailsToOpen, Takes, Offers, Stops, StopsIn, Loses, Remakes, Unlocks, Raises, Output, Input, ClusterState, Setting, ProcessState, Down, Up, LeaveStore, LeavesStore, can_be, event_of, outputs_of_step, has_store, lost_after, made_by_input, node_of_action, nodes_of, offers_by, own_offers, own_process, place_in, cluster_after, cluster_after_action, cluster_at, process_after}
 use Rattle.cluster_law.specs.Processes.{AreServing, IsEndedNode, IsFailedNode, IsMemberIn, IsNoFaultOfNode, IsServed, IsServedNode, IsServing, IsStopped, TakesSome, TakesTurns, events_after, input_of, inputs_at, item_of, member_in, offer_of_output, run_over}
 use Rattle.cluster_law.proofs.Calls.{put_out}
 use Rattle.cluster_law.proofs.Events.{Does, all_done, all_end, append_events, events_add, events_do, receipts_do, receipts_end}
@@ -51,6 +51,8 @@ can_there setting cluster node (Takes i input) store leaves own = subst (λ m. h
 can_there setting cluster node (Offers i) store leaves own = subst (λ m. has_store setting cluster m ≡ true) own store
 can_there setting cluster node (Stops i) store leaves own = subst (λ m. has_store setting cluster m ≡ true) own store
 can_there setting cluster node (StopsIn i kept input) store leaves own = subst (λ m. has_store setting cluster m ≡ true) own store
+can_there setting cluster node (Unlocks i token) store leaves own = subst (λ m. has_store setting cluster m ≡ true) own store
+can_there setting cluster node (Raises i token floor) store leaves own = subst (λ m. has_store setting cluster m ≡ true) own store
 can_there setting cluster node (Loses i) store leaves own = absurd (leaves own)
 can_there setting cluster node (Remakes i boot floors) store leaves own = absurd (leaves own)
 
@@ -62,6 +64,8 @@ lost_left node (Takes i input) lost leaves = refl
 lost_left node (Offers i) lost leaves = refl
 lost_left node (Stops i) lost leaves = refl
 lost_left node (StopsIn i kept input) lost leaves = refl
+lost_left node (Unlocks i token) lost leaves = refl
+lost_left node (Raises i token floor) lost leaves = refl
 lost_left node (Loses i) lost leaves = ap (λ b. b || lost node) (ne_eqb node i leaves)
 lost_left node (Remakes i boot floors) lost leaves = ap (λ b. not b && lost node) (ne_eqb node i leaves)
 
@@ -159,6 +163,8 @@ action_then setting node e (Takes at input) ds s waiting done r q g rest state e
 action_then setting node e (Offers at) ds s waiting done r q g rest state entries = offered_then setting node e ds s waiting done r rest state entries
 action_then setting node e (Loses at) ds s waiting done r q g rest state entries = absurd (g q)
 action_then setting node e (Remakes at boot floors) ds s waiting done r q g rest state entries = absurd (g q)
+action_then setting node e (Unlocks at token) ds s waiting done r q g rest state entries = absurd (g q)
+action_then setting node e (Raises at token floor) ds s waiting done r q g rest state entries = absurd (g q)
 
 either_then : (setting : Setting) (node e : ℕ) (d : Action) (ds : List Action) (s : NodeState) (waiting : List Output) (done : List PortEvent) (r : Run) (b : Bool) → (b ≡ true → node ≡ node_of_action d) → IsServing node d → RestGoes setting node e ds → r.node ≡ s → r.entries ≡ done ++ map (offer_of_output setting.key) waiting
     → GoesThen setting node e ds (cond b (process_after setting e d (Up s waiting)) (Up s waiting)) (cond b (offers_by d (Up s waiting)) []) done

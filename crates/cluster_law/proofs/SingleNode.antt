@@ -4,6 +4,7 @@ use Rattle.std.proofs.lemmas.Bool.{cond_both, cond-true, cond-false, cases_Bool,
 use Rattle.std.proofs.lemmas.List.{append-nil, append_assoc}
 use Rattle.floor_store.specs.Content.{Content, with_next_boot}
 use Rattle.otp_core.specs.Acceptance.{majority_of, size}
+use Rattle.vote_core.specs.Voting.{raise}
 use Rattle.vote_core.specs.Schedule.{Envelope, envelope_from, is_member, last_boot}
 use Rattle.oath_node.specs.Hosted.{envelope_at}
 use Rattle.oath_node.specs.Machine.{Config, Made, NodeState, opened_node}
@@ -12,10 +13,10 @@ use Rattle.cluster_sim.proofs.Lone.{Lone, LoneStep, happens_lone, start_lone}
 use Rattle.oath_node.specs.ReferenceServer.{Server, restarted_server}
 use Rattle.cluster_sim.specs.SingleNode.{answers_to_event, is_end as ends_world, opening_server, server_after_event, server_after_restart, service_to, told_of_line}
 use Rattle.cluster_sim.specs.World.{Act, Deliver, Noise, Answer, World, WorldEvent, Happens, Cut, Restart, floor_in, opening_world, told_reply, world_after_event}
-use Rattle.cluster_law.specs.Lives.{AreGenuine, Action, Opens, FailsToOpen, Takes, Offers, Stops, StopsIn, Loses, Remakes, Input, Line, Datagram, Time, Output, ToPeer, ToClient, IsHistory, ClusterState, Setting, ProcessState, Down, Up, answered_in, answers_among, can_be, first_cluster, outputs_of_step, has_store, made_by_input, node_of_action, nodes_of, offers_by, remade_content, cluster_after, cluster_after_action, cluster_at, cluster_of, process_after, start_of}
+use Rattle.cluster_law.specs.Lives.{AreGenuine, Action, Opens, FailsToOpen, Takes, Offers, Stops, StopsIn, Loses, Remakes, Unlocks, Raises, Input, Line, Datagram, Time, Output, ToPeer, ToClient, IsHistory, LeaveRows, ClusterState, Setting, ProcessState, Down, Up, answered_in, answers_among, can_be, first_cluster, outputs_of_step, has_store, made_by_input, node_of_action, nodes_of, offers_by, remade_content, cluster_after, cluster_after_action, cluster_at, cluster_of, process_after, start_of, unlocked_content}
 use Rattle.cluster_law.specs.Promises.{IsActOf, nothing}
 use Rattle.cluster_law.specs.SingleNode.{IsPartOf, answers_to_action, answers_to_actions, is_end, is_of_one, reference_of, server_after_action, setting_of_one}
-use Rattle.cluster_law.proofs.Follow.{IsFollowed, IsFull, IsOneAt, IsProcessAt, Matches, OfStore, answers_by, answers_made, follows, of_event}
+use Rattle.cluster_law.proofs.Follow.{IsFollowed, IsFull, IsOneAt, IsProcessAt, Matches, OfStore, answers_by, answers_made, follows, of_event, one_is_event}
 use Rattle.cluster_law.proofs.Histories.{answers_in, starts}
 use Rattle.cluster_law.proofs.Serving.{action_at}
 
@@ -138,7 +139,7 @@ offering : (setting : Setting) (e i : ℕ) (s : NodeState) (waiting : List Outpu
 offering setting e i s [] sw sh same = record { answers = refl; same = same }
 offering setting e i s (h ∷ waiting) sw sh same = record { answers = refl; same = same }
 
-step : (setting : Setting) (e : ℕ) (d : Action) (a : ProcessState) (x : WorldEvent) (sw sh : Server) → 1 ≡ node_of_action d → IsFull setting.key d a x → Keeps setting e d a x sw → SameServer a sw sh → Step setting e d a x sw sh
+step : (setting : Setting) (e : ℕ) (d : Action) (a : ProcessState) (x : WorldEvent) (sw sh : Server) → 1 ≡ node_of_action d → IsFull true setting.key d a x → Keeps setting e d a x sw → SameServer a sw sh → Step setting e d a x sw sh
 step setting e (Opens i) (Down c) x sw sh own full keeps same =
     let q = quiet_or_restart setting.config e i x sw own full in
     opening setting e i c x sw sh q.0 q.1 keeps same
@@ -160,6 +161,8 @@ step setting e (Loses i) (Down c) x sw sh own full keeps same = subst (λ z. Ste
 step setting e (Loses i) (Up s waiting) x sw sh own full keeps same = subst (λ z. Step setting e (Loses i) (Up s waiting) z sw sh) (sym full) (record { answers = refl; same = ap (λ z. restarted_server z) same })
 step setting e (Remakes i boot floors) (Down c) x sw sh own full keeps same = subst (λ z. Step setting e (Remakes i boot floors) (Down c) z sw sh) (sym full) (record { answers = refl; same = same })
 step setting e (Remakes i boot floors) (Up s waiting) x sw sh own full keeps same = subst (λ z. Step setting e (Remakes i boot floors) (Up s waiting) z sw sh) (sym full) (record { answers = refl; same = same })
+step setting e (Unlocks i token) a x sw sh own full keeps same = absurd full
+step setting e (Raises i token floor) a x sw sh own full keeps same = absurd full
 
 -- ---- all actions
 
@@ -192,6 +195,8 @@ of_one setting cluster (Stops i) store is = (is, subst (λ m. has_store setting 
 of_one setting cluster (StopsIn i kept input) store is = (is, subst (λ m. has_store setting cluster m ≡ true) (eqb-true 1 i is) store)
 of_one setting cluster (Loses i) store is = (is, subst (λ m. has_store setting cluster m ≡ true) (eqb-true 1 i is) store)
 of_one setting cluster (Remakes i boot floors) store is = absurd (false≢true is)
+of_one setting cluster (Unlocks i token) store is = (is, subst (λ m. has_store setting cluster m ≡ true) (eqb-true 1 i is) store)
+of_one setting cluster (Raises i token floor) store is = (is, subst (λ m. has_store setting cluster m ≡ true) (eqb-true 1 i is) store)
 
 -- and nothing else can
 not_of_one : (setting : Setting) (cluster : ClusterState) (d : Action) → nodes_of setting ≡ 1 → cluster.lost 1 ≡ false → is_of_one d ≡ false → can_be setting cluster d ≡ false
@@ -202,6 +207,8 @@ not_of_one setting cluster (Offers i) one kept out = and_right (not (cluster.los
 not_of_one setting cluster (Stops i) one kept out = and_right (not (cluster.lost i)) (is_member (nodes_of setting) i) (stranger_to_one (nodes_of setting) i one out)
 not_of_one setting cluster (StopsIn i stays input) one kept out = and_right (not (cluster.lost i)) (is_member (nodes_of setting) i) (stranger_to_one (nodes_of setting) i one out)
 not_of_one setting cluster (Loses i) one kept out = and_right (not (cluster.lost i)) (is_member (nodes_of setting) i) (stranger_to_one (nodes_of setting) i one out)
+not_of_one setting cluster (Unlocks i token) one kept out = and_right (not (cluster.lost i)) (is_member (nodes_of setting) i) (stranger_to_one (nodes_of setting) i one out)
+not_of_one setting cluster (Raises i token floor) one kept out = and_right (not (cluster.lost i)) (is_member (nodes_of setting) i) (stranger_to_one (nodes_of setting) i one out)
 not_of_one setting cluster (Remakes i boot floors) one kept out =
     let n = nodes_of setting in
     and_left (is_member n i && cluster.lost i) _
@@ -231,6 +238,8 @@ gone_can setting cluster (Offers i) one gone = gone_store setting cluster i one 
 gone_can setting cluster (Stops i) one gone = gone_store setting cluster i one gone
 gone_can setting cluster (StopsIn i kept input) one gone = gone_store setting cluster i one gone
 gone_can setting cluster (Loses i) one gone = gone_store setting cluster i one gone
+gone_can setting cluster (Unlocks i token) one gone = gone_store setting cluster i one gone
+gone_can setting cluster (Raises i token floor) one gone = gone_store setting cluster i one gone
 gone_can setting cluster (Remakes i boot floors) one gone =
     and_right (is_member (nodes_of setting) i && cluster.lost i) _ (and_left (ltb (size (nodes_of setting) cluster.lost) (majority_of (nodes_of setting))) _
     (ap (λ n. ltb (size n cluster.lost) (majority_of n)) one ∙ ap (λ (b : Bool). ltb ((cond b 1 0) + 0) 1) gone))
@@ -267,6 +276,8 @@ end_is setting e (Stops i) ds cluster one store ends = absurd (false≢true ends
 end_is setting e (StopsIn i kept input) ds cluster one store ends = absurd (false≢true ends)
 end_is setting e (Loses i) ds cluster one store ends = loss_ends setting e i ds cluster one store ends
 end_is setting e (Remakes i boot floors) ds cluster one store ends = absurd (false≢true ends)
+end_is setting e (Unlocks i token) ds cluster one store ends = absurd (false≢true ends)
+end_is setting e (Raises i token floor) ds cluster one store ends = absurd (false≢true ends)
 
 goes_in_world : (d : Action) → is_end d ≡ false → OfStore (λ x. ends_world x ≡ false) d
 goes_in_world (Opens i) goes = tt
@@ -277,25 +288,27 @@ goes_in_world (Stops i) goes = tt
 goes_in_world (StopsIn i kept input) goes = tt
 goes_in_world (Loses i) goes = goes
 goes_in_world (Remakes i boot floors) goes = refl
+goes_in_world (Unlocks i token) goes = tt
+goes_in_world (Raises i token floor) goes = tt
 
-up_is : (w : World) (b : Bool) (s : NodeState) (waiting : List Output) (x : NodeState) → IsProcessAt w b (Up s waiting) x → x ≡ s
+up_is : (w : World) (b : Bool) (s : NodeState) (waiting : List Output) (x : NodeState) → IsProcessAt true w b (Up s waiting) x → x ≡ s
 up_is w false s waiting x h = h.0
 up_is w true s waiting x h = absurd h
 
 abbrev RestIs : Setting → ℕ → ℕ → ℕ → List Action → Type 0
 RestIs setting b q e ds =
-    (cluster : ClusterState) (w : World) (sw sh : Server) → Matches setting cluster w → AreGenuine setting e ds cluster → Lone b q w sw → SameServer (cluster.processes 1) sw sh
+    (cluster : ClusterState) (w : World) (sw sh : Server) → Matches true setting cluster w → LeaveRows ds → AreGenuine setting e ds cluster → Lone b q w sw → SameServer (cluster.processes 1) sw sh
     → answers_in setting e ds cluster ≡ answers_to_actions setting e ds (cluster.processes 1) sh
 
 -- an action, and the rest
-action_is : (setting : Setting) (b q e : ℕ) (d : Action) (ds : List Action) (cluster : ClusterState) (w : World) (sw sh : Server) → nodes_of setting ≡ 1 → cluster.lost 1 ≡ false → Matches setting cluster w → AreGenuine setting (suc e) ds (cluster_after_action setting e d cluster) → SameServer (cluster.processes 1) sw sh
-    → (f : IsFollowed setting e d cluster (cluster_after_action setting e d cluster) w (answers_by setting e d cluster) (can_be setting cluster d))
+action_is : (setting : Setting) (b q e : ℕ) (d : Action) (ds : List Action) (cluster : ClusterState) (w : World) (sw sh : Server) → nodes_of setting ≡ 1 → cluster.lost 1 ≡ false → Matches true setting cluster w → LeaveRows ds → AreGenuine setting (suc e) ds (cluster_after_action setting e d cluster) → SameServer (cluster.processes 1) sw sh
+    → (f : IsFollowed true setting e d cluster (cluster_after_action setting e d cluster) w (answers_by setting e d cluster) (can_be setting cluster d))
     → LoneStep b q w (world_after_event setting.config e f.event w) (server_after_event setting.config f.event sw) (answers_to_event setting.config e f.event sw)
     → RestIs setting b q (suc e) ds → (at : Bool) → is_of_one d ≡ at
     → answers_in setting e (d ∷ ds) cluster
     ≡ cond at (answers_to_action setting.config e d (cluster.processes 1) sh ++ answers_to_actions setting (suc e) ds (process_after setting e d (cluster.processes 1)) (server_after_action setting.config d (cluster.processes 1) sh))
     (answers_to_actions setting (suc e) ds (cluster.processes 1) sh)
-action_is setting b q e d ds cluster w sw sh one kept m g same f k rest true at =
+action_is setting b q e d ds cluster w sw sh one kept m leave g same f k rest true at =
     let config = setting.config in
     let j = node_of_action d in
     let store : has_store setting cluster 1 ≡ true = ap (λ l. not l && is_member (nodes_of setting) 1) kept ∙ member_of_one (nodes_of setting) 1 one refl in
@@ -304,50 +317,50 @@ action_is setting b q e d ds cluster w sw sh one kept m g same f k rest true at 
     let a = cluster.processes 1 in
     let next = cluster_after_action setting e d cluster in
     let new = server_after_event config f.event sw in
-    let is_one : IsOneAt setting d cluster true f.event = subst (λ z. IsOneAt setting d cluster z f.event) is.1 f.is_one in
-    let full : IsFull setting.key d a f.event = subst (λ n. IsFull setting.key d (cluster.processes n) f.event) (sym own) is_one in
+    let is_one : IsOneAt true setting d cluster true f.event = subst (λ z. IsOneAt true setting d cluster z f.event) is.1 f.is_one in
+    let full : IsFull true setting.key d a f.event = subst (λ n. IsFull true setting.key d (cluster.processes n) f.event) (sym own) is_one in
     let process : next.processes 1 ≡ process_after setting e d a = action_at setting e 1 d cluster (λ _. is.1) ∙ cond-true (eqb 1 j) (process_after setting e d a) a is.0 in
     let v = world_after_event config e f.event w in
     let keeps : Keeps setting e d a f.event sw = λ s waiting up.
-    let here : IsProcessAt v (next.lost 1) (Up s waiting) (v.nodes 1) = subst (λ z. IsProcessAt v (next.lost 1) z (v.nodes 1)) (process ∙ up) (f.matches.processes 1) in
+    let here : IsProcessAt true v (next.lost 1) (Up s waiting) (v.nodes 1) = subst (λ z. IsProcessAt true v (next.lost 1) z (v.nodes 1)) (process ∙ up) (f.matches.processes 1) in
     ap (λ (z : NodeState). z.answers) (sym (up_is v (next.lost 1) s waiting (v.nodes 1) here)) ∙ k.lone.node.answers in
     let st = step setting e d a f.event sw sh own full keeps same in
     let made : answers_by setting e d cluster ≡ answers_to_action config e d a sh = cancel w.told (answers_by setting e d cluster) (answers_to_event config e f.event sw) (sym f.told ∙ k.tells) ∙ st.answers in
     let same2 : SameServer (next.processes 1) new (server_after_action config d a sh) = subst (λ z. SameServer z new (server_after_action config d a sh)) (sym process) st.same in
     ap (λ xs. xs ++ answers_in setting (suc e) ds next) made
-    ∙ ap (λ xs. answers_to_action config e d a sh ++ xs) (rest next v new (server_after_action config d a sh) f.matches g k.lone same2)
+    ∙ ap (λ xs. answers_to_action config e d a sh ++ xs) (rest next v new (server_after_action config d a sh) f.matches leave g k.lone same2)
     ∙ ap (λ z. answers_to_action config e d a sh ++ answers_to_actions setting (suc e) ds z (server_after_action config d a sh)) process
-action_is setting b q e d ds cluster w sw sh one kept m g same f k rest false at =
+action_is setting b q e d ds cluster w sw sh one kept m leave g same f k rest false at =
     let config = setting.config in
     let a = cluster.processes 1 in
     let next = cluster_after_action setting e d cluster in
     let new = server_after_event config f.event sw in
     let out = not_of_one setting cluster d one kept at in
-    let is_one : f.event ≡ nothing = subst (λ z. IsOneAt setting d cluster z f.event) out f.is_one in
+    let is_one : f.event ≡ nothing = subst (λ z. IsOneAt true setting d cluster z f.event) out f.is_one in
     let process : next.processes 1 ≡ a = ap (λ (z : ClusterState). z.processes 1) (action_none setting e d cluster out) in
     let made : answers_by setting e d cluster ≡ [] = cond-false (can_be setting cluster d) (answers_made setting e d (cluster.processes (node_of_action d))) [] out in
     let still : new ≡ sw = ap (λ x. server_after_event config x sw) is_one in
     let same2 : SameServer (next.processes 1) new sh = subst (λ z. SameServer z new sh) (sym process) (subst (λ z. SameServer a z sh) (sym still) same) in
     ap (λ xs. xs ++ answers_in setting (suc e) ds next) made
-    ∙ rest next (world_after_event config e f.event w) new sh f.matches g k.lone same2
+    ∙ rest next (world_after_event config e f.event w) new sh f.matches leave g k.lone same2
     ∙ ap (λ z. answers_to_actions setting (suc e) ds z sh) process
 
 actions_are : AloneLaw → (setting : Setting) (b q e : ℕ) (ds : List Action) → nodes_of setting ≡ 1 → b + length ds ≤ last_boot → q + length ds ≤ 2 ^ 62 → RestIs setting b q e ds
 unfolding AreGenuine answers_to_actions
-actions_are law setting b q e [] one low few = λ cluster w sw sh m g h same. refl
-actions_are law setting b q e (d ∷ ds) one low few = λ cluster w sw sh m g h same.
+actions_are law setting b q e [] one low few = λ cluster w sw sh m leave g h same. refl
+actions_are law setting b q e (d ∷ ds) one low few = λ cluster w sw sh m leave g h same.
     let config = setting.config in
     let a = cluster.processes 1 in
-    let f = follows setting e d cluster w m g.0 in
+    let f = follows true setting e d cluster w m leave.0 g.0 in
     let kept : cluster.lost 1 ≡ false = ap (λ (l : ℕ → Bool). l 1) (sym m.lost) ∙ h.here in
     let store : has_store setting cluster 1 ≡ true = ap (λ l. not l && is_member (nodes_of setting) 1) kept ∙ member_of_one (nodes_of setting) 1 one refl in
     let later = answers_to_action config e d a sh ++ answers_to_actions setting (suc e) ds (process_after setting e d a) (server_after_action config d a sh) in
     cond_both (is_end d) [] (cond (is_of_one d) later (answers_to_actions setting (suc e) ds a sh)) (λ l. answers_in setting e (d ∷ ds) cluster ≡ l)
     (λ ends. end_is setting e d ds cluster one store ends)
     (λ goes.
-    let on : ends_world f.event ≡ false = of_event (λ x. ends_world x ≡ false) setting.key d f.event f.is_event (λ act. refl) (λ act. refl) (λ i. refl) (goes_in_world d goes) in
+    let on : ends_world f.event ≡ false = of_event (λ x. ends_world x ≡ false) setting.key d f.event (one_is_event setting d cluster (can_be setting cluster d) f.event leave.0 f.is_one) (λ act. refl) (λ act. refl) (λ i. refl) (goes_in_world d goes) in
     let k = happens_lone law config b q e f.event w sw (omega (arith, low)) (omega (arith, few)) on h in
-    action_is setting (b + 1) (q + 1) e d ds cluster w sw sh one kept m g.1 same f k
+    action_is setting (b + 1) (q + 1) e d ds cluster w sw sh one kept m leave.1 g.1 same f k
     (actions_are law setting (b + 1) (q + 1) (suc e) ds one (omega (arith, low)) (omega (arith, few))) (is_of_one d) refl)
 
 -- ---- the offered answers are a sublist of the made answers
@@ -446,6 +459,10 @@ process_part setting e (Loses i) (Down c) hs all h = stays_part hs (Down (with_n
 process_part setting e (Loses i) (Up s waiting) hs all h = ends_part hs (Up s waiting) (with_next_boot s.content) all h
 process_part setting e (Remakes i boot floors) (Down c) hs all h = stays_part hs (Down (remade_content c boot (floor_in floors))) all h
 process_part setting e (Remakes i boot floors) (Up s waiting) hs all h = stays_part hs (Up s waiting) all h
+process_part setting e (Unlocks i token) (Down c) hs all h = stays_part hs (Down (unlocked_content token c)) all h
+process_part setting e (Unlocks i token) (Up s waiting) hs all h = stays_part hs (Up s waiting) all h
+process_part setting e (Raises i token floor) (Down c) hs all h = stays_part hs (Down (raise token floor c)) all h
+process_part setting e (Raises i token floor) (Up s waiting) hs all h = stays_part hs (Up s waiting) all h
 
 action_part : (setting : Setting) (e : ℕ) (d : Action) (cluster : ClusterState) (all : List Answer) (member : Bool) → (member ≡ true → 1 ≡ node_of_action d) → Offered cluster.offered (cluster.processes 1) all
     → let next = cond member (cluster_at setting e d (cluster.processes (node_of_action d)) cluster) cluster in
@@ -473,6 +490,8 @@ can_member setting cluster (Offers i) can = (and_parts (not (cluster.lost i)) (i
 can_member setting cluster (Stops i) can = (and_parts (not (cluster.lost i)) (is_member (nodes_of setting) i) can).1
 can_member setting cluster (StopsIn i kept input) can = (and_parts (not (cluster.lost i)) (is_member (nodes_of setting) i) can).1
 can_member setting cluster (Loses i) can = (and_parts (not (cluster.lost i)) (is_member (nodes_of setting) i) can).1
+can_member setting cluster (Unlocks i token) can = (and_parts (not (cluster.lost i)) (is_member (nodes_of setting) i) can).1
+can_member setting cluster (Raises i token floor) can = (and_parts (not (cluster.lost i)) (is_member (nodes_of setting) i) can).1
 can_member setting cluster (Remakes i boot floors) can =
     (and_parts (is_member (nodes_of setting) i) (cluster.lost i) (and_parts (is_member (nodes_of setting) i && cluster.lost i) _ can).0).0
 
@@ -487,12 +506,12 @@ actions_part setting e (d ∷ ds) cluster all one h =
     subst (λ xs. Offered (cluster_after setting (suc e) ds next).offered ((cluster_after setting (suc e) ds next).processes 1) xs) (append_assoc all (answers_by setting e d cluster) (answers_in setting (suc e) ds next))
     (actions_part setting (suc e) ds next (all ++ answers_by setting e d cluster) one p)
 
-pub single_node : AloneLaw → (config : Config) (key floors : List ℕ) (history : List Action) → 1 + length history < 2 ^ 62 → IsHistory (setting_of_one config key floors) history
+pub single_node : AloneLaw → (config : Config) (key floors : List ℕ) (history : List Action) → 1 + length history < 2 ^ 62 → LeaveRows history → IsHistory (setting_of_one config key floors) history
     → IsPartOf (answered_in (setting_of_one config key floors) history) (reference_of config key floors history)
-single_node law config key floors history short g =
+single_node law config key floors history short leave g =
     let setting = setting_of_one config key floors in
     let start = first_cluster setting in
     let made : answers_in setting 0 history start ≡ reference_of config key floors history =
-    actions_are law setting 1 0 0 history refl (omega (arith, short)) (omega (arith, short)) start (opening_world config (start_of setting)) (opening_server config floors) (opening_server config floors) (starts setting) g.genuine (start_lone config floors) refl in
+    actions_are law setting 1 0 0 history refl (omega (arith, short)) (omega (arith, short)) start (opening_world config (start_of setting)) (opening_server config floors) (opening_server config floors) (starts true setting) leave g.genuine (start_lone config floors) refl in
     let part = actions_part setting 0 history start [] refl tt in
     subst (λ xs. IsPartOf (answered_in setting history) xs) made (part_front (answered_in setting history) (waiting_at ((cluster_of setting history).processes 1)) (answers_in setting 0 history start) part)

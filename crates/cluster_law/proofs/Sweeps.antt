@@ -12,7 +12,7 @@ use Rattle.oath_node.specs.Machine.{Config, NodeState, Peer}
 use Rattle.cluster_sim.proofs.Owners.{get_more}
 use Rattle.cluster_sim.specs.Rounds.{AreUp, SweepLevels, deliveries, greatest, is_floor, is_floor_to, is_live, sweep_events, tick_events, turn_events, turns_events}
 use Rattle.cluster_sim.specs.World.{Act, Deliver, Ticks, World, WorldEvent, Happens, acting_node, delivered_event, has_store as has_store_there, node_event_of, world_after_act, world_after_event, world_after_events, world_of, world_with_made}
-use Rattle.cluster_law.specs.Lives.{Action, Opens, FailsToOpen, Takes, Offers, Stops, StopsIn, Loses, Remakes, Output, Input, Datagram, Time, ClusterState, Setting, ProcessState, Down, Up, LeavesStore, content_at, event_of, first_cluster, has_store, made_by_input, node_of_action, nodes_of, cluster_after, cluster_after_action, cluster_of, process_after, process_half_opened, process_opened, start_of}
+use Rattle.cluster_law.specs.Lives.{Action, Opens, FailsToOpen, Takes, Offers, Stops, StopsIn, Loses, Remakes, Unlocks, Raises, Output, Input, Datagram, Time, ClusterState, Setting, ProcessState, Down, Up, LeavesStore, content_at, event_of, first_cluster, has_store, made_by_input, node_of_action, nodes_of, cluster_after, cluster_after_action, cluster_of, process_after, process_half_opened, process_opened, start_of}
 use Rattle.cluster_law.specs.Sweeps.{AreTaken, AreTurns, IsTick, IsTurn, SweepsLevel, greatest_in, is_offer, is_step_of, next_in, sent_by_tick}
 use Rattle.cluster_law.proofs.Follow.{IsProcessAt, acts, has_it}
 use Rattle.cluster_law.proofs.Histories.{whole_run}
@@ -39,6 +39,8 @@ down_after setting e e' (Stops i) c = refl
 down_after setting e e' (StopsIn i kept input) c = refl
 down_after setting e e' (Loses i) c = refl
 down_after setting e e' (Remakes i boot floors) c = refl
+down_after setting e e' (Unlocks i token) c = refl
+down_after setting e e' (Raises i token floor) c = refl
 
 up_after : (setting : Setting) (e e' : ℕ) (d : Action) (s : NodeState) (w v : List Output) → SameProcess (process_after setting e d (Up s w)) (process_after setting e' d (Up s v))
 up_after setting e e' (Opens i) s w v = refl
@@ -53,6 +55,8 @@ up_after setting e e' (StopsIn i false input) s w v = refl
 up_after setting e e' (StopsIn i true input) s w v = refl
 up_after setting e e' (Loses i) s w v = refl
 up_after setting e e' (Remakes i boot floors) s w v = refl
+up_after setting e e' (Unlocks i token) s w v = refl
+up_after setting e e' (Raises i token floor) s w v = refl
 
 same_after : (setting : Setting) (e e' : ℕ) (d : Action) (a b : ProcessState) → SameProcess a b → SameProcess (process_after setting e d a) (process_after setting e' d b)
 same_after setting e e' d (Down c) (Down c') h = subst (λ z. SameProcess (process_after setting e d (Down c)) (process_after setting e' d (Down z))) h (down_after setting e e' d c)
@@ -75,6 +79,8 @@ offer_same setting e (Stops i) a b is h = absurd (false≢true is)
 offer_same setting e (StopsIn i kept input) a b is h = absurd (false≢true is)
 offer_same setting e (Loses i) a b is h = absurd (false≢true is)
 offer_same setting e (Remakes i boot floors) a b is h = absurd (false≢true is)
+offer_same setting e (Unlocks i token) a b is h = absurd (false≢true is)
+offer_same setting e (Raises i token floor) a b is h = absurd (false≢true is)
 
 -- ---- cluster states that are alike at live members
 
@@ -96,6 +102,8 @@ skipped_leaves live j (Takes i input) skipped is = tt
 skipped_leaves live j (Offers i) skipped is = tt
 skipped_leaves live j (Stops i) skipped is = tt
 skipped_leaves live j (StopsIn i kept input) skipped is = tt
+skipped_leaves live j (Unlocks i token) skipped is = tt
+skipped_leaves live j (Raises i token floor) skipped is = tt
 skipped_leaves live j (Loses i) skipped is = λ own. none_skipped (is_live live i) (subst (λ m. is_live live m ≡ true) own is) skipped
   where
     none_skipped : (b : Bool) → b ≡ true → (b && true) ≡ false → ⊥
@@ -344,11 +352,11 @@ turns_beside setting live (j ∷ js) e e' w cluster actions b are t =
 -- ---- a sweep
 
 -- a process runs only where a store is
-process_holds : (w : World) (b : Bool) (a : ProcessState) (s : NodeState) (waiting : List Output) (x : NodeState) → a ≡ Up s waiting → IsProcessAt w b a x → (b ≡ false) × Holds a x
+process_holds : (w : World) (b : Bool) (a : ProcessState) (s : NodeState) (waiting : List Output) (x : NodeState) → a ≡ Up s waiting → IsProcessAt true w b a x → (b ≡ false) × Holds a x
 process_holds w false a s waiting x up h =
-    let here : IsProcessAt w false (Up s waiting) x = subst (λ z. IsProcessAt w false z x) up h in
+    let here : IsProcessAt true w false (Up s waiting) x = subst (λ z. IsProcessAt true w false z x) up h in
     (refl, subst (λ z. Holds z x) (sym up) (sym here.0))
-process_holds w true a s waiting x up h = absurd (subst (λ z. IsProcessAt w true z x) up h)
+process_holds w true a s waiting x up h = absurd (subst (λ z. IsProcessAt true w true z x) up h)
 
 held : (a : ProcessState) (x : NodeState) → Holds a x → (waiting : List Output) × (a ≡ Up x waiting)
 held (Down c) x h = absurd h
@@ -371,10 +379,10 @@ greatest_held live (j ∷ js) w cluster token are h =
     ∙ ap (λ n. max (next_in cluster j token) n) (greatest_held live js w cluster token are.1 h)
 
 pub sweeps_level : SweepLevels → SweepsLevel
-sweeps_level law setting before stretch live g are sweep node is =
+sweeps_level law setting before stretch live leave g are sweep node is =
     let config = setting.config in
     let old = cluster_of setting before in
-    let x = whole_run setting before g in
+    let x = whole_run setting before leave g in
     let w = world_of config (start_of setting) x.events in
     let first = length x.events in
     let runs : (j : ℕ) → is_live live j ≡ true → (old.lost j ≡ false) × Holds (old.processes j) (w.nodes j) = λ j live_j.

@@ -5,7 +5,7 @@ use Rattle.vote_wire.specs.Body.{HasSpelling}
 use Rattle.vote_wire.specs.Datagram.{datagram_bytes}
 use Rattle.oath_node.specs.Hosted.{envelope_at}
 use Rattle.cluster_sim.specs.World.{MayStart, floor_at, floor_in}
-use Rattle.cluster_law.specs.Lives.{Action, Opens, FailsToOpen, Takes, Offers, Stops, StopsIn, Loses, Remakes, Output, ToPeer, Input, Line, Datagram, Time, ClusterState, Setting, first_cluster, made_boot, nodes_of, cluster_after_action, start_of}
+use Rattle.cluster_law.specs.Lives.{Action, Opens, FailsToOpen, Takes, Offers, Stops, StopsIn, Loses, Remakes, Unlocks, Raises, Output, ToPeer, Input, Line, Datagram, Time, ClusterState, Setting, first_cluster, made_boot, nodes_of, cluster_after_action, start_of}
 
 -- the ranges of a cluster
 pub record IsSized (setting : Setting) : Type 0 where
@@ -32,8 +32,8 @@ IsUnforged key offered (Datagram from bytes) =
     (envelope : Envelope) → envelope_at key bytes ≡ Some envelope → envelope.sender ≡ from
     → WereOffered key offered bytes
 
--- the action's input, if any, is unforged, also inside a stop; the floors (first free factors) of a replacement store
--- are in range
+-- The action's input, if any, is unforged, also inside a stop. The floors (first free factors) of a replacement store
+-- and of a command are in range.
 abbrev pub IsUnforgedAction : Setting → ClusterState → Action → Type 0
 IsUnforgedAction setting cluster (Opens node) = Unit {0}
 IsUnforgedAction setting cluster (FailsToOpen node raised) = Unit {0}
@@ -43,6 +43,8 @@ IsUnforgedAction setting cluster (Stops node) = Unit {0}
 IsUnforgedAction setting cluster (StopsIn node kept input) = IsUnforged setting.key cluster.offered input
 IsUnforgedAction setting cluster (Loses node) = Unit {0}
 IsUnforgedAction setting cluster (Remakes node boot floors) = (token : ℕ) → floor_in floors token ≤ 2 ^ 62
+IsUnforgedAction setting cluster (Unlocks node token) = Unit {0}
+IsUnforgedAction setting cluster (Raises node token floor) = floor ≤ 2 ^ 62
 
 -- each of the actions is unforged; the first of them has the given number
 unfoldable pub AreUnforged : Setting → ℕ → List Action → ClusterState → Type 0

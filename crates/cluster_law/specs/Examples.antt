@@ -1,8 +1,8 @@
 -- Worked histories of one node and of three, with the one token of RFC 4226, Appendix D. Floor: the first free factor
 -- of a token at a node.
 use Rattle.std.specs.Prelude.{ℕ, Bool, true, false, List, [], ◌∷◌, ◌++◌, replicate, Some, None, codes}
-use Rattle.floor_store.specs.Content.{Content}
-use Rattle.floor_store.specs.Records.{ProposalRecord, span_of}
+use Rattle.floor_store.specs.Content.{Content, opening_row}
+use Rattle.floor_store.specs.Records.{ProposalRecord, RowRecord, span_of}
 use Rattle.vote_core.specs.Schedule.{Envelope}
 use Rattle.vote_core.specs.declared.message.Message.TheVariants.{Ask, Grant, Floor}
 use Rattle.vote_wire.specs.Datagram.{datagram_bytes}
@@ -12,7 +12,7 @@ use Rattle.client_lines.specs.declared.answer.Outcome.TheVariants.{Accepted}
 use Rattle.oath_node.specs.Turns.{FromClient, Receipt}
 use Rattle.cluster_sim.specs.Examples.{acceptance, clock_config, config, told_outcome}
 use Rattle.cluster_sim.specs.World.{Answer}
-use Rattle.cluster_law.specs.Lives.{ToClient, Datagram, Action, FailsToOpen, Output, Input, Line, Loses, Offers, Opens, ToPeer, Remakes, ClusterState, Setting, Stops, StopsIn, Takes, first_setting, cluster_of}
+use Rattle.cluster_law.specs.Lives.{ToClient, Datagram, Action, FailsToOpen, Output, Input, Line, Loses, Offers, Opens, ToPeer, Raises, Remakes, ClusterState, Setting, Stops, StopsIn, Takes, Unlocks, first_setting, cluster_of}
 use Rattle.cluster_law.specs.SingleNode.{reference_of}
 
 -- ---- One node
@@ -59,7 +59,8 @@ opens_twice = Opens 1 ∷ Takes 1 right_line ∷ Opens 1 ∷ FailsToOpen 1 true 
 
 -- actions of nodes that aren't members
 abbrev pub strangers : List Action
-strangers = Opens 0 ∷ Takes 0 right_line ∷ Offers 0 ∷ Opens 2 ∷ Takes 2 right_line ∷ Offers 2 ∷ []
+strangers =
+    Opens 0 ∷ Takes 0 right_line ∷ Offers 0 ∷ Opens 2 ∷ Takes 2 right_line ∷ Offers 2 ∷ Unlocks 2 0 ∷ Raises 2 0 5 ∷ []
 
 -- ---- Three nodes
 
@@ -197,7 +198,8 @@ loses_one = Opens 1 ∷ Loses 1 ∷ []
 
 -- the same, followed by other actions at node 1
 abbrev pub comes_to_no_store : List Action
-comes_to_no_store = loses_one ++ Opens 1 ∷ FailsToOpen 1 true ∷ Takes 1 right_line ∷ Loses 1 ∷ []
+comes_to_no_store =
+    loses_one ++ Opens 1 ∷ FailsToOpen 1 true ∷ Takes 1 right_line ∷ Unlocks 1 0 ∷ Raises 1 0 5 ∷ Loses 1 ∷ []
 
 -- the same, followed by a replacement with the given boot and floor
 abbrev pub made_anew : ℕ → ℕ → List Action
@@ -250,6 +252,26 @@ abbrev pub drifts_and_loses : List Action
 drifts_and_loses =
     Opens 1 ∷ Opens 2 ∷ Takes 1 line_behind ∷ Offers 1 ∷ Takes 2 (Datagram 1 (bytes_of ask_behind)) ∷ Offers 2
     ∷ Takes 1 (Datagram 2 (bytes_of grant_behind)) ∷ Loses 1 ∷ Remakes 1 2 (4 ∷ []) ∷ []
+
+-- ---- Commands
+
+-- a wrong code
+abbrev pub wrong_line : ℕ → Input
+wrong_line moment = Line 7 moment (codes "CHECK 1 silver 000000 -")
+
+-- a process takes a wrong code, and the next process takes another one second later; between them the command `unlock`
+-- runs for the token at the node
+abbrev pub fails_around : ℕ → ℕ → List Action
+fails_around node token =
+    Opens 1 ∷ Takes 1 (wrong_line 100) ∷ Stops 1 ∷ Unlocks node token ∷ Opens 1 ∷ Takes 1 (wrong_line 101) ∷ []
+
+-- a row with the floor 2 whose token is closed after one failure
+abbrev pub closed_row : RowRecord
+closed_row = record (opening_row 2) { gate = record { fails = 1; until = 105 } }
+
+-- a store with the row, at the given boot
+abbrev pub closed_content : ℕ → Content
+closed_content boot = record { rows = closed_row ∷ []; boot = boot; last = None }
 
 -- ---- Replacement stores after former incarnations
 

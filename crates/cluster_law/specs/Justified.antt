@@ -6,7 +6,6 @@ use Rattle.admit_core.specs.Throttle.{Result}
 use Rattle.oath_node.specs.Machine.{Config}
 use Rattle.cluster_sim.specs.Drifts.{drift_by, passes_since}
 use Rattle.cluster_sim.specs.Justified.{IsGround}
-use Rattle.cluster_sim.specs.Results.{results_in}
 use Rattle.cluster_law.specs.Lives.{Action, Takes, StopsIn, Input, Line, Setting, accepted_in, floor_in, cluster_of}
 
 -- the moment at which a process took a client's line in an action, also if it ended inside the step
@@ -36,10 +35,10 @@ drift_in setting history node token event =
     let notes = (cluster_of setting (take event history)).notes in
     drift_with setting history node token (pos 0) (passes_since node notes)
 
--- the results of the token at the node before the action of the given number, from the steps whose changes its store
--- kept
+-- The results of the token at the node before the action of the given number, from the steps whose changes its store
+-- kept. An unlocking counts as an acceptance.
 abbrev pub results_held : Setting → List Action → ℕ → ℕ → ℕ → List Result
-results_held setting history node token event = results_in (cluster_of setting (take event history)).notes node token
+results_held setting history node token event = (cluster_of setting (take event history)).results node token
 
 -- the input at a node is a client's line that justifies the acceptance
 abbrev pub IsGroundOfInput : Config → ℕ → ℤ → List Result → Acceptance → ℕ → Input → Type 0

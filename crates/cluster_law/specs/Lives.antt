@@ -6,12 +6,16 @@
 -- events, state of a process over any store.
 use Rattle.std.specs.Prelude.{◌≡◌, ℕ, suc, ◌+◌, ◌-◌, ◌==◌, nat_le, nat_lt, Bool, true, false, not, ◌&&◌, if◌then◌else◌, List, [], ◌∷◌, ◌++◌, length, map, take, Some, None, slice_get, slice_index_or}
 use Rattle.otp_core.specs.Acceptance.{Acceptance, majority_of, size}
+use Rattle.otp_core.specs.Gate.{clear_gate}
+use Rattle.admit_core.specs.Throttle.{Result, Accepted}
 use Rattle.floor_store.specs.Content.{Content, with_next_boot}
 use Rattle.vote_core.specs.NodeSet.{PlaceRecord, with_node}
 use Rattle.vote_core.specs.Rows.{row}
-use Rattle.vote_core.specs.Schedule.{Envelope, all_most, envelope_from, greatest, is_member, last_boot, opening_rows, without_node}
+use Rattle.vote_core.specs.Schedule.{Envelope, all_most, content_with_gate, envelope_from, greatest, is_member, last_boot, opening_rows, without_node}
+use Rattle.vote_core.specs.Voting.{raise}
 use Rattle.oath_node.specs.Hosted.{envelope_at}
 use Rattle.oath_node.specs.Machine.{Config, Made, NodeEvent, NodeState, Client, Peer, Tick, made_by_event, opened_node}
+use Rattle.cluster_sim.specs.Results.{results_with_note}
 use Rattle.cluster_sim.specs.World.{MayStart, Note, Start, Answer, floor_at, floor_in as listed_floor, note_anew, note_of, passes_in, told_reply}
 
 -- The setting of a cluster. It has the book, the limits and the key of all members. It has the contents of the first
@@ -95,6 +99,8 @@ pub record ClusterState : Type 0 where
   pub least : ℕ → ℕ
   pub offered : List Output
   pub notes : List Note
+  -- the results of each token at each node since the latest replacement of its store, newest first
+  pub results : ℕ → ℕ → List Result
 
 -- the content of a node's store; for a lost node, its former content with a boot that no process opened
 abbrev pub content_at : ProcessState → Content
@@ -118,6 +124,10 @@ abbrev pub remade_content : Content → ℕ → (ℕ → ℕ) → Content
 remade_content content boot floor =
     record { rows = opening_rows (length content.rows) floor; boot = boot; last = None }
 
+-- the content with the gate of a new row for the token: it has no failures, and is open
+abbrev pub unlocked_content : ℕ → Content → Content
+unlocked_content token content = content_with_gate token clear_gate content
+
 -- the cluster state before any process and any loss
 abbrev pub first_cluster : Setting → ClusterState
 first_cluster setting = record {
@@ -126,6 +136,7 @@ first_cluster setting = record {
   least = λ token. 0;
   offered = map (λ (envelope : Envelope). ToPeer envelope) setting.old;
   notes = [];
+  results = λ node token. [];
 }
 
 -- ---- Actions
@@ -145,6 +156,8 @@ first_cluster setting = record {
 --   Remakes: a lost node gets a replacement store with the given boot and floors, 0 for a missing one. Nothing happens
 -- if
 --   the rule of the votes forbids it. A process can open the store, in the next boot.
+--   Unlocks: a command clears the gate of a token in the store of a node without a process.
+--   Raises: a command raises the floor of a token in such a store to the given one, if it is lower.
 pub data Action : Type 0 where
   Opens : (node : ℕ) → Action
   FailsToOpen : (node : ℕ) (raised : Bool) → Action
@@ -154,6 +167,8 @@ pub data Action : Type 0 where
   StopsIn : (node : ℕ) (kept : Bool) (input : Input) → Action
   Loses : (node : ℕ) → Action
   Remakes : (node boot : ℕ) (floors : List ℕ) → Action
+  Unlocks : (node token : ℕ) → Action
+  Raises : (node token floor : ℕ) → Action
 
 -- the node of an action
 abbrev pub node_of_action : Action → ℕ
@@ -165,6 +180,8 @@ node_of_action (Stops node) = node
 node_of_action (StopsIn node kept input) = node
 node_of_action (Loses node) = node
 node_of_action (Remakes node boot floors) = node
+node_of_action (Unlocks node token) = node
+node_of_action (Raises node token floor) = node
 
 -- a process that opened a store in a new boot; at the last boot no process opens
 abbrev pub process_opened : Content → ProcessState
@@ -197,7 +214,7 @@ process_cut setting node false input state = Down state.content
 process_cut setting node true input state = Down (made_by_input setting node input state).state.content
 
 -- The process state of a node after the action of the given number. A node without a process takes and offers nothing:
--- inputs there are lost. A node with a process doesn't open a second one.
+-- inputs there are lost. A node with a process doesn't open a second one, and its store takes no commands.
 abbrev pub process_after : Setting → ℕ → Action → ProcessState → ProcessState
 process_after setting event (Opens node) (Down content) = process_opened content
 process_after setting event (Opens node) (Up state waiting) = Up state waiting
@@ -215,6 +232,10 @@ process_after setting event (Loses node) process = Down (with_next_boot (content
 process_after setting event (Remakes node boot floors) (Down content) =
     Down (remade_content content boot (listed_floor floors))
 process_after setting event (Remakes node boot floors) (Up state waiting) = Up state waiting
+process_after setting event (Unlocks node token) (Down content) = Down (unlocked_content token content)
+process_after setting event (Unlocks node token) (Up state waiting) = Up state waiting
+process_after setting event (Raises node token floor) (Down content) = Down (raise token floor content)
+process_after setting event (Raises node token floor) (Up state waiting) = Up state waiting
 
 -- the first of the outputs, if any
 abbrev pub first_of_these : List Output → List Output
@@ -232,6 +253,8 @@ offers_by (Stops node) process = []
 offers_by (StopsIn node kept input) process = []
 offers_by (Loses node) process = []
 offers_by (Remakes node boot floors) process = []
+offers_by (Unlocks node token) process = []
+offers_by (Raises node token floor) process = []
 
 -- the note on a step whose change is kept, or on a replacement store, in the action of the given number
 abbrev pub notes_by : Setting → ℕ → Action → ProcessState → List Note
@@ -248,6 +271,32 @@ notes_by setting event (StopsIn node true input) (Up state waiting) =
     note_of event node (made_by_input setting node input state) ∷ []
 notes_by setting event (Loses node) process = []
 notes_by setting event (Remakes node boot floors) process = note_anew event node ∷ []
+notes_by setting event (Unlocks node token) process = []
+notes_by setting event (Raises node token floor) process = []
+
+-- the results of each token at each node after further notes
+abbrev pub results_with_notes : List Note → (ℕ → ℕ → List Result) → ℕ → ℕ → List Result
+results_with_notes [] results node token = results node token
+results_with_notes (note ∷ notes) results node token =
+    if node == note.node
+    then results_with_note note token (results_with_notes notes results node token)
+    else results_with_notes notes results node token
+
+-- The results after the token `unlocked` was unlocked at the node `changed`, in a store with the given boot. Like an
+-- acceptance, an unlocking ends the count of failures. At the last boot it counts for nothing, since no process opens
+-- the store again.
+abbrev pub results_unlocked : ℕ → ℕ → ℕ → (ℕ → ℕ → List Result) → ℕ → ℕ → List Result
+results_unlocked boot changed unlocked results node token =
+    if nat_lt boot last_boot && ((node == changed) && (unlocked == token))
+    then Accepted ∷ results node token
+    else results node token
+
+-- the results of each token at each node after the action of the given number
+abbrev pub results_after : Setting → ℕ → Action → ProcessState → (ℕ → ℕ → List Result) → ℕ → ℕ → List Result
+results_after setting event (Unlocks node token) (Down content) results =
+    results_unlocked content.boot node token results
+results_after setting event action process results =
+    results_with_notes (notes_by setting event action process) results
 
 -- the lost nodes after an action
 abbrev pub lost_after : Action → (ℕ → Bool) → ℕ → Bool
@@ -270,6 +319,7 @@ cluster_at setting event action process cluster = record {
   least = least_after setting action cluster;
   offered = cluster.offered ++ offers_by action process;
   notes = notes_by setting event action process ++ cluster.notes;
+  results = results_after setting event action process cluster.results;
 }
 
 -- the node is a member that has its store
@@ -336,6 +386,8 @@ IsGenuineAction setting cluster (Stops node) = Unit {0}
 IsGenuineAction setting cluster (StopsIn node kept input) = IsGenuine setting.key cluster.offered input
 IsGenuineAction setting cluster (Loses node) = Unit {0}
 IsGenuineAction setting cluster (Remakes node boot floors) = Unit {0}
+IsGenuineAction setting cluster (Unlocks node token) = Unit {0}
+IsGenuineAction setting cluster (Raises node token floor) = Unit {0}
 
 -- each of the actions has a genuine input, if any; the first of them has the given number
 unfoldable pub AreGenuine : Setting → ℕ → List Action → ClusterState → Type 0
@@ -349,6 +401,27 @@ AreGenuine setting first (action ∷ actions) cluster =
 pub record IsHistory (setting : Setting) (history : List Action) : Type 0 where
   pub starts : MayStart setting.config (start_of setting)
   pub genuine : AreGenuine setting 0 history (first_cluster setting)
+
+-- the action is not a command's write to a store
+abbrev pub LeavesRows : Action → Type 0
+LeavesRows (Unlocks node token) = ⊥
+LeavesRows (Raises node token floor) = ⊥
+LeavesRows _ = Unit {0}
+
+-- none of the actions is a command's write to a store
+abbrev pub LeaveRows : List Action → Type 0
+LeaveRows [] = Unit {0}
+LeaveRows (action ∷ actions) = LeavesRows action × LeaveRows actions
+
+-- the action doesn't unlock the token at the node
+abbrev pub LeavesGate : ℕ → ℕ → Action → Type 0
+LeavesGate node token (Unlocks at unlocked) = node ≡ at → unlocked ≡ token → ⊥
+LeavesGate node token _ = Unit {0}
+
+-- none of the actions unlocks the token at the node
+abbrev pub LeaveGate : ℕ → ℕ → List Action → Type 0
+LeaveGate node token [] = Unit {0}
+LeaveGate node token (action ∷ actions) = LeavesGate node token action × LeaveGate node token actions
 
 -- ---- The observations of a history
 

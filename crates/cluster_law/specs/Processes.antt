@@ -11,7 +11,7 @@ use Rattle.oath_node.specs.Turns.{Member, Receipt, Run, entry_of, events_of_turn
 use Rattle.oath_node.specs.declared.serve_fault.ServeFault.{ServeFault}
 use Rattle.oath_node.specs.declared.serve_fault.ServeFault.TheVariants.{Node}
 use Rattle.oath_node.specs.declared.turns.Served.{Served}
-use Rattle.cluster_law.specs.Lives.{Action, Opens, FailsToOpen, Takes, Offers, Stops, StopsIn, Loses, Remakes, Output, ToPeer, ToClient, Input, Setting, Down, Up, event_of, node_of_action, own_offers, own_process, place_in, process_half_opened}
+use Rattle.cluster_law.specs.Lives.{Action, Opens, FailsToOpen, Takes, Offers, Stops, StopsIn, Loses, Remakes, Unlocks, Raises, Output, ToPeer, ToClient, Input, Setting, Down, Up, event_of, node_of_action, own_offers, own_process, place_in, process_half_opened}
 
 -- ---- The node
 
@@ -53,6 +53,8 @@ IsServing node (Stops at) = node ≡ at → ⊥
 IsServing node (StopsIn at kept input) = node ≡ at → ⊥
 IsServing node (Loses at) = node ≡ at → ⊥
 IsServing node (Remakes at boot floors) = node ≡ at → ⊥
+IsServing node (Unlocks at token) = node ≡ at → ⊥
+IsServing node (Raises at token floor) = node ≡ at → ⊥
 
 -- all of the node's actions are ones of a process that continues
 abbrev pub AreServing : ℕ → List Action → Type 0
@@ -69,6 +71,8 @@ input_of (Stops at) = []
 input_of (StopsIn at kept input) = []
 input_of (Loses at) = []
 input_of (Remakes at boot floors) = []
+input_of (Unlocks at token) = []
+input_of (Raises at token floor) = []
 
 -- the inputs that the node takes in the actions, in order
 abbrev pub inputs_at : ℕ → List Action → List Input

@@ -1,4 +1,4 @@
--- The promise of every history of a cluster: it is a run of the world, action by action.
+-- The promise of every history of a cluster without commands: it is a run of the world, action by action.
 use Rattle.std.specs.Prelude.{◌≡◌, ◌⊎◌, ℕ, ◌+◌, ◌<◌, ◌≤◌, true, false, List, length, take, Option, Some, slice_get}
 use Rattle.otp_core.specs.Acceptance.{Acceptance}
 use Rattle.oath_node.specs.Hosted.{envelope_at}
@@ -6,7 +6,7 @@ use Rattle.cluster_sim.specs.Answered.{IsOk, IsTextOf, NamePasses, TellTruth, ok
 use Rattle.client_lines.specs.Request.{without_lf}
 use Rattle.cluster_sim.specs.Justified.{AreJustified}
 use Rattle.cluster_sim.specs.World.{Act, Says, Deliver, Ticks, Noise, Answer, WorldEvent, Happens, Cut, Restart, Lost, Anew, floor_before, passes_of, world_before, world_of}
-use Rattle.cluster_law.specs.Lives.{Action, Opens, FailsToOpen, Takes, Offers, Stops, StopsIn, Loses, Remakes, Input, Line, Datagram, Time, Setting, accepted_in, answered_in, floor_in, cluster_of, start_of}
+use Rattle.cluster_law.specs.Lives.{Action, Opens, FailsToOpen, Takes, Offers, Stops, StopsIn, Loses, Remakes, Unlocks, Raises, Input, Line, Datagram, Time, Setting, accepted_in, answered_in, floor_in, cluster_of, start_of}
 
 -- the event without effect: there is no node 0
 abbrev pub nothing : WorldEvent
@@ -27,7 +27,7 @@ pub record HasAct (key : List ℕ) (node : ℕ) (input : Input) (made : Act → 
   pub is_act : IsActOf key node input act
 
 -- The event of the world for an action. An input to a node without a process has no effect. A replacement store is
--- opened in the next boot, which is the boot that the world has.
+-- opened in the next boot, which is the boot that the world has. The world has no commands.
 abbrev pub IsEventOf : List ℕ → Action → WorldEvent → Type 0
 IsEventOf key (Opens node) event = (event ≡ nothing) ⊎ (event ≡ Restart node)
 IsEventOf key (FailsToOpen node raised) event = (event ≡ nothing) ⊎ (event ≡ Restart node)
@@ -40,6 +40,8 @@ IsEventOf key (StopsIn node true input) event =
     (event ≡ nothing) ⊎ HasAct key node input (λ act. Cut true act) event
 IsEventOf key (Loses node) event = (event ≡ nothing) ⊎ (event ≡ Lost node)
 IsEventOf key (Remakes node boot floors) event = (event ≡ nothing) ⊎ (event ≡ Anew node (boot + 1) floors)
+IsEventOf key (Unlocks node token) event = ⊥
+IsEventOf key (Raises node token floor) event = ⊥
 
 -- the event of an action, at its place
 pub record HasEvent (key : List ℕ) (action : Action) (place : ℕ) (events : List WorldEvent) : Type 0 where

@@ -7,7 +7,7 @@ use Rattle.vote_core.specs.Schedule.{Envelope, envelope_from, is_member}
 use Rattle.oath_node.specs.Hosted.{envelope_at}
 use Rattle.oath_node.specs.Machine.{NodeState}
 use Rattle.cluster_sim.specs.Rounds.{is_floor_to, is_live}
-use Rattle.cluster_law.specs.Lives.{Action, Takes, Offers, Output, Datagram, Time, IsHistory, ClusterState, Setting, ProcessState, Down, Up, content_at, made_by_input, node_of_action, nodes_of, cluster_after, cluster_of}
+use Rattle.cluster_law.specs.Lives.{Action, Takes, Offers, Output, Datagram, Time, IsHistory, LeaveRows, ClusterState, Setting, ProcessState, Down, Up, content_at, made_by_input, node_of_action, nodes_of, cluster_after, cluster_of}
 
 -- ---- Live members
 
@@ -90,10 +90,10 @@ pub record IsSwept (setting : Setting) (live : List ℕ) (old new : ClusterState
   pub owners : is_live.state.owners ≡ []
   pub next : (token : ℕ) → token < length setting.config.book → next_in new node token ≡ greatest_in live old token
 
--- after any history, a sweep leaves each live member swept
+-- after any history without commands, a sweep leaves each live member swept
 abbrev pub SweepsLevel : Type 0
 SweepsLevel =
-    (setting : Setting) (before stretch : List Action) (live : List ℕ) → IsHistory setting before
+    (setting : Setting) (before stretch : List Action) (live : List ℕ) → LeaveRows before → IsHistory setting before
     → let old = cluster_of setting before in
     AreLive setting live old → IsSweep setting live old stretch
     → (node : ℕ) → is_live live node ≡ true

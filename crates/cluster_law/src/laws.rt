@@ -1,13 +1,17 @@
 //! The laws about every history of a cluster. Floor: the first free factor of a token at a node.
 
-ghost use Rattle.std.specs.Prelude.{pos, negsuc, ◌≡◌, ◌⊎◌, ◌+◌, ◌<◌, ◌^◌, ℕ, List, [], ◌∷◌, ◌++◌, length, Option, Some, Result, Ok, Err, None, true, false, map, replicate, take, codes};
+ghost use Rattle.std.specs.Prelude.{pos, negsuc, ◌≡◌, ◌⊎◌, ◌+◌, ◌<◌, ◌^◌, ℕ, List, [], ◌∷◌, ◌++◌, length, Option, Some, Result, Ok, Err, None, true, false, map, replicate, slice_get, take, codes};
 ghost use Rattle.admit_core.specs.Throttle.{Accepted as Passed, Failed, SpacesFailures};
 ghost use Rattle.cluster_sim.specs.Results.{results_in};
 ghost use Rattle.otp_core.specs.Acceptance.{HaveSingleUse, KeepRealTimeOrder};
+ghost use Rattle.otp_core.specs.Gate.{clear_gate};
+ghost use Rattle.vote_core.specs.Rows.{row as row_in, row_with_gate};
 ghost use Rattle.vote_core.specs.Safety.{HaveMajority};
+ghost use Rattle.vote_core.specs.Voting.{raise};
 ghost use Rattle.cluster_sim.specs.World.{Anew, Cut, Happens, Lost, Restart, Ticks, WorldEvent};
-ghost use Rattle.floor_store.specs.Content.{Content};
-ghost use Rattle.floor_store.specs.Held.{IsSettled, RaisesBoot};
+ghost use Rattle.floor_store.specs.Content.{Content, opening_row, with_row};
+ghost use Rattle.floor_store.specs.Held.{Commits, IsSettled, MayPut, MayWrite, RaisesBoot};
+ghost use Rattle.floor_store.specs.Records.{RowRecord};
 ghost use Rattle.floor_store.specs.Range.{IsCount};
 ghost use Rattle.floor_store.specs.declared.fault.StoreFault.{StoreFault};
 ghost use Rattle.oath_node.specs.Calls.{CommitsNode, Handles, IsOpened, Takes as TakesEvent};
@@ -27,27 +31,31 @@ ghost use Rattle.oath_node.specs.declared.turns.Served.{Served};
 ghost use Rattle.cluster_law.specs.Answered.{AnswersAll, EndsProcess, HasYetToOffer, IsAnsweredInAction, IsLost, IsOfferedOrEnds};
 ghost use Rattle.cluster_law.specs.Broken.{answers_late, content_with_pass, hurries, just_opened, late_node, owning_node, pending_node, right_text, second_floor_comes, stops_late, tick_made, told_by_tick, two_floors, with_process};
 ghost use Rattle.cluster_law.specs.Bytes.{IsSized, IsUnforgedHistory};
-ghost use Rattle.cluster_law.specs.Examples.{accepts_anew, among_strangers, answer_out, answers_once, clock_node, clock_nodes, comes_to_no_store, comes_to_nobody, content_of_boot, drifts_and_loses, ends_after_the_answer, ends_before_the_answer, ends_behind, ends_in_the_step, fails_and_loses, first_ok, first_pass, floor_comes, floor_out, grant, grant_before_its_offer, grant_from, granted_by_two, loses_one, loses_two, made_anew, nodes_after, old_floor, old_floor_comes, old_grant_comes, one_node, one_open, opens_twice, quiet_node, right_line, right_receipt, stop_in_a_forged_grant, strangers, takes_behind, takes_twice, tells_both, three_nodes, told_by_reference, two_open, uneven_nodes};
+ghost use Rattle.cluster_law.specs.Commands.{raised_content, raises_of};
+ghost use Rattle.cluster_law.specs.Examples.{accepts_anew, among_strangers, answer_out, answers_once, clock_node, clock_nodes, closed_content, closed_row, comes_to_no_store, comes_to_nobody, content_of_boot, drifts_and_loses, ends_after_the_answer, ends_before_the_answer, ends_behind, ends_in_the_step, fails_and_loses, fails_around, first_ok, first_pass, floor_comes, floor_out, grant, grant_before_its_offer, grant_from, granted_by_two, loses_one, loses_two, made_anew, nodes_after, old_floor, old_floor_comes, old_grant_comes, one_node, one_open, opens_twice, quiet_node, right_line, right_receipt, stop_in_a_forged_grant, strangers, takes_behind, takes_twice, tells_both, three_nodes, told_by_reference, two_open, uneven_nodes, wrong_line};
 ghost use Rattle.cluster_law.specs.Justified.{IsJustifiedInAction, JustifiesAll, drift_in, moment_in_action, results_held};
-ghost use Rattle.cluster_law.specs.Lives.{Datagram, Action, Down, FailsToOpen, Input, IsHistory, LeaveStore, Loses, Offers, Opens, ToPeer, Remakes, ClusterState, Setting, ProcessState, Stops, StopsIn, Takes, Time, Up, accepted_in, answered_in, answers_among, content_at, event_of, first_cluster, floor_in, outputs_of_step, has_store, made_boot, made_by_input, made_content, nodes_of, offers_by, own_process, cluster_after, cluster_of, process_after, process_cut, process_half_opened, process_offered, process_opened, start_of};
+ghost use Rattle.cluster_law.specs.Lives.{Datagram, Action, Down, FailsToOpen, Input, IsHistory, LeaveGate, LeaveRows, LeaveStore, Loses, Offers, Opens, ToPeer, Raises, Remakes, ClusterState, Setting, ProcessState, Stops, StopsIn, Takes, Time, Unlocks, Up, accepted_in, answered_in, answers_among, content_at, event_of, first_cluster, floor_in, outputs_of_step, has_store, made_boot, made_by_input, made_content, nodes_of, offers_by, own_process, cluster_after, cluster_of, process_after, process_cut, process_half_opened, process_offered, process_opened, results_unlocked, start_of};
 ghost use Rattle.cluster_law.specs.Processes.{AreServing, CanTakeSome, CanTakeTurns, IsEndedNode, IsFailedNode, IsHalfOpened, IsMemberIn, IsNoFaultOfNode, IsServed, IsServedNode, IsStopped, TakesSome, TakesTurns, item_of, member_in, run_over};
 ghost use Rattle.cluster_law.specs.Promises.{AnswerTruly, BelongsToAcceptance, HasAct, HasEvent, IsActOf, IsAskedInAction, IsEventOf, IsExplained, IsRunOf, IsSaidInAction, nothing};
 ghost use Rattle.cluster_law.specs.SingleNode.{IsPartOf, reference_of, setting_of_one};
 ghost use Rattle.cluster_law.specs.Sweeps.{IsLive, IsSweep, IsSwept, IsTick, SweepsLevel, greatest_in, is_step_of};
 ghost use Rattle.std.specs.List.{filter};
 
+use admit_core::{failures_are_spaced, gate_keeps_throttle};
 use cluster_sim::{answers_belong_to_passes, sweep_levels, world_is_safe};
 use floor_store::FloorStore;
 use oath_node::{one_node_answers_as_the_server, rulings_have_grounds};
+use vote_core::votes_are_safe;
 use vote_wire::one_spelling;
 
 /// Safety of processes: in every history of a cluster, acceptances are safe and offered answers are true.
 ///
-/// A history contains any sequence of processes over the stores that earlier processes left. The network, the clocks
-/// and the clients may do anything except forge datagrams under the key.
+/// A history contains any sequence of processes over the stores that earlier processes left. Between two processes of a
+/// node, commands may unlock its tokens and raise its floors. The network, the clocks and the clients may do anything
+/// except forge datagrams under the key.
 pub fn lives_are_worlds()
-    // Every history is a run of the world, event by event.
-    ensures world { (setting : Setting) (history : List Action) → IsHistory setting history
+    // Every history without commands is a run of the world, event by event.
+    ensures world { (setting : Setting) (history : List Action) → LeaveRows history → IsHistory setting history
         → (events : List WorldEvent) × IsRunOf setting history events }
     ensures single_use { (setting : Setting) (history : List Action) → IsHistory setting history
         → HaveSingleUse (accepted_in setting history) }
@@ -55,11 +63,15 @@ pub fn lives_are_worlds()
         → KeepRealTimeOrder (accepted_in setting history) }
     ensures majority { (setting : Setting) (history : List Action) → IsHistory setting history
         → HaveMajority (nodes_of setting) (floor_in setting history) (accepted_in setting history) }
-    ensures explained { (setting : Setting) (history : List Action) → IsHistory setting history
+    ensures explained { (setting : Setting) (history : List Action) → LeaveRows history → IsHistory setting history
         → IsExplained setting history }
-    // The failures of a token at a node are far apart.
+    // The failures of a token at a node are far apart. An acceptance or an unlocking of the token ends their count.
     ensures spaced { (setting : Setting) (history : List Action) (node token : ℕ) → IsHistory setting history
-        → SpacesFailures (results_in (cluster_of setting history).notes node token) }
+        → SpacesFailures ((cluster_of setting history).results node token) }
+    // If no command unlocks the token there, only the acceptances and failures of the notes are results.
+    ensures results { (setting : Setting) (history : List Action) (node token : ℕ) → LeaveGate node token history
+        → (cluster_of setting history).results node token
+        ≡ results_in (cluster_of setting history).notes node token }
     // Each offered answer that begins as an `OK` belongs to an acceptance of its node. The answer's client sent the
     // line of the acceptance there.
     ensures told { (setting : Setting) (history : List Action) → IsHistory setting history
@@ -74,20 +86,26 @@ pub fn lives_are_worlds()
 {
     world_is_safe();
     answers_belong_to_passes();
+    votes_are_safe();
+    rulings_have_grounds();
+    gate_keeps_throttle();
+    failures_are_spaced();
 }
 
 /// Equivalence: the answers of a single node's processes are a subsequence of the reference server's answers.
 ///
-/// The reference server answers the lines that the processes took and whose changes the store kept.
+/// The reference server answers the lines that the processes took and whose changes the store kept. The history has no
+/// commands.
 pub fn one_node_answers_as_the_reference()
     ensures { (config : Config) (key floors : List ℕ) (history : List Action) → 1 + length history < 2 ^ 62
-        → IsHistory (setting_of_one config key floors) history
+        → LeaveRows history → IsHistory (setting_of_one config key floors) history
         → IsPartOf (answered_in (setting_of_one config key floors) history) (reference_of config key floors history) }
 {
     one_node_answers_as_the_server();
 }
 
-/// Sweeps: after any history, a sweep gives all live members the same floors, and leaves nothing waiting.
+/// Sweeps: after any history without commands, a sweep gives all live members the same floors, and leaves nothing
+/// waiting.
 ///
 /// In a sweep live members tick and receive each other's floors, and take nothing else. Each floor is then the greatest
 /// that a live member had.
@@ -163,6 +181,44 @@ pub fn calls_are_actions<S: FloorStore>()
     ensures handles_settled { (setting : Setting) (input : Input) (old new : Hosted S) (outputs : OutputsRecord)
         → Handles S.held old new (event_of setting.key input) (Ok outputs)
         → (S.held new.store).is_clean → IsSettled (S.held old.store) → IsSettled (S.held new.store) }
+{}
+
+/// Commands: over any store, the writes of `unlock` and of `level` are the actions of a history.
+///
+/// A stop in a command leaves the content of a prefix of its actions.
+pub fn commands_are_actions<S: FloorStore>()
+    // A put of the row with a clear gate, and its commit.
+    ensures unlocks { (setting : Setting) (event node token : ℕ) (store new : S) (old : RowRecord)
+        → slice_get (S.held store).content.rows token ≡ Some old
+        → let made = with_row (S.held store).content token (row_with_gate clear_gate old) None in
+        MayWrite {A = Unit {0}} {E = StoreFault} S.held store new made (Ok tt) → (S.held new).is_clean
+        → process_after setting event (Unlocks node token) (Down (S.held store).content)
+        ≡ Down (S.held new).content }
+    ensures stops_unlocking { (setting : Setting) (event node token : ℕ) (store new : S) (old : RowRecord)
+        (result : Result (Unit {0}) StoreFault) (content : Content)
+        → slice_get (S.held store).content.rows token ≡ Some old
+        → let made = with_row (S.held store).content token (row_with_gate clear_gate old) None in
+        MayWrite S.held store new made result → (S.held new).is_clean → (S.held new).leaves content
+        → (S.held store).leaves content
+        ⊎ (process_after setting event (Unlocks node token) (Down (S.held store).content) ≡ Down content) }
+    // A put of a greater floor, or none. The commit keeps the content, and after it a stop leaves nothing else.
+    ensures raises { (setting : Setting) (event node token floor : ℕ) (store new : S)
+        → MayPut {A = Unit {0}} {E = StoreFault} S.held store new (raise token floor (S.held store).content) (Ok tt)
+        → (S.held new).is_clean
+        → process_after setting event (Raises node token floor) (Down (S.held store).content)
+        ≡ Down (S.held new).content }
+    ensures stops_raising { (setting : Setting) (event node token floor : ℕ) (store new : S)
+        (result : Result (Unit {0}) StoreFault) (content : Content)
+        → MayPut S.held store new (raise token floor (S.held store).content) result
+        → (S.held store).is_clean → (S.held new).leaves content
+        → (S.held store).leaves content
+        ⊎ (process_after setting event (Raises node token floor) (Down (S.held store).content) ≡ Down content) }
+    ensures commits { (store new : S) → Commits {A = Unit {0}} {E = StoreFault} S.held store new (Ok tt)
+        → (S.held new).is_clean
+        → ((S.held new).content ≡ (S.held store).content) × IsSettled (S.held new) }
+    // Puts in order are the actions in order.
+    ensures in_order { (setting : Setting) (node first : ℕ) (told : List (ℕ × ℕ)) (content : Content)
+        → own_process setting node first (raises_of node told) (Down content) ≡ Down (raised_content told content) }
 {}
 
 /// Turns: in a history, only its own actions change a node whose store stays. The actions of a serving process are the
@@ -285,6 +341,59 @@ pub fn losses_are_worked()
     ensures drift { drift_in clock_nodes drifts_and_loses 1 0 8 ≡ negsuc 0 }
     ensures drift_is_gone { drift_in clock_nodes drifts_and_loses 1 0 9 ≡ pos 0 }
 {}
+
+/// Worked cases.
+pub fn commands_are_worked()
+    // Two wrong codes, one second apart. Between them the token is unlocked, another token, or the token elsewhere.
+    ensures unlocked { results_held one_node (fails_around 1 0) 1 0 6 ≡ Failed 101 ∷ Passed ∷ Failed 100 ∷ [] }
+    ensures of_another { results_held one_node (fails_around 1 1) 1 0 6 ≡ Failed 100 ∷ [] }
+    ensures elsewhere { results_held one_node (fails_around 2 0) 1 0 6 ≡ Failed 100 ∷ [] }
+    ensures closed { (row_in (content_at ((cluster_of one_node (take 3 (fails_around 1 0))).processes 1)) 0).gate
+        ≡ record { fails = 1; until = 105 } }
+    ensures open { (row_in (content_at ((cluster_of one_node (take 4 (fails_around 1 0))).processes 1)) 0).gate
+        ≡ clear_gate }
+    ensures is_history { IsHistory one_node (fails_around 1 0) }
+    // Without the unlocking between them, the failures would be too near.
+    ensures too_near { SpacesFailures (results_in (cluster_of one_node (fails_around 1 0)).notes 1 0) → ⊥ }
+    ensures spaced { SpacesFailures (results_held one_node (fails_around 1 0) 1 0 6) }
+    // Only the gate changes. The last boot is 2^62 - 1.
+    ensures row { process_after one_node 0 (Unlocks 1 0) (Down (closed_content 3))
+        ≡ Down (record (closed_content 3) { rows = opening_row 2 ∷ [] }) }
+    ensures row_of_another { process_after one_node 0 (Unlocks 1 1) (Down (closed_content 3))
+        ≡ Down (closed_content 3) }
+    ensures row_at_the_last { process_after one_node 0 (Unlocks 1 0) (Down (closed_content 4611686018427387903))
+        ≡ Down (record (closed_content 4611686018427387903) { rows = opening_row 2 ∷ [] }) }
+    ensures results_before_the_last { results_unlocked 4611686018427387902 1 0 (λ node token. []) 1 0 ≡ Passed ∷ [] }
+    ensures results_at_the_last { results_unlocked 4611686018427387903 1 0 (λ node token. []) 1 0 ≡ [] }
+    ensures results_elsewhere { results_unlocked 3 2 0 (λ node token. []) 1 0 ≡ [] }
+    // Only the floor changes, and it never falls.
+    ensures raised { process_after one_node 0 (Raises 1 0 5) (Down (closed_content 3))
+        ≡ Down (record (closed_content 3) { rows = record closed_row { next = 5 } ∷ [] }) }
+    ensures lower { process_after one_node 0 (Raises 1 0 1) (Down (closed_content 3)) ≡ Down (closed_content 3) }
+    ensures raised_of_another { process_after one_node 0 (Raises 1 1 5) (Down (closed_content 3))
+        ≡ Down (closed_content 3) }
+    ensures refused { accepted_in one_node (Raises 1 0 1 ∷ Opens 1 ∷ Takes 1 right_line ∷ []) ≡ [] }
+    ensures in_order { raised_content ((0, 5) ∷ (0, 4) ∷ []) (closed_content 3)
+        ≡ record (closed_content 3) { rows = record closed_row { next = 5 } ∷ [] } }
+    // A node with a process takes no commands.
+    ensures at_a_process { (cluster_of one_node (Opens 1 ∷ Unlocks 1 0 ∷ Raises 1 0 5 ∷ [])).processes 1
+        ≡ one_open.processes 1 }
+    ensures results_at_a_process { results_held one_node (Opens 1 ∷ Takes 1 (wrong_line 100) ∷ Unlocks 1 0 ∷ []) 1 0 3
+        ≡ Failed 100 ∷ [] }
+    ensures unlocks_while_serving { AreServing 1 (Unlocks 1 0 ∷ []) → ⊥ }
+    ensures raises_while_serving { AreServing 1 (Raises 1 0 5 ∷ []) → ⊥ }
+    ensures no_inputs { TakesTurns one_node 1 (Unlocks 1 0 ∷ Raises 1 0 5 ∷ []) [] }
+    // Histories with commands, and tokens that they unlock.
+    ensures leaves_rows { LeaveRows (Opens 1 ∷ Loses 1 ∷ []) }
+    ensures unlocks_a_row { LeaveRows (Opens 1 ∷ Unlocks 1 0 ∷ []) → ⊥ }
+    ensures raises_a_row { LeaveRows (Opens 1 ∷ Raises 1 0 5 ∷ []) → ⊥ }
+    ensures leaves_the_gate { LeaveGate 1 0 (Unlocks 2 0 ∷ Unlocks 1 1 ∷ Raises 1 0 5 ∷ []) }
+    ensures unlocks_the_gate { LeaveGate 1 0 (Opens 1 ∷ Unlocks 1 0 ∷ []) → ⊥ }
+    ensures unlocking_is_nothing { IsEventOf [] (Unlocks 1 0) nothing → ⊥ }
+    ensures raise_is_nothing { IsEventOf [] (Raises 1 0 5) nothing → ⊥ }
+{
+    failures_are_spaced();
+}
 
 /// Worked cases.
 pub fn former_lives_are_worked()

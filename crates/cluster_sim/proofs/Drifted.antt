@@ -74,9 +74,9 @@ pass_drifts config events begun e i n c d ps t lt old (Some p) h =
 
 -- ---- a node
 
-record Drifted (config : Config) (events : List WorldEvent) (h : List Note) (i : ℕ) (x : NodeState) : Type 0 where
-  pending : Each (IsKept (KeptBelow config events (begun_in h) i x.content.boot x.voter.seq)) x.voter.pending
-  drifts : (t : ℕ) → t < length config.book → (row x.content t).drift ≡ drift_after config events i t (pos 0) (passes_since i h)
+pub record Drifted (config : Config) (events : List WorldEvent) (h : List Note) (i : ℕ) (x : NodeState) : Type 0 where
+  pub pending : Each (IsKept (KeptBelow config events (begun_in h) i x.content.boot x.voter.seq)) x.voter.pending
+  pub drifts : (t : ℕ) → t < length config.book → (row x.content t).drift ≡ drift_after config events i t (pos 0) (passes_since i h)
 
 -- what an event makes of the node
 record MadeDrifted (config : Config) (events : List WorldEvent) (h : List Note) (e i : ℕ) (o : Made) : Type 0 where
@@ -173,7 +173,7 @@ event_drifted law config events h e place x Tick sized comes k =
 
 -- ---- the world
 
-abbrev AllDrifted : Config → List WorldEvent → World → Type 0
+abbrev pub AllDrifted : Config → List WorldEvent → World → Type 0
 AllDrifted config events w = (i : ℕ) → Drifted config events w.history i (w.nodes i)
 
 -- an acceptance of another node
@@ -286,7 +286,7 @@ anew_drifted config events e i boot floor w h =
     (λ q. cond-true (eqb j i) new (w.nodes j) (eq-eqb j i (sym (eqb-true i j q)))))
     (λ _. h)
 
-happens_drifted : GroundLaw → (config : Config) (events : List WorldEvent) (e : ℕ) (x : WorldEvent) (w : World) → slice_get events e ≡ Some x → AllSound (length config.book) w → AllDrifted config events w
+pub happens_drifted : GroundLaw → (config : Config) (events : List WorldEvent) (e : ℕ) (x : WorldEvent) (w : World) → slice_get events e ≡ Some x → AllSound (length config.book) w → AllDrifted config events w
     → AllDrifted config events (world_after_event config e x w)
 unfolding world_after_event
 happens_drifted law config events e (Happens a) w at sound h = acted_drifted law config events e a w sound h (inl at)
@@ -312,7 +312,7 @@ run_drifted law config events (x ∷ xs) e w goes sound h =
 
 -- ---- the start
 
-start_drifted : (config : Config) (start : Start) (events : List WorldEvent) → AllDrifted config events (opening_world config start)
+pub start_drifted : (config : Config) (start : Start) (events : List WorldEvent) → AllDrifted config events (opening_world config start)
 start_drifted config start events i = record {
   pending = tt;
   drifts = λ t lt. opening_drift (length config.book) (start.opening.floor i) t;

@@ -2,7 +2,7 @@ pub mod Acts
 mod Asks
 pub mod BelowLaws
 mod Delivered
-mod Drifted
+pub mod Drifted
 pub mod Events
 mod Floors
 pub mod Gates
@@ -29,7 +29,7 @@ mod Seqs
 mod Servers
 pub mod Shape
 pub mod Sizes
-mod Sound
+pub mod Sound
 pub mod Spelled
 mod Starts
 mod Sweeps

@@ -23,7 +23,7 @@ use Rattle.cluster_sim.proofs.Runs.{proposed}
 use Rattle.cluster_sim.proofs.Gates.{Gated, all_gated, open_by_list}
 
 -- the drifts of the nodes are the given ones
-abbrev DriftsAre : Config → World → (ℕ → ℕ → ℤ) → Type 0
+abbrev pub DriftsAre : Config → World → (ℕ → ℕ → ℤ) → Type 0
 DriftsAre config w drifts = (i t : ℕ) → t < length config.book → (row (w.nodes i).content t).drift ≡ drifts i t
 
 ground : GateLaw → (config : Config) (w : World) (drifts : ℕ → ℕ → ℤ) (i client moment : ℕ) (text line nonce : List ℕ) (t lo hi : ℕ) (drift : ℤ) → Gated (length config.book) w → DriftsAre config w drifts
@@ -80,7 +80,7 @@ abbrev pub voted_at : Config → World → Option WorldEvent → Option Event
 voted_at config w None = None
 voted_at config w (Some x) = Some (vote_event config w x)
 
-event_back : GroundLaw → GateLaw → (config : Config) (w : World) (drifts : ℕ → ℕ → ℤ) → Gated (length config.book) w → DriftsAre config w drifts → (p : Acceptance) (o : Option WorldEvent) → IsProposedIn p (voted_at config w o)
+pub event_back : GroundLaw → GateLaw → (config : Config) (w : World) (drifts : ℕ → ℕ → ℤ) → Gated (length config.book) w → DriftsAre config w drifts → (p : Acceptance) (o : Option WorldEvent) → IsProposedIn p (voted_at config w o)
     → IsGroundOf config (row (w.nodes p.node).content p.token).next (drifts p.node p.token) (results_in w.history p.node p.token) p o
 event_back grounds law config w drifts gated drifted p None h = h
 event_back grounds law config w drifts gated drifted p (Some (Happens a)) h = act_back grounds law config w drifts gated drifted p a h

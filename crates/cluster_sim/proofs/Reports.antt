@@ -19,10 +19,10 @@ use Rattle.cluster_sim.proofs.Owners.{get_more}
 use Rattle.cluster_sim.proofs.Tells.{named, Backed, NodeKept, ToldBacked, Replied, BeganAt, Tells, Comes, Said, answers_later, owners_later, event_tells, resting_tells}
 
 -- what is kept in every run
-record Honest (events : List WorldEvent) (e : ℕ) (w : World) : Type 0 where
-  nodes : (i : ℕ) → NodeKept events w.history e i (w.nodes i)
-  told : Each (ToldBacked events (passes_in w.history)) w.told
-  answered : Each (λ (p : Acceptance). IsAnsweredIn events w.told p (slice_get events p.ended)) (passes_in w.history)
+pub record Honest (events : List WorldEvent) (e : ℕ) (w : World) : Type 0 where
+  pub nodes : (i : ℕ) → NodeKept events w.history e i (w.nodes i)
+  pub told : Each (ToldBacked events (passes_in w.history)) w.told
+  pub answered : Each (λ (p : Acceptance). IsAnsweredIn events w.told p (slice_get events p.ended)) (passes_in w.history)
 
 -- ---- later
 
@@ -100,7 +100,7 @@ next_event events h e i x k = record {
     one_later : (a : KeptAnswer) → Backed events (passes_in h) e i a.client a.line a.text → Backed events (passes_in h) (suc e) i a.client a.line a.text
     one_later a b = record { place = b.place; pass = b.pass; is_pass = b.is_pass; node = b.node; ended = omega (arith, b.ended); nonce = b.nonce; asked = b.asked; bytes = b.bytes }
 
-next_honest : (events : List WorldEvent) (e : ℕ) (w : World) → Honest events e w → Honest events (suc e) w
+pub next_honest : (events : List WorldEvent) (e : ℕ) (w : World) → Honest events e w → Honest events (suc e) w
 next_honest events e w h = record { nodes = λ i. next_event events w.history e i (w.nodes i) (h.nodes i); told = h.told; answered = h.answered }
 
 -- ---- an event at a node
@@ -293,7 +293,7 @@ anew_honest events e i boot floor w h =
     })
     (λ _. next_honest events e w h)
 
-happens_honest : GroundLaw → (config : Config) (events : List WorldEvent) (e : ℕ) (x : WorldEvent) (w : World) → slice_get events e ≡ Some x → Honest events e w → Honest events (suc e) (world_after_event config e x w)
+pub happens_honest : GroundLaw → (config : Config) (events : List WorldEvent) (e : ℕ) (x : WorldEvent) (w : World) → slice_get events e ≡ Some x → Honest events e w → Honest events (suc e) (world_after_event config e x w)
 unfolding world_after_event
 happens_honest law config events e (Happens a) w at h =
     let k = acted_halves law config events e a w h (inl at) in

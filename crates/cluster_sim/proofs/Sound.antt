@@ -50,7 +50,7 @@ put_kept : (tokens : ℕ) (c : Content) (turn t : ℕ) (r : RowRecord) → KeptR
 put_kept tokens c turn t r h k = record { size = length-set c.rows t r ∙ h.size; lies = set_each Lies c.rows t r h.lies k; turn = h.turn }
 
 -- the gate alone, an acceptance, or another grant
-gate_kept : (tokens : ℕ) (c : Content) (turn t : ℕ) (gate : GateRecord) → KeptRows tokens c.rows turn → KeptRows tokens (set c.rows t (row_with_gate gate (row c t))) turn
+pub gate_kept : (tokens : ℕ) (c : Content) (turn t : ℕ) (gate : GateRecord) → KeptRows tokens c.rows turn → KeptRows tokens (set c.rows t (row_with_gate gate (row c t))) turn
 gate_kept tokens c turn t gate h = put_kept tokens c turn t _ h (lies_row c t h.lies)
 
 accepted_kept : (tokens : ℕ) (c : Content) (turn t : ℕ) (drift : ℤ) → KeptRows tokens c.rows turn → KeptRows tokens (set c.rows t (accepted_row drift (row c t))) turn
@@ -82,7 +82,7 @@ under_more : (old next : ℕ) (o : Option (ProposalRecord × SpanRecord)) → ol
 under_more old next None lt h = tt
 under_more old next (Some g) lt h = omega (arith, lt, h)
 
-raise_kept : (tokens t next : ℕ) (c : Content) (v : VoterState) → Kept tokens c v → Kept tokens (raise t next c) v
+pub raise_kept : (tokens t next : ℕ) (c : Content) (v : VoterState) → Kept tokens c v → Kept tokens (raise t next c) v
 unfolding raise
 raise_kept tokens t next c v h =
     cond_both (ltb (row c t).next next) (with_row c t (row_with_next next (row c t)) None) c (λ (d : Content). Kept tokens d v)

@@ -1,7 +1,9 @@
--- Worked cases: lines and members.
+-- Worked cases: lines, members, minutes and seconds.
 use Rattle.std.specs.Prelude.{ℕ, Bool, List, [], ◌∷◌, codes}
 use Rattle.node_log.specs.Asked.{AskedLine}
+use Rattle.node_log.specs.declared.bad_lines.BadLines.{BadLines}
 use Rattle.node_log.specs.declared.members.Member.{Member}
+use Rattle.node_log.specs.declared.minute.Minute.{Minute}
 
 -- a line of client 7 with the nonce k1 for the user ann
 abbrev pub ann : AskedLine
@@ -18,3 +20,11 @@ two_lines = ann ∷ bob ∷ []
 -- a member by its number, whether it is heard, and its number of consecutive quiet turns
 abbrev pub member : ℕ → Bool → ℕ → Member
 member number heard quiets = record { number = number; is_heard = heard; quiets = quiets }
+
+-- a minute by its number of quiet turns
+abbrev pub minute : ℕ → Minute
+minute quiets = record { quiets = quiets }
+
+-- a second by its number of quiet turns, and of answers `NO - BADLINE`
+abbrev pub second : ℕ → ℕ → BadLines
+second quiets number = record { quiets = quiets; number = number }

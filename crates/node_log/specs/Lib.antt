@@ -1,5 +1,7 @@
 pub mod Asked
+pub mod BadLines
 pub mod Examples
 pub mod Log
 pub mod Members
+pub mod Minute
 pub mod Text

@@ -1,11 +1,13 @@
 -- The text of a log, by the record of its port.
-use Rattle.std.specs.Prelude.{◌≡◌, ℕ, Bool, false, true, List, [], ◌∷◌, map, Option, Some}
+use Rattle.std.specs.Prelude.{◌≡◌, ℕ, Bool, false, true, if◌then◌else◌, List, [], ◌∷◌, ◌++◌, map, Option, Some}
 use Rattle.std.specs.Io.KnownBytes.{Appends}
 use Rattle.datagram_port.specs.Port.{PortEvent, Received, Quiet, Faulted, Offered}
 use Rattle.datagram_port.specs.declared.port.Sender.TheVariants.{Client, Peer}
 use Rattle.node_log.specs.Asked.{AskedLine, place_of, user_at, with_line, without}
+use Rattle.node_log.specs.BadLines.{is_told, more_text}
 use Rattle.node_log.specs.Members.{after_datagram, after_quiet, heard_texts, silent_texts}
 use Rattle.node_log.specs.Text.{answered_line}
+use Rattle.node_log.specs.declared.bad_lines.BadLines.{BadLines}
 use Rattle.node_log.specs.declared.members.Member.{Member}
 
 -- the remembered lines after an entry of a port's record
@@ -26,14 +28,17 @@ members_after Faulted members = members
 members_after (Offered to bytes) members = members
 
 -- The text of an entry: a line for each answer offered to a client, and for each member that becomes heard or silent.
-abbrev pub told_of : PortEvent → List AskedLine → List Member → List ℕ
-told_of (Received (Client client) bytes) asked members = []
-told_of (Received (Peer number) bytes) asked members = heard_texts number members
-told_of Quiet asked members = silent_texts members
-told_of Faulted asked members = []
-told_of (Offered (Client client) bytes) asked members =
-    answered_line client (user_at (place_of client bytes asked) asked) bytes
-told_of (Offered (Peer number) bytes) asked members = []
+-- Of the answers `NO - BADLINE` of a second, those after the tenth have one line together.
+abbrev pub told_of : PortEvent → List AskedLine → List Member → BadLines → List ℕ
+told_of (Received (Client client) bytes) asked members bad_lines = []
+told_of (Received (Peer number) bytes) asked members bad_lines = heard_texts number members
+told_of Quiet asked members bad_lines = silent_texts members ++ more_text bad_lines
+told_of Faulted asked members bad_lines = []
+told_of (Offered (Client client) bytes) asked members bad_lines =
+    if is_told client bytes bad_lines
+    then answered_line client (user_at (place_of client bytes asked) asked) bytes
+    else []
+told_of (Offered (Peer number) bytes) asked members bad_lines = []
 
 -- the remembered lines after some entries
 abbrev pub asked_after_all : List PortEvent → List AskedLine → List AskedLine

@@ -1,9 +1,12 @@
-ghost use Rattle.std.specs.Prelude.{◌≡◌, ℕ, ◌∷◌, ◌++◌, [], List, None, Some, codes, false, map, replicate, true};
+ghost use Rattle.std.specs.Prelude.{◌≡◌, ℕ, ◌-◌, ◌^◌, ◌∷◌, ◌++◌, [], List, None, Some, codes, false, map, replicate, true};
 ghost use Rattle.datagram_port.specs.Port.{Faulted, Offered, Quiet, Received};
 ghost use Rattle.datagram_port.specs.declared.port.Sender.TheVariants.{Client, Peer};
 ghost use Rattle.client_lines.specs.Request.{Request, request_at};
 ghost use Rattle.node_log.specs.Asked.{AskedLine, nonce_of, place_of, user_at, with_line, with_one, without};
-ghost use Rattle.node_log.specs.Examples.{ann, bob, member, two_lines};
+ghost use Rattle.node_log.specs.Examples.{ann, bob, member, minute, second, two_lines};
+ghost use Rattle.sealed_port.specs.Causes.{nothing};
+ghost use Rattle.node_log.specs.BadLines.{bad_lines_after, new_second};
+ghost use Rattle.node_log.specs.Minute.{minute_after, minute_at_receive, minute_text, new_minute, unopened_line};
 ghost use Rattle.node_log.specs.Log.{Remembers, Tells, asked_after, asked_after_all, members_after, told_of};
 ghost use Rattle.node_log.specs.Text.{answered_line, client_text, end_line, shown_user, start_line};
 
@@ -58,25 +61,66 @@ pub fn lines_are_worked()
 /// one does.
 pub fn records_are_worked()
     ensures asked { asked_after (Received (Client 7) (codes "CHECK k1 ann 755224 -")) [] ≡ ann ∷ [] }
-    ensures received { told_of (Received (Client 7) (codes "CHECK k1 ann 755224 -")) [] (member 2 false 0 ∷ []) ≡ [] }
-    ensures answered { told_of (Offered (Client 7) (codes "OK k1 0")) two_lines []
+    ensures received { told_of (Received (Client 7) (codes "CHECK k1 ann 755224 -")) [] (member 2 false 0 ∷ [])
+        new_second ≡ [] }
+    ensures answered { told_of (Offered (Client 7) (codes "OK k1 0")) two_lines [] new_second
         ≡ answered_line 7 (Some (codes "ann")) (codes "OK k1 0") }
     ensures once { asked_after (Offered (Client 7) (codes "OK k1 0")) two_lines ≡ bob ∷ [] }
-    ensures sent { told_of (Offered (Peer 2) (codes "OK k1 0")) two_lines (member 2 false 0 ∷ []) ≡ [] }
+    ensures sent { told_of (Offered (Peer 2) (codes "OK k1 0")) two_lines (member 2 false 0 ∷ []) new_second ≡ [] }
     ensures heard { told_of (Received (Peer 2) []) [] (member 2 false 9 ∷ member 3 false 9 ∷ [])
-        ≡ codes "heard member=2\n" }
-    ensures known { told_of (Received (Peer 2) []) [] (member 2 true 9 ∷ []) ≡ [] }
+        new_second ≡ codes "heard member=2\n" }
+    ensures known { told_of (Received (Peer 2) []) [] (member 2 true 9 ∷ []) new_second ≡ [] }
     ensures now_heard { members_after (Received (Peer 2) []) (member 2 false 9 ∷ member 3 false 9 ∷ [])
         ≡ member 2 true 0 ∷ member 3 false 9 ∷ [] }
     ensures silent { told_of Quiet [] (member 2 true 23 ∷ member 3 true 24 ∷ member 4 false 25 ∷ [])
-        ≡ codes "silent member=3\n" }
+        new_second ≡ codes "silent member=3\n" }
     ensures now_silent { members_after Quiet (member 2 true 23 ∷ member 3 true 24 ∷ member 4 false 25 ∷ [])
         ≡ member 2 true 24 ∷ member 3 false 25 ∷ member 4 false 25 ∷ [] }
-    ensures fault { told_of Faulted two_lines (member 2 true 24 ∷ []) ≡ [] }
+    ensures fault { told_of Faulted two_lines (member 2 true 24 ∷ []) new_second ≡ [] }
     ensures whole { asked_after_all (Received (Client 7) (codes "CHECK k1 ann 755224 -") ∷ Quiet
         ∷ Received (Client 7) (codes "RESYNC k2 bob 287082 359152 pin") ∷ Faulted
         ∷ Received (Peer 2) (codes "CHECK k1 ann 755224 -") ∷ Offered (Peer 2) (codes "OK k2 0")
         ∷ Offered (Client 7) (codes "OK k1 0") ∷ []) [] ≡ bob ∷ [] }
+{}
+
+/// Worked cases. The line of the datagrams that were not opened, and the minutes of a log.
+pub fn minutes_are_worked()
+    ensures line { unopened_line (record { form = 1; tag = 12; early = 2; late = 3; again = 4; limited = 5 })
+        ≡ codes "unopened form=1 tag=12 early=2 late=3 again=4 limited=5\n" }
+    ensures words { map unopened_line (record nothing { tag = 12; late = 3 } ∷ record nothing { form = 1 }
+        ∷ record nothing { early = 1 } ∷ record nothing { again = 10 } ∷ record nothing { limited = 1 } ∷ nothing ∷ [])
+        ≡ codes "unopened tag=12 late=3\n" ∷ codes "unopened form=1\n" ∷ codes "unopened early=1\n"
+        ∷ codes "unopened again=10\n" ∷ codes "unopened limited=1\n" ∷ [] ∷ [] }
+    ensures told { map (λ quiets. minute_text (minute quiets) (record nothing { tag = 1 })) (299 ∷ 300 ∷ [])
+        ≡ [] ∷ codes "unopened tag=1\n" ∷ [] }
+    ensures begins { map (λ quiets. minute_at_receive (minute quiets)) (299 ∷ 300 ∷ []) ≡ minute 299 ∷ minute 0 ∷ [] }
+    ensures quiet { map (λ quiets. minute_after Quiet (minute quiets)) (0 ∷ 299 ∷ 300 ∷ [])
+        ≡ minute 1 ∷ minute 300 ∷ minute 300 ∷ [] }
+    ensures others { map (λ entry. minute_after entry (minute 7)) (Received (Peer 2) [] ∷ Faulted
+        ∷ Offered (Peer 2) [] ∷ []) ≡ replicate 3 (minute 7) }
+    ensures new { new_minute ≡ minute 0 }
+{}
+
+/// Worked cases. The answers `NO - BADLINE` of a second: the eleventh has no line, and the fifth quiet turn counts it.
+pub fn bad_lines_are_worked()
+    ensures tenth { told_of (Offered (Client 7) (codes "NO - BADLINE")) [] [] (second 0 9)
+        ≡ answered_line 7 None (codes "NO - BADLINE") }
+    ensures eleventh { told_of (Offered (Client 7) (codes "NO - BADLINE")) [] [] (second 0 10) ≡ [] }
+    ensures another_answer { told_of (Offered (Client 7) (codes "NO k1 UNKNOWN")) [] [] (second 0 10)
+        ≡ answered_line 7 None (codes "NO k1 UNKNOWN") }
+    ensures sealed { told_of (Offered (Client 281474976710663) (codes "NO - BADLINE")) [] [] (second 0 10)
+        ≡ answered_line 281474976710663 None (codes "NO - BADLINE") }
+    ensures counted { bad_lines_after (Offered (Client 7) (codes "NO - BADLINE")) (second 3 10) ≡ second 3 11 }
+    ensures most { bad_lines_after (Offered (Client 7) (codes "NO - BADLINE")) (second 0 (2 ^ 64 - 1))
+        ≡ second 0 (2 ^ 64 - 1) }
+    ensures uncounted { map (λ entry. bad_lines_after entry (second 3 10)) (Offered (Client 7) (codes "NO k1 UNKNOWN")
+        ∷ Offered (Client 281474976710663) (codes "NO - BADLINE") ∷ Offered (Peer 2) (codes "NO - BADLINE")
+        ∷ Received (Client 7) [] ∷ Faulted ∷ []) ≡ replicate 5 (second 3 10) }
+    ensures quiet { map (bad_lines_after Quiet) (second 3 12 ∷ second 4 12 ∷ []) ≡ second 4 12 ∷ new_second ∷ [] }
+    ensures more { map (told_of Quiet [] []) (second 4 133 ∷ second 4 11 ∷ second 4 10 ∷ second 3 133 ∷ [])
+        ≡ codes "badline more=123\n" ∷ codes "badline more=1\n" ∷ [] ∷ [] ∷ [] }
+    ensures with_silence { told_of Quiet [] (member 2 true 24 ∷ []) (second 4 12)
+        ≡ codes "silent member=2\nbadline more=2\n" }
 {}
 
 /// No secrets: the log remembers and writes the same for two lines that differ only in codes and passwords.

@@ -1,19 +1,35 @@
 //! A log over a writer.
 
-ghost use Rattle.std.specs.Prelude.{◌≡◌, [], false};
+ghost use Rattle.std.specs.Prelude.{◌≡◌, ◌++◌, [], false, OnOk};
+ghost use Rattle.std.specs.Io.KnownBytes.{Appends};
 ghost use Rattle.datagram_port.specs.Port.{Offered, Quiet, Received};
 ghost use Rattle.datagram_port.specs.declared.port.Sender.TheVariants.{Client, Peer};
+ghost use Rattle.node_log.specs.BadLines.{bad_lines_after, more_text, new_second};
+ghost use Rattle.node_log.specs.Members.{silent_texts};
 ghost use Rattle.node_log.specs.Log.{Tells, asked_after, members_after, told_of};
+ghost use Rattle.node_log.specs.Minute.{is_over, minute_after, new_minute, unopened_line};
 ghost use Rattle.node_log.specs.Text.{end_line};
 
 use crate::asked::AskedLines;
+use crate::bad_lines::BadLines;
 use crate::members::{Member, hear, rest, write_heard, write_silent};
+use crate::minute::{Minute, write_unopened};
 use crate::text::{write_answered, write_end};
 use arrayvec::ArrayVec;
-use std::io::Write;
+use sealed_port::Unopened;
+use std::io::{self, Write};
 
 /// The maximum number of other members of a node's cluster.
 pub const MAX_OTHERS: usize = 8;
+
+/// Writes the lines of a quiet turn.
+fn write_quiet<W: Write>(writer: &mut W, members: &[Member], bad_lines: &BadLines) -> io::Result<()>
+    ensures { OnOk result (Appends (W.contents writer.old) (W.contents writer.new)
+        (silent_texts members.now ++ more_text bad_lines.now)) }
+{
+    write_silent(writer, members)?;
+    bad_lines.write_more(writer)
+}
 
 /// A log over a writer. It is over at the writer's first failure, and writes nothing more.
 #[derive(Drop)]
@@ -21,6 +37,8 @@ pub struct Log<W: Write + Drop> {
     writer: W,
     asked: AskedLines,
     members: ArrayVec<Member, MAX_OTHERS>,
+    minute: Minute,
+    bad_lines: BadLines,
     is_over: bool,
 }
 
@@ -30,12 +48,16 @@ impl<W: Write + Drop> Log<W> {
         ensures writer { result.writer ≡ writer }
         ensures asked { result.asked ≡ [] }
         ensures members { result.members.items ≡ members.items }
+        ensures minute { result.minute ≡ new_minute }
+        ensures bad_lines { result.bad_lines ≡ new_second }
         ensures goes { result.is_over ≡ false }
     {
         Log {
             writer,
             asked: AskedLines::new(),
             members,
+            minute: Minute::new(),
+            bad_lines: BadLines::new(),
             is_over: false,
         }
     }
@@ -55,15 +77,21 @@ impl<W: Write + Drop> Log<W> {
         self.asked.add(client, bytes);
     }
 
-    /// Writes the line of an answer after the node offered it to a client, and forgets the client's line.
+    /// Writes the line of an answer after the node offered it to a client, and forgets the client's line. The answers
+    /// `NO - BADLINE` to plain lines have no line after the tenth of a second.
     pub fn answered(&mut self, client: u64, answer: &[u8])
         ensures asked { self.new.asked ≡ asked_after (Offered (Client client) answer.now) self.old.asked }
         ensures members { self.new.members.items ≡ self.old.members.items }
+        ensures minute { self.new.minute ≡ self.old.minute }
+        ensures bad_lines { self.new.bad_lines
+            ≡ bad_lines_after (Offered (Client client) answer.now) self.old.bad_lines }
         ensures told { Tells self.old.is_over self.new.is_over (W.contents self.old.writer) (W.contents self.new.writer)
-            (told_of (Offered (Client client) answer.now) self.old.asked self.old.members.items) }
+            (told_of (Offered (Client client) answer.now) self.old.asked self.old.members.items self.old.bad_lines) }
     {
         let user = self.asked.take(client, answer);
-        if self.is_over {
+        let is_told = self.bad_lines.is_told(client, answer);
+        self.bad_lines.note(client, answer);
+        if self.is_over || !is_told {
             return;
         }
         let name = match &user {
@@ -80,8 +108,10 @@ impl<W: Write + Drop> Log<W> {
         ensures asked { self.new.asked ≡ self.old.asked }
         ensures members { self.new.members.items
             ≡ members_after (Received (Peer number) []) self.old.members.items }
+        ensures minute { self.new.minute ≡ self.old.minute }
+        ensures bad_lines { self.new.bad_lines ≡ self.old.bad_lines }
         ensures told { Tells self.old.is_over self.new.is_over (W.contents self.old.writer) (W.contents self.new.writer)
-            (told_of (Received (Peer number) []) self.old.asked self.old.members.items) }
+            (told_of (Received (Peer number) []) self.old.asked self.old.members.items self.old.bad_lines) }
     {
         if !self.is_over
             && write_heard(&mut self.writer, number, self.members.as_slice()).is_err()
@@ -91,23 +121,54 @@ impl<W: Write + Drop> Log<W> {
         hear(self.members.as_mut_slice(), number);
     }
 
-    /// Notes a quiet turn. Writes a `silent` line for each member that becomes silent by it.
+    /// Notes a quiet turn. Writes a `silent` line for each member that becomes silent by it, and a line for the answers
+    /// `NO - BADLINE` that had none in a second that it ends.
     pub fn quiet(&mut self)
         ensures asked { self.new.asked ≡ self.old.asked }
         ensures members { self.new.members.items ≡ members_after Quiet self.old.members.items }
+        ensures minute { self.new.minute ≡ minute_after Quiet self.old.minute }
+        ensures bad_lines { self.new.bad_lines ≡ bad_lines_after Quiet self.old.bad_lines }
         ensures told { Tells self.old.is_over self.new.is_over (W.contents self.old.writer) (W.contents self.new.writer)
-            (told_of Quiet self.old.asked self.old.members.items) }
+            (told_of Quiet self.old.asked self.old.members.items self.old.bad_lines) }
     {
-        if !self.is_over && write_silent(&mut self.writer, self.members.as_slice()).is_err() {
+        if !self.is_over
+            && write_quiet(&mut self.writer, self.members.as_slice(), &self.bad_lines).is_err()
+        {
             self.is_over = true;
         }
         rest(self.members.as_mut_slice());
+        self.minute.rest();
+        self.bad_lines.rest();
+    }
+
+    /// Returns whether a minute is over since the log began, or since [`unopened`](Log::unopened) was last called.
+    pub fn is_minute_over(&self) -> bool
+        ensures { result ≡ is_over self.now.minute }
+    {
+        self.minute.is_over()
+    }
+
+    /// Writes the line of the datagrams that were not opened, if there are any, and begins another minute.
+    pub fn unopened(&mut self, unopened: Unopened)
+        ensures asked { self.new.asked ≡ self.old.asked }
+        ensures members { self.new.members.items ≡ self.old.members.items }
+        ensures minute { self.new.minute ≡ new_minute }
+        ensures bad_lines { self.new.bad_lines ≡ self.old.bad_lines }
+        ensures told { Tells self.old.is_over self.new.is_over (W.contents self.old.writer) (W.contents self.new.writer)
+            (unopened_line unopened) }
+    {
+        self.minute = Minute::new();
+        if !self.is_over && write_unopened(&mut self.writer, &unopened).is_err() {
+            self.is_over = true;
+        }
     }
 
     /// Writes the line of a node that ends serving, and flushes the writer.
     pub fn end(&mut self, received: u64, replied: u64)
         ensures asked { self.new.asked ≡ self.old.asked }
         ensures members { self.new.members.items ≡ self.old.members.items }
+        ensures minute { self.new.minute ≡ self.old.minute }
+        ensures bad_lines { self.new.bad_lines ≡ self.old.bad_lines }
         ensures told { Tells self.old.is_over self.new.is_over (W.contents self.old.writer) (W.contents self.new.writer)
             (end_line received replied) }
     {
@@ -123,6 +184,8 @@ impl<W: Write + Drop> Log<W> {
     pub fn flush(&mut self)
         ensures asked { self.new.asked ≡ self.old.asked }
         ensures members { self.new.members.items ≡ self.old.members.items }
+        ensures minute { self.new.minute ≡ self.old.minute }
+        ensures bad_lines { self.new.bad_lines ≡ self.old.bad_lines }
         ensures told { Tells self.old.is_over self.new.is_over (W.contents self.old.writer) (W.contents self.new.writer)
             [] }
     {

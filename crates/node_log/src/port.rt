@@ -1,11 +1,14 @@
 //! A node's port that keeps a log.
 
-ghost use Rattle.std.specs.Prelude.{◌≡◌, [], ◌≢◌, ◌∷◌, Some, IfSome};
+ghost use Rattle.std.specs.Prelude.{◌≡◌, [], ◌≢◌, ◌∷◌, ◌++◌, Some, IfSome};
 ghost use Rattle.datagram_port.specs.declared.port.Received.TheVariants.{Quiet as QuietReceive};
 ghost use Rattle.datagram_port.specs.Port.{Grows, IsWithin, Offered, entries_of_poll, event_of_receive};
+ghost use Rattle.node_log.specs.BadLines.{bad_lines_after, new_second};
 ghost use Rattle.node_log.specs.Log.{Remembers, Tells, asked_after, members_after, told_of};
+ghost use Rattle.node_log.specs.Minute.{minute_after, minute_at_receive, minute_text, new_minute};
 ghost use Rattle.node_log.specs.Text.{end_line};
 
+use crate::gatekeeper::Gatekeeper;
 use crate::log::{Log, MAX_OTHERS};
 use crate::members::Member;
 use arrayvec::ArrayVec;
@@ -15,21 +18,24 @@ use std::io::Write;
 /// A node's port over another one, with a log of the answers to clients, and of the members that become heard or
 /// silent.
 ///
-/// It writes a line after the node offered the answer, and flushes the log before the next wait.
+/// It writes a line after the node offered the answer, and flushes the log before the next wait. Once a minute it
+/// writes how many datagrams the port below didn't open, if there are any.
 #[derive(Drop)]
-pub struct LogPort<P: Port + Drop, W: Write + Drop> {
+pub struct LogPort<P: Gatekeeper + Drop, W: Write + Drop> {
     port: P,
     log: Log<W>,
     ghost remembers: { Remembers (P.events port) log.asked },
 }
 
-impl<P: Port + Drop, W: Write + Drop> LogPort<P, W> {
+impl<P: Gatekeeper + Drop, W: Write + Drop> LogPort<P, W> {
     /// Returns a port over `port`, which has received and offered nothing yet, with the node's other members.
     pub fn new(port: P, writer: W, members: ArrayVec<Member, MAX_OTHERS>) -> Self
         requires { IfSome (P.events port) (λ entries. entries ≡ []) }
         ensures port { result.port ≡ port }
         ensures writer { result.log.writer ≡ writer }
         ensures members { result.log.members.items ≡ members.items }
+        ensures minute { result.log.minute ≡ new_minute }
+        ensures bad_lines { result.log.bad_lines ≡ new_second }
     {
         LogPort {
             port,
@@ -47,6 +53,22 @@ impl<P: Port + Drop, W: Write + Drop> LogPort<P, W> {
         self.log.end(received, replied);
     }
 
+    /// Writes the line of the datagrams that the port below didn't open in a minute, if the minute is over.
+    fn tell_unopened(&mut self)
+        ensures event { P.events self.new.port ≡ P.events self.old.port }
+        ensures asked { self.new.log.asked ≡ self.old.log.asked }
+        ensures members { self.new.log.members.items ≡ self.old.log.members.items }
+        ensures minute { self.new.log.minute ≡ minute_at_receive self.old.log.minute }
+        ensures bad_lines { self.new.log.bad_lines ≡ self.old.log.bad_lines }
+        ensures told { Tells self.old.log.is_over self.new.log.is_over (W.contents self.old.log.writer)
+            (W.contents self.new.log.writer) (minute_text self.old.log.minute (P.unopened self.old.port)) }
+    {
+        if self.log.is_minute_over() {
+            let unopened = self.port.take_unopened();
+            self.log.unopened(unopened);
+        }
+    }
+
     /// Returns whether a line of the log could not be written. Nothing was written after it.
     pub fn is_over(&self) -> bool
         ensures { result ≡ self.now.log.is_over }
@@ -61,8 +83,10 @@ fn note<W: Write + Drop>(log: &mut Log<W>, received: Received, buffer: &[u8; 512
     ensures asked { log.new.asked ≡ asked_after (event_of_receive received buffer.now) log.old.asked }
     ensures members { log.new.members.items
         ≡ members_after (event_of_receive received buffer.now) log.old.members.items }
+    ensures minute { log.new.minute ≡ minute_after (event_of_receive received buffer.now) log.old.minute }
+    ensures bad_lines { log.new.bad_lines ≡ bad_lines_after (event_of_receive received buffer.now) log.old.bad_lines }
     ensures told { Tells log.old.is_over log.new.is_over (W.contents log.old.writer) (W.contents log.new.writer)
-        (told_of (event_of_receive received buffer.now) log.old.asked log.old.members.items) }
+        (told_of (event_of_receive received buffer.now) log.old.asked log.old.members.items log.old.bad_lines) }
 {
     match received {
         Received::Datagram { sender, len } => match sender {
@@ -78,8 +102,10 @@ fn note<W: Write + Drop>(log: &mut Log<W>, received: Received, buffer: &[u8; 512
 fn note_offer<W: Write + Drop>(log: &mut Log<W>, to: Sender, bytes: &[u8])
     ensures asked { log.new.asked ≡ asked_after (Offered to bytes.now) log.old.asked }
     ensures members { log.new.members.items ≡ log.old.members.items }
+    ensures minute { log.new.minute ≡ log.old.minute }
+    ensures bad_lines { log.new.bad_lines ≡ bad_lines_after (Offered to bytes.now) log.old.bad_lines }
     ensures told { Tells log.old.is_over log.new.is_over (W.contents log.old.writer) (W.contents log.new.writer)
-        (told_of (Offered to bytes.now) log.old.asked log.old.members.items) }
+        (told_of (Offered to bytes.now) log.old.asked log.old.members.items log.old.bad_lines) }
 {
     match to {
         Sender::Client(client) => log.answered(client, bytes),
@@ -87,18 +113,22 @@ fn note_offer<W: Write + Drop>(log: &mut Log<W>, to: Sender, bytes: &[u8])
     }
 }
 
-impl<P: Port + Drop, W: Write + Drop> Port for LogPort<P, W> {
+impl<P: Gatekeeper + Drop, W: Write + Drop> Port for LogPort<P, W> {
     ghost events = { λ logged. P.events logged.port };
 
-    #[tactic(auto, using(crate::proofs::LogLemmas::remembers_more, crate::proofs::LogLemmas::tells_more))]
+    #[tactic(auto, using(crate::proofs::LogLemmas::remembers_more, crate::proofs::LogLemmas::tells_both, crate::proofs::LogLemmas::tells_more))]
     fn receive(&mut self, buffer: &mut [u8; 512]) -> Received
         ensures within { IsWithin result }
         ensures event { Grows (P.events self.old.port) (P.events self.new.port)
             (event_of_receive result buffer.new ∷ []) }
         ensures told { Tells self.old.log.is_over self.new.log.is_over (W.contents self.old.log.writer)
-            (W.contents self.new.log.writer)
-            (told_of (event_of_receive result buffer.new) self.old.log.asked self.old.log.members.items) }
+            (W.contents self.new.log.writer) (minute_text self.old.log.minute (P.unopened self.old.port)
+            ++ told_of (event_of_receive result buffer.new) self.old.log.asked self.old.log.members.items
+            self.old.log.bad_lines) }
+        ensures minute { self.new.log.minute
+            ≡ minute_after (event_of_receive result buffer.new) (minute_at_receive self.old.log.minute) }
     {
+        self.tell_unopened();
         self.log.flush();
         let received = self.port.receive(buffer);
         note(&mut self.log, received, buffer);
@@ -112,7 +142,8 @@ impl<P: Port + Drop, W: Write + Drop> Port for LogPort<P, W> {
         ensures event { Grows (P.events self.old.port) (P.events self.new.port) (entries_of_poll result buffer.new) }
         ensures told { IfSome result (λ received. Tells self.old.log.is_over self.new.log.is_over
             (W.contents self.old.log.writer) (W.contents self.new.log.writer)
-            (told_of (event_of_receive received buffer.new) self.old.log.asked self.old.log.members.items)) }
+            (told_of (event_of_receive received buffer.new) self.old.log.asked self.old.log.members.items
+            self.old.log.bad_lines)) }
     {
         let received = self.port.poll(buffer);
         if let Some(received) = received {
@@ -126,7 +157,7 @@ impl<P: Port + Drop, W: Write + Drop> Port for LogPort<P, W> {
         ensures event { Grows (P.events self.old.port) (P.events self.new.port) (Offered to bytes.now ∷ []) }
         ensures told { Tells self.old.log.is_over self.new.log.is_over (W.contents self.old.log.writer)
             (W.contents self.new.log.writer)
-            (told_of (Offered to bytes.now) self.old.log.asked self.old.log.members.items) }
+            (told_of (Offered to bytes.now) self.old.log.asked self.old.log.members.items self.old.log.bad_lines) }
     {
         let is_taken = self.port.send(to, bytes);
         note_offer(&mut self.log, to, bytes);

@@ -136,7 +136,7 @@ pub struct Start {
 }
 
 /// Writes a word and a number.
-fn write_value<W: Write>(writer: &mut W, word: &[u8], number: u64) -> io::Result<()>
+pub(crate) fn write_value<W: Write>(writer: &mut W, word: &[u8], number: u64) -> io::Result<()>
     ensures { OnOk result (Appends (W.contents writer.old) (W.contents writer.new) (word.now ++ decimal number)) }
 {
     writer.write_all(word)?;

@@ -1,6 +1,6 @@
 //! Carries out the commands over a database.
 
-ghost use Rattle.std.specs.Prelude.{◌≡◌, ◌<◌, ◌≤◌, ◌^◌, length, IfOk, IfSome};
+ghost use Rattle.std.specs.Prelude.{◌<◌, ◌≤◌, ◌^◌, IfOk, IfSome};
 ghost use Rattle.floor_sql.specs.Usable.{IsNode};
 ghost use Rattle.otp_core.specs.Range.{IsMoment};
 ghost use Rattle.oathd_database.specs.Gate.{IsSaid};
@@ -9,22 +9,22 @@ ghost use Rattle.oathd.specs.Cluster.{IsImportOf};
 
 use crate::fault::Fault;
 use crate::floors::{floors_texts, with_paths};
-use crate::users::{open_users, users_text};
+use crate::users::{checked_users_text, users_text};
 use cluster_file::Cluster;
 use datagram_port::Clock;
 use oathd_database::{
-    ClientLines, LostNode, NodeKey, Serving, audit_file, export_file, floors_file, gates_file,
-    init_file, init_lost_file, level_file, migrate_file, serve_file, unlock_file,
+    ClientLines, DatabaseFile, LostNode, NodeKey, Serving, audit_store, export_store, floors_store,
+    gates_store, init_lost_store, init_store, level_store, migrate_store, serve_store,
+    unlock_store,
 };
 use oathd_tasks::{clients_at, cluster_in, cluster_key, member_place, read_key};
 use oathd_words::{Action, ClientWords, ClusterWords, CountWords, FormerWords, ImportWords};
 use otp_core::{MOMENTS_END, Settings};
-use std::alloc::{AllocError, Global};
-use std::io::Write;
+use sqlite::Start;
+use std::alloc::Global;
+use std::io::{Cursor, Write};
 use std::time::Clock as TimeSource;
 use udp_port::SystemClock;
-use vote_core::Place;
-use vote_wire::ClusterKey;
 
 /// Returns the current time.
 fn present_moment<'a, T: TimeSource>(source: &T) -> Result<u64, Fault<'a>>
@@ -55,30 +55,6 @@ fn import_settings<'a>(
             Ok(cluster.settings)
         }
     }
-}
-
-/// Returns the parameters of a node of the cluster, with `key` as the cluster's key.
-fn serving_of<'a>(
-    cluster: &'a Cluster<'a>,
-    key: ClusterKey,
-    place: Place,
-    turns: u64,
-    is_logged: bool,
-    lines: ClientLines,
-) -> Result<Serving<'a>, AllocError>
-    requires place { place.n ≡ length cluster.now.members.items }
-    requires turns { turns < 2 ^ 54 }
-    requires lines { IsSaid lines }
-{
-    Ok(Serving {
-        settings: cluster.settings,
-        place,
-        members: cluster.members.clone()?,
-        key: NodeKey::Shared(key, cluster),
-        turns,
-        is_logged,
-        lines,
-    })
 }
 
 /// Returns `moment`, or the current time if None.
@@ -142,21 +118,45 @@ impl<'r, 'a> Site<'r, 'a> {
         }
     }
 
+    /// Returns the database in its file, which has to exist and not be empty.
+    fn found<S: Start>(&self, start: S) -> DatabaseFile<'_, S> {
+        DatabaseFile::found(self.rt, self.database, start)
+    }
+
+    /// Returns the text of the users file for an import with `settings` at `moment`.
+    fn users(&self, settings: Settings, moment: u64) -> Result<Cursor<Vec<u8>>, Fault<'a>>
+        requires { IsMoment moment }
+    {
+        Ok(Cursor::new(users_text(self.alloc, self.rt, self.users, settings, moment)?))
+    }
+
+    /// Returns the text of the users file for a command that imports no floors.
+    fn users_alone(&self) -> Result<Cursor<Vec<u8>>, Fault<'a>> {
+        self.users(Settings::default(), 0)
+    }
+
     /// Creates the node's store, as an import with `settings`.
-    fn init(&self, node: u8, settings: Settings, moment: Option<u64>) -> Result<(), Fault<'a>>
+    fn init<S: Start>(
+        &self,
+        start: S,
+        node: u8,
+        settings: Settings,
+        moment: Option<u64>,
+    ) -> Result<(), Fault<'a>>
         requires node { IsNode node }
         requires moment { IfSome moment IsMoment }
     {
         let moment = moment_of(self.rt, moment)?;
-        let file = open_users(self.rt, self.users)?;
-        let (alloc, rt) = (self.alloc, self.rt);
-        init_file(alloc, rt, self.database, file, settings, moment, node)?;
+        let users = self.users(settings, moment)?;
+        let database = DatabaseFile::found_or_made(self.rt, self.database, start);
+        let _store = init_store(self.alloc, users, settings, moment, node, database)?;
         Ok(())
     }
 
     /// Creates a replacement store for a node from the floors files of former stores, as an import with `settings`.
-    fn remake(
+    fn remake<S: Start>(
         &self,
+        start: S,
         node: u8,
         settings: Settings,
         moment: Option<u64>,
@@ -167,7 +167,7 @@ impl<'r, 'a> Site<'r, 'a> {
     {
         let moment = moment_of(self.rt, moment)?;
         let (alloc, rt) = (self.alloc, self.rt);
-        let users = users_text(alloc, rt, self.users, settings, moment)?;
+        let users = checked_users_text(alloc, rt, self.users, settings, moment)?;
         let texts = floors_texts(alloc, rt, &former.floors)?;
         let lost = match &former.lost {
             Some(lost) => Some(lost.as_slice()),
@@ -178,9 +178,17 @@ impl<'r, 'a> Site<'r, 'a> {
             lost,
             since: former.since,
         };
-        let (database, users) = (self.database, users.as_slice());
-        match init_lost_file(alloc, rt, database, users, settings, moment, lost, &texts) {
-            Ok(()) => Ok(()),
+        let database = DatabaseFile::found_or_made(rt, self.database, start);
+        match init_lost_store(
+            alloc,
+            users.as_slice(),
+            settings,
+            moment,
+            lost,
+            &texts,
+            database,
+        ) {
+            Ok(_store) => Ok(()),
             Err(fault) => Err(with_paths(&former.floors, fault)),
         }
     }
@@ -198,9 +206,22 @@ impl<'r, 'a> Site<'r, 'a> {
         }
     }
 
-    /// Serves a node of the cluster that the words, or the text of their cluster file, describe.
-    fn serve<O: Write>(
+    /// Serves a node over its database.
+    fn serve_as<S: Start, O: Write>(
         &self,
+        start: S,
+        serving: Serving<'_>,
+        held: &mut O,
+    ) -> Result<(), Fault<'a>> {
+        let users = self.users(serving.settings, 0)?;
+        let _served = serve_store(self.alloc, self.rt, users, serving, self.found(start), held)?;
+        Ok(())
+    }
+
+    /// Serves a node of the cluster that the words, or the text of their cluster file, describe.
+    fn serve<S: Start, O: Write>(
+        &self,
+        start: S,
         cluster: ClusterWords<'a>,
         turns: u64,
         is_logged: bool,
@@ -219,7 +240,6 @@ impl<'r, 'a> Site<'r, 'a> {
             } => {
                 let key = NodeKey::Own(read_key(self.alloc, self.rt, Some(key))?);
                 let lines = self.lines_of(clients)?;
-                let file = open_users(self.rt, self.users)?;
                 let serving = Serving {
                     settings,
                     place,
@@ -229,18 +249,18 @@ impl<'r, 'a> Site<'r, 'a> {
                     is_logged,
                     lines,
                 };
-                serve_file(self.alloc, self.rt, self.database, file, serving, held)?;
-                Ok(())
+                self.serve_as(start, serving, held)
             }
             ClusterWords::Named { node, .. } => self.serve_member(
-                node, turns, is_logged, clients, held,
+                start, node, turns, is_logged, clients, held,
             ),
         }
     }
 
     /// Serves a member of the cluster that the text of the cluster file describes.
-    fn serve_member<O: Write>(
+    fn serve_member<S: Start, O: Write>(
         &self,
+        start: S,
         node: u8,
         turns: u64,
         is_logged: bool,
@@ -254,40 +274,40 @@ impl<'r, 'a> Site<'r, 'a> {
         let place = member_place(&cluster, node)?;
         let key = cluster_key(self.alloc, self.rt, &cluster.key)?;
         let lines = self.lines_of(clients)?;
-        let file = open_users(self.rt, self.users)?;
-        match serving_of(&cluster, key, place, turns, is_logged, lines) {
-            Ok(serving) => {
-                serve_file(self.alloc, self.rt, self.database, file, serving, held)?;
-                Ok(())
-            }
+        match Serving::of_member(&cluster, key, place, turns, is_logged, lines) {
+            Ok(serving) => self.serve_as(start, serving, held),
             Err(_) => Err(Fault::Database(oathd_database::Fault::Memory)),
         }
     }
 
     /// Prints a users file with the store's content.
-    fn export<O: Write>(&self, held: &mut O) -> Result<(), Fault<'a>> {
-        let file = open_users(self.rt, self.users)?;
-        export_file(self.alloc, self.rt, self.database, file, held)?;
+    fn export<S: Start, O: Write>(&self, start: S, held: &mut O) -> Result<(), Fault<'a>> {
+        export_store(self.alloc, self.users_alone()?, self.found(start), held)?;
         Ok(())
     }
 
     /// Prints the passes of the store.
-    fn audit<O: Write>(&self, node: u8, held: &mut O) -> Result<(), Fault<'a>> {
-        let file = open_users(self.rt, self.users)?;
-        audit_file(self.alloc, self.rt, self.database, file, node, held)?;
+    fn audit<S: Start, O: Write>(&self, start: S, node: u8, held: &mut O) -> Result<(), Fault<'a>> {
+        audit_store(
+            self.alloc,
+            self.users_alone()?,
+            node,
+            self.found(start),
+            held,
+        )?;
         Ok(())
     }
 
     /// Upgrades the store to the current format.
-    fn migrate(&self, node: u8) -> Result<(), Fault<'a>> {
-        let file = open_users(self.rt, self.users)?;
-        migrate_file(self.alloc, self.rt, self.database, file, node)?;
+    fn migrate<S: Start>(&self, start: S, node: u8) -> Result<(), Fault<'a>> {
+        let _conn = migrate_store(self.alloc, self.users_alone()?, node, self.found(start))?;
         Ok(())
     }
 
     /// Prints the floors file of the store.
-    fn floors<O: Write>(
+    fn floors<S: Start, O: Write>(
         &self,
+        start: S,
         node: u8,
         count: CountWords<'a>,
         held: &mut O,
@@ -296,40 +316,51 @@ impl<'r, 'a> Site<'r, 'a> {
     {
         let members = member_count(self.alloc, count, node, self.cluster)?;
         let moment = present_moment(self.rt)?;
-        let file = open_users(self.rt, self.users)?;
-        let (alloc, rt) = (self.alloc, self.rt);
-        floors_file(alloc, rt, self.database, file, node, members, moment, held)?;
+        let (users, database) = (self.users_alone()?, self.found(start));
+        floors_store(self.alloc, users, node, members, moment, database, held)?;
         Ok(())
     }
 
     /// Raises the floors of a node (floor: the first free factor) to the greatest in floors files.
-    fn level(&self, node: u8, floors: Vec<&'a str>) -> Result<(), Fault<'a>> {
+    fn level<S: Start>(&self, start: S, node: u8, floors: Vec<&'a str>) -> Result<(), Fault<'a>> {
         let (alloc, rt) = (self.alloc, self.rt);
-        let users = users_text(alloc, rt, self.users, Settings::default(), 0)?;
+        let users = checked_users_text(alloc, rt, self.users, Settings::default(), 0)?;
         let texts = floors_texts(alloc, rt, &floors)?;
-        match level_file(alloc, rt, self.database, users.as_slice(), node, &texts) {
-            Ok(()) => Ok(()),
+        match level_store(alloc, users.as_slice(), node, &texts, self.found(start)) {
+            Ok(_store) => Ok(()),
             Err(fault) => Err(with_paths(&floors, fault)),
         }
     }
 
     /// Prints the gates that have failures.
-    fn gates<O: Write>(&self, node: u8, held: &mut O) -> Result<(), Fault<'a>> {
-        let file = open_users(self.rt, self.users)?;
-        gates_file(self.alloc, self.rt, self.database, file, node, held)?;
+    fn gates<S: Start, O: Write>(&self, start: S, node: u8, held: &mut O) -> Result<(), Fault<'a>> {
+        gates_store(
+            self.alloc,
+            self.users_alone()?,
+            node,
+            self.found(start),
+            held,
+        )?;
         Ok(())
     }
 
     /// Clears the failures of a user.
-    fn unlock(&self, node: u8, user: &'a str) -> Result<(), Fault<'a>> {
-        let file = open_users(self.rt, self.users)?;
-        unlock_file(self.alloc, self.rt, self.database, file, node, user)?;
+    fn unlock<S: Start>(&self, start: S, node: u8, user: &'a str) -> Result<(), Fault<'a>> {
+        let _store = unlock_store(
+            self.alloc,
+            self.users_alone()?,
+            node,
+            user,
+            self.found(start),
+        )?;
         Ok(())
     }
 
-    /// Carries out an action on the store of the database. `held` buffers the output until it is flushed.
-    pub(crate) fn perform<O: Write>(
+    /// Carries out an action on the store of the database. `start` stands for the content of its
+    /// files. `held` buffers the output until it is flushed.
+    pub(crate) fn perform<S: Start, O: Write>(
         &self,
+        start: S,
         action: Action<'a>,
         held: &mut O,
     ) -> Result<(), Fault<'a>>
@@ -342,7 +373,7 @@ impl<'r, 'a> Site<'r, 'a> {
                 moment,
             } => {
                 let settings = import_settings(self.alloc, import, node, self.cluster)?;
-                self.init(node, settings, moment)
+                self.init(start, node, settings, moment)
             }
             Action::Remake {
                 node,
@@ -351,21 +382,21 @@ impl<'r, 'a> Site<'r, 'a> {
                 former,
             } => {
                 let settings = import_settings(self.alloc, import, node, self.cluster)?;
-                self.remake(node, settings, moment, former)
+                self.remake(start, node, settings, moment, former)
             }
             Action::Serve {
                 cluster,
                 turns,
                 is_logged,
                 clients,
-            } => self.serve(cluster, turns, is_logged, clients, held),
-            Action::Export => self.export(held),
-            Action::Audit { node } => self.audit(node, held),
-            Action::Migrate { node } => self.migrate(node),
-            Action::Floors { node, count } => self.floors(node, count, held),
-            Action::Level { node, floors } => self.level(node, floors),
-            Action::Gates { node } => self.gates(node, held),
-            Action::Unlock { node, user } => self.unlock(node, user),
+            } => { self.serve(start, cluster, turns, is_logged, clients, held) },
+            Action::Export => self.export(start, held),
+            Action::Audit { node } => self.audit(start, node, held),
+            Action::Migrate { node } => self.migrate(start, node),
+            Action::Floors { node, count } => self.floors(start, node, count, held),
+            Action::Level { node, floors } => self.level(start, node, floors),
+            Action::Gates { node } => self.gates(start, node, held),
+            Action::Unlock { node, user } => self.unlock(start, node, user),
         }
     }
 }

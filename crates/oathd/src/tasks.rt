@@ -7,6 +7,7 @@ use oathd_database::UnlockFault;
 use oathd_tasks::{PROGRAM, TaskFault, perform};
 use oathd_words::Task;
 use program_edge::exit_status;
+use sqlite::Unknown;
 use std::alloc::Global;
 use std::io::{Read, Write};
 
@@ -50,7 +51,7 @@ impl<'a> TaskFault<'a> for Fault<'a> {
                 database,
                 users,
                 action,
-            } => Site::new(alloc, rt, database, users, cluster).perform(action, held),
+            } => Site::new(alloc, rt, database, users, cluster).perform(Unknown, action, held),
             task => match perform(alloc, rt, &task, cluster, reader, held) {
                 Ok(()) => Ok(()),
                 Err(fault) => Err(Fault::Task(fault)),

@@ -1,4 +1,4 @@
-//! Reads the users file of a command over floors files. Its faults are reported before the floors files' faults.
+//! Reads the users file of a command.
 
 ghost use Rattle.otp_core.specs.Range.{IsMoment};
 
@@ -7,38 +7,45 @@ use oathd_database::read_users;
 use otp_core::Settings;
 use std::alloc::Global;
 use std::fs;
-use std::io::{self, Read};
+use std::io::{self, ErrorKind, Read};
 use std::rt::Files;
 
-/// A reader that keeps a copy of what it reads.
+/// The maximum length of a users file, in bytes: 16 MiB.
+const MAX_USERS_LEN: u64 = 16_777_216;
+
+/// A reader whose reads fail.
 #[derive(Drop)]
-struct Copying<R> {
-    reader: R,
-    copy: Vec<u8>,
-    /// Whether the allocator refused memory for the copy.
-    is_short: bool,
-}
+struct Failing;
 
-impl<R: Read> Read for Copying<R> {
-    fn read(&mut self, buf: &mut [u8]) -> io::Result<usize> {
-        let len = self.reader.read(buf)?;
-        match self.copy.extend_from_slice(&buf[..len]) {
-            Ok(()) => {}
-            Err(_) => self.is_short = true,
-        }
-        Ok(len)
+impl Read for Failing {
+    fn read(&mut self, _buf: &mut [u8]) -> io::Result<usize> {
+        Err(ErrorKind::Other.into())
     }
 }
 
-/// Opens the users file at `path`.
-pub(crate) fn open_users<'a, F: Files>(files: &F, path: &'a str) -> Result<F::File, Fault<'a>> {
-    match fs::open(files, path) {
-        Ok(file) => Ok(file),
-        Err(_) => Err(Fault::Task(oathd_tasks::Fault::CannotReadFile(path))),
+/// Returns the fault of a users file of which only `text` could be read: the first fault of the text, or the failure.
+fn cut_off<'a>(
+    alloc: Global,
+    text: &[u8],
+    settings: Settings,
+    moment: u64,
+    path: &'a str,
+) -> Fault<'a>
+    requires { IsMoment moment }
+{
+    match read_users(alloc, text.chain(Failing), settings, moment) {
+        Ok(_) => Fault::Task(oathd_tasks::Fault::CannotReadFile(path)),
+        Err(fault) => Fault::Database(fault),
     }
 }
 
-/// Returns the text of the users file at `path`, which has no fault. The file is read once, so it may be a pipe.
+/// Returns the text of the users file at `path`, up to the first byte past 16 MiB. The file is read once, so it may be
+/// a pipe.
+///
+/// # Errors
+/// - Returns `CannotReadFile` if the file cannot be opened.
+/// - Returns `Users` with the first faulty line if a read fails: that of the failure, or one before it.
+/// - Returns `Memory` if the allocator refuses the memory.
 pub(crate) fn users_text<'a, F: Files>(
     alloc: Global,
     files: &F,
@@ -48,14 +55,34 @@ pub(crate) fn users_text<'a, F: Files>(
 ) -> Result<Vec<u8>, Fault<'a>>
     requires { IsMoment moment }
 {
-    let mut copying = Copying {
-        reader: open_users(files, path)?,
-        copy: Vec::new(alloc),
-        is_short: false,
+    let Ok(file) = fs::open(files, path) else {
+        return Err(Fault::Task(oathd_tasks::Fault::CannotReadFile(path)));
     };
-    let _users = read_users(alloc, &mut copying, settings, moment)?;
-    if copying.is_short {
-        return Err(Fault::Database(oathd_database::Fault::Memory));
+    let mut text = Vec::new(alloc);
+    match file.take(MAX_USERS_LEN + 1).read_to_end(&mut text) {
+        Ok(_) => Ok(text),
+        Err(error) if error.kind() == ErrorKind::OutOfMemory => {
+            Err(Fault::Database(oathd_database::Fault::Memory))
+        }
+        Err(_) => Err(cut_off(alloc, &text, settings, moment, path)),
     }
-    Ok(copying.copy)
+}
+
+/// Returns the text of the users file at `path`, as [`users_text`] does, if it has no fault.
+///
+/// # Errors
+/// - Returns the errors of [`users_text`].
+/// - Returns `Users` with the first faulty line.
+pub(crate) fn checked_users_text<'a, F: Files>(
+    alloc: Global,
+    files: &F,
+    path: &'a str,
+    settings: Settings,
+    moment: u64,
+) -> Result<Vec<u8>, Fault<'a>>
+    requires { IsMoment moment }
+{
+    let text = users_text(alloc, files, path, settings, moment)?;
+    let _users = read_users(alloc, text.as_slice(), settings, moment)?;
+    Ok(text)
 }

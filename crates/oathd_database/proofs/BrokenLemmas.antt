@@ -22,7 +22,9 @@ use Rattle.datagram_port.specs.Port.{PortEvent}
 use Rattle.oath_node.specs.Hosted.{Hosted}
 use Rattle.oath_node.specs.TurnServing.{EndsSo, Serves}
 use Rattle.oath_node.specs.Turns.{AreBatches, Receipt, receipts_in}
+use Rattle.oath_node.specs.declared.fault.NodeFault.TheVariants as node
 use Rattle.oath_node.specs.declared.serve_fault.ServeFault.{ServeFault}
+use Rattle.oath_node.specs.declared.serve_fault.ServeFault.TheVariants as turns
 use Rattle.oath_node.specs.declared.turns.Served.{Served}
 use Rattle.oathd_database.specs.Broken.{IsOfOne, disk_of, fallen, new_store, one_book, small_conn, so_much, store_of}
 use Rattle.oathd_database.specs.Commands.{HasImport, IsServed}
@@ -30,6 +32,7 @@ use Rattle.oathd_database.specs.Fault.{serve_end}
 use Rattle.oathd_database.specs.Tables.{WritesAudit}
 use Rattle.oathd_database.specs.Text.{audit_text}
 use Rattle.oathd_database.specs.Users.{IsImported}
+use Rattle.oathd_database.specs.declared.fault.Fault.TheVariants.{CannotWrite}
 
 -- a disk that returns what was written is clean
 pub clean_is : (trees : ℕ → Trees) (conn : Conn ℕ) → HasCleanDisk (state (disk_of true trees) conn)
@@ -155,3 +158,12 @@ pub nothing_served : {S : Type 0} (held : S → Held) (old new : Hosted S) (serv
     → (h : IsServed held old new 0 (Ok served)) → (held new.store).is_clean
     → (served ≡ so_much 0 0) × (h.events ≡ [])
 nothing_served held old new served h clean = nothing_ended held old new h.events served h.end h.ends h.serves clean
+
+-- no turn ends with a fault of the output
+pub no_output : (end : Result Served ServeFault) → Err CannotWrite ≡ serve_end end → ⊥
+no_output (Ok served) is = absurd cc
+no_output (Err (turns.Node (node.Store fault))) is = absurd cc
+no_output (Err (turns.Node node.Stopped)) is = absurd cc
+no_output (Err (turns.Node node.Spent)) is = absurd cc
+no_output (Err turns.Port) is = absurd cc
+no_output (Err turns.Clock) is = absurd cc

@@ -1,9 +1,10 @@
 -- How a command ends.
-use Rattle.std.proofs.Common.{◌≡◌, ℕ, List, Option, Some, None, IfSome, length, subst, sym}
+use Rattle.std.proofs.Common.{inl, inr, ◌≡◌, ℕ, List, Option, Some, None, IfSome, length, subst, sym}
 use Rattle.std.specs.Prelude.{Result, Ok, Err, IfErr, IfOk, OnOk}
 use Rattle.std.specs.Io.KnownBytes.{Appends}
 use Rattle.std.proofs.lemmas.Option.{IfSome_then}
 use Rattle.sqlite.specs.Store.{Ghosts}
+use Rattle.sqlite.specs.Held as sql
 use Rattle.sqlite.specs.Held.{state}
 use Rattle.sqlite.specs.State.{HasCleanDisk}
 use Rattle.otp_core.specs.Limits.{Limits}
@@ -12,12 +13,9 @@ use Rattle.floor_store.specs.declared.fault.StoreFault.{StoreFault}
 use Rattle.floor_sql.specs.Held.{SqlHeld, sql_held}
 use Rattle.oath_node.specs.Calls.{IsOpened}
 use Rattle.oath_node.specs.Hosted.{Hosted}
-use Rattle.oath_node.specs.declared.fault.NodeFault.TheVariants as node
-use Rattle.oath_node.specs.declared.serve_fault.ServeFault.{ServeFault}
-use Rattle.oath_node.specs.declared.serve_fault.ServeFault.TheVariants as turns
 use Rattle.oath_node.specs.declared.turns.Served.{Served}
-use Rattle.oathd_database.specs.Commands.{EndsOutput, EndsServing, HasAudited, HasExported, HasImport, HasOpened, HasServed, IsRefused, IsServed}
-use Rattle.oathd_database.specs.Fault.{IsOpenFault, IsOutputFault, serve_end, serve_fault_of}
+use Rattle.oathd_database.specs.Commands.{EndsOutput, EndsServing, HasAudited, HasExported, HasImport, HasOpened, HasServed, IsNotServed, IsRefused, IsServed}
+use Rattle.oathd_database.specs.Fault.{IsOpenFault, IsOutputFault}
 use Rattle.oathd_database.specs.Front.{IsFrontFault}
 use Rattle.oathd_database.specs.NodeKey.{tag_key}
 use Rattle.oathd_database.specs.Tables.{KeepsTables, WritesAudit}
@@ -36,7 +34,7 @@ module _ (limits : Limits) (moment longest : ℕ) where
   refused_output (Store fault) text h = h
   refused_output Socket text h = h
 
-  refused_serving : (fault : Fault) (text : List ℕ) → IsRefused limits moment longest fault text → EndsServing limits moment longest fault text
+  refused_serving : (fault : Fault) (text : List ℕ) → IsRefused limits moment longest fault text → IsNotServed limits moment longest fault text
   refused_serving Memory text h = tt
   refused_serving CannotWrite text h = h
   refused_serving NoClock text h = absurd h
@@ -53,20 +51,13 @@ module _ (limits : Limits) (moment longest : ℕ) where
   failed_output broken (Store fault) text h is = h
   failed_output broken Socket text h is = absurd is
 
-  failed_opening : (fault : Fault) (text : List ℕ) → HasImport limits moment longest text → IsOpenFault fault → EndsServing limits moment longest fault text
+  failed_opening : (fault : Fault) (text : List ℕ) → HasImport limits moment longest text → IsOpenFault fault → IsNotServed limits moment longest fault text
   failed_opening Memory text h is = tt
   failed_opening CannotWrite text h is = absurd is
   failed_opening NoClock text h is = absurd is
   failed_opening (Users fault) text h is = absurd is
   failed_opening (Store fault) text h is = h
   failed_opening Socket text h is = absurd is
-
-  failed_turns : (fault : ServeFault) (text : List ℕ) → HasImport limits moment longest text → EndsServing limits moment longest (serve_fault_of fault) text
-  failed_turns (turns.Node (node.Store fault)) text h = h
-  failed_turns (turns.Node node.Stopped) text h = h
-  failed_turns (turns.Node node.Spent) text h = h
-  failed_turns turns.Port text h = h
-  failed_turns turns.Clock text h = h
 
   imported : (book : List Credential) (floors : List ℕ) (text : List ℕ) → IsImported limits moment longest book floors text → HasImport limits moment longest text
   imported book floors text h = record { book = book; floors = floors; imported = h }
@@ -77,7 +68,7 @@ module _ (limits : Limits) (moment longest : ℕ) where
     unopened_output fault h = IfSome_then a h (λ text g. refused_output fault text g)
 
     -- no store is opened to serve a node
-    pub unopened_serving : (fault : Fault) → IfSome a (IsRefused limits moment longest fault) → IfSome a (EndsServing limits moment longest fault)
+    pub unopened_serving : (fault : Fault) → IfSome a (IsRefused limits moment longest fault) → IfSome a (IsNotServed limits moment longest fault)
     unopened_serving fault h = IfSome_then a h (λ text g. refused_serving fault text g)
 
     module _ (book : List Credential) (floors : List ℕ) (h : IfSome a (IsImported limits moment longest book floors)) where
@@ -92,20 +83,20 @@ module _ (limits : Limits) (moment longest : ℕ) where
       ends_output broken (Err fault) is = IfSome_then a has_import (λ text g. failed_output broken fault text g is)
 
       -- the node is not opened
-      pub ends_opening : (fault : Fault) → IsOpenFault fault → IfSome a (EndsServing limits moment longest fault)
+      pub ends_opening : (fault : Fault) → IsOpenFault fault → IfSome a (IsNotServed limits moment longest fault)
       ends_opening fault is = IfSome_then a has_import (λ text g. failed_opening fault text g is)
 
       -- the socket can't be had
-      pub ends_socket : (fault : Fault) → fault ≡ Socket → IfSome a (EndsServing limits moment longest fault)
-      ends_socket fault is = subst (λ (x : Fault). IfSome a (EndsServing limits moment longest x)) (sym is) has_import
+      pub ends_socket : (fault : Fault) → fault ≡ Socket → IfSome a (IsNotServed limits moment longest fault)
+      ends_socket fault is = subst (λ (x : Fault). IfSome a (IsNotServed limits moment longest x)) (sym is) has_import
 
       -- the allocator refuses the memory
-      pub ends_memory : (fault : Fault) → fault ≡ Memory → IfSome a (EndsServing limits moment longest fault)
+      pub ends_memory : (fault : Fault) → fault ≡ Memory → IfSome a (IsNotServed limits moment longest fault)
       ends_memory fault is =
-          subst (λ (x : Fault). IfSome a (EndsServing limits moment longest x)) (sym is) (IfSome_then a has_import (λ text g. tt))
+          subst (λ (x : Fault). IfSome a (IsNotServed limits moment longest x)) (sym is) (IfSome_then a has_import (λ text g. tt))
 
       -- what stands before the node can't be made
-      pub ends_front : (fault : Fault) → IsFrontFault fault → IfSome a (EndsServing limits moment longest fault)
+      pub ends_front : (fault : Fault) → IsFrontFault fault → IfSome a (IsNotServed limits moment longest fault)
       ends_front Memory is = IfSome_then a has_import (λ text g. tt)
       ends_front CannotWrite is = absurd is
       ends_front NoClock is = has_import
@@ -113,32 +104,23 @@ module _ (limits : Limits) (moment longest : ℕ) where
       ends_front (Store fault) is = absurd is
       ends_front Socket is = absurd is
 
-      ends_at : (end : Result Served ServeFault) → IfErr (serve_end end) (λ fault. IfSome a (EndsServing limits moment longest fault))
-      ends_at (Ok served) = tt
-      ends_at (Err fault) = IfSome_then a has_import (λ text g. failed_turns fault text g)
-
-      -- the node's turns end
-      pub ends_turns : (result : Result Served Fault) (end : Result Served ServeFault) → result ≡ serve_end end
-          → IfErr result (λ fault. IfSome a (EndsServing limits moment longest fault))
-      ends_turns result end is = subst (λ (r : Result Served Fault). IfErr r (λ fault. IfSome a (EndsServing limits moment longest fault))) (sym is) (ends_at end)
-
       -- a users file is written
-      pub has_exported : {S T : Type 0} (g : Ghosts S) (old new : Option (List ℕ)) (store : SqlHeld S) → HasOpened g None (length book) store
+      pub has_exported : {S T : Type 0} (g : Ghosts S) (finds : sql.Held S → Type 0) (old new : Option (List ℕ)) (store : SqlHeld S) → HasOpened g finds None (length book) store
           → (result : Result T Fault) → (HasCleanDisk (state g store.conn) → OnOk result (Appends old new (export_text book store.mirror.rows)))
-          → IfOk result (λ _. IfSome a (HasExported g limits moment longest old new))
-      has_exported g old new store opened (Ok one) written = IfSome_then a h (λ text i. record {
+          → IfOk result (λ _. IfSome a (HasExported g finds limits moment longest old new))
+      has_exported g finds old new store opened (Ok one) written = IfSome_then a h (λ text i. record {
         import = record { book = book; floors = floors; imported = i };
         store = store;
         opened = opened;
         written = written;
       })
-      has_exported g old new store opened (Err fault) written = tt
+      has_exported g finds old new store opened (Err fault) written = tt
 
       -- passes are written
-      pub has_audited : {S T : Type 0} (g : Ghosts S) (node : ℕ) (old new : Option (List ℕ)) (found store : SqlHeld S) → HasOpened g (Some node) (length book) found
+      pub has_audited : {S T : Type 0} (g : Ghosts S) (finds : sql.Held S → Type 0) (node : ℕ) (old new : Option (List ℕ)) (found store : SqlHeld S) → HasOpened g finds (Some node) (length book) found
           → KeepsTables g found store → (result : Result T Fault) → (HasCleanDisk (state g store.conn) → OnOk result (WritesAudit g store old new))
-          → IfOk result (λ _. IfSome a (HasAudited g limits moment longest node old new))
-      has_audited g node old new found store opened kept (Ok one) written = IfSome_then a h (λ text i. record {
+          → IfOk result (λ _. IfSome a (HasAudited g finds limits moment longest node old new))
+      has_audited g finds node old new found store opened kept (Ok one) written = IfSome_then a h (λ text i. record {
         import = record { book = book; floors = floors; imported = i };
         found = found;
         opened = opened;
@@ -146,16 +128,15 @@ module _ (limits : Limits) (moment longest : ℕ) where
         kept = kept;
         written = written;
       })
-      has_audited g node old new found store opened kept (Err fault) written = tt
+      has_audited g finds node old new found store opened kept (Err fault) written = tt
 
-module _ {S : Type 0} (g : Ghosts S) (serving : Serving) (a : Option (List ℕ)) (book : List Credential) (floors : List ℕ) (found : SqlHeld S)
+module _ {S : Type 0} (g : Ghosts S) (finds : sql.Held S → Type 0) (serving : Serving) (a : Option (List ℕ)) (book : List Credential) (floors : List ℕ) (found : SqlHeld S)
     (first last : Hosted (SqlHeld S)) (imported : IfSome a (IsImported serving.settings 0 16777216 book floors))
-    (opened : HasOpened g (Some serving.place.me) (length book) found) (in_boot : IsOpened (sql_held g) found first) (of_book : first.book ≡ book)
+    (opened : HasOpened g finds (Some serving.place.me) (length book) found) (in_boot : IsOpened (sql_held g) found first) (of_book : first.book ≡ book)
     (of_limits : first.limits ≡ serving.settings) (of_key : first.key ≡ tag_key serving.key book) (of_place : first.voter.place ≡ serving.place) where
-  -- a node is served
-  pub has_served : (result : Result Served Fault) → IsServed (sql_held g) first last serving.turns result
-      → IfOk result (λ served. IfSome a (HasServed g serving served))
-  has_served (Ok served) is =
+  -- the node was served, to whichever end
+  served_so : (result : Result Served Fault) → IsServed (sql_held g) first last serving.turns result → IfSome a (HasServed g finds serving result)
+  served_so result is =
       IfSome_then a imported (λ text i. record {
         import = record { book = book; floors = floors; imported = i };
         found = found;
@@ -169,10 +150,20 @@ module _ {S : Type 0} (g : Ghosts S) (serving : Serving) (a : Option (List ℕ))
         last = last;
         served_is = is;
       })
+
+  -- a node is served
+  pub has_served : (result : Result Served Fault) → IsServed (sql_held g) first last serving.turns result
+      → IfOk result (λ served. IfSome a (HasServed g finds serving (Ok served)))
+  has_served (Ok served) is = served_so (Ok served) is
   has_served (Err fault) is = tt
 
--- a claim about a text and a result gives another claim about the text
-pub ok_then : {T E : Type 0} (result : Result T E) (a : Option (List ℕ)) (P : T → List ℕ → Type 0) (Q : List ℕ → Type 0)
-    → IfOk result (λ x. IfSome a (P x)) → ((x : T) (text : List ℕ) → P x text → Q text) → IfOk result (λ _. IfSome a Q)
-ok_then (Ok x) a P Q h then = IfSome_then a h (then x)
-ok_then (Err fault) a P Q h then = tt
+  -- a fault ends the turns
+  pub ends_served : (result : Result Served Fault) → IsServed (sql_held g) first last serving.turns result
+      → IfErr result (λ fault. IfSome a (EndsServing g finds serving fault))
+  ends_served (Ok served) is = tt
+  ends_served (Err fault) is = IfSome_then a (served_so (Err fault) is) (λ text has. inr has)
+
+-- a fault comes before the first turn
+pub not_served : {S : Type 0} (g : Ghosts S) (finds : sql.Held S → Type 0) (serving : Serving) (a : Option (List ℕ)) (fault : Fault)
+    → IfSome a (IsNotServed serving.settings 0 16777216 fault) → IfSome a (EndsServing g finds serving fault)
+not_served g finds serving a fault h = IfSome_then a h (λ text is. inl is)

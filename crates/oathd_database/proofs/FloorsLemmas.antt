@@ -4,6 +4,7 @@ use Rattle.std.specs.Prelude.{Result, Ok, Err, IfErr, IfOk, OnOk, slice_get, IfS
 use Rattle.std.specs.Io.KnownBytes.{Appends}
 use Rattle.std.proofs.lemmas.Option.{IfSome_then}
 use Rattle.sqlite.specs.Store.{Ghosts}
+use Rattle.sqlite.specs.Held as sql
 use Rattle.sqlite.specs.Held.{state}
 use Rattle.sqlite.specs.State.{HasCleanDisk}
 use Rattle.otp_core.specs.Limits.{Limits}
@@ -62,14 +63,14 @@ module _ (limits : Limits) (longest : ℕ) (a : Option (List ℕ)) (book : List 
   ends_told (Err fault) is = IfSome_then a h (λ text i. told_fault fault text i is)
 
   -- the floors file is written
-  pub has_told : {S T : Type 0} (g : Ghosts S) (node members moment : ℕ) (old new : Option (List ℕ)) (store : SqlHeld S)
-      → HasOpened g (Some node) (length book) store → (result : Result T Fault)
+  pub has_told : {S T : Type 0} (g : Ghosts S) (finds : sql.Held S → Type 0) (node members moment : ℕ) (old new : Option (List ℕ)) (store : SqlHeld S)
+      → HasOpened g finds (Some node) (length book) store → (result : Result T Fault)
       → (HasCleanDisk (state g store.conn) → OnOk result (Appends old new (floors_text (told_floors node members moment book store.mirror))))
-      → IfOk result (λ _. IfSome a (HasToldFloors g limits longest node members moment old new))
-  has_told g node members moment old new store opened (Ok one) written = IfSome_then a h (λ text i. record {
+      → IfOk result (λ _. IfSome a (HasToldFloors g finds limits longest node members moment old new))
+  has_told g finds node members moment old new store opened (Ok one) written = IfSome_then a h (λ text i. record {
     import = record { book = book; floors = floors; imported = i };
     store = store;
     opened = opened;
     written = written;
   })
-  has_told g node members moment old new store opened (Err fault) written = tt
+  has_told g finds node members moment old new store opened (Err fault) written = tt

@@ -4,6 +4,7 @@ use Rattle.std.specs.Prelude.{Result, Ok, Err, OnErr, OnOk, IfSome, nat_lt, map,
 use Rattle.std.proofs.lemmas.Bool.{cond_both, ltb-true, ltb-false, leb-true, leb-false}
 use Rattle.std.proofs.lemmas.Option.{IfSome_then, none-some, same_Some, slice_get-map}
 use Rattle.sqlite.specs.Store.{Ghosts}
+use Rattle.sqlite.specs.Held as sql
 use Rattle.otp_core.specs.Limits.{Limits}
 use Rattle.token_file.specs.Credential.{Credential}
 use Rattle.floor_store.specs.Content.{Content}
@@ -172,13 +173,13 @@ told_there files book k token name told is named most =
     ∙ ap Some (sym (most ∙ ap (λ n. greatest_of n files) named))
 
 -- the command is done
-pub has_levelled : (limits : Limits) (longest node : ℕ) {S : Type 0} (g : Ghosts S) (a : Option (List ℕ)) (texts : List (List ℕ))
+pub has_levelled : (limits : Limits) (longest node : ℕ) {S : Type 0} (g : Ghosts S) (finds : sql.Held S → Type 0) (a : Option (List ℕ)) (texts : List (List ℕ))
     (files given : List Floors) (found store : SqlHeld S) (book : List Credential) (floors : List ℕ) {A : Type 0} (done : A)
     → IfSome a (IsImported limits 0 longest book floors) → files_after [] texts ≡ Ok (map floors_value files)
-    → HasOpened g (Some node) (length book) found → given ≡ files
+    → HasOpened g finds (Some node) (length book) found → given ≡ files
     → Levels {A = A} {E = StoreFault} (sql_held g) found store (told_by (map floors_value given) book) (Ok done)
-    → IfSome a (HasLevelled g limits longest node texts store)
-has_levelled limits longest node g a texts files given found store book floors done h read opened same levels =
+    → IfSome a (HasLevelled g finds limits longest node texts store)
+has_levelled limits longest node g finds a texts files given found store book floors done h read opened same levels =
     let told = ap (λ (fs : List Floors). told_by (map floors_value fs) book) same in
     IfSome_then a h (λ text i. record {
       import = record { book = book; floors = floors; imported = i };

@@ -4,7 +4,8 @@ use Rattle.std.specs.Prelude.{Ok, Err, Option, IfSome}
 use Rattle.std.proofs.lemmas.Option.{IfSome_then}
 use Rattle.std.specs.Borrow.{Bor}
 use Rattle.sqlite.specs.Store.{Ghosts}
-use Rattle.sqlite.specs.Held.{Held}
+use Rattle.sqlite.specs.Held as sql
+use Rattle.sqlite.specs.State.{HasCleanDisk}
 use Rattle.otp_core.specs.Limits.{Limits}
 use Rattle.token_file.specs.Credential.{Credential}
 use Rattle.floor_store.specs.declared.fault.StoreFault.{StoreFault}
@@ -100,15 +101,16 @@ module _ (limits : Limits) (moment longest : ℕ) (lost : LostNode) (texts : Lis
     refused_late a fault h = IfSome_then a h (λ text i. record { book = book; floors = floors; imported = i })
 
     -- the store is made
-    pub remade : {S : Type 0} (g : Ghosts S) (a : Option (List ℕ)) (conn : Held S) (store : SqlHeld S) (own gathered given : List ℕ)
+    pub remade : {S : Type 0} (g : Ghosts S) (finds : sql.Held S → Type 0) (a : Option (List ℕ)) (conn : sql.Held S) (store : SqlHeld S) (own gathered given : List ℕ)
         → IfSome a (IsImported limits moment longest book floors) → given ≡ gathered → own ≡ drifted_floors limits.drift book floors
         → IsGathered (asked_at lost.since moment) lost.node lost.lost book own texts gathered
-        → IsMade g conn lost.node (boot_at moment) given store → IfSome a (HasRemade g limits moment longest lost texts store)
-    remade g a conn store own gathered given h same later is made = IfSome_then a h (λ text i. record {
+        → (HasCleanDisk (sql.state g conn) → finds conn) → IsMade g conn lost.node (boot_at moment) given store → IfSome a (HasRemade g finds limits moment longest lost texts store)
+    remade g finds a conn store own gathered given h same later is found made = IfSome_then a h (λ text i. record {
       import = record { book = book; floors = floors; imported = i };
       floors = gathered;
       gathered = subst (λ o. IsGathered (asked_at lost.since moment) lost.node lost.lost book o texts gathered) later is;
       conn = conn;
+      found = found;
       made = subst (λ fs. IsMade g conn lost.node (boot_at moment) fs store) same made;
     })
 

@@ -3,6 +3,7 @@ use Rattle.std.proofs.Common.{◌≡◌, ◌⊎◌, inl, inr, ⊎_elim, ℕ, Lis
 use Rattle.std.specs.Prelude.{Result, Ok, Err, slice_get}
 use Rattle.std.proofs.lemmas.Option.{IfSome_then}
 use Rattle.sqlite.specs.Store.{Ghosts}
+use Rattle.sqlite.specs.Held as sql
 use Rattle.otp_core.specs.Limits.{Limits}
 use Rattle.token_file.specs.Credential.{Credential, place_of}
 use Rattle.otp_core.specs.Gate.{GateRecord, clear_gate}
@@ -13,7 +14,7 @@ use Rattle.floor_store.specs.declared.fault.StoreFault.{StoreFault}
 use Rattle.floor_sql.specs.Held.{SqlHeld, sql_held}
 use Rattle.oathd_database.specs.Commands.{HasImport, HasOpened}
 use Rattle.oathd_database.specs.Users.{IsImported}
-use Rattle.oathd_database.specs.Unlock.{HasUser, LacksUser, Unlocks, unlocked_content, with_unlocked}
+use Rattle.oathd_database.specs.Unlock.{LacksUser, Unlocks, unlocked_content, with_unlocked}
 
 -- the row that was read, with another gate, is the one that is unlocked
 pub unlocked_is : (content : Content) (token : ℕ) (row new : RowRecord) (gate : GateRecord) → new ≡ record row { gate = gate } → gate ≡ clear_gate
@@ -101,11 +102,11 @@ module _ (limits : Limits) (longest : ℕ) (a : Option (List ℕ)) (book : List 
 
   module _ (user : List ℕ) where
     -- the user's token is unlocked
-    pub has_unlocked : {S : Type 0} (g : Ghosts S) (node token number : ℕ) (old new : SqlHeld S) → place_of user book ≡ Some token → number ≡ token
-        → HasOpened g (Some node) (length book) old
+    pub has_unlocked : {S : Type 0} (g : Ghosts S) (finds : sql.Held S → Type 0) (node token number : ℕ) (old new : SqlHeld S) → place_of user book ≡ Some token → number ≡ token
+        → HasOpened g finds (Some node) (length book) old
         → MayWrite {A = Unit {0}} {E = StoreFault} (sql_held g) old new (unlocked_content old.mirror number) (Ok tt)
-        → IfSome a (Unlocks g limits longest node user new)
-    has_unlocked g node token number old new found same opened writes = IfSome_then a h (λ text i. record {
+        → IfSome a (Unlocks g finds limits longest node user new)
+    has_unlocked g finds node token number old new found same opened writes = IfSome_then a h (λ text i. record {
       known = record { import = record { book = book; floors = floors; imported = i }; token = token; of_user = found };
       old = old;
       opened = opened;
@@ -116,8 +117,3 @@ module _ (limits : Limits) (longest : ℕ) (a : Option (List ℕ)) (book : List 
     pub nobody : (name : List ℕ) → name ≡ user → place_of user book ≡ None → IfSome a (λ text. (name ≡ user) × LacksUser limits longest user text)
     nobody name same none =
         IfSome_then a h (λ text i. (same, record { import = record { book = book; floors = floors; imported = i }; of_nobody = none }))
-
--- the users file has the user whose token was unlocked
-pub user_of : {S : Type 0} (g : Ghosts S) (limits : Limits) (longest node : ℕ) (user : List ℕ) (store : SqlHeld S) (a : Option (List ℕ))
-    → IfSome a (Unlocks g limits longest node user store) → IfSome a (HasUser limits longest user)
-user_of g limits longest node user store a h = IfSome_then a h (λ text is. is.known)

@@ -1,12 +1,15 @@
 -- A users file is read, or is not.
-use Rattle.std.proofs.Common.{◌≡◌, ℕ, List, Option, Some, None, IfSome, IfOk, IfErr, refl, sym, subst}
+use Rattle.std.proofs.Common.{◌≡◌, ◌∙◌, arith, ℕ, List, Option, Some, None, IfSome, IfOk, IfErr, refl, sym, subst}
 use Rattle.std.specs.Prelude.{Result, Ok, Err, IsTrue}
 use Rattle.sqlite.specs.Store.{Ghosts}
 use Rattle.sqlite.specs.Held as sql
+use Rattle.sqlite.specs.State.{HasCleanDisk}
+use Rattle.sqlite.specs.Tree.{Trees}
+use Rattle.sqlite.proofs.StateLemmas.{survives_then}
 use Rattle.otp_core.specs.Limits.{Limits}
 use Rattle.floor_store.specs.declared.fault.StoreFault.{StoreFault}
-use Rattle.floor_sql.specs.Calls.{IsOpened}
-use Rattle.floor_sql.specs.Held.{SqlHeld}
+use Rattle.floor_sql.specs.Calls.{IsOpened, KeepsTables}
+use Rattle.floor_sql.specs.Held.{HasTables, SqlHeld}
 use Rattle.token_file.specs.Credential.{Credential}
 use Rattle.token_file.specs.Source.{OfText}
 use Rattle.token_file.specs.UsersFile.{IsCutOff, book_of, instant_of, is_of_text}
@@ -82,25 +85,60 @@ module _ (limits : Limits) (moment longest : ℕ) where
   refused_late a (Ok one) book floors h is = tt
   refused_late a (Err fault) book floors h is = refused_so a fault book floors h is
 
-module _ {S : Type 0} (g : Ghosts S) (conn : sql.Held S) (node tokens : ℕ) where
+module _ {S : Type 0} (g : Ghosts S) (node tokens : ℕ) where
   -- the store of the node that is given is opened
-  pub opened_given : (result : Result (SqlHeld S) Fault) (given : Option ℕ) → given ≡ Some node
-      → IfOk result (IsOpened g conn node tokens) → IfOk result (HasOpened g given tokens)
-  opened_given (Err fault) given e is = tt
-  opened_given (Ok store) given e is = record {
+  pub opened_given : (conn : sql.Held S) (result : Result (SqlHeld S) Fault) (given : Option ℕ) → given ≡ Some node
+      → IfOk result (IsOpened g conn node tokens) → IfOk result (HasOpened g (λ first. first ≡ conn) given tokens)
+  opened_given conn (Err fault) given e is = tt
+  opened_given conn (Ok store) given e is = record {
     conn = conn;
+    found = λ clean. refl;
     node = node;
     is_given = subst (λ (o : Option ℕ). IfSome o (λ n. node ≡ n)) (sym e) refl;
     opened = is;
   }
 
-  -- the store of any node is opened
-  pub opened_any : (result : Result (SqlHeld S) Fault) (given : Option ℕ) → given ≡ None
-      → IfOk result (IsOpened g conn node tokens) → IfOk result (HasOpened g given tokens)
-  opened_any (Err fault) given e is = tt
-  opened_any (Ok store) given e is = record {
-    conn = conn;
+  -- a store that is opened after reads is opened over the connection before them
+  opened_before : (first conn : sql.Held S) (store : SqlHeld S) → KeepsTables g first conn → IsOpened g conn node tokens store
+      → IsOpened g first node tokens store
+  opened_before first conn store kept is =
+      let none = λ (clean : HasCleanDisk (sql.state g store.conn)) (db : Trees) (never : ⊥). never in
+      record {
+        content = λ clean. subst (λ db. HasTables db node tokens store.mirror store.passes)
+            (kept.read (omega (arith, is.kept.survives.clean))).now (is.content clean);
+        sound = is.sound;
+        kept = record {
+          idle = is.kept.idle;
+          read = λ clean.
+              let one = kept.read (omega (arith, is.kept.survives.clean)) in
+              let two = is.kept.read clean in
+              record { is_open = two.is_open ∙ one.is_open; now = two.now ∙ one.now; committed = two.committed ∙ one.committed };
+          survives = survives_then (sql.state g first) (sql.state g conn) (sql.state g store.conn) _ _ (λ _. ⊥) none none kept.survives is.kept.survives;
+        };
+      }
+
+  -- the store of any node is opened, after its node was read
+  pub opened_any : (first conn : sql.Held S) (result : Result (SqlHeld S) Fault) (given : Option ℕ) → given ≡ None
+      → KeepsTables g first conn → IfOk result (IsOpened g conn node tokens)
+      → IfOk result (HasOpened g (λ found. found ≡ first) given tokens)
+  opened_any first conn (Err fault) given e kept is = tt
+  opened_any first conn (Ok store) given e kept is = record {
+    conn = first;
+    found = λ clean. refl;
     node = node;
     is_given = subst (λ (o : Option ℕ). IfSome o (λ n. node ≡ n)) (sym e) tt;
-    opened = is;
+    opened = opened_before first conn store kept is;
   }
+
+-- the connection is found that the database finds
+pub opened_found : {S : Type 0} (g : Ghosts S) (tokens : ℕ) (finds : sql.Held S → Type 0) (conn : sql.Held S) (given : Option ℕ) (store : SqlHeld S)
+    → (HasCleanDisk (sql.state g conn) → finds conn) → HasOpened g (λ first. first ≡ conn) given tokens store → HasOpened g finds given tokens store
+opened_found g tokens finds conn given store found is = record {
+  conn = is.conn;
+  found = λ clean.
+      let same = is.found clean in
+      subst finds (sym same) (found (subst (λ c. HasCleanDisk (sql.state g c)) same clean));
+  node = is.node;
+  is_given = is.is_given;
+  opened = is.opened;
+}

@@ -143,6 +143,14 @@ conn_of schema disk = record {
   };
 }
 
+-- any connection is found
+abbrev pub shows_any : Conn ℕ → Type 0
+shows_any conn = Unit {0}
+
+-- no connection is found
+abbrev pub shows_none : Conn ℕ → Type 0
+shows_none conn = ⊥
+
 -- a connection to the tables of a store
 abbrev pub small_conn : Conn ℕ
 small_conn = conn_of floor_schema 0

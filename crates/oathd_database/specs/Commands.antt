@@ -1,7 +1,7 @@
 -- The effects of the commands over a users file and a database.
 --
 -- Floor: the first free factor of a token at a node.
-use Rattle.std.specs.Prelude.{◌≡◌, ℕ, List, [], Option, None, Some, IfSome, Result, Ok, length}
+use Rattle.std.specs.Prelude.{◌≡◌, ◌⊎◌, ℕ, List, [], Option, None, Some, IfSome, Result, Err, length}
 use Rattle.std.specs.Io.KnownBytes.{Appends}
 use Rattle.sqlite.specs.Store.{Ghosts}
 use Rattle.sqlite.specs.Held as sql
@@ -49,17 +49,21 @@ pub record HasImport (limits : Limits) (moment longest : ℕ) (text : List ℕ) 
 
 -- ---- The store
 
-module _ {S : Type 0} (g : Ghosts S) where
+-- The databases of the commands are opened by a connection that shows what `finds` says, if the disk returns what was
+-- written.
+module _ {S : Type 0} (g : Ghosts S) (finds : sql.Held S → Type 0) where
   -- The store is the node's, created by one commit in the tables of some connection. It holds the floors of a users
   -- file's import, later by the drift for time tokens, and nothing else.
   pub record HasMade (limits : Limits) (moment longest node : ℕ) (store : SqlHeld S) (text : List ℕ) : Type 0 where
     pub import : HasImport limits moment longest text
     pub conn : sql.Held S
+    pub found : HasCleanDisk (sql.state g conn) → finds conn
     pub made : IsMade g conn node 0 (drifted_floors limits.drift import.book import.floors) store
 
   -- The store is in the tables of some connection, with `tokens` tokens. If a node is given, the store is that node's.
   pub record HasOpened (given : Option ℕ) (tokens : ℕ) (store : SqlHeld S) : Type 0 where
     pub conn : sql.Held S
+    pub found : HasCleanDisk (sql.state g conn) → finds conn
     pub node : ℕ
     pub is_given : IfSome given (λ n. node ≡ n)
     pub opened : IsOpenedStore g conn node tokens store
@@ -69,6 +73,7 @@ module _ {S : Type 0} (g : Ghosts S) where
   pub record HasMigrated (limits : Limits) (moment longest node : ℕ) (new : sql.Held S) (text : List ℕ) : Type 0 where
     pub import : HasImport limits moment longest text
     pub old : sql.Held S
+    pub found : HasCleanDisk (sql.state g old) → finds old
     pub migrated : IsMigrated g node (length import.book) old new
 
   -- The tokens of the users file are written in order with their floors in the store. The store belongs to the node
@@ -90,9 +95,9 @@ module _ {S : Type 0} (g : Ghosts S) where
     pub kept : KeepsTables g found store
     pub written : HasCleanDisk (sql.state g store.conn) → WritesAudit g store old new
 
-  -- A node was opened over its store and served for the given turns. The store is in some database and has the tokens
-  -- of the users file.
-  pub record HasServed (serving : Serving) (served : Served) (text : List ℕ) : Type 0 where
+  -- A node was opened over its store and served for the given turns, or until the fault that ended them. The store is in
+  -- some database and has the tokens of the users file.
+  pub record HasServed (serving : Serving) (result : Result Served Fault) (text : List ℕ) : Type 0 where
     pub import : HasImport serving.settings 0 16777216 text
     pub found : SqlHeld S
     pub opened : HasOpened (Some serving.place.me) (length import.book) found
@@ -103,7 +108,7 @@ module _ {S : Type 0} (g : Ghosts S) where
     pub of_key : first.key ≡ tag_key serving.key import.book
     pub of_place : first.voter.place ≡ serving.place
     pub last : Hosted (SqlHeld S)
-    pub served_is : IsServed (sql_held g) first last serving.turns (Ok served)
+    pub served_is : IsServed (sql_held g) first last serving.turns result
 
 -- ---- The faults
 
@@ -126,12 +131,19 @@ EndsOutput limits moment longest (Users fault) text = IsUnread limits moment lon
 EndsOutput limits moment longest (Store fault) text = HasImport limits moment longest text
 EndsOutput limits moment longest Socket text = ⊥
 
--- A command that serves a node ends with the fault. The users file is not imported, or the store, the socket or the
--- clock fails after the import.
-abbrev pub EndsServing : Limits → ℕ → ℕ → Fault → List ℕ → Type 0
-EndsServing limits moment longest Memory text = Unit {0}
-EndsServing limits moment longest CannotWrite text = ⊥
-EndsServing limits moment longest NoClock text = HasImport limits moment longest text
-EndsServing limits moment longest (Users fault) text = IsUnread limits moment longest (Users fault) text
-EndsServing limits moment longest (Store fault) text = HasImport limits moment longest text
-EndsServing limits moment longest Socket text = HasImport limits moment longest text
+-- A command that serves a node ends with the fault before the first turn. The users file is not imported, or the
+-- store, the socket or the clock fails after the import.
+abbrev pub IsNotServed : Limits → ℕ → ℕ → Fault → List ℕ → Type 0
+IsNotServed limits moment longest Memory text = Unit {0}
+IsNotServed limits moment longest CannotWrite text = ⊥
+IsNotServed limits moment longest NoClock text = HasImport limits moment longest text
+IsNotServed limits moment longest (Users fault) text = IsUnread limits moment longest (Users fault) text
+IsNotServed limits moment longest (Store fault) text = HasImport limits moment longest text
+IsNotServed limits moment longest Socket text = HasImport limits moment longest text
+
+module _ {S : Type 0} (g : Ghosts S) (finds : sql.Held S → Type 0) where
+  -- A command that serves a node ends with the fault: before the first turn, or in a turn, with all that was served
+  -- until then.
+  abbrev pub EndsServing : Serving → Fault → List ℕ → Type 0
+  EndsServing serving fault text =
+      IsNotServed serving.settings 0 16777216 fault text ⊎ HasServed g finds serving (Err fault) text

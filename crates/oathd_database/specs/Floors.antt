@@ -29,13 +29,13 @@ told_floors node members moment book content =
       rows = told_rows book content.rows;
     }
 
-module _ {S : Type 0} (g : Ghosts S) where
+module _ {S : Type 0} (g : Ghosts S) (finds : sql.Held S → Type 0) where
   -- The floors file of the node's store is written. The store is in some database and has the tokens of the users file.
   pub record HasToldFloors (limits : Limits) (longest node members moment : ℕ) (old new : Option (List ℕ))
       (text : List ℕ) : Type 0 where
     pub import : HasImport limits 0 longest text
     pub store : SqlHeld S
-    pub opened : HasOpened g (Some node) (length import.book) store
+    pub opened : HasOpened g finds (Some node) (length import.book) store
     pub written : HasCleanDisk (sql.state g store.conn)
         → Appends old new (floors_text (told_floors node members moment import.book store.mirror))
 

@@ -24,6 +24,7 @@ gate_from node start clients = record {
   clients = clients_from clients.ahead start clients.clients.items;
   plain = clients.plain.items;
   asked = [];
+  failures = record { most = clients.failures; minute = 0; failed = [] };
 }
 
 -- how many seconds a client may be ahead of the clock, 2 without a clients file

@@ -30,12 +30,12 @@ gate_row token row = gate_text token row.gate
 abbrev pub gates_text : List Credential → List RowRecord → List ℕ
 gates_text = rows_text gate_row
 
-module _ {S : Type 0} (g : Ghosts S) where
+module _ {S : Type 0} (g : Ghosts S) (finds : sql.Held S → Type 0) where
   -- The gates with failures in the node's store are written. The store is in some database and has the tokens of the
   -- users file.
   pub record HasToldGates (limits : Limits) (longest node : ℕ) (old new : Option (List ℕ))
       (text : List ℕ) : Type 0 where
     pub import : HasImport limits 0 longest text
     pub store : SqlHeld S
-    pub opened : HasOpened g (Some node) (length import.book) store
+    pub opened : HasOpened g finds (Some node) (length import.book) store
     pub written : HasCleanDisk (sql.state g store.conn) → Appends old new (gates_text import.book store.mirror.rows)

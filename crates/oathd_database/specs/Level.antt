@@ -3,6 +3,7 @@
 -- Floor: the first free factor of a token at a node.
 use Rattle.std.specs.Prelude.{◌≡◌, ◌⊎◌, ℕ, List, [], ◌∷◌, length, map, take, Option, None, Some, Result, Ok, Err, OnErr, OnOk, false}
 use Rattle.sqlite.specs.Store.{Ghosts}
+use Rattle.sqlite.specs.Held as sql
 use Rattle.otp_core.specs.Limits.{Limits}
 use Rattle.token_file.specs.Credential.{Credential}
 use Rattle.floor_store.specs.Content.{Content}
@@ -59,7 +60,7 @@ pub record Levels {S A E : Type 0} (held : S → Held) (old new : S) (floors : L
   pub settled : (held new).is_clean → OnOk result (IsSettled (held new))
   pub clean : (held new).is_clean → (held old).is_clean
 
-module _ {S : Type 0} (g : Ghosts S) where
+module _ {S : Type 0} (g : Ghosts S) (finds : sql.Held S → Type 0) where
   -- The floors of the node's store are raised by floors files. The store is in some database and has the tokens of the
   -- users file.
   pub record HasLevelled (limits : Limits) (longest node : ℕ) (texts : List (List ℕ)) (store : SqlHeld S)
@@ -68,7 +69,7 @@ module _ {S : Type 0} (g : Ghosts S) where
     pub files : List FloorsRecord
     pub read : files_after [] texts ≡ Ok files
     pub found : SqlHeld S
-    pub opened : HasOpened g (Some node) (length import.book) found
+    pub opened : HasOpened g finds (Some node) (length import.book) found
     pub levels : Levels {A = Unit {0}} {E = StoreFault} (sql_held g) found store (told_by files import.book) (Ok tt)
 
 -- Not all floors are raised. The command fails as any command over a store does, or `number` is the first text that is

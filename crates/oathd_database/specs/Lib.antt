@@ -13,6 +13,7 @@ pub mod Level
 pub mod Lost
 pub mod NodeKey
 pub mod Reach
+pub mod Serving
 pub mod Tables
 pub mod Text
 pub mod Unlock

@@ -3,6 +3,7 @@ use Rattle.std.specs.Prelude.{◌≡◌, ℕ, ◌*◌, ◌^◌, List, [], Option
 use Rattle.std.specs.Borrow.{Bor}
 use Rattle.sqlite.specs.Store.{Ghosts}
 use Rattle.sqlite.specs.Held as sql
+use Rattle.sqlite.specs.State.{HasCleanDisk}
 use Rattle.otp_core.specs.Limits.{Limits}
 use Rattle.token_file.specs.Credential.{Credential}
 use Rattle.floor_sql.specs.Calls.{IsMade}
@@ -72,7 +73,7 @@ IsNotRemade limits moment longest lost texts (Floors number fault) text =
 IsNotRemade limits moment longest lost texts (Files fault) text =
     IsUngatheredFor limits moment longest lost texts (Files fault) text
 
-module _ {S : Type 0} (g : Ghosts S) where
+module _ {S : Type 0} (g : Ghosts S) (finds : sql.Held S → Type 0) where
   -- The store is the lost node's, created by one commit in the tables of some connection. It has the moment's boot, the
   -- greatest floors in the files, and nothing else.
   pub record HasRemade (limits : Limits) (moment longest : ℕ) (lost : LostNode) (texts : List (List ℕ))
@@ -82,4 +83,5 @@ module _ {S : Type 0} (g : Ghosts S) where
     pub gathered : IsGathered (asked_at lost.since moment) lost.node lost.lost import.book
         (drifted_floors limits.drift import.book import.floors) texts floors
     pub conn : sql.Held S
+    pub found : HasCleanDisk (sql.state g conn) → finds conn
     pub made : IsMade g conn lost.node (boot_at moment) floors store

@@ -1,6 +1,7 @@
 -- The unlocking of a token.
 use Rattle.std.specs.Prelude.{◌≡◌, ℕ, List, length, Option, Some, None, Ok, slice_get}
 use Rattle.sqlite.specs.Store.{Ghosts}
+use Rattle.sqlite.specs.Held as sql
 use Rattle.otp_core.specs.Limits.{Limits}
 use Rattle.token_file.specs.Credential.{place_of}
 use Rattle.otp_core.specs.Gate.{clear_gate}
@@ -38,14 +39,14 @@ pub record LacksUser (limits : Limits) (longest : ℕ) (user text : List ℕ) : 
   pub import : HasImport limits 0 longest text
   pub of_nobody : place_of user import.book ≡ None
 
-module _ {S : Type 0} (g : Ghosts S) where
+module _ {S : Type 0} (g : Ghosts S) (finds : sql.Held S → Type 0) where
   -- The user's token was unlocked in the node's store by one write. The store is in some database and has the tokens of
   -- the users file.
   pub record Unlocks (limits : Limits) (longest node : ℕ) (user : List ℕ) (new : SqlHeld S)
       (text : List ℕ) : Type 0 where
     pub known : HasUser limits longest user text
     pub old : SqlHeld S
-    pub opened : HasOpened g (Some node) (length known.import.book) old
+    pub opened : HasOpened g finds (Some node) (length known.import.book) old
     pub writes : MayWrite {A = Unit {0}} {E = StoreFault} (sql_held g) old new (unlocked_content old.mirror known.token)
         (Ok tt)
 

@@ -1,18 +1,17 @@
 //! The command `audit`: prints the passes of a store.
 
-ghost use Rattle.std.specs.Prelude.{◌≡◌, ◌≢◌, ◌<◌, ◌^◌, IfErr, IfOk, IfSome, OnOk, Some};
+ghost use Rattle.std.specs.Prelude.{◌≡◌, ◌≢◌, ◌<◌, IfErr, IfOk, IfSome, OnOk, Some};
 ghost use Rattle.std.specs.Io.KnownBytes.{Appends};
 ghost use Rattle.sqlite.specs.Held.{state};
 ghost use Rattle.sqlite.specs.State.{HasCleanDisk};
 ghost use Rattle.otp_core.specs.Limits.{default_limits};
-ghost use Rattle.oathd_database.specs.Commands.{EndsOutput, HasAudited, HasImport};
+ghost use Rattle.oathd_database.specs.Commands.{EndsOutput, HasAudited};
 ghost use Rattle.oathd_database.specs.Fault.{IsOutputFault};
 ghost use Rattle.oathd_database.specs.Tables.{KeepsTables, WritesAudit};
 ghost use Rattle.oathd_database.specs.Text.{audit_text, pass_line};
 
 use crate::database::{Database, open_store};
 use crate::fault::Fault;
-use crate::file::DatabaseFile;
 use floor_sql::SqlStore;
 use floor_store::Pass;
 use otp_core::Settings;
@@ -76,30 +75,10 @@ pub fn audit_store<R: Read + Drop, S: Alter + Drop, D: Database<S>, W: Write>(
     database: D,
     writer: &mut W,
 ) -> Result<(), Fault>
-    ensures audited { IfOk result (λ _. IfSome (R.remaining users) (HasAudited S.Store default_limits 0 16777216 node
+    ensures audited { IfOk result (λ _. IfSome (R.remaining users) (HasAudited S.Store D.finds default_limits 0 16777216 node
         (W.contents writer.old) (W.contents writer.new))) }
     ensures fault { IfErr result (λ fault. IfSome (R.remaining users) (EndsOutput default_limits 0 16777216 fault)) }
 {
     let (_users, mut store) = open_store(alloc, users, Settings::default(), Some(node), database)?;
     write_audit(alloc, &mut store, writer)
-}
-
-/// Writes the passes of the store in the file at `path`, as [`audit_store`] does.
-///
-/// # Errors
-/// - Returns the errors of [`audit_store`].
-/// - Returns `Store(Disk)` if the file is missing.
-/// - Returns `Store(Unusable)` if the file is empty.
-pub fn audit_file<R: Read + Drop, W: Write>(
-    alloc: Global,
-    rt: &HostRuntime,
-    path: &str,
-    users: R,
-    node: u8,
-    writer: &mut W,
-) -> Result<(), Fault>
-    ensures import { IfOk result (λ _. IfSome (R.remaining users) (HasImport default_limits 0 16777216)) }
-    ensures fault { IfErr result (λ fault. IfSome (R.remaining users) (EndsOutput default_limits 0 16777216 fault)) }
-{
-    audit_store(alloc, users, node, DatabaseFile::found(rt, path), writer)
 }

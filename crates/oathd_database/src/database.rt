@@ -3,6 +3,8 @@
 //! Floor: the first free factor of a token at a node.
 
 ghost use Rattle.std.specs.Prelude.{◌≡◌, false, length, IfErr, IfOk, IfSome};
+ghost use Rattle.sqlite.specs.Held.{Held, state};
+ghost use Rattle.sqlite.specs.State.{HasCleanDisk};
 ghost use Rattle.floor_sql.specs.Calls.{IsOpened};
 ghost use Rattle.oathd_database.specs.Commands.{HasOpened, IsRefused};
 ghost use Rattle.oathd_database.specs.Fault.{IsStoreFault};
@@ -19,13 +21,17 @@ use std::io::Read;
 
 /// A database that can be opened once. Opening it may create a missing file, with no table.
 pub trait Database<S: Alter>: Drop {
+    // What a connection shows that was just opened.
+    ghost finds: { Held S → Type 0 };
+
     /// Opens the database. The connection is outside a transaction and has no limit on its steps.
     ///
     /// # Errors
     /// - Returns `Disk` if the database cannot be opened.
     /// - Returns `Unusable` if it has to hold a store and is an empty file.
     fn connect(self) -> Result<Connection<S>, StoreFault>
-        ensures { IfOk result (λ conn. conn.in_transaction ≡ false) };
+        ensures idle { IfOk result (λ conn. conn.in_transaction ≡ false) }
+        ensures found { IfOk result (λ conn. HasCleanDisk (state S.Store conn) → finds conn) };
 }
 
 /// Opens the store of `node` in the tables of `conn`. It has the tokens of the users file.
@@ -60,7 +66,7 @@ fn open_named<S: Alter + Drop>(
     users: &Users,
 ) -> Result<SqlStore<S>, Fault>
     requires { conn.in_transaction ≡ false }
-    ensures opened { IfOk result (HasOpened S.Store node (length users.now.book)) }
+    ensures opened { IfOk result (HasOpened S.Store (λ first. first ≡ conn) node (length users.now.book)) }
     ensures tokens { IfOk result (λ store. length store.mirror.rows ≡ length users.now.book) }
     ensures fault { IfErr result IsStoreFault }
 {
@@ -93,7 +99,7 @@ pub fn open_store<R: Read + Drop, S: Alter + Drop, D: Database<S>>(
     ensures users { IfOk result (λ opened. IfSome (R.remaining users)
         (IsImported settings 0 16777216 opened.0.book opened.0.floors.items)) }
     ensures tokens { IfOk result (λ opened. length opened.1.mirror.rows ≡ length opened.0.book) }
-    ensures opened { IfOk result (λ opened. HasOpened S.Store node (length opened.0.book) opened.1) }
+    ensures opened { IfOk result (λ opened. HasOpened S.Store D.finds node (length opened.0.book) opened.1) }
     ensures fault { IfErr result (λ fault. IfSome (R.remaining users) (IsRefused settings 0 16777216 fault)) }
 {
     let users = read_users(alloc, users, settings, 0)?;

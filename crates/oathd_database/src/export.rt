@@ -3,13 +3,12 @@
 ghost use Rattle.std.specs.Prelude.{◌≡◌, length, IfErr, IfOk, IfSome, OnOk};
 ghost use Rattle.std.specs.Io.KnownBytes.{Appends};
 ghost use Rattle.otp_core.specs.Limits.{default_limits};
-ghost use Rattle.oathd_database.specs.Commands.{EndsOutput, HasExported, HasImport};
+ghost use Rattle.oathd_database.specs.Commands.{EndsOutput, HasExported};
 ghost use Rattle.oathd_database.specs.Fault.{IsOutputFault};
 ghost use Rattle.oathd_database.specs.Text.{export_text};
 
 use crate::database::{Database, open_store};
 use crate::fault::Fault;
-use crate::file::DatabaseFile;
 use crate::rows::{RowText, write_tokens};
 use floor_store::{FloorStore, Row};
 use otp_core::Settings;
@@ -65,29 +64,10 @@ pub fn export_store<R: Read + Drop, S: Alter + Drop, D: Database<S>, W: Write>(
     database: D,
     writer: &mut W,
 ) -> Result<(), Fault>
-    ensures exported { IfOk result (λ _. IfSome (R.remaining users) (HasExported S.Store default_limits 0 16777216
+    ensures exported { IfOk result (λ _. IfSome (R.remaining users) (HasExported S.Store D.finds default_limits 0 16777216
         (W.contents writer.old) (W.contents writer.new))) }
     ensures fault { IfErr result (λ fault. IfSome (R.remaining users) (EndsOutput default_limits 0 16777216 fault)) }
 {
     let (users, store) = open_store(alloc, users, Settings::default(), None, database)?;
     write_rows(&users.book, &store, writer)
-}
-
-/// Writes the users file of the store in the file at `path`, as [`export_store`] does.
-///
-/// # Errors
-/// - Returns the errors of [`export_store`].
-/// - Returns `Store(Disk)` if the file is missing.
-/// - Returns `Store(Unusable)` if the file is empty.
-pub fn export_file<R: Read + Drop, W: Write>(
-    alloc: Global,
-    rt: &HostRuntime,
-    path: &str,
-    users: R,
-    writer: &mut W,
-) -> Result<(), Fault>
-    ensures import { IfOk result (λ _. IfSome (R.remaining users) (HasImport default_limits 0 16777216)) }
-    ensures fault { IfErr result (λ fault. IfSome (R.remaining users) (EndsOutput default_limits 0 16777216 fault)) }
-{
-    export_store(alloc, users, DatabaseFile::found(rt, path), writer)
 }

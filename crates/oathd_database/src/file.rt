@@ -5,35 +5,40 @@ ghost use Rattle.oathd_database.specs.File.{IsEmptyFile};
 
 use crate::database::Database;
 use floor_store::StoreFault;
-use sqlite::{Connection, File, FileStore};
+use sqlite::{Connection, FileFrom, FileStore, Start};
 use std::fs::{self, Metadata, OpenOptions};
 use std::io;
 use std::os::unix::fs::OpenOptionsExt;
 
-/// A database in a file.
+/// A database in a file, and beside it a log, with the content that `S` stands for.
+///
+/// No code can read `S`: a function over any `S` is proved for each content. A program passes `Unknown`.
 #[derive(Drop)]
-pub struct DatabaseFile<'a> {
+pub struct DatabaseFile<'a, S: Start> {
     rt: &'a HostRuntime,
     path: &'a str,
+    start: S,
     is_made: bool,
 }
 
-impl<'a> DatabaseFile<'a> {
+impl<'a, S: Start> DatabaseFile<'a, S> {
     /// Returns the database in the file at `path`. Opening it creates a missing file, with no table, that only its
     /// owner may read and write.
-    pub fn found_or_made(rt: &'a HostRuntime, path: &'a str) -> Self {
+    pub fn found_or_made(rt: &'a HostRuntime, path: &'a str, start: S) -> Self {
         DatabaseFile {
             rt,
             path,
+            start,
             is_made: true,
         }
     }
 
     /// Returns the database in the file at `path`, which has to exist and not be empty.
-    pub fn found(rt: &'a HostRuntime, path: &'a str) -> Self {
+    pub fn found(rt: &'a HostRuntime, path: &'a str, start: S) -> Self {
         DatabaseFile {
             rt,
             path,
+            start,
             is_made: false,
         }
     }
@@ -73,16 +78,27 @@ fn make_private(rt: &HostRuntime, path: &str) {
         .open(rt, path);
 }
 
-impl Database<FileStore<File>> for DatabaseFile<'_> {
-    fn connect(self) -> Result<Connection<FileStore<File>>, StoreFault> {
-        if self.is_made {
-            make_private(self.rt, self.path);
+impl<S: Start> Database<FileStore<FileFrom<S>>> for DatabaseFile<'_, S> {
+    ghost use Rattle.sqlite_wal.specs.Files.{image_at};
+    ghost use Rattle.oathd_database.specs.File.{FindsFiles};
+
+    ghost finds = { FindsFiles (image_at S.Start) };
+
+    fn connect(self) -> Result<Connection<FileStore<FileFrom<S>>>, StoreFault> {
+        let DatabaseFile {
+            rt,
+            path,
+            start,
+            is_made,
+        } = self;
+        if is_made {
+            make_private(rt, path);
         } else {
-            check_found(fs::metadata(self.rt, self.path))?;
+            check_found(fs::metadata(rt, path))?;
         }
-        match Connection::open(self.rt, self.path) {
+        match Connection::open_from(rt, path, false, start) {
             Ok(conn) => Ok(conn),
-            Err(_) => Err(StoreFault::Disk),
+            Err((_, _)) => Err(StoreFault::Disk),
         }
     }
 }

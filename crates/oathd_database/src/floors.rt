@@ -7,14 +7,13 @@ ghost use Rattle.std.specs.Io.KnownBytes.{Appends};
 ghost use Rattle.otp_core.specs.Limits.{default_limits};
 ghost use Rattle.floors_file.specs.Floors.{floors_value};
 ghost use Rattle.floors_file.specs.Writing.{floors_text};
-ghost use Rattle.oathd_database.specs.Commands.{EndsOutput, HasImport};
+ghost use Rattle.oathd_database.specs.Commands.{EndsOutput};
 ghost use Rattle.oathd_database.specs.Fault.{IsOpenFault};
 ghost use Rattle.oathd_database.specs.Floors.{HasToldFloors, IsToldFault, told_floors};
 ghost use Rattle.oathd_database.specs.declared.fault.Fault.TheVariants.{CannotWrite};
 
 use crate::database::{Database, open_store};
 use crate::fault::Fault;
-use crate::file::DatabaseFile;
 use crate::users::token_at;
 use floor_store::{FloorStore, StoreFault};
 use floors_file::{Floor, Floors, Head, write_floors};
@@ -124,33 +123,10 @@ pub fn floors_store<R: Read + Drop, S: Alter + Drop, D: Database<S>, W: Write>(
     database: D,
     writer: &mut W,
 ) -> Result<(), Fault>
-    ensures told { IfOk result (λ _. IfSome (R.remaining users) (HasToldFloors S.Store default_limits 16777216 node
+    ensures told { IfOk result (λ _. IfSome (R.remaining users) (HasToldFloors S.Store D.finds default_limits 16777216 node
         members moment (W.contents writer.old) (W.contents writer.new))) }
     ensures fault { IfErr result (λ fault. IfSome (R.remaining users) (EndsOutput default_limits 0 16777216 fault)) }
 {
     let (users, store) = open_store(alloc, users, Settings::default(), Some(node), database)?;
     write_told(alloc, &users.book, &store, node, members, moment, writer)
-}
-
-/// Writes the floors file of the store in the file at `path`, as [`floors_store`] does.
-///
-/// # Errors
-/// - Returns the errors of [`floors_store`].
-/// - Returns `Store(Disk)` if the file is missing.
-/// - Returns `Store(Unusable)` if the file is empty.
-pub fn floors_file<R: Read + Drop, W: Write>(
-    alloc: Global,
-    rt: &HostRuntime,
-    path: &str,
-    users: R,
-    node: u8,
-    members: u8,
-    moment: u64,
-    writer: &mut W,
-) -> Result<(), Fault>
-    ensures import { IfOk result (λ _. IfSome (R.remaining users) (HasImport default_limits 0 16777216)) }
-    ensures fault { IfErr result (λ fault. IfSome (R.remaining users) (EndsOutput default_limits 0 16777216 fault)) }
-{
-    let database = DatabaseFile::found(rt, path);
-    floors_store(alloc, users, node, members, moment, database, writer)
 }

@@ -9,7 +9,7 @@ use clients_file::{ClientEntry, Clients};
 use datagram_port::Clock;
 use otp_core::MOMENTS_END;
 use replay_window::Ahead;
-use sealed_port::{Client, Gate};
+use sealed_port::{Client, Failures, Gate};
 use std::alloc::Global;
 use std::time::Clock as TimeSource;
 use udp_port::SystemClock;
@@ -52,7 +52,8 @@ fn gate_from(alloc: Global, node: u8, clients: Clients, start: u64) -> Result<Ga
 {
     let ahead = Ahead::new(clients.ahead).unwrap();
     let known = clients_from(alloc, clients.clients, ahead, start)?;
-    Ok(Gate::new(node, known, clients.plain))
+    let failures = Failures::new(clients.failures);
+    Ok(Gate::new(node, known, clients.plain, failures))
 }
 
 /// What stands between a node's socket and its clients.

@@ -3,13 +3,12 @@
 ghost use Rattle.std.specs.Prelude.{◌≡◌, length, IfErr, IfOk, IfSome, OnOk};
 ghost use Rattle.std.specs.Io.KnownBytes.{Appends};
 ghost use Rattle.otp_core.specs.Limits.{default_limits};
-ghost use Rattle.oathd_database.specs.Commands.{EndsOutput, HasImport};
+ghost use Rattle.oathd_database.specs.Commands.{EndsOutput};
 ghost use Rattle.oathd_database.specs.Fault.{IsOutputFault};
 ghost use Rattle.oathd_database.specs.Gates.{HasToldGates, gate_line, gates_text};
 
 use crate::database::{Database, open_store};
 use crate::fault::Fault;
-use crate::file::DatabaseFile;
 use crate::rows::{RowText, write_tokens};
 use floor_store::{FloorStore, Row};
 use otp_core::{Gate, Settings};
@@ -82,30 +81,10 @@ pub fn gates_store<R: Read + Drop, S: Alter + Drop, D: Database<S>, W: Write>(
     database: D,
     writer: &mut W,
 ) -> Result<(), Fault>
-    ensures told { IfOk result (λ _. IfSome (R.remaining users) (HasToldGates S.Store default_limits 16777216 node
+    ensures told { IfOk result (λ _. IfSome (R.remaining users) (HasToldGates S.Store D.finds default_limits 16777216 node
         (W.contents writer.old) (W.contents writer.new))) }
     ensures fault { IfErr result (λ fault. IfSome (R.remaining users) (EndsOutput default_limits 0 16777216 fault)) }
 {
     let (users, store) = open_store(alloc, users, Settings::default(), Some(node), database)?;
     write_gates(&users.book, &store, writer)
-}
-
-/// Writes the gates of the store in the file at `path`, as [`gates_store`] does.
-///
-/// # Errors
-/// - Returns the errors of [`gates_store`].
-/// - Returns `Store(Disk)` if the file is missing.
-/// - Returns `Store(Unusable)` if the file is empty.
-pub fn gates_file<R: Read + Drop, W: Write>(
-    alloc: Global,
-    rt: &HostRuntime,
-    path: &str,
-    users: R,
-    node: u8,
-    writer: &mut W,
-) -> Result<(), Fault>
-    ensures import { IfOk result (λ _. IfSome (R.remaining users) (HasImport default_limits 0 16777216)) }
-    ensures fault { IfErr result (λ fault. IfSome (R.remaining users) (EndsOutput default_limits 0 16777216 fault)) }
-{
-    gates_store(alloc, users, node, DatabaseFile::found(rt, path), writer)
 }

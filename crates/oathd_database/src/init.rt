@@ -3,11 +3,10 @@
 ghost use Rattle.std.specs.Prelude.{IfErr, IfOk, IfSome};
 ghost use Rattle.otp_core.specs.Range.{IsMoment};
 ghost use Rattle.floor_sql.specs.Usable.{IsNode};
-ghost use Rattle.oathd_database.specs.Commands.{HasImport, HasMade, IsRefused};
+ghost use Rattle.oathd_database.specs.Commands.{HasMade, IsRefused};
 
 use crate::database::Database;
 use crate::fault::Fault;
-use crate::file::DatabaseFile;
 use crate::users::{drifted_floors, read_users};
 use floor_sql::SqlStore;
 use otp_core::Settings;
@@ -38,7 +37,7 @@ pub fn init_store<R: Read + Drop, S: Alter + Drop, D: Database<S>>(
     requires moment { IsMoment moment }
     requires node { IsNode node }
     ensures made { IfOk result (λ store. IfSome (R.remaining users)
-        (HasMade S.Store settings moment 16777216 node store)) }
+        (HasMade S.Store D.finds settings moment 16777216 node store)) }
     ensures fault { IfErr result (λ fault. IfSome (R.remaining users) (IsRefused settings moment 16777216 fault)) }
 {
     let users = read_users(alloc, users, settings, moment)?;
@@ -50,27 +49,4 @@ pub fn init_store<R: Read + Drop, S: Alter + Drop, D: Database<S>>(
         Ok(store) => Ok(store),
         Err((_, fault)) => Err(Fault::Store(fault)),
     }
-}
-
-/// Creates the store of a node in the file at `path`, as [`init_store`] does. Creates the file if it is missing.
-///
-/// # Errors
-/// Returns the errors of [`init_store`].
-pub fn init_file<R: Read + Drop>(
-    alloc: Global,
-    rt: &HostRuntime,
-    path: &str,
-    users: R,
-    settings: Settings,
-    moment: u64,
-    node: u8,
-) -> Result<(), Fault>
-    requires moment { IsMoment moment }
-    requires node { IsNode node }
-    ensures import { IfOk result (λ _. IfSome (R.remaining users) (HasImport settings moment 16777216)) }
-    ensures fault { IfErr result (λ fault. IfSome (R.remaining users) (IsRefused settings moment 16777216 fault)) }
-{
-    let database = DatabaseFile::found_or_made(rt, path);
-    init_store(alloc, users, settings, moment, node, database)?;
-    Ok(())
 }

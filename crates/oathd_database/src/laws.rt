@@ -33,8 +33,8 @@ ghost use Rattle.oath_node.specs.declared.fault.NodeFault.TheVariants.{Spent as 
 ghost use Rattle.oath_node.specs.declared.fault.OpenFault.TheVariants.{Memory as OpenMemory, Store as OpenStore};
 ghost use Rattle.oath_node.specs.declared.serve_fault.ServeFault.TheVariants.{Clock, Node, Port};
 ghost use Rattle.oathd_database.specs.Anew.{AreAbove, AreMadeAnew, IsSameUser};
-ghost use Rattle.oathd_database.specs.Broken.{IsOfClock, IsOfOne, asked_for, booting, conn_of, drifting, failing, fallen, floors_fault, floors_text, lost_nodes, migrating, new_store, no_floors, no_user, no_users, one_book, serving_for, small_conn, so_much, still, two_disks, users_fault, whole};
-ghost use Rattle.oathd_database.specs.Commands.{EndsOutput, EndsServing, HasAudited, HasExported, HasImport, HasMade, HasMigrated, HasOpened, HasServed, IsRefused};
+ghost use Rattle.oathd_database.specs.Broken.{IsOfClock, IsOfOne, asked_for, booting, conn_of, drifting, failing, fallen, floors_fault, floors_text, lost_nodes, migrating, new_store, no_floors, no_user, no_users, one_book, serving_for, shows_any, shows_none, small_conn, so_much, still, two_disks, users_fault, whole};
+ghost use Rattle.oathd_database.specs.Commands.{EndsOutput, EndsServing, HasAudited, HasExported, HasImport, HasMade, HasMigrated, HasOpened, HasServed, IsNotServed, IsRefused};
 ghost use Rattle.oathd_database.specs.Examples.{gate_with, opening_at, row_with, store_with, told_alone, two_closed};
 ghost use Rattle.oathd_database.specs.Fault.{IsOpenFault, IsOutputFault, open_fault_of, serve_fault_of, status_of};
 ghost use Rattle.oathd_database.specs.File.{IsEmptyFile};
@@ -49,6 +49,15 @@ ghost use Rattle.oathd_database.specs.Gather.{gather_status};
 ghost use Rattle.oathd_database.specs.Level.{HasLevelled, IsNotLevelled, IsPartLevelled, Levels, levelled, levelled_rows, told_by};
 ghost use Rattle.oathd_database.specs.Lost.{HasFault, HasRemade, IsGathered, IsNotRemade, IsUngathered, IsUngatheredFor};
 ghost use Rattle.oathd_database.specs.Reach.{AreFound, AreReadAfter, IsLastLoss};
+ghost use Rattle.std.specs.Borrow.{Bor};
+ghost use Rattle.cluster_file.specs.ClusterFile.{cluster_value};
+ghost use Rattle.cluster_file.specs.Key.{shared_key_of};
+ghost use Rattle.cluster_file.specs.Shared.{shared_of};
+ghost use Rattle.cluster_file.specs.declared.cluster.Cluster.{Cluster};
+ghost use Rattle.vote_core.specs.NodeSet.{PlaceRecord};
+ghost use Rattle.oathd_database.specs.NodeKey.{tag_key};
+ghost use Rattle.oathd_database.specs.Serving.{IsOfMember};
+ghost use Rattle.oathd_database.specs.declared.serving.Serving.{Serving};
 ghost use Rattle.oathd_database.specs.Tables.{KeepsTables, WritesAudit};
 ghost use Rattle.oathd_database.specs.Text.{WritesToken, audit_text, export_text};
 ghost use Rattle.oathd_database.specs.Unlock.{HasUser, IsNotUnlocked, LacksUser, Unlocks, unlock_status, unlocked_content};
@@ -181,16 +190,16 @@ pub fn imports_can_be_broken()
     ensures output_socket { EndsOutput default_limits 0 6 Socket (codes "# none") → ⊥ }
 
     // the faults of a command that serves
-    ensures serving { EndsServing default_limits 0 6 Socket (codes "# none") }
-    ensures serving_no_clock { EndsServing default_limits 0 6 NoClock (codes "# none") }
-    ensures serving_store { EndsServing default_limits 0 6 (Store Disk) (codes "# none") }
-    ensures serving_for_memory { EndsServing default_limits 0 6 Memory no_users }
-    ensures serving_users { EndsServing default_limits 0 6 (users_fault 1 MissingField) no_users }
-    ensures serving_wrong_users { EndsServing default_limits 0 6 (users_fault 1 MissingField) (codes "# none") → ⊥ }
-    ensures serving_before_import { EndsServing default_limits 0 6 Socket no_users → ⊥ }
-    ensures serving_clock_before_import { EndsServing default_limits 0 6 NoClock no_users → ⊥ }
-    ensures serving_store_before_import { EndsServing default_limits 0 6 (Store Disk) no_users → ⊥ }
-    ensures serving_output { EndsServing default_limits 0 6 CannotWrite (codes "# none") → ⊥ }
+    ensures serving { IsNotServed default_limits 0 6 Socket (codes "# none") }
+    ensures serving_no_clock { IsNotServed default_limits 0 6 NoClock (codes "# none") }
+    ensures serving_store { IsNotServed default_limits 0 6 (Store Disk) (codes "# none") }
+    ensures serving_for_memory { IsNotServed default_limits 0 6 Memory no_users }
+    ensures serving_users { IsNotServed default_limits 0 6 (users_fault 1 MissingField) no_users }
+    ensures serving_wrong_users { IsNotServed default_limits 0 6 (users_fault 1 MissingField) (codes "# none") → ⊥ }
+    ensures serving_before_import { IsNotServed default_limits 0 6 Socket no_users → ⊥ }
+    ensures serving_clock_before_import { IsNotServed default_limits 0 6 NoClock no_users → ⊥ }
+    ensures serving_store_before_import { IsNotServed default_limits 0 6 (Store Disk) no_users → ⊥ }
+    ensures serving_output { IsNotServed default_limits 0 6 CannotWrite (codes "# none") → ⊥ }
 
     // the faults of a store's calls, and an empty file
     ensures of_output { IsOutputFault None CannotWrite × IsOutputFault (Some Disk) (Store Disk) }
@@ -218,32 +227,37 @@ pub fn imports_can_be_broken()
 pub fn commands_can_be_broken()
     // a store is created
     ensures made { (users : List ℕ) → IsOfClock users
-        → HasMade fallen (drifting 2) 59 15 1 (new_store 0 (5 ∷ [])) users }
-    ensures made_import { HasMade fallen default_limits 0 11 1 (new_store 0 []) no_users → ⊥ }
-    ensures made_drift { (users : List ℕ) → IsOfClock users → HasMade fallen (drifting 2) 59 15 1 (new_store 0 (3 ∷ []))
-        users → ⊥ }
-    ensures made_longest { HasMade fallen default_limits 0 5 1 (new_store 0 []) (codes "# none") → ⊥ }
+        → HasMade fallen shows_any (drifting 2) 59 15 1 (new_store 0 (5 ∷ [])) users }
+    ensures made_import { HasMade fallen shows_any default_limits 0 11 1 (new_store 0 []) no_users → ⊥ }
+    ensures made_drift { (users : List ℕ) → IsOfClock users
+        → HasMade fallen shows_any (drifting 2) 59 15 1 (new_store 0 (3 ∷ [])) users → ⊥ }
+    ensures made_longest { HasMade fallen shows_any default_limits 0 5 1 (new_store 0 []) (codes "# none") → ⊥ }
     ensures made_boot { (users : List ℕ) → IsOfOne 0 11 users
-        → HasMade fallen default_limits 0 11 1 (new_store 1 (0 ∷ [])) users → ⊥ }
-    ensures made_node { HasMade (still (tables_at 0 [])) default_limits 0 11 2 (new_store 0 []) [] → ⊥ }
+        → HasMade fallen shows_any default_limits 0 11 1 (new_store 1 (0 ∷ [])) users → ⊥ }
+    ensures made_node { HasMade (still (tables_at 0 [])) shows_any default_limits 0 11 2 (new_store 0 []) [] → ⊥ }
+    ensures made_found { HasMade (still (tables_at 0 [])) shows_none default_limits 0 11 1 (new_store 0 []) [] → ⊥ }
 
     // a store is opened
-    ensures opened { HasOpened fallen (Some 1) 0 (new_store 4 []) × HasOpened fallen None 0 (new_store 4 []) }
-    ensures opened_given { HasOpened (still (tables_at 4 [])) (Some 2) 0 (new_store 4 []) → ⊥ }
-    ensures opened_tokens { HasOpened (still (tables_at 4 [])) None 1 (new_store 4 []) → ⊥ }
-    ensures opened_content { HasOpened (still (tables_at 4 [])) None 0 (new_store 5 []) → ⊥ }
-    ensures opened_broken { HasOpened fallen None 0 (record (new_store 4 []) { fault = Some Disk }) → ⊥ }
+    ensures opened { HasOpened fallen shows_any (Some 1) 0 (new_store 4 []) × HasOpened fallen shows_any None 0
+        (new_store 4 []) }
+    ensures opened_given { HasOpened (still (tables_at 4 [])) shows_any (Some 2) 0 (new_store 4 []) → ⊥ }
+    ensures opened_tokens { HasOpened (still (tables_at 4 [])) shows_any None 1 (new_store 4 []) → ⊥ }
+    ensures opened_content { HasOpened (still (tables_at 4 [])) shows_any None 0 (new_store 5 []) → ⊥ }
+    ensures opened_broken { HasOpened fallen shows_any None 0 (record (new_store 4 []) { fault = Some Disk }) → ⊥ }
+    ensures opened_found { HasOpened (still (tables_at 4 [])) shows_none None 0 (new_store 4 []) → ⊥ }
+    ensures opened_on_a_fallen_disk { HasOpened fallen shows_none (Some 1) 0 (new_store 4 []) }
 
     // a store is migrated
     ensures migrated { (users : List ℕ) → IsOfOne 0 11 users
-        → HasMigrated fallen default_limits 0 11 1 small_conn users }
-    ensures migrated_import { HasMigrated fallen default_limits 0 11 1 small_conn no_users → ⊥ }
-    ensures migrated_longest { HasMigrated fallen default_limits 0 5 1 small_conn (codes "# none") → ⊥ }
+        → HasMigrated fallen shows_any default_limits 0 11 1 small_conn users }
+    ensures migrated_import { HasMigrated fallen shows_any default_limits 0 11 1 small_conn no_users → ⊥ }
+    ensures migrated_longest { HasMigrated fallen shows_any default_limits 0 5 1 small_conn (codes "# none") → ⊥ }
     ensures migrated_idle { (users : List ℕ) → IsOfOne 0 11 users
-        → HasMigrated fallen default_limits 0 11 1 (record small_conn { in_transaction = true }) users → ⊥ }
-    ensures migrated_node { HasMigrated migrating default_limits 0 11 2 (conn_of floor_schema 1) [] → ⊥ }
+        → HasMigrated fallen shows_any default_limits 0 11 1 (record small_conn { in_transaction = true }) users → ⊥ }
+    ensures migrated_node { HasMigrated migrating shows_any default_limits 0 11 2 (conn_of floor_schema 1) [] → ⊥ }
+    ensures migrated_found { HasMigrated migrating shows_none default_limits 0 11 1 (conn_of floor_schema 1) [] → ⊥ }
     ensures migrated_tokens { (users : List ℕ) → IsOfOne 0 11 users
-        → HasMigrated migrating default_limits 0 11 1 (conn_of floor_schema 1) users → ⊥ }
+        → HasMigrated migrating shows_any default_limits 0 11 1 (conn_of floor_schema 1) users → ⊥ }
 
     // the tables of a store stay, and its passes are written
     ensures kept { KeepsTables (still (tables_at 4 [])) (new_store 4 []) (new_store 4 []) }
@@ -261,56 +275,80 @@ pub fn commands_can_be_broken()
     ensures audit_written { WritesAudit (still (tables_at 4 [])) (new_store 4 []) (Some []) (Some (codes "x")) → ⊥ }
 
     // the users file of a store is written
-    ensures exported { (users : List ℕ) → IsOfOne 0 11 users → HasExported fallen default_limits 0 11 (Some [])
-        (Some []) users }
-    ensures exported_import { HasExported fallen default_limits 0 11 (Some []) (Some []) no_users → ⊥ }
-    ensures exported_longest { HasExported fallen default_limits 0 5 (Some []) (Some []) (codes "# none") → ⊥ }
-    ensures exported_opened { (users : List ℕ) → IsOfOne 0 11 users
-        → HasExported (still (tables_at 4 [])) default_limits 0 11 (Some []) (Some []) users → ⊥ }
-    ensures exported_written { HasExported (still (tables_at 4 [])) default_limits 0 11 (Some []) (Some (codes "x")) []
+    ensures exported { (users : List ℕ) → IsOfOne 0 11 users
+        → HasExported fallen shows_any default_limits 0 11 (Some []) (Some []) users }
+    ensures exported_import { HasExported fallen shows_any default_limits 0 11 (Some []) (Some []) no_users → ⊥ }
+    ensures exported_longest { HasExported fallen shows_any default_limits 0 5 (Some []) (Some []) (codes "# none")
         → ⊥ }
+    ensures exported_opened { (users : List ℕ) → IsOfOne 0 11 users
+        → HasExported (still (tables_at 4 [])) shows_any default_limits 0 11 (Some []) (Some []) users → ⊥ }
+    ensures exported_written { HasExported (still (tables_at 4 [])) shows_any default_limits 0 11 (Some [])
+        (Some (codes "x")) [] → ⊥ }
 
     // the passes of a store are written
     ensures audited { (users : List ℕ) → IsOfOne 0 11 users
-        → HasAudited fallen default_limits 0 11 1 (Some []) (Some []) users }
-    ensures audited_import { HasAudited fallen default_limits 0 11 1 (Some []) (Some []) no_users → ⊥ }
-    ensures audited_longest { HasAudited fallen default_limits 0 5 1 (Some []) (Some []) (codes "# none") → ⊥ }
-    ensures audited_opened { HasAudited (still (tables_at 4 [])) default_limits 0 11 2 (Some []) (Some []) [] → ⊥ }
+        → HasAudited fallen shows_any default_limits 0 11 1 (Some []) (Some []) users }
+    ensures audited_import { HasAudited fallen shows_any default_limits 0 11 1 (Some []) (Some []) no_users → ⊥ }
+    ensures audited_longest { HasAudited fallen shows_any default_limits 0 5 1 (Some []) (Some []) (codes "# none")
+        → ⊥ }
+    ensures audited_opened { HasAudited (still (tables_at 4 [])) shows_any default_limits 0 11 2 (Some []) (Some []) []
+        → ⊥ }
     ensures audited_tokens { (users : List ℕ) → IsOfOne 0 11 users
-        → HasAudited (still (tables_at 4 [])) default_limits 0 11 1 (Some []) (Some []) users → ⊥ }
-    ensures audited_kept { HasAudited two_disks default_limits 0 11 1 (Some []) (Some (audit_text (old_pass ∷ []))) []
-        → ⊥ }
-    ensures audited_written { HasAudited (still (tables_at 4 [])) default_limits 0 11 1 (Some []) (Some (codes "x")) []
-        → ⊥ }
+        → HasAudited (still (tables_at 4 [])) shows_any default_limits 0 11 1 (Some []) (Some []) users → ⊥ }
+    ensures audited_kept { HasAudited two_disks shows_any default_limits 0 11 1 (Some [])
+        (Some (audit_text (old_pass ∷ []))) [] → ⊥ }
+    ensures audited_written { HasAudited (still (tables_at 4 [])) shows_any default_limits 0 11 1 (Some [])
+        (Some (codes "x")) [] → ⊥ }
 
     // the floors file of a store is written
-    ensures told { (users : List ℕ) → IsOfOne 0 11 users → HasToldFloors fallen default_limits 11 1 3 5 (Some [])
-        (Some []) users }
-    ensures told_import { HasToldFloors fallen default_limits 11 1 3 5 (Some []) (Some []) no_users → ⊥ }
-    ensures told_longest { HasToldFloors fallen default_limits 5 1 3 5 (Some []) (Some []) (codes "# none") → ⊥ }
-    ensures told_opened { HasToldFloors (still (tables_at 4 [])) default_limits 11 2 3 5 (Some [])
+    ensures told { (users : List ℕ) → IsOfOne 0 11 users
+        → HasToldFloors fallen shows_any default_limits 11 1 3 5 (Some []) (Some []) users }
+    ensures told_import { HasToldFloors fallen shows_any default_limits 11 1 3 5 (Some []) (Some []) no_users → ⊥ }
+    ensures told_longest { HasToldFloors fallen shows_any default_limits 5 1 3 5 (Some []) (Some []) (codes "# none")
+        → ⊥ }
+    ensures told_opened { HasToldFloors (still (tables_at 4 [])) shows_any default_limits 11 2 3 5 (Some [])
         (Some (codes "floors 1 2 3 4 5 0\n")) [] → ⊥ }
-    ensures told_written { HasToldFloors (still (tables_at 4 [])) default_limits 11 1 3 5 (Some []) (Some (codes "x"))
-        [] → ⊥ }
+    ensures told_written { HasToldFloors (still (tables_at 4 [])) shows_any default_limits 11 1 3 5 (Some [])
+        (Some (codes "x")) [] → ⊥ }
 
     // a node is served
-    ensures served_import { (address : SocketAddrV4) → HasServed fallen (serving_for address) (so_much 0 0) no_users
-        → ⊥ }
+    ensures served_import { (address : SocketAddrV4)
+        → HasServed fallen shows_any (serving_for address) (Ok (so_much 0 0)) no_users → ⊥ }
     ensures served_opened { (address : SocketAddrV4) (users : List ℕ) → IsOfOne 0 16777216 users
-        → HasServed booting (serving_for address) (so_much 0 0) users → ⊥ }
-    ensures served_in_boot { (address : SocketAddrV4) → HasServed (still (tables_at 4 [])) (serving_for address)
-        (so_much 0 0) [] → ⊥ }
+        → HasServed booting shows_any (serving_for address) (Ok (so_much 0 0)) users → ⊥ }
+    ensures served_in_boot { (address : SocketAddrV4)
+        → HasServed (still (tables_at 4 [])) shows_any (serving_for address) (Ok (so_much 0 0)) [] → ⊥ }
     ensures served_book { (address : SocketAddrV4)
-        → (h : HasServed booting (serving_for address) (so_much 0 0) []) → h.first.book ≡ [] }
+        → (h : HasServed booting shows_any (serving_for address) (Ok (so_much 0 0)) []) → h.first.book ≡ [] }
     ensures served_limits { (address : SocketAddrV4)
-        → (h : HasServed booting (serving_for address) (so_much 0 0) []) → h.first.limits ≡ default_limits }
+        → (h : HasServed booting shows_any (serving_for address) (Ok (so_much 0 0)) [])
+        → h.first.limits ≡ default_limits }
     ensures served_key { (address : SocketAddrV4)
-        → (h : HasServed booting (serving_for address) (so_much 0 0) []) → h.first.key ≡ [] }
+        → (h : HasServed booting shows_any (serving_for address) (Ok (so_much 0 0)) []) → h.first.key ≡ [] }
     ensures served_place { (address : SocketAddrV4)
-        → (h : HasServed booting (serving_for address) (so_much 0 0) []) → h.first.voter.place.n ≡ 1 }
+        → (h : HasServed booting shows_any (serving_for address) (Ok (so_much 0 0)) []) → h.first.voter.place.n ≡ 1 }
     ensures served_record { (address : SocketAddrV4)
-        → (h : HasServed booting (serving_for address) (so_much 0 0) []) → h.served_is.events ≡ [] }
-    ensures served_serves { (address : SocketAddrV4) → HasServed booting (serving_for address) (so_much 1 0) [] → ⊥ }
+        → (h : HasServed booting shows_any (serving_for address) (Ok (so_much 0 0)) []) → h.served_is.events ≡ [] }
+    ensures served_serves { (address : SocketAddrV4)
+        → HasServed booting shows_any (serving_for address) (Ok (so_much 1 0)) [] → ⊥ }
+    // A fault ends the command before its first turn, or in a turn.
+    ensures ends_before { (address : SocketAddrV4)
+        → EndsServing fallen shows_any (serving_for address) Socket (codes "# none") }
+    ensures ends_as_no_turn { (address : SocketAddrV4)
+        → EndsServing booting shows_any (serving_for address) CannotWrite [] → ⊥ }
+{}
+
+/// Members: the one that [`Serving::of_member`](crate::Serving::of_member) describes has what its cluster file says.
+pub fn members_follow_their_file()
+    ensures settings { (cluster : Bor Cluster) (key : List ℕ) (place : PlaceRecord) (serving : Serving)
+        → IsOfMember cluster key place serving → serving.settings ≡ cluster.now.settings }
+    ensures place { (cluster : Bor Cluster) (key : List ℕ) (place : PlaceRecord) (serving : Serving)
+        → IsOfMember cluster key place serving → serving.place ≡ place }
+    ensures members { (cluster : Bor Cluster) (key : List ℕ) (place : PlaceRecord) (serving : Serving)
+        → IsOfMember cluster key place serving → serving.members.items ≡ cluster.now.members.items }
+    ensures key { (cluster : Bor Cluster) (key : List ℕ) (place : PlaceRecord) (serving : Serving)
+        (book : List Credential) → IsOfMember cluster key place serving
+        → tag_key serving.key book ≡ shared_key_of key (shared_of (cluster_value cluster.now) book) }
 {}
 
 /// Counterexamples: each promise of what stands between a socket and its clients fails for a minimal one.
@@ -375,24 +413,29 @@ pub fn floors_can_be_broken()
         → IsNotRemade default_limits 0 11 whole (codes "x" ∷ []) (floors_fault 2 1 NotFloors) users → ⊥ }
 
     // a store is replaced
-    ensures remade { (users : List ℕ) → IsOfOne 1 11 users → HasRemade fallen default_limits 1 11 whole
-        (floors_text (codes "a 5") ∷ []) (new_store 1048576 (5 ∷ [])) users }
-    ensures remade_import { HasRemade fallen default_limits 1 11 whole (floors_text (codes "a 5") ∷ [])
+    ensures remade { (users : List ℕ) → IsOfOne 1 11 users
+        → HasRemade fallen shows_any default_limits 1 11 whole (floors_text (codes "a 5") ∷ [])
+        (new_store 1048576 (5 ∷ [])) users }
+    ensures remade_import { HasRemade fallen shows_any default_limits 1 11 whole (floors_text (codes "a 5") ∷ [])
         (new_store 1048576 (5 ∷ [])) no_users → ⊥ }
     ensures remade_gathered { (users : List ℕ) → IsOfOne 1 11 users
-        → HasRemade fallen default_limits 1 11 whole [] (new_store 1048576 (5 ∷ [])) users → ⊥ }
+        → HasRemade fallen shows_any default_limits 1 11 whole [] (new_store 1048576 (5 ∷ [])) users → ⊥ }
     ensures remade_floors { (users : List ℕ) → IsOfOne 1 11 users
-        → HasRemade fallen default_limits 1 11 whole (floors_text (codes "a 5") ∷ []) (new_store 1048576 (0 ∷ [])) users
-        → ⊥ }
+        → HasRemade fallen shows_any default_limits 1 11 whole (floors_text (codes "a 5") ∷ [])
+        (new_store 1048576 (0 ∷ [])) users → ⊥ }
     ensures remade_boot { (users : List ℕ) → IsOfOne 1 11 users
-        → HasRemade fallen default_limits 1 11 whole (floors_text (codes "a 5") ∷ []) (new_store 0 (5 ∷ [])) users → ⊥ }
-    ensures remade_own { (users : List ℕ) → IsOfClock users → HasRemade fallen (drifting 2) 59 15 whole
-        (floors_text (codes "a 5") ∷ []) (new_store 61865984 (3 ∷ [])) users → ⊥ }
+        → HasRemade fallen shows_any default_limits 1 11 whole (floors_text (codes "a 5") ∷ []) (new_store 0 (5 ∷ []))
+        users → ⊥ }
+    ensures remade_own { (users : List ℕ) → IsOfClock users
+        → HasRemade fallen shows_any (drifting 2) 59 15 whole (floors_text (codes "a 5") ∷ [])
+        (new_store 61865984 (3 ∷ [])) users → ⊥ }
     ensures remade_since { (users : List ℕ) → IsOfOne 1 11 users
-        → HasRemade fallen default_limits 1 11 (record whole { since = 1 }) (floors_text (codes "a 5") ∷ [])
+        → HasRemade fallen shows_any default_limits 1 11 (record whole { since = 1 }) (floors_text (codes "a 5") ∷ [])
         (new_store 1048576 (5 ∷ [])) users → ⊥ }
-    ensures remade_node { HasRemade (still (tables_at 1048576 [])) default_limits 1 11 (record whole { node = 2 })
-        (no_floors ∷ []) (new_store 1048576 []) [] → ⊥ }
+    ensures remade_node { HasRemade (still (tables_at 1048576 [])) shows_any default_limits 1 11
+        (record whole { node = 2 }) (no_floors ∷ []) (new_store 1048576 []) [] → ⊥ }
+    ensures remade_found { HasRemade (still (tables_at 1048576 [])) shows_none default_limits 1 11 whole []
+        (new_store 1048576 []) [] → ⊥ }
 
     // the floors of a store are raised
     ensures part { IsPartLevelled (Some 7 ∷ Some 8 ∷ []) (two_rows (free_row 5) (free_row 6) None)
@@ -410,14 +453,17 @@ pub fn floors_can_be_broken()
     ensures levels_left { Levels small_held (store_at 0) (record (broken_at 0) { other = booted 1 }) [] failed → ⊥ }
     ensures levels_settled { Levels small_held (unsettled_at 0 1) (unsettled_at 0 1) [] done → ⊥ }
     ensures levels_clean { Levels small_held (fallen_at 0) (store_at 0) [] done → ⊥ }
-    ensures levelled { (users : List ℕ) → IsOfOne 0 11 users → HasLevelled fallen default_limits 11 1 []
-        (new_store 4 []) users }
-    ensures levelled_import { HasLevelled fallen default_limits 11 1 [] (new_store 4 []) no_users → ⊥ }
-    ensures levelled_longest { HasLevelled fallen default_limits 5 1 [] (new_store 4 []) (codes "# none") → ⊥ }
+    ensures levelled { (users : List ℕ) → IsOfOne 0 11 users
+        → HasLevelled fallen shows_any default_limits 11 1 [] (new_store 4 []) users }
+    ensures levelled_import { HasLevelled fallen shows_any default_limits 11 1 [] (new_store 4 []) no_users → ⊥ }
+    ensures levelled_longest { HasLevelled fallen shows_any default_limits 5 1 [] (new_store 4 []) (codes "# none")
+        → ⊥ }
     ensures levelled_read { (users : List ℕ) → IsOfOne 0 11 users
-        → HasLevelled fallen default_limits 11 1 (codes "x" ∷ []) (new_store 4 []) users → ⊥ }
-    ensures levelled_opened { HasLevelled (still (tables_at 4 [])) default_limits 11 2 [] (new_store 4 []) [] → ⊥ }
-    ensures levelled_levels { HasLevelled (still (tables_at 4 [])) default_limits 11 1 [] (new_store 5 []) [] → ⊥ }
+        → HasLevelled fallen shows_any default_limits 11 1 (codes "x" ∷ []) (new_store 4 []) users → ⊥ }
+    ensures levelled_opened { HasLevelled (still (tables_at 4 [])) shows_any default_limits 11 2 [] (new_store 4 []) []
+        → ⊥ }
+    ensures levelled_levels { HasLevelled (still (tables_at 4 [])) shows_any default_limits 11 1 [] (new_store 5 []) []
+        → ⊥ }
     ensures not_levelled { IsNotLevelled default_limits 11 (codes "x" ∷ []) (floors_fault 1 1 NotFloors) no_users }
     ensures not_levelled_store { (users : List ℕ) → IsOfOne 0 11 users
         → IsNotLevelled default_limits 11 [] (Command (Store Disk)) users }
@@ -496,30 +542,31 @@ pub fn gates_can_be_broken()
 
     // a user's token is unlocked, or no token is
     ensures unlocks { (users : List ℕ) → IsOfOne 0 11 users
-        → Unlocks fallen default_limits 11 1 (codes "a") (new_store 4 (0 ∷ [])) users }
+        → Unlocks fallen shows_any default_limits 11 1 (codes "a") (new_store 4 (0 ∷ [])) users }
     ensures unlocks_known { (users : List ℕ) → IsOfOne 0 11 users
-        → Unlocks fallen default_limits 11 1 (codes "b") (new_store 4 (0 ∷ [])) users → ⊥ }
+        → Unlocks fallen shows_any default_limits 11 1 (codes "b") (new_store 4 (0 ∷ [])) users → ⊥ }
     ensures unlocks_opened { (users : List ℕ) → IsOfOne 0 11 users
-        → Unlocks (still (tables_at 4 [])) default_limits 11 1 (codes "a") (new_store 4 []) users → ⊥ }
-    ensures unlocks_writes { (users : List ℕ) → IsOfOne 0 11 users → Unlocks fallen default_limits 11 1 (codes "a")
+        → Unlocks (still (tables_at 4 [])) shows_any default_limits 11 1 (codes "a") (new_store 4 []) users → ⊥ }
+    ensures unlocks_writes { (users : List ℕ) → IsOfOne 0 11 users
+        → Unlocks fallen shows_any default_limits 11 1 (codes "a")
         (record (new_store 4 (0 ∷ [])) { fault = Some Disk }) users → ⊥ }
     ensures not_unlocked { (users : List ℕ) → IsOfOne 0 11 users
         → IsNotUnlocked default_limits 11 (codes "a") (UnlockCommand (Store Disk)) users }
     ensures not_unlocked_output { IsNotUnlocked default_limits 11 (codes "a") (UnlockCommand CannotWrite) [] → ⊥ }
-    ensures not_unlocked_before_import { IsNotUnlocked default_limits 11 (codes "a") (UnlockCommand (Store Disk)) no_users
-        → ⊥ }
+    ensures not_unlocked_before_import { IsNotUnlocked default_limits 11 (codes "a") (UnlockCommand (Store Disk))
+        no_users → ⊥ }
     ensures nobody { IsNotUnlocked default_limits 11 (codes "b") (no_user (codes "b")) [] }
     ensures nobody_else { IsNotUnlocked default_limits 11 (codes "c") (no_user (codes "b")) [] → ⊥ }
     ensures nobody_known { (users : List ℕ) → IsOfOne 0 11 users
         → IsNotUnlocked default_limits 11 (codes "a") (no_user (codes "a")) users → ⊥ }
-    ensures statuses { map unlock_status (UnlockCommand Memory ∷ UnlockCommand (Store Disk) ∷ UnlockCommand Socket ∷ no_user (codes "b")
-        ∷ []) ≡ 1 ∷ 3 ∷ 4 ∷ 1 ∷ [] }
+    ensures statuses { map unlock_status (UnlockCommand Memory ∷ UnlockCommand (Store Disk) ∷ UnlockCommand Socket ∷
+        no_user (codes "b") ∷ []) ≡ 1 ∷ 3 ∷ 4 ∷ 1 ∷ [] }
 
     // the gate of a token is written
     ensures gate { WritesToken gate_row (event_token (codes "a") ∷ []) (row_with (gate_with 2 10) ∷ []) 0 (Some [])
         (Some (codes "gate a 2 10\n")) }
-    ensures gate_token { WritesToken gate_row (event_token (codes "a") ∷ []) (row_with (gate_with 2 10) ∷ []) 0 (Some [])
-        (Some (codes "gate b 2 10\n")) → ⊥ }
+    ensures gate_token { WritesToken gate_row (event_token (codes "a") ∷ []) (row_with (gate_with 2 10) ∷ []) 0
+        (Some []) (Some (codes "gate b 2 10\n")) → ⊥ }
     ensures gate_row { WritesToken gate_row (event_token (codes "a") ∷ []) (row_with (gate_with 2 10) ∷ []) 0 (Some [])
         (Some (codes "gate a 3 10\n")) → ⊥ }
     ensures gate_written { WritesToken gate_row (event_token (codes "a") ∷ []) (row_with clear_gate ∷ []) 0 (Some [])
@@ -527,12 +574,13 @@ pub fn gates_can_be_broken()
 
     // the gates of a store are written
     ensures told { (users : List ℕ) → IsOfOne 0 11 users
-        → HasToldGates fallen default_limits 11 1 (Some []) (Some []) users }
-    ensures told_import { HasToldGates fallen default_limits 11 1 (Some []) (Some []) no_users → ⊥ }
-    ensures told_longest { HasToldGates fallen default_limits 5 1 (Some []) (Some []) (codes "# none") → ⊥ }
-    ensures told_opened { HasToldGates (still (tables_at 4 [])) default_limits 11 2 (Some []) (Some []) [] → ⊥ }
-    ensures told_tokens { (users : List ℕ) → IsOfOne 0 11 users
-        → HasToldGates (still (tables_at 4 [])) default_limits 11 1 (Some []) (Some []) users → ⊥ }
-    ensures told_written { HasToldGates (still (tables_at 4 [])) default_limits 11 1 (Some []) (Some (codes "x")) []
+        → HasToldGates fallen shows_any default_limits 11 1 (Some []) (Some []) users }
+    ensures told_import { HasToldGates fallen shows_any default_limits 11 1 (Some []) (Some []) no_users → ⊥ }
+    ensures told_longest { HasToldGates fallen shows_any default_limits 5 1 (Some []) (Some []) (codes "# none") → ⊥ }
+    ensures told_opened { HasToldGates (still (tables_at 4 [])) shows_any default_limits 11 2 (Some []) (Some []) []
         → ⊥ }
+    ensures told_tokens { (users : List ℕ) → IsOfOne 0 11 users
+        → HasToldGates (still (tables_at 4 [])) shows_any default_limits 11 1 (Some []) (Some []) users → ⊥ }
+    ensures told_written { HasToldGates (still (tables_at 4 [])) shows_any default_limits 11 1 (Some [])
+        (Some (codes "x")) [] → ⊥ }
 {}

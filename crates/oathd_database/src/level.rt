@@ -2,7 +2,7 @@
 //!
 //! Floor: the first free factor of a token at a node.
 
-ghost use Rattle.std.specs.Prelude.{◌≡◌, ◌<◌, ◌≤◌, length, map, None, Option, ℕ, IfErr, IfOk, IfSome};
+ghost use Rattle.std.specs.Prelude.{◌≡◌, ◌<◌, ◌≤◌, length, map, None, Option, IfErr, IfOk, IfSome};
 ghost use Rattle.otp_core.specs.Limits.{default_limits};
 ghost use Rattle.floor_store.specs.Held.{MayPut};
 ghost use Rattle.floors_file.specs.Floors.{floors_value};
@@ -12,7 +12,6 @@ ghost use Rattle.vote_core.specs.Voting.{raise};
 
 use crate::database::{Database, open_store};
 use crate::fault::Fault;
-use crate::file::DatabaseFile;
 use crate::gather::{GatherFault, read_files};
 use crate::users::token_at;
 use floor_sql::SqlStore;
@@ -94,7 +93,7 @@ pub fn level_store<R: Read + Drop, S: Alter + Drop, D: Database<S>>(
     database: D,
 ) -> Result<SqlStore<S>, GatherFault>
     ensures levelled { IfOk result (λ store. IfSome (R.remaining users)
-        (HasLevelled S.Store default_limits 16777216 node (map (λ text. text.items) texts.now) store)) }
+        (HasLevelled S.Store D.finds default_limits 16777216 node (map (λ text. text.items) texts.now) store)) }
     ensures fault { IfErr result (λ fault. IfSome (R.remaining users)
         (IsNotLevelled default_limits 16777216 (map (λ text. text.items) texts.now) fault)) }
 {
@@ -115,29 +114,5 @@ pub fn level_store<R: Read + Drop, S: Alter + Drop, D: Database<S>>(
     match level_rows(&mut store, &users.book, &files) {
         Ok(()) => Ok(store),
         Err(fault) => Err(GatherFault::Command(Fault::Store(fault))),
-    }
-}
-
-/// Raises the floors of the store in the file at `path`, as [`level_store`] does.
-///
-/// # Errors
-/// - Returns the errors of [`level_store`].
-/// - Returns `Command(Store(Disk))` if the file is missing.
-/// - Returns `Command(Store(Unusable))` if the file is empty.
-pub fn level_file<R: Read + Drop>(
-    alloc: Global,
-    rt: &HostRuntime,
-    path: &str,
-    users: R,
-    node: u8,
-    texts: &[Vec<u8>],
-) -> Result<(), GatherFault>
-    ensures { IfErr result (λ fault. IfSome (R.remaining users)
-        (IsNotLevelled default_limits 16777216 (map (λ text. text.items) texts.now) fault)) }
-{
-    let database = DatabaseFile::found(rt, path);
-    match level_store(alloc, users, node, texts, database) {
-        Ok(_store) => Ok(()),
-        Err(fault) => Err(fault),
     }
 }

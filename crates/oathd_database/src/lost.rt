@@ -11,7 +11,6 @@ ghost use Rattle.oathd_database.specs.Lost.{HasRemade, IsGathered, IsNotRemade, 
 
 use crate::database::Database;
 use crate::fault::Fault;
-use crate::file::DatabaseFile;
 use crate::gather::{GatherFault, read_files};
 use crate::users::{drifted_floors, read_users};
 use floor_sql::SqlStore;
@@ -107,7 +106,7 @@ pub fn init_lost_store<R: Read + Drop, S: Alter + Drop, D: Database<S>>(
     requires moment { IsMoment moment }
     requires node { IsNode lost.node }
     ensures made { IfOk result (λ store. IfSome (R.remaining users)
-        (HasRemade S.Store settings moment 16777216 lost.entry (map (λ text. text.items) texts.now) store)) }
+        (HasRemade S.Store D.finds settings moment 16777216 lost.entry (map (λ text. text.items) texts.now) store)) }
     ensures fault { IfErr result (λ fault. IfSome (R.remaining users)
         (IsNotRemade settings moment 16777216 lost.entry (map (λ text. text.items) texts.now) fault)) }
 {
@@ -134,31 +133,5 @@ pub fn init_lost_store<R: Read + Drop, S: Alter + Drop, D: Database<S>>(
     match SqlStore::init_at(alloc, conn, lost.node, boot, &floors) {
         Ok(store) => Ok(store),
         Err((_, fault)) => Err(GatherFault::Command(Fault::Store(fault))),
-    }
-}
-
-/// Creates a replacement store in the file at `path`, as [`init_lost_store`] does. Creates the file if it is missing.
-///
-/// # Errors
-/// Returns the errors of [`init_lost_store`].
-pub fn init_lost_file<R: Read + Drop>(
-    alloc: Global,
-    rt: &HostRuntime,
-    path: &str,
-    users: R,
-    settings: Settings,
-    moment: u64,
-    lost: LostNode<'_>,
-    texts: &[Vec<u8>],
-) -> Result<(), GatherFault>
-    requires moment { IsMoment moment }
-    requires node { IsNode lost.node }
-    ensures fault { IfErr result (λ fault. IfSome (R.remaining users)
-        (IsNotRemade settings moment 16777216 lost.entry (map (λ text. text.items) texts.now) fault)) }
-{
-    let database = DatabaseFile::found_or_made(rt, path);
-    match init_lost_store(alloc, users, settings, moment, lost, texts, database) {
-        Ok(_store) => Ok(()),
-        Err(fault) => Err(fault),
     }
 }

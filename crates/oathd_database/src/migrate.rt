@@ -3,12 +3,11 @@
 ghost use Rattle.std.specs.Prelude.{◌≡◌, false, length, IfErr, IfOk, IfSome};
 ghost use Rattle.floor_sql.specs.Migrate.{IsMigrated};
 ghost use Rattle.otp_core.specs.Limits.{default_limits};
-ghost use Rattle.oathd_database.specs.Commands.{HasImport, HasMigrated, IsRefused};
+ghost use Rattle.oathd_database.specs.Commands.{HasMigrated, IsRefused};
 ghost use Rattle.oathd_database.specs.Fault.{IsStoreFault};
 
 use crate::database::Database;
 use crate::fault::Fault;
-use crate::file::DatabaseFile;
 use crate::users::{Users, read_users};
 use floor_sql::SqlStore;
 use otp_core::Settings;
@@ -49,30 +48,10 @@ pub fn migrate_store<R: Read + Drop, S: Alter + Drop, D: Database<S>>(
     database: D,
 ) -> Result<Connection<S>, Fault>
     ensures migrated { IfOk result (λ conn. IfSome (R.remaining users)
-        (HasMigrated S.Store default_limits 0 16777216 node conn)) }
+        (HasMigrated S.Store D.finds default_limits 0 16777216 node conn)) }
     ensures fault { IfErr result (λ fault. IfSome (R.remaining users) (IsRefused default_limits 0 16777216 fault)) }
 {
     let users = read_users(alloc, users, Settings::default(), 0)?;
     let conn = database.connect()?;
     migrate_tables(conn, node, &users)
-}
-
-/// Upgrades the store in the file at `path`, as [`migrate_store`] does.
-///
-/// # Errors
-/// - Returns the errors of [`migrate_store`].
-/// - Returns `Store(Disk)` if the file is missing.
-/// - Returns `Store(Unusable)` if the file is empty.
-pub fn migrate_file<R: Read + Drop>(
-    alloc: Global,
-    rt: &HostRuntime,
-    path: &str,
-    users: R,
-    node: u8,
-) -> Result<(), Fault>
-    ensures import { IfOk result (λ _. IfSome (R.remaining users) (HasImport default_limits 0 16777216)) }
-    ensures fault { IfErr result (λ fault. IfSome (R.remaining users) (IsRefused default_limits 0 16777216 fault)) }
-{
-    migrate_store(alloc, users, node, DatabaseFile::found(rt, path))?;
-    Ok(())
 }

@@ -1,16 +1,15 @@
 //! The command `serve`: runs a node over a store and a socket.
 
-ghost use Rattle.std.specs.Prelude.{◌≡◌, ◌≤◌, ◌<◌, ◌^◌, [], None, length, Result, IfErr, IfOk, IfSome};
+ghost use Rattle.std.specs.Prelude.{◌≡◌, ◌<◌, ◌^◌, [], None, length, Result, Ok, IfErr, IfOk, IfSome};
 ghost use Rattle.oath_node.specs.TurnServing.{Serves};
 ghost use Rattle.oath_node.specs.declared.serve_fault.ServeFault.{ServeFault};
 ghost use Rattle.oath_node.specs.declared.turns.Served.{Served};
 ghost use Rattle.oath_node.specs.Calls.{IsOpened};
-ghost use Rattle.oathd_database.specs.Commands.{EndsServing, HasImport, HasServed, IsServed};
+ghost use Rattle.oathd_database.specs.Commands.{EndsServing, HasServed, IsServed};
 ghost use Rattle.oathd_database.specs.Fault.{IsOpenFault, serve_end};
 
 use crate::database::{Database, open_store};
 use crate::fault::Fault;
-use crate::file::DatabaseFile;
 use crate::gate::{Front, front_of};
 use crate::node_key::tag_key;
 use crate::serving::Serving;
@@ -18,7 +17,7 @@ use arrayvec::ArrayVec;
 use cluster_file::fingerprint;
 use datagram_port::{Clock, Port};
 use floor_store::FloorStore;
-use node_log::{LogPort, MAX_OTHERS, Member, Start, write_start};
+use node_log::{Gatekeeper, LogPort, MAX_OTHERS, Member, Start, write_start};
 use oath_node::{Node, Served, run_turns};
 use otp_core::Settings;
 use sealed_port::SealedPort;
@@ -119,7 +118,7 @@ fn other_members(place: Place) -> ArrayVec<Member, MAX_OTHERS> {
 }
 
 /// Serves a node over a port, as [`serve_node`] does, with a log. A failed write ends the log, but not the node.
-fn serve_logged<S: FloorStore, P: Port + Drop, N: TimeSource, W: Write>(
+fn serve_logged<S: FloorStore, P: Gatekeeper + Drop, N: TimeSource, W: Write>(
     node: &mut Node<'_, S>,
     port: P,
     outside: &N,
@@ -142,7 +141,7 @@ fn serve_logged<S: FloorStore, P: Port + Drop, N: TimeSource, W: Write>(
 }
 
 /// Serves a node over a port, as [`serve_node`] does, with a log if there is one.
-fn serve_port<S: FloorStore, P: Port + Drop, N: TimeSource, W: Write>(
+fn serve_port<S: FloorStore, P: Gatekeeper + Drop, N: TimeSource, W: Write>(
     node: &mut Node<'_, S>,
     port: P,
     outside: &N,
@@ -188,7 +187,7 @@ fn serve_front<S: FloorStore, N: TimeSource, W: Write>(
             serve_port(node, port, outside, turns, log, writer)
         }
         Front::Gate(gate) => {
-            let port = SealedPort::new(port, SystemClock::new(outside), gate);
+            let port = SealedPort::new(port.under_gate(), SystemClock::new(outside), gate);
             serve_port(node, port, outside, turns, log, writer)
         }
     }
@@ -243,9 +242,10 @@ pub fn serve_store<R: Read + Drop, S: Alter + Drop, D: Database<S>, N: Net + Tim
     database: D,
     writer: &mut W,
 ) -> Result<Served, Fault>
-    ensures served { IfOk result (λ served. IfSome (R.remaining users) (HasServed S.Store serving.entry served)) }
+    ensures served { IfOk result (λ served. IfSome (R.remaining users)
+        (HasServed S.Store D.finds serving.entry (Ok served))) }
     ensures fault { IfErr result (λ fault. IfSome (R.remaining users)
-        (EndsServing serving.entry.settings 0 16777216 fault)) }
+        (EndsServing S.Store D.finds serving.entry fault)) }
 {
     let Serving {
         settings,
@@ -265,32 +265,4 @@ pub fn serve_store<R: Read + Drop, S: Alter + Drop, D: Database<S>, N: Net + Tim
     let front = front_of(alloc, place.me(), lines, outside)?;
     let log = log_of(is_logged, start, place);
     serve_front(&mut node, port, outside, front, turns, log, writer)
-}
-
-/// Serves a node over the store in the file at `path`, as [`serve_store`] does.
-///
-/// # Errors
-/// - Returns the errors of [`serve_store`].
-/// - Returns `Store(Disk)` if the file is missing.
-/// - Returns `Store(Unusable)` if the file is empty.
-pub fn serve_file<R: Read + Drop, W: Write>(
-    alloc: Global,
-    rt: &HostRuntime,
-    path: &str,
-    users: R,
-    serving: Serving<'_>,
-    writer: &mut W,
-) -> Result<Served, Fault>
-    ensures import { IfOk result (λ _. IfSome (R.remaining users) (HasImport serving.entry.settings 0 16777216)) }
-    ensures fault { IfErr result (λ fault. IfSome (R.remaining users)
-        (EndsServing serving.entry.settings 0 16777216 fault)) }
-{
-    serve_store(
-        alloc,
-        rt,
-        users,
-        serving,
-        DatabaseFile::found(rt, path),
-        writer,
-    )
 }

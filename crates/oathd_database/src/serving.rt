@@ -1,12 +1,15 @@
-ghost use Rattle.std.specs.Prelude.{◌≡◌, ◌<◌, ◌^◌, length};
+ghost use Rattle.std.specs.Prelude.{◌≡◌, ◌<◌, ◌^◌, length, IfOk};
 ghost use Rattle.oathd_database.specs.Gate.{IsSaid};
 ghost use Rattle.oathd_database.specs.NodeKey.{agreed_members, agreed_settings};
 
 use crate::gate::ClientLines;
 use crate::node_key::NodeKey;
+use cluster_file::Cluster;
 use otp_core::Settings;
+use std::alloc::AllocError;
 use std::net::SocketAddrV4;
 use vote_core::Place;
+use vote_wire::ClusterKey;
 
 /// The parameters of a served node.
 #[derive(Drop)]
@@ -29,4 +32,38 @@ pub struct Serving<'a> {
     ghost settings_agreed: { settings ≡ agreed_settings key settings },
     ghost members_agreed: { members.items ≡ agreed_members key members.items },
     ghost clients_said: { IsSaid lines },
+}
+
+impl<'a> Serving<'a> {
+    ghost use Rattle.oathd_database.specs.Serving.{IsOfMember};
+
+    /// Returns the parameters of the member at `place` of `cluster`. It has the settings and the members of the cluster
+    /// file, and tags under the shared key, which is derived from `key` and the file.
+    ///
+    /// # Errors
+    /// Returns `AllocError` if the allocator refuses the memory for the members.
+    pub fn of_member(
+        cluster: &'a Cluster<'a>,
+        key: ClusterKey,
+        place: Place,
+        turns: u64,
+        is_logged: bool,
+        lines: ClientLines,
+    ) -> Result<Self, AllocError>
+        requires place { place.n ≡ length cluster.now.members.items }
+        requires turns { turns < 2 ^ 54 }
+        requires lines { IsSaid lines }
+        ensures { IfOk result (λ serving. IsOfMember cluster.entry key place serving × (serving.turns ≡ turns)
+            × (serving.is_logged ≡ is_logged) × (serving.lines ≡ lines)) }
+    {
+        Ok(Serving {
+            settings: cluster.settings,
+            place,
+            members: cluster.members.clone()?,
+            key: NodeKey::Shared(key, cluster),
+            turns,
+            is_logged,
+            lines,
+        })
+    }
 }

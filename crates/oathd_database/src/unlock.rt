@@ -1,13 +1,12 @@
 //! The command `unlock`: clears a user's failures.
 
-ghost use Rattle.std.specs.Prelude.{◌≡◌, ◌<◌, length, IfErr, IfOk, IfSome};
+ghost use Rattle.std.specs.Prelude.{◌<◌, length, IfErr, IfOk, IfSome};
 ghost use Rattle.floor_store.specs.Held.{MayWrite};
 ghost use Rattle.otp_core.specs.Limits.{default_limits};
-ghost use Rattle.oathd_database.specs.Unlock.{HasUser, IsNotUnlocked, Unlocks, unlocked_content};
+ghost use Rattle.oathd_database.specs.Unlock.{IsNotUnlocked, Unlocks, unlocked_content};
 
 use crate::database::{Database, open_store};
 use crate::fault::Fault;
-use crate::file::DatabaseFile;
 use floor_sql::SqlStore;
 use floor_store::{FloorStore, StoreFault};
 use otp_core::{Gate, Settings};
@@ -63,7 +62,7 @@ pub fn unlock_store<'a, R: Read + Drop, S: Alter + Drop, D: Database<S>>(
     database: D,
 ) -> Result<SqlStore<S>, UnlockFault<'a>>
     ensures unlocked { IfOk result (λ store. IfSome (R.remaining users)
-        (Unlocks S.Store default_limits 16777216 node user.now store)) }
+        (Unlocks S.Store D.finds default_limits 16777216 node user.now store)) }
     ensures fault { IfErr result (λ fault. IfSome (R.remaining users)
         (IsNotUnlocked default_limits 16777216 user.now fault)) }
 {
@@ -79,30 +78,6 @@ pub fn unlock_store<'a, R: Read + Drop, S: Alter + Drop, D: Database<S>>(
     match open_gate(&mut store, token.value()) {
         Ok(()) => Ok(store),
         Err(fault) => Err(UnlockFault::Command(Fault::Store(fault))),
-    }
-}
-
-/// Clears the gate of a user's token in the store in the file at `path`, as [`unlock_store`] does.
-///
-/// # Errors
-/// - Returns the errors of [`unlock_store`].
-/// - Returns `Command(Store(Disk))` if the file is missing.
-/// - Returns `Command(Store(Unusable))` if the file is empty.
-pub fn unlock_file<'a, R: Read + Drop>(
-    alloc: Global,
-    rt: &HostRuntime,
-    path: &str,
-    users: R,
-    node: u8,
-    user: &'a str,
-) -> Result<(), UnlockFault<'a>>
-    ensures user { IfOk result (λ _. IfSome (R.remaining users) (HasUser default_limits 16777216 user.now)) }
-    ensures fault { IfErr result (λ fault. IfSome (R.remaining users)
-        (IsNotUnlocked default_limits 16777216 user.now fault)) }
-{
-    match unlock_store(alloc, users, node, user, DatabaseFile::found(rt, path)) {
-        Ok(_store) => Ok(()),
-        Err(fault) => Err(fault),
     }
 }
 

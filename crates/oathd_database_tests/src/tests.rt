@@ -21,6 +21,8 @@ pub(crate) const SILVER: &[u8] = b"HOTP silver - 3132333435363738393031323334353
 pub(crate) struct InMemory(pub(crate) Connection<MemStore>);
 
 impl Database<MemStore> for InMemory {
+    ghost finds = { λ _. Unit {0} };
+
     fn connect(self) -> Result<Connection<MemStore>, StoreFault> {
         let InMemory(conn) = self;
         if conn.is_autocommit() {

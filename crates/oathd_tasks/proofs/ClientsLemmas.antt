@@ -3,12 +3,12 @@ use Rattle.std.proofs.Common.{◌≡◌, sym, subst}
 use Rattle.std.specs.Prelude.{Result, Ok, Err, IfErr, IsErrAnd}
 use Rattle.oathd_lines.specs.declared.fault.Fault.TheVariants.{BadKey, CannotRead, CannotWrite, InputLine, Memory, NotText, Users}
 use Rattle.oathd_tasks.specs.Clients.{IsOfClientsFile}
-use Rattle.oathd_tasks.specs.Nodes.{IsOfKey}
+use Rattle.oathd_tasks.specs.File.{IsOfFile}
 use Rattle.oathd_tasks.specs.declared.fault.Fault.{Fault}
-use Rattle.oathd_tasks.specs.declared.fault.Fault.TheVariants.{Run, Sim, Cluster, CannotReadFile, NoDatabases, ClusterFile, ClientsFile, NoMember, KeyPath, NoRandom}
+use Rattle.oathd_tasks.specs.declared.fault.Fault.TheVariants.{Run, Sim, Cluster, CannotReadFile, NoDatabases, ClusterFile, ClientsFile, NoMember, KeyPath, ByteOrderMark, NoRandom}
 
 -- a file that cannot be read
-of_file : (fault : Fault) → IsOfKey fault → IsOfClientsFile fault
+of_file : (fault : Fault) → IsOfFile fault → IsOfClientsFile fault
 of_file (Run Memory) is = is
 of_file (Run (BadKey fault)) is = is
 of_file (Run CannotRead) is = is
@@ -24,9 +24,10 @@ of_file (ClusterFile fault) is = is
 of_file (NoMember node) is = is
 of_file KeyPath is = is
 of_file (ClientsFile fault) is = absurd is
+of_file ByteOrderMark is = is
 of_file NoRandom is = is
 
 -- a result that is the fault of such a file
-pub unread_file : {T : Type 0} (result : Result T Fault) (fault : Fault) → IsErrAnd result (λ found. found ≡ fault) → IsOfKey fault → IfErr result IsOfClientsFile
+pub unread_file : {T : Type 0} (result : Result T Fault) (fault : Fault) → IsErrAnd result (λ found. found ≡ fault) → IsOfFile fault → IfErr result IsOfClientsFile
 unread_file (Ok one) fault same is = absurd same
 unread_file (Err found) fault same is = subst IsOfClientsFile (sym same) (of_file fault is)

@@ -12,11 +12,15 @@ use Rattle.cluster_file.specs.Said.{Given as GivenKey}
 use Rattle.cluster_file.specs.Shared.{shared_of}
 use Rattle.cluster_file.specs.declared.fault.LineFault.{LineFault}
 use Rattle.clients_file.specs.declared.fault.LineFault as clients_line
+use Rattle.token_file.specs.declared.fault.LineFault as users_line
 use Rattle.oathd_lines.specs.declared.fault.Fault as lines_fault
+use Rattle.oathd_lines.specs.declared.fault.Fault.TheVariants as lines_faults
 use Rattle.oathd_sim.specs.Sim.{Setup}
 use Rattle.oathd_words.specs.declared.nodes_words.NodesWords.{NodesWords}
 use Rattle.oathd_words.specs.declared.nodes_words.NodesWords.TheVariants.{Given, Named}
+use Rattle.oathd_tasks.specs.Advice.{Sources}
 use Rattle.oathd_tasks.specs.Nodes.{EndsWithSetup}
+use Rattle.oathd_tasks.specs.Tally.{Found}
 use Rattle.oathd_tasks.specs.declared.fault.Fault.{Fault}
 use Rattle.oathd_tasks.specs.declared.fault.Fault.TheVariants.{Run, ClusterFile, ClientsFile}
 
@@ -111,3 +115,27 @@ one_token = event_token (codes "a") ∷ []
 -- the output of a check of the small cluster with a book, under an empty key
 abbrev pub checked : List Credential → List ℕ
 checked book = check_text [] (shared_of small_cluster book)
+
+-- a users file whose first row a byte order mark hides
+abbrev pub marked : List ℕ
+marked = 239 ∷ 187 ∷ 191 ∷ codes "HOTP a - 31"
+
+-- ---- Notes and advice
+
+-- what was found at a line
+abbrev pub found_at : ℕ → List ℕ → Option Found
+found_at line word = Some (record { line = line; word = word })
+
+-- the fields of a row with a secret
+abbrev pub given_row : List ℕ → List (List ℕ)
+given_row [] = codes "HOTP" ∷ codes "a" ∷ codes "-" ∷ []
+given_row secret = codes "HOTP" ∷ codes "a" ∷ codes "-" ∷ secret ∷ []
+
+-- a fault of a line of a users file
+abbrev pub users_fault : ℕ → users_line.LineFault → Fault
+users_fault line kind = Run (lines_faults.Users (record { line = line; kind = kind }))
+
+-- the files of a check, whose users file has `rows`
+abbrev pub told_sources : List ℕ → Sources
+told_sources rows =
+    record { users = codes "u"; rows = rows; cluster = codes "c"; key = codes "k"; reason = codes "r" }

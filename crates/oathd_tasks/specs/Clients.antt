@@ -3,7 +3,7 @@ use Rattle.std.specs.Prelude.{◌≡◌, ℕ, List, Ok, Err}
 use Rattle.clients_file.specs.ClientsFile.{clients_of, clients_value}
 use Rattle.clients_file.specs.declared.clients.Clients.{Clients}
 use Rattle.oathd_lines.specs.declared.fault.Fault.TheVariants as lines
-use Rattle.oathd_tasks.specs.Nodes.{IsOfKey}
+use Rattle.oathd_tasks.specs.File.{IsOfFile}
 use Rattle.oathd_tasks.specs.declared.fault.Fault.{Fault}
 use Rattle.oathd_tasks.specs.declared.fault.Fault.TheVariants.{Run, ClientsFile}
 
@@ -18,7 +18,7 @@ IsOfClients text (Run lines.Memory) = Unit {0}
 IsOfClients text (ClientsFile fault) = clients_of text ≡ Err (fault.line, fault.kind)
 IsOfClients text fault = ⊥
 
--- the fault is the first one of some text, or that of a file that cannot be read
+-- the fault is the first one of some text, or one of a file
 abbrev pub IsOfClientsFile : Fault → Type 0
 IsOfClientsFile (ClientsFile fault) = (text : List ℕ) × (clients_of text ≡ Err (fault.line, fault.kind))
-IsOfClientsFile fault = IsOfKey fault
+IsOfClientsFile fault = IsOfFile fault

@@ -3,7 +3,7 @@ use Rattle.std.specs.Prelude.{ℕ}
 use Rattle.oathd_lines.specs.Fault as lines
 use Rattle.oathd_cluster.specs.Fault as cluster
 use Rattle.oathd_tasks.specs.declared.fault.Fault.{Fault}
-use Rattle.oathd_tasks.specs.declared.fault.Fault.TheVariants.{Run, Sim, Cluster, CannotReadFile, NoDatabases, ClusterFile, NoMember, KeyPath, ClientsFile, NoRandom}
+use Rattle.oathd_tasks.specs.declared.fault.Fault.TheVariants.{Run, Sim, Cluster, CannotReadFile, NoDatabases, ClusterFile, NoMember, KeyPath, ClientsFile, ByteOrderMark, NoRandom}
 
 -- the exit status: the status of a run's or a cluster's fault, else 1
 abbrev pub status_of : Fault → ℕ
@@ -16,4 +16,5 @@ status_of (ClusterFile fault) = 1
 status_of (NoMember node) = 1
 status_of KeyPath = 1
 status_of (ClientsFile fault) = 1
+status_of ByteOrderMark = 1
 status_of NoRandom = 1

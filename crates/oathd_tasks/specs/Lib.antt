@@ -1,6 +1,10 @@
+pub mod Advice
 pub mod Broken
 pub mod Check
 pub mod Clients
 pub mod Fault
+pub mod File
 pub mod NewKey
 pub mod Nodes
+pub mod Notes
+pub mod Tally

@@ -1,10 +1,12 @@
 -- The ends of the commands without a database.
-use Rattle.std.specs.Prelude.{◌≡◌, ◌≤◌, ◌⊎◌, ℕ, ◌+◌, List, length, replicate, take, Option, Result, Ok, Err, IfNone, IfSome}
+use Rattle.std.specs.Prelude.{◌≡◌, ◌≤◌, ◌⊎◌, ℕ, ◌+◌, List, length, replicate, take, Option, None, Result, Ok, Err, IfNone, IfSome, IsErrAnd}
 use Rattle.otp_core.specs.Range.{IsMoment}
 use Rattle.cluster_file.specs.ClusterFile.{ClusterRecord, cluster_of}
 use Rattle.oathd_lines.specs.Run.{EndsSo, run_of_input}
 use Rattle.oathd_lines.specs.Secret.{EndsWithText}
+use Rattle.oathd_lines.specs.declared.fault.Fault as lines_fault
 use Rattle.oathd_lines.specs.declared.fault.Fault.TheVariants as lines
+use Rattle.client_lines.specs.Request.{without_lf}
 use Rattle.oathd_cluster.specs.Run as cluster
 use Rattle.oathd_cluster.specs.Line.{LinesRead, node_lines}
 use Rattle.oathd_sim.specs.Sim as sim
@@ -12,7 +14,7 @@ use Rattle.oathd_sim.specs.Sim.{Setup}
 use Rattle.oathd_words.specs.declared.nodes_words.NodesWords.{NodesWords}
 use Rattle.oathd_words.specs.declared.nodes_words.NodesWords.TheVariants.{Given, Named}
 use Rattle.oathd_words.specs.declared.words.Task.{Task}
-use Rattle.oathd_words.specs.declared.words.Task.TheVariants.{Lines, Sim as SimTask, Cluster as ClusterTask, Store, Check, NewKey, Secret}
+use Rattle.oathd_words.specs.declared.words.Task.TheVariants.{Lines, Sim as SimTask, Cluster as ClusterTask, Store, Check, NewKey, Secret, SecretOfInput}
 use Rattle.users_input.specs.Input.{lines_of}
 use Rattle.oathd_tasks.specs.NewKey.{NewKeyEndsSo}
 use Rattle.oathd_tasks.specs.Check.{CheckEndsSo, IsKeyIn, IsOfClusterFile}
@@ -103,6 +105,27 @@ SecretEndsSo hex (Ok done) old new = EndsWithText hex (Ok tt) old new
 SecretEndsSo hex (Err (Run fault)) old new = (fault ≡ lines.CannotWrite) ⊎ EndsWithText hex (Err fault) old new
 SecretEndsSo hex (Err fault) old new = ⊥
 
+-- the input failed, or the allocator refused the memory for its text
+abbrev pub IsOfInput : lines_fault.Fault → Type 0
+IsOfInput lines.CannotRead = Unit {0}
+IsOfInput lines.Memory = Unit {0}
+IsOfInput fault = ⊥
+
+-- The end of the command `secret --stdin`, if its input is known: the end of `secret` for the first 258 bytes, without
+-- an LF at their end. If the input or the memory failed, nothing is written.
+abbrev pub SecretOfInputEndsSo : Option (List ℕ) → Result Unit lines_fault.Fault → Option (List ℕ)
+    → Option (List ℕ) → Type 0
+SecretOfInputEndsSo input result old new =
+    ((hex : List ℕ) × IfSome input (λ text. hex ≡ without_lf (take 258 text))
+    × ((result ≡ Err lines.CannotWrite) ⊎ EndsWithText hex result old new))
+    ⊎ (IsErrAnd result IsOfInput × (new ≡ old))
+
+-- the end of the command `secret --stdin` in the program
+abbrev pub InputEndsSo : Option (List ℕ) → Result Unit Fault → Option (List ℕ) → Option (List ℕ) → Type 0
+InputEndsSo input (Ok done) old new = SecretOfInputEndsSo input (Ok tt) old new
+InputEndsSo input (Err (Run fault)) old new = SecretOfInputEndsSo input (Err fault) old new
+InputEndsSo input (Err fault) old new = ⊥
+
 -- The end of a task, with the text of the cluster file that it names. A task over a database does nothing.
 abbrev pub EndsAsAsked : Task → List ℕ → Option (List ℕ) → Result Unit Fault
     → Option (List ℕ) → Option (List ℕ) → Type 0
@@ -113,6 +136,7 @@ EndsAsAsked (SimTask nodes moment) text input result old new =
 EndsAsAsked (ClusterTask users nodes moment) text input result old new =
     EndsWithSetup nodes moment text (λ setup. ClusterEndsSo setup.nodes input result old new) result old new
 EndsAsAsked (Store database users action) text input result old new = (result ≡ Err NoDatabases) × (new ≡ old)
-EndsAsAsked (Check users cluster) text input result old new = CheckEndsSo text result old new
+EndsAsAsked (Check users cluster) text input result old new = CheckEndsSo text None result old new
 EndsAsAsked NewKey text input result old new = NewKeyEndsSo result old new
+EndsAsAsked SecretOfInput text input result old new = InputEndsSo input result old new
 EndsAsAsked (Secret hex) text input result old new = SecretEndsSo hex.now result old new

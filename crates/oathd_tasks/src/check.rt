@@ -1,20 +1,20 @@
 //! The command `check`: prints what the members of a cluster have to share.
 
-ghost use Rattle.std.specs.Prelude.{◌≡◌, IfOk, IfSome};
+ghost use Rattle.std.specs.Prelude.{◌≡◌, IfOk, IfSome, Some};
 ghost use Rattle.cluster_file.specs.Check.{check_text};
 ghost use Rattle.cluster_file.specs.ClusterFile.{ClusterRecord, cluster_value};
 ghost use Rattle.cluster_file.specs.Shared.{shared_of};
-ghost use Rattle.oathd_tasks.specs.Check.{CheckEndsSo, EndsUsersSo, HasTokens, WritesSo};
+ghost use Rattle.oathd_tasks.specs.Check.{CheckEndsSo, EndsUsersSo, HasTokens, WritesSo, has_mark};
 
 use crate::cluster::{cluster_in, cluster_key};
 use crate::fault::Fault;
+use crate::key::file_text;
 use cluster_file::{Cluster, fingerprint, shared_key, write_summary};
 use otp_core::Settings;
 use std::alloc::Global;
-use std::fs;
 use std::io::{Read, Write};
 use std::rt::Files;
-use token_file::{Book, FileFault, FromRead, read_book};
+use token_file::{Book, FileFault, FromRead, MAX_FILE_LEN, read_book};
 use vote_wire::ClusterKey;
 
 /// Returns the tokens of a users file, as a node with these settings reads them.
@@ -50,18 +50,31 @@ fn write_checked<O: Write>(
     Ok(())
 }
 
-/// Reads the users of a cluster, and writes what its members have to share.
-fn check_users<'a, R: Read + Drop, O: Write>(
+/// The byte order mark of UTF-8.
+const MARK: &[u8] = b"\xEF\xBB\xBF";
+
+/// Returns whether a text begins with a byte order mark.
+fn has_mark(text: &[u8]) -> bool
+    ensures { result ≡ has_mark text.now }
+{
+    text.strip_prefix(MARK).is_some()
+}
+
+/// Reads the users of a cluster from the text of the users file, and writes what its members have to share.
+fn check_users<'a, O: Write>(
     alloc: Global,
     key: &ClusterKey,
     cluster: &Cluster<'_>,
-    users: R,
+    rows: &[u8],
     held: &mut O,
 ) -> Result<(), Fault<'a>>
-    ensures { EndsUsersSo key.now (cluster_value cluster.now) (R.remaining users) result
+    ensures { EndsUsersSo key.now (cluster_value cluster.now) (Some rows.now) result
         (O.contents held.old) (O.contents held.new) }
 {
-    let book = match tokens_of(alloc, users, cluster.settings) {
+    if has_mark(rows) {
+        return Err(Fault::ByteOrderMark);
+    }
+    let book = match tokens_of(alloc, rows, cluster.settings) {
         Ok(book) => book,
         Err(fault) => return Err(Fault::Run(oathd_lines::Fault::Users(fault))),
     };
@@ -73,20 +86,20 @@ fn check_users<'a, R: Read + Drop, O: Write>(
 
 /// Reads a cluster from the text of its file, its key and the users file, and writes what the members have to share.
 ///
-/// `held` buffers the output until it is flushed.
+/// `rows` takes the text of the users file, up to the first byte past 16,777,216. `held` buffers the output until it is
+/// flushed.
 pub(crate) fn check<'a, F: Files, O: Write>(
     alloc: Global,
     files: &F,
     text: &'a [u8],
     users: &'a str,
+    rows: &mut Vec<u8>,
     held: &mut O,
 ) -> Result<(), Fault<'a>>
-    ensures { CheckEndsSo text.now result (O.contents held.old) (O.contents held.new) }
+    ensures { CheckEndsSo text.now (Some rows.new.items) result (O.contents held.old) (O.contents held.new) }
 {
     let cluster = cluster_in(alloc, text)?;
     let key = cluster_key(alloc, files, &cluster.key)?;
-    let Ok(file) = fs::open(files, users) else {
-        return Err(Fault::CannotReadFile(users));
-    };
-    check_users(alloc, &key, &cluster, file, held)
+    *rows = file_text(alloc, files, users, MAX_FILE_LEN)?;
+    check_users(alloc, &key, &cluster, rows.as_slice(), held)
 }

@@ -4,6 +4,7 @@ ghost use Rattle.std.specs.Prelude.{◌≡◌, ◌≤◌, ◌<◌, [], length, I
 ghost use Rattle.cluster_file.specs.ClusterFile.{cluster_of, cluster_value};
 ghost use Rattle.cluster_file.specs.Said.{key_place};
 ghost use Rattle.oathd_tasks.specs.Check.{IsKeyIn, IsOfClusterFile};
+ghost use Rattle.oathd_tasks.specs.File.{IsOfFile};
 ghost use Rattle.oathd_tasks.specs.Nodes.{IsOfKey};
 ghost use Rattle.oathd_tasks.specs.declared.fault.Fault.TheVariants.{NoMember};
 
@@ -27,7 +28,7 @@ pub fn cluster_text<'a, F: Files>(
     path: Option<&'a str>,
 ) -> Result<Vec<u8>, Fault<'a>>
     ensures none { path.entry ≡ None → IfOk result (λ text. text.items ≡ []) }
-    ensures fault { IfErr result IsOfKey }
+    ensures fault { IfErr result IsOfFile }
 {
     match path {
         Some(path) => file_text(alloc, files, path, MAX_KEY_FILE_LEN),

@@ -7,6 +7,7 @@ ghost use Rattle.oathd_words.specs.Words.{IsInRange};
 use crate::check::check;
 use crate::fault::Fault;
 use crate::new_key::print_new_key;
+use crate::secret_input::print_secret_of;
 use crate::setup::{NodesSetup, nodes_setup};
 use oathd_cluster::run_cluster;
 use oathd_lines::{print_secret, serve_lines};
@@ -158,9 +159,16 @@ pub fn perform<'a, F: Files + Net + RandomSource, R: Read, O: Write>(
             let setup = nodes_setup(alloc, files, nodes, *moment, cluster)?;
             run_nodes(alloc, files, users, &setup, reader, held)
         }
-        Task::Check { users, .. } => check(alloc, files, cluster, users, held),
+        Task::Check { users, .. } => {
+            let mut rows = Vec::new(alloc);
+            check(alloc, files, cluster, users, &mut rows, held)
+        }
         Task::NewKey => print_new_key(files, held),
         Task::Secret { hex } => match print(hex, held) {
+            Ok(()) => Ok(()),
+            Err(fault) => Err(Fault::Run(fault)),
+        },
+        Task::SecretOfInput => match print_secret_of(alloc, reader, held) {
             Ok(()) => Ok(()),
             Err(fault) => Err(Fault::Run(fault)),
         },

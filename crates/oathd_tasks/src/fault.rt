@@ -38,6 +38,9 @@ pub enum Fault<'a> {
     /// The clients file has a fault.
     #[error("clients {0}")]
     ClientsFile(ClientsFault),
+    /// The users file begins with a byte order mark, which hides its first row.
+    #[error("users line 1: ByteOrderMark")]
+    ByteOrderMark,
     /// The system gives no random bytes.
     #[error("no random bytes")]
     NoRandom,
@@ -59,6 +62,7 @@ impl ProgramFault for Fault<'_> {
             | Fault::NoMember(_)
             | Fault::KeyPath
             | Fault::ClientsFile(_)
+            | Fault::ByteOrderMark
             | Fault::NoRandom => 1,
         }
     }

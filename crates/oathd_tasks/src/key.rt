@@ -3,6 +3,7 @@ ghost use Rattle.std.specs.Result.{result_err};
 ghost use Rattle.hex.specs.Hex.{decode_of};
 ghost use Rattle.vote_wire.specs.Key.{key_refusal_of};
 ghost use Rattle.client_lines.specs.Request.{without_lf};
+ghost use Rattle.oathd_tasks.specs.File.{IsOfFile};
 ghost use Rattle.oathd_tasks.specs.Nodes.{IsKeyOf, IsOfKey};
 
 use crate::fault::Fault;
@@ -43,7 +44,7 @@ pub fn file_text<'a, F: Files>(
     path: &'a str,
     most: u32,
 ) -> Result<Vec<u8>, Fault<'a>>
-    ensures fault { IfErr result IsOfKey }
+    ensures fault { IfErr result IsOfFile }
 {
     let Ok(file) = fs::open(files, path) else {
         return Err(Fault::CannotReadFile(path));

@@ -1,4 +1,4 @@
-ghost use Rattle.std.specs.Prelude.{◌≡◌, [], ◌∷◌, ◌++◌, List, ℕ, None, Some, Option, Ok, codes, replicate};
+ghost use Rattle.std.specs.Prelude.{◌≡◌, [], ◌∷◌, ◌++◌, List, ℕ, None, Some, Option, Ok, codes, false, map, replicate, true};
 ghost use Rattle.otp_core.specs.Limits.{default_limits, limits_of};
 ghost use Rattle.secret_text.specs.declared.fault.SecretFault.TheVariants.{BadLength, Empty};
 ghost use Rattle.token_file.specs.declared.fault.LineFault.TheVariants as users;
@@ -11,13 +11,18 @@ ghost use Rattle.oathd_cluster.specs.declared.fault.Fault.TheVariants as cluster
 ghost use Rattle.oathd_sim.specs.declared.fault.Fault.TheVariants as sims;
 ghost use Rattle.oathd_words.specs.declared.store_words.Action.TheVariants.{Export};
 ghost use Rattle.oathd_words.specs.declared.words.Task.TheVariants as tasks;
-ghost use Rattle.oathd_tasks.specs.Broken.{EndsGiven, EndsNamed, checked, clients_fault, done, ended_by, file_fault, given_nodes, keyed, keyed_cluster, keyed_text, named_nodes, narrow_limits, no_path, nodes_with_key, one_token, run_ended_by, setup_of, small_text, usual_setup, word};
+ghost use Rattle.oathd_tasks.specs.Broken.{EndsGiven, EndsNamed, checked, clients_fault, done, ended_by, file_fault, found_at, given_nodes, given_row, keyed, keyed_cluster, keyed_text, marked, named_nodes, narrow_limits, no_path, nodes_with_key, one_token, run_ended_by, setup_of, small_text, told_sources, users_fault, usual_setup, word};
 ghost use Rattle.clients_file.specs.declared.fault.LineFault.TheVariants.{NoClient, UnknownWord};
-ghost use Rattle.oathd_tasks.specs.Check.{CheckEndsSo, HasChecked, HasTokens, IsKeyIn, IsOfClusterFile};
+ghost use Rattle.oathd_tasks.specs.Advice.{advice_text, is_base32_in, line_at, user_in};
+ghost use Rattle.oathd_tasks.specs.Check.{CheckEndsSo, HasChecked, HasTokens, IsKeyIn, IsOfClusterFile, has_mark};
 ghost use Rattle.oathd_tasks.specs.Clients.{IsOfClients, IsOfClientsFile};
+ghost use Rattle.oathd_tasks.specs.File.{IsOfFile};
 ghost use Rattle.oathd_tasks.specs.NewKey.{NewKeyEndsSo};
-ghost use Rattle.oathd_tasks.specs.Nodes.{ClusterEndsSo, EndsAsAsked, EndsWithSetup, IsKeyOf, IsOfKey, IsOfSetup, IsSetup, LinesEndSo, SecretEndsSo, SimEndsSo};
-ghost use Rattle.oathd_tasks.specs.declared.fault.Fault.TheVariants.{CannotReadFile, Cluster, KeyPath, NoDatabases, NoMember, NoRandom, Run, Sim};
+ghost use Rattle.oathd_tasks.specs.Nodes.{ClusterEndsSo, EndsAsAsked, EndsWithSetup, InputEndsSo, IsKeyOf, IsOfKey, IsOfSetup, IsSetup, LinesEndSo, SecretEndsSo, SimEndsSo};
+ghost use Rattle.oathd_tasks.specs.Notes.{notes_text, printed, rows_text, shown};
+ghost use Rattle.oathd_tasks.specs.Tally.{form_of, no_rows, tally_of};
+ghost use Rattle.oathd_tasks.specs.declared.tally.Form.TheVariants.{Holds, Ignored, InAnotherCase, Nothing};
+ghost use Rattle.oathd_tasks.specs.declared.fault.Fault.TheVariants.{ByteOrderMark, CannotReadFile, Cluster, KeyPath, NoDatabases, NoMember, NoRandom, Run, Sim};
 
 /// Counterexamples: each promise of a key, and of the reason why there is none, fails for a minimal one.
 pub fn keys_can_be_broken()
@@ -30,6 +35,10 @@ pub fn keys_can_be_broken()
     ensures of_key_by_a_run { (IsOfKey (Run CannotRead) → ⊥) × (IsOfKey (Run CannotWrite) → ⊥)
         × (IsOfKey (Run (Users (fault_at 1 users.MissingField))) → ⊥) × (IsOfKey (Run (InputLine 1)) → ⊥)
         × (IsOfKey (Run NotText) → ⊥) }
+    ensures a_file { IsOfFile (Run Memory) × IsOfFile (CannotReadFile (word [])) }
+    ensures a_file_by_a_key { (IsOfFile (Run (BadKey Empty)) → ⊥) × (IsOfFile KeyPath → ⊥) }
+    ensures a_file_by_another { (IsOfFile (Run CannotRead) → ⊥) × (IsOfFile (Run CannotWrite) → ⊥)
+        × (IsOfFile NoDatabases → ⊥) × (IsOfFile (file_fault 1 NoMembers) → ⊥) }
     ensures of_key_by_another { (IsOfKey (Sim sims.Memory) → ⊥) × (IsOfKey (Cluster clusters.Memory) → ⊥)
         × (IsOfKey NoDatabases → ⊥) × (IsOfKey (file_fault 1 NoMembers) → ⊥) × (IsOfKey (NoMember 1) → ⊥) }
 
@@ -85,21 +94,85 @@ pub fn checks_can_be_broken()
     ensures has_checked { HasChecked [] small_cluster (Some []) (Some []) (Some (checked [])) }
     ensures has_checked_tokens { HasChecked [] small_cluster (Some []) (Some []) (Some (checked one_token)) → ⊥ }
     ensures has_checked_written { HasChecked [] small_cluster None (Some []) (Some []) → ⊥ }
-    ensures checks { CheckEndsSo small_text done (Some []) (Some (checked one_token)) }
-    ensures checks_no_file { CheckEndsSo [] done (Some []) (Some (checked one_token)) → ⊥ }
-    ensures checks_under_the_key { (old new : Option (List ℕ)) → CheckEndsSo keyed_text done old new
+    ensures checks { CheckEndsSo small_text None done (Some []) (Some (checked one_token)) }
+    ensures checks_no_file { CheckEndsSo [] None done (Some []) (Some (checked one_token)) → ⊥ }
+    ensures checks_under_the_key { (old new : Option (List ℕ)) → CheckEndsSo keyed_text None done old new
         → HasChecked (replicate 16 0) keyed_cluster None old new }
-    ensures checks_and_cannot_write { CheckEndsSo [] (run_ended_by CannotWrite) (Some []) (Some (codes "x")) }
-    ensures checks_a_bad_file { CheckEndsSo [] (ended_by (file_fault 1 NoMembers)) (Some []) (Some []) }
-    ensures checks_another_line { CheckEndsSo [] (ended_by (file_fault 2 NoMembers)) (Some []) (Some []) → ⊥ }
-    ensures checks_another_kind { CheckEndsSo [] (ended_by (file_fault 1 NoKey)) (Some []) (Some []) → ⊥ }
-    ensures checks_a_bad_file_and_writes { CheckEndsSo [] (ended_by (file_fault 1 NoMembers)) (Some [])
+    ensures checks_and_cannot_write { CheckEndsSo [] None (run_ended_by CannotWrite) (Some []) (Some (codes "x")) }
+    ensures checks_a_bad_file { CheckEndsSo [] None (ended_by (file_fault 1 NoMembers)) (Some []) (Some []) }
+    ensures checks_another_line { CheckEndsSo [] None (ended_by (file_fault 2 NoMembers))
+        (Some []) (Some []) → ⊥ }
+    ensures checks_another_kind { CheckEndsSo [] None (ended_by (file_fault 1 NoKey))
+        (Some []) (Some []) → ⊥ }
+    ensures checks_a_bad_file_and_writes { CheckEndsSo [] None (ended_by (file_fault 1 NoMembers)) (Some [])
         (Some (codes "x")) → ⊥ }
-    ensures checks_bad_users { CheckEndsSo small_text (run_ended_by (Users (fault_at 1 users.MissingField)))
+    ensures checks_bad_users { CheckEndsSo small_text None (run_ended_by (Users (fault_at 1 users.MissingField)))
         (Some []) (Some []) }
-    ensures checks_bad_users_and_writes { CheckEndsSo small_text
+    ensures checks_bad_users_and_writes { CheckEndsSo small_text None
         (run_ended_by (Users (fault_at 1 users.MissingField))) (Some []) (Some (codes "x")) → ⊥ }
-    ensures checks_no_key_and_writes { CheckEndsSo small_text (ended_by KeyPath) (Some []) (Some (codes "x")) → ⊥ }
+    ensures checks_no_key_and_writes { CheckEndsSo small_text None (ended_by KeyPath)
+        (Some []) (Some (codes "x")) → ⊥ }
+    ensures marks { map has_mark (marked ∷ (239 ∷ 187 ∷ 191 ∷ []) ∷ (239 ∷ 187 ∷ []) ∷ [] ∷ codes "HOTP" ∷ [])
+        ≡ true ∷ true ∷ false ∷ false ∷ false ∷ [] }
+    ensures checks_marked_users { CheckEndsSo small_text (Some marked) (ended_by ByteOrderMark) (Some []) (Some []) }
+    ensures checks_users_as_marked { CheckEndsSo small_text (Some []) (ended_by ByteOrderMark)
+        (Some []) (Some []) → ⊥ }
+    ensures checks_marked_users_and_writes { CheckEndsSo small_text (Some marked) (ended_by ByteOrderMark)
+        (Some []) (Some (codes "x")) → ⊥ }
+    ensures checks_past_a_mark { (old new : Option (List ℕ)) → CheckEndsSo small_text (Some marked) done old new → ⊥ }
+{}
+
+/// Worked cases. The rows of a users file, and what is noted of them and of the number of members.
+pub fn notes_are_worked()
+    ensures forms { map form_of (codes "HOTP" ∷ codes "HOTP/T60/8" ∷ codes "#" ∷ codes "#HOTP" ∷ codes "hotp"
+        ∷ codes "Hotp/t30" ∷ codes "TOTP" ∷ codes "HOTP/T31" ∷ [] ∷ [])
+        ≡ Holds ∷ Holds ∷ Nothing ∷ Nothing ∷ InAnotherCase ∷ InAnotherCase ∷ Ignored ∷ Ignored ∷ Ignored ∷ [] }
+    ensures tally { tally_of (codes "# a\n\nHOTP a - 00\nTOTP b\nhotp c\nhotp/t30 d\nx") ≡ record {
+      has_token = true;
+      ignored = 4;
+      first = found_at 4 (codes "TOTP");
+      in_another_case = found_at 5 (codes "hotp");
+    } }
+    ensures tally_of_nothing { map tally_of ([] ∷ codes "# HOTP a - 00\n" ∷ []) ≡ no_rows ∷ no_rows ∷ [] }
+    ensures bytes { map printed (32 ∷ 33 ∷ 126 ∷ 127 ∷ 200 ∷ []) ≡ 63 ∷ 33 ∷ 126 ∷ 63 ∷ 63 ∷ [] }
+    ensures long_word { shown (replicate 65 97) ≡ replicate 64 97 }
+    ensures rows { rows_text (codes "u") (tally_of (codes "x\nTotp b"))
+        ≡ codes "oathd: note: u: ignored 2, first line 1: x\n"
+        ++ codes "  a row begins with a type, as HOTP or HOTP/T30, and a comment with #\n"
+        ++ codes "oathd: note: u: no row has a token: each login is refused as UNKNOWN\n" }
+    ensures another_case { rows_text (codes "u") (tally_of (codes "HOTP a - 00\nhotp b - 00"))
+        ≡ codes "oathd: note: u: ignored 1, first line 2: hotp\n"
+        ++ codes "  a row begins with a type, as HOTP or HOTP/T30, and a comment with #\n"
+        ++ codes "oathd: note: u: line 2: hotp is ignored: a type is in upper case\n" }
+    ensures no_note { notes_text (codes "u") (codes "HOTP a - 00") (codes "c") 3 ≡ [] }
+    ensures members { notes_text (codes "u") (codes "HOTP a - 00") (codes "c") 4
+        ≡ codes "oathd: note: c: 4 members bear the loss of 1, as 3 would: take an odd number\n" }
+{}
+
+/// Worked cases. Where a fault is, and what to do.
+pub fn advice_is_worked()
+    ensures lines { map (line_at (codes "a\nb")) (0 ∷ 1 ∷ 2 ∷ 3 ∷ []) ≡ codes "a" ∷ codes "a" ∷ codes "b" ∷ [] ∷ [] }
+    ensures users { map user_in ([] ∷ (codes "HOTP" ∷ []) ∷ (codes "HOTP" ∷ codes "a" ∷ []) ∷ [])
+        ≡ None ∷ None ∷ Some (codes "a") ∷ [] }
+    ensures secrets { map is_base32_in (given_row [] ∷ given_row (codes "MZXW6===") ∷ given_row (codes "MZXW61") ∷ [])
+        ≡ false ∷ true ∷ false ∷ [] }
+    ensures base32 { advice_text (told_sources (codes "HOTP a - 31\nHOTP eve - MZXW6==="))
+        (users_fault 2 users.BadSecret)
+        ≡ codes "  u line 2, user eve: the secret is base32, and oathd reads hexadecimal: "
+        ++ codes "oathtool -v -b SECRET of OATH Toolkit prints it so\n" }
+    ensures no_user { advice_text (told_sources (codes "HOTP")) (users_fault 1 users.MissingField)
+        ≡ codes "  u line 1: a row has a type, a user, a password column (- for none) and a secret\n" }
+    ensures cluster { advice_text (told_sources []) (file_fault 3 NoKey)
+        ≡ codes "  c line 3: add a line key-file PATH\n" }
+    ensures key { advice_text (told_sources []) (Run (BadKey Empty))
+        ≡ codes "  k: a key has 32 to 128 hexadecimal digits, two for each byte: oathd new-key prints one\n" }
+    ensures file { advice_text (told_sources []) (CannotReadFile (word (codes "f"))) ≡ codes "  f: r\n" }
+    ensures path { advice_text (told_sources []) KeyPath
+        ≡ codes "  c: the path of the key is to be UTF-8: rename the file\n" }
+    ensures mark { advice_text (told_sources []) ByteOrderMark
+        ≡ codes "  u line 1: the file begins with a byte order mark: save the file as UTF-8 without one\n" }
+    ensures none { map (advice_text (told_sources [])) (Run Memory ∷ Run CannotWrite ∷ NoDatabases ∷ [])
+        ≡ [] ∷ [] ∷ [] ∷ [] }
 {}
 
 /// Counterexamples: each promise of a command's end fails for a minimal one.
@@ -157,6 +230,15 @@ pub fn ends_can_be_broken()
         → ⊥ }
     ensures refused_and_writes { SecretEndsSo (codes "666") (run_ended_by (BadKey BadLength)) (Some [])
         (Some (codes "x")) → ⊥ }
+    ensures input_secret { InputEndsSo (Some (codes "00\n")) done (Some []) (Some (codes "AA======\n"))
+        × InputEndsSo (Some (codes "00")) done (Some []) (Some (codes "AA======\n")) }
+    ensures input_secret_is_lost { InputEndsSo (Some (codes "00")) done (Some []) (Some []) → ⊥ }
+    ensures input_secret_of_another { InputEndsSo (Some (codes "01\n")) done (Some []) (Some (codes "AA======\n")) → ⊥ }
+    ensures no_input { InputEndsSo None (run_ended_by CannotRead) (Some []) (Some [])
+        × InputEndsSo None (run_ended_by Memory) (Some []) (Some []) }
+    ensures no_input_and_writes { InputEndsSo None (run_ended_by Memory) (Some []) (Some (codes "x")) → ⊥ }
+    ensures input_secret_ends_by_another { (InputEndsSo None (ended_by NoDatabases) (Some []) (Some []) → ⊥)
+        × (InputEndsSo None (ended_by KeyPath) (Some []) (Some []) → ⊥) }
     ensures secret_ends_by_another { (SecretEndsSo (codes "00") (ended_by NoDatabases) (Some []) (Some []) → ⊥)
         × (SecretEndsSo (codes "00") (ended_by (Sim sims.Memory)) (Some []) (Some []) → ⊥) }
 {}
@@ -206,5 +288,6 @@ pub fn clients_can_be_broken()
     ensures of_clients_of_another_kind { IsOfClients [] (clients_fault 1 UnknownWord) → ⊥ }
     ensures of_clients_by_another { (IsOfClients [] NoDatabases → ⊥) × (IsOfClients [] (CannotReadFile (word [])) → ⊥)
         × (IsOfClients [] (Run CannotRead) → ⊥) × (IsOfClientsFile NoDatabases → ⊥)
-        × (IsOfClientsFile (Run CannotRead) → ⊥) }
+        × (IsOfClientsFile (Run CannotRead) → ⊥) × (IsOfClientsFile (Run (BadKey Empty)) → ⊥)
+        × (IsOfClientsFile KeyPath → ⊥) }
 {}

@@ -5,6 +5,7 @@
 //! The commands over a database are in other crates, so that a program without them needs no SQLite.
 #![tactic(auto)]
 
+mod advice;
 mod check;
 mod clients;
 mod cluster;
@@ -13,8 +14,12 @@ mod fault;
 mod key;
 mod laws;
 mod new_key;
+mod notes;
 mod program;
+mod secret_input;
 mod setup;
+mod tally;
+mod told_check;
 
 pub use clients::clients_at;
 pub use cluster::{cluster_in, cluster_key, cluster_text, member_place};
@@ -22,7 +27,7 @@ pub use commands::perform;
 pub use fault::Fault;
 pub use key::{file_text, read_key};
 pub use laws::{
-    checks_can_be_broken, clients_can_be_broken, ends_can_be_broken, keys_can_be_broken,
-    setups_can_be_broken, tasks_can_be_broken,
+    advice_is_worked, checks_can_be_broken, clients_can_be_broken, ends_can_be_broken,
+    keys_can_be_broken, notes_are_worked, setups_can_be_broken, tasks_can_be_broken,
 };
 pub use program::{PROGRAM, TaskFault, run};

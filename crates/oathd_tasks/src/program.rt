@@ -6,6 +6,7 @@ ghost use Rattle.oathd_words.specs.Words.{IsInRange};
 
 use crate::cluster::cluster_text;
 use crate::fault::Fault;
+use crate::told_check::{CheckWords, advise, check_buffered, note};
 use command_line::explain;
 use oathd_words::{Task, read_words};
 use program_edge::{OutsideFault, ProgramFault, exit_status};
@@ -68,6 +69,57 @@ fn perform_buffered<'a, T: TaskFault<'a>, R: Read, O: Write>(
     }
 }
 
+/// Carries out a check, and writes what it notes, or its fault and what to do about it, to the errors. Returns the exit
+/// status.
+fn follow_check<'a, T: TaskFault<'a>, O: Write, E: Write>(
+    alloc: Global,
+    rt: &HostRuntime,
+    words: CheckWords<'a>,
+    names: T::Names,
+    output: &mut O,
+    errors: &mut E,
+) -> u8 {
+    let mut rows = Vec::new(alloc);
+    match check_buffered(alloc, rt, words, &mut rows, output) {
+        Ok(()) => {
+            note(alloc, words, &rows, errors);
+            0
+        }
+        Err(fault) => {
+            let status = T::from(fault).report(alloc, rt, names, words.text, errors);
+            advise(alloc, rt, words, &rows, fault, errors);
+            status
+        }
+    }
+}
+
+/// Carries out a task with the text of the cluster file that it names. Returns the exit status.
+fn follow_with<'a, T: TaskFault<'a>, R: Read, O: Write, E: Write>(
+    alloc: Global,
+    rt: &HostRuntime,
+    task: Task<'a>,
+    names: T::Names,
+    text: &'a [u8],
+    reader: &mut R,
+    output: &mut O,
+    errors: &mut E,
+) -> u8
+    requires { IsInRange task }
+{
+    if let Task::Check { users, cluster } = task {
+        let words = CheckWords {
+            users,
+            cluster,
+            text,
+        };
+        return follow_check::<T, O, E>(alloc, rt, words, names, output, errors);
+    }
+    match perform_buffered::<T, R, O>(alloc, rt, task, text, reader, output) {
+        Ok(()) => 0,
+        Err(fault) => fault.report(alloc, rt, names, text, errors),
+    }
+}
+
 /// Reads the cluster file that a task names, if any, into `text`, and carries out the task. Returns the exit status.
 fn follow_task<'a, T: TaskFault<'a>, R: Read, O: Write, E: Write>(
     alloc: Global,
@@ -81,15 +133,32 @@ fn follow_task<'a, T: TaskFault<'a>, R: Read, O: Write, E: Write>(
     requires { IsInRange task }
 {
     let names = T::names_of(&task);
-    match cluster_text(alloc, rt, task.cluster_path()) {
+    let path = task.cluster_path();
+    match cluster_text(alloc, rt, path) {
         Ok(read) => *text = read,
-        Err(fault) => return T::from(fault).report(alloc, rt, names, b"", errors),
+        Err(fault) => {
+            let status = T::from(fault).report(alloc, rt, names, b"", errors);
+            if let Task::Check { users, cluster } = task {
+                let words = CheckWords {
+                    users,
+                    cluster,
+                    text: b"",
+                };
+                advise(alloc, rt, words, b"", fault, errors);
+            }
+            return status;
+        }
     }
-    let text = text.as_slice();
-    match perform_buffered::<T, R, O>(alloc, rt, task, text, reader, output) {
-        Ok(()) => 0,
-        Err(fault) => fault.report(alloc, rt, names, text, errors),
-    }
+    follow_with::<T, R, O, E>(
+        alloc,
+        rt,
+        task,
+        names,
+        text.as_slice(),
+        reader,
+        output,
+        errors,
+    )
 }
 
 /// Carries out what the words ask for, or writes clap's text. Returns the exit status.

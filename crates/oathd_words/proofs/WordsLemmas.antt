@@ -6,14 +6,14 @@ use Rattle.std.specs.Str.{bytes_eq}
 use Rattle.std.proofs.lemmas.Bool.{false≢true}
 use Rattle.clap.specs.Matches.{first_value}
 use Rattle.clap.specs.declared.parser.matches.Found.{Found}
-use Rattle.oathd_words.specs.Given.{GivesMember}
+use Rattle.oathd_words.specs.Given.{GivesMember, is_flag}
 use Rattle.oathd_words.specs.NodesWords.{AsksForNodes}
 use Rattle.oathd_words.specs.StoreWords.{AsksForAction, AsksForStore, GivesMoment}
 use Rattle.oathd_words.specs.Words.{AsksForNothing, AsksToCheck}
 use Rattle.oathd_words.specs.declared.nodes_words.NodesWords.{NodesWords}
 use Rattle.oathd_words.specs.declared.store_words.Action.{Action}
 use Rattle.oathd_words.specs.declared.store_words.Action.TheVariants.{Init, Remake, Serve, Export, Audit, Migrate, Floors, Level, Gates, Unlock}
-use Rattle.oathd_words.specs.declared.words.Task.TheVariants.{Lines, Sim, Cluster, Store, Check, NewKey, Secret}
+use Rattle.oathd_words.specs.declared.words.Task.TheVariants.{Lines, Sim, Cluster, Store, Check, NewKey, Secret, SecretOfInput}
 
 -- a number that distinguishes the names of the commands
 abbrev mark : List ℕ → ℕ
@@ -82,6 +82,7 @@ module _ (name : List ℕ) (found : Found) where
   not_for_lines is none (Lines nodes moment) asks = none nodes moment asks.1 asks.2
   not_for_lines is none NewKey asks = apart name _ _ is asks (lit< tt)
   not_for_lines is none (Secret hex) asks = apart name _ _ is asks.0 (lit< tt)
+  not_for_lines is none SecretOfInput asks = apart name _ _ is asks.0 (lit< tt)
   not_for_lines is none (Check users cluster) asks = apart name _ _ asks.0 is (lit< tt)
   not_for_lines is none (Sim nodes moment) asks = apart name _ _ is asks.0 (lit< tt)
   not_for_lines is none (Cluster users nodes moment) asks = apart name _ _ asks.0 is (lit< tt)
@@ -93,6 +94,7 @@ module _ (name : List ℕ) (found : Found) where
   not_for_sim is none (Lines nodes moment) asks = apart name _ _ asks.0 is (lit< tt)
   not_for_sim is none NewKey asks = apart name _ _ asks is (lit< tt)
   not_for_sim is none (Secret hex) asks = apart name _ _ is asks.0 (lit< tt)
+  not_for_sim is none SecretOfInput asks = apart name _ _ is asks.0 (lit< tt)
   not_for_sim is none (Check users cluster) asks = apart name _ _ asks.0 is (lit< tt)
   not_for_sim is none (Sim nodes moment) asks = none nodes moment asks.1 asks.2
   not_for_sim is none (Cluster users nodes moment) asks = apart name _ _ asks.0 is (lit< tt)
@@ -105,15 +107,18 @@ module _ (name : List ℕ) (found : Found) where
   not_for_cluster is none (Lines nodes moment) asks = apart name _ _ is asks.0 (lit< tt)
   not_for_cluster is none NewKey asks = apart name _ _ is asks (lit< tt)
   not_for_cluster is none (Secret hex) asks = apart name _ _ is asks.0 (lit< tt)
+  not_for_cluster is none SecretOfInput asks = apart name _ _ is asks.0 (lit< tt)
   not_for_cluster is none (Check users cluster) asks = apart name _ _ asks.0 is (lit< tt)
   not_for_cluster is none (Sim nodes moment) asks = apart name _ _ is asks.0 (lit< tt)
   not_for_cluster is none (Cluster users nodes moment) asks = none users.now nodes moment asks.1 asks.2 asks.3
   not_for_cluster is none (Store database users action) asks = no_store name (codes "cluster") found is refl action asks.2
 
-  pub not_for_secret : name ≡ codes "secret" → first_value found (codes "HEX") ≡ None → AsksForNothing name found
+  pub not_for_secret : name ≡ codes "secret"
+      → (first_value found (codes "HEX") ≡ None) × (is_flag (first_value found (codes "stdin")) ≡ false) → AsksForNothing name found
   not_for_secret is none (Lines nodes moment) asks = apart name _ _ asks.0 is (lit< tt)
   not_for_secret is none NewKey asks = apart name _ _ asks is (lit< tt)
-  not_for_secret is none (Secret hex) asks = let clash = sym none ∙ asks.1 in cc
+  not_for_secret is none (Secret hex) asks = let clash = sym none.0 ∙ asks.1 in cc
+  not_for_secret is none SecretOfInput asks = false≢true (sym none.1 ∙ asks.1)
   not_for_secret is none (Check users cluster) asks = apart name _ _ asks.0 is (lit< tt)
   not_for_secret is none (Sim nodes moment) asks = apart name _ _ asks.0 is (lit< tt)
   not_for_secret is none (Cluster users nodes moment) asks = apart name _ _ asks.0 is (lit< tt)
@@ -123,6 +128,7 @@ module _ (name : List ℕ) (found : Found) where
   not_for_check is none (Lines nodes moment) asks = apart name _ _ is asks.0 (lit< tt)
   not_for_check is none NewKey asks = apart name _ _ is asks (lit< tt)
   not_for_check is none (Secret hex) asks = apart name _ _ is asks.0 (lit< tt)
+  not_for_check is none SecretOfInput asks = apart name _ _ is asks.0 (lit< tt)
   not_for_check is none (Check users cluster) asks = none _ _ asks.1
   not_for_check is none (Sim nodes moment) asks = apart name _ _ is asks.0 (lit< tt)
   not_for_check is none (Cluster users nodes moment) asks = apart name _ _ is asks.0 (lit< tt)
@@ -136,6 +142,7 @@ module _ (name : List ℕ) (found : Found) where
   not_for_store lines sim cluster check new_key secret none (Lines nodes moment) asks = lines asks.0
   not_for_store lines sim cluster check new_key secret none NewKey asks = new_key asks
   not_for_store lines sim cluster check new_key secret none (Secret hex) asks = secret asks.0
+  not_for_store lines sim cluster check new_key secret none SecretOfInput asks = secret asks.0
   not_for_store lines sim cluster check new_key secret none (Check users file) asks = check asks.0
   not_for_store lines sim cluster check new_key secret none (Sim nodes moment) asks = sim asks.0
   not_for_store lines sim cluster check new_key secret none (Cluster users nodes moment) asks = cluster asks.0

@@ -1,9 +1,9 @@
 -- The command line, as values that clap found.
-use Rattle.std.specs.Prelude.{◌≡◌, ℕ, List, Option, None, Some, codes}
+use Rattle.std.specs.Prelude.{◌≡◌, ℕ, true, List, Option, None, Some, codes}
 use Rattle.clap.specs.Matches.{first_value}
 use Rattle.clap.specs.declared.parser.matches.Found.{Found}
 use Rattle.otp_core.specs.Range.{IsMoment}
-use Rattle.oathd_words.specs.Given.{GivesMember}
+use Rattle.oathd_words.specs.Given.{GivesMember, is_flag}
 use Rattle.oathd_words.specs.NodesWords.{AreNodesInRange, AsksForNodes, nodes_path}
 use Rattle.oathd_words.specs.StoreWords.{AsksForStore, GivesMoment, IsActionInRange}
 use Rattle.oathd_words.specs.declared.former_words.CountWords.{CountWords}
@@ -15,7 +15,7 @@ use Rattle.oathd_words.specs.declared.store_words.ClusterWords.TheVariants.{Give
 use Rattle.oathd_words.specs.declared.store_words.ImportWords.{ImportWords}
 use Rattle.oathd_words.specs.declared.store_words.ImportWords.TheVariants as imports
 use Rattle.oathd_words.specs.declared.words.Task.{Task}
-use Rattle.oathd_words.specs.declared.words.Task.TheVariants.{Lines, Sim, Cluster, Store, Check, NewKey, Secret}
+use Rattle.oathd_words.specs.declared.words.Task.TheVariants.{Lines, Sim, Cluster, Store, Check, NewKey, Secret, SecretOfInput}
 
 -- the paths of a users file and of a cluster file
 abbrev pub AsksToCheck : Found → List ℕ → List ℕ → Type 0
@@ -35,6 +35,8 @@ AsksFor name found (Store database users action) = AsksForStore name found datab
 AsksFor name found (Check users cluster) =
     (name ≡ codes "check") × AsksToCheck found users.now cluster.now
 AsksFor name found NewKey = name ≡ codes "new-key"
+AsksFor name found SecretOfInput =
+    (name ≡ codes "secret") × (is_flag (first_value found (codes "stdin")) ≡ true)
 AsksFor name found (Secret hex) = (name ≡ codes "secret") × (first_value found (codes "HEX") ≡ Some hex.now)
 
 -- the command `name` asks for nothing with the values found
@@ -49,6 +51,7 @@ IsInRange (Cluster users nodes moment) = AreNodesInRange nodes × IsMoment momen
 IsInRange (Store database users action) = IsActionInRange action
 IsInRange (Check users cluster) = Unit {0}
 IsInRange NewKey = Unit {0}
+IsInRange SecretOfInput = Unit {0}
 IsInRange (Secret hex) = Unit {0}
 
 -- the path of the cluster file, if a node is served by one
@@ -87,4 +90,5 @@ cluster_path_of (Cluster users nodes moment) = nodes_path nodes
 cluster_path_of (Store database users action) = path_of_action action
 cluster_path_of (Check users cluster) = Some cluster.now
 cluster_path_of NewKey = None
+cluster_path_of SecretOfInput = None
 cluster_path_of (Secret hex) = None

@@ -9,7 +9,7 @@ use crate::option_words::{
     ANEW, CHECKED_CLUSTER, CLIENTS, CLOCK_MOMENT, CLUSTER, COUNT_CLUSTER, DATABASE, DRIFT, FLOORS,
     FOREVER, FORMER_FLOORS, HEX, IMPORT_CLUSTER, IMPORT_DRIFT, KEY, KEY_OR_ZEROS, LOG, LOOK_AHEAD,
     LOST, MEMBER_COUNT, MEMBERS, MOMENT, NODE, NODE_CLUSTER, NODE_COUNT, NODES_CLUSTER,
-    PLAIN_LINES, RANGE, SINCE, SINCE_NUMBER, SKEW, TURNS, USER, USERS, Word,
+    PLAIN_LINES, RANGE, SINCE, SINCE_NUMBER, SKEW, STDIN, TURNS, USER, USERS, Word,
 };
 use crate::store_words::is_given;
 use clap::error::ErrorKind;
@@ -220,7 +220,7 @@ pub(crate) const COMMANDS: [CommandWords; 16] = [
         usage: None,
         after_help: SECRET_HELP,
         next_line_help: false,
-        words: &[&[Word::Text(HEX)]],
+        words: &[&[Word::Text(HEX), Word::Flag(STDIN)]],
     },
     CommandWords {
         word: VERSION_COMMAND,

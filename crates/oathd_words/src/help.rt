@@ -119,6 +119,10 @@ throttle, the node's votes and the node's passes. A store that is there stays
 as it is. All members of a cluster begin with the same users file, each with a
 DB of its own. Only the commands of oathd open a DB, one at a time.
 
+The step of a time token at the moment is used up, and so are as many steps
+after it as --skew and --drift say: their codes may have been used elsewhere. So
+by default the token is refused for up to two time steps after init.
+
 With --lost it replaces a lost database while other nodes go on. Destroy the old
 one first. I is one of the lost nodes, which are at most half of the members.
 Each other node has a floors file, which oathd floors printed after the last of
@@ -254,16 +258,20 @@ oathd serve does, with the file of the key, and prints these lines:
     fingerprint DIGITS
 Members that print the same fingerprint hear each other: their files say the
 same members, settings and life, and they have the same users and the same key.
-Members that print different ones ignore each other.";
+Members that print different ones ignore each other.
+
+It notes on standard error which rows of the users file are ignored, a file
+without tokens, and an even number of members.";
 
 /// The help of the command `secret`, after its options.
 pub(crate) const SECRET_HELP: &str = "\
 Other users of the machine can see HEX while the program runs, and it stays in
-the shell's history. So give secrets of test tokens, or use a machine of your
-own.
+the shell's history. So give secrets of test tokens there, and other secrets on
+standard input: its digits, and at most one line end after them.
 
-Example, which prints MZXW6YTBOI======:
-    oathd secret 666f6f626172";
+Examples, of which each prints MZXW6YTBOI======:
+    oathd secret 666f6f626172
+    echo 666f6f626172 | oathd secret --stdin";
 
 /// The help of the command `new-key`, after its options.
 pub(crate) const NEW_KEY_HELP: &str = "\

@@ -14,7 +14,7 @@ ghost use Rattle.oathd_words.specs.Words.{IsInRange, cluster_path_of, path_of_ac
 ghost use Rattle.oathd_words.specs.declared.former_words.FormerWords.{FormerWords as AnyFormer};
 ghost use Rattle.oathd_words.specs.declared.store_words.Action.TheVariants.{Audit, Export, Gates, Migrate};
 ghost use Rattle.oathd_words.specs.declared.store_words.ClientWords.TheVariants.{Anybody, Named, ThisMachine};
-ghost use Rattle.oathd_words.specs.declared.words.Task.TheVariants.{Check, NewKey, Secret};
+ghost use Rattle.oathd_words.specs.declared.words.Task.TheVariants.{Check, NewKey, Secret, SecretOfInput};
 
 /// Counterexamples: the smallest list of members is accepted, and each part of the rule fails for a minimal one.
 pub fn members_can_be_broken()
@@ -102,7 +102,7 @@ pub fn ranges_can_be_broken()
     ensures store { IsInRange (store_of (Audit 1)) }
     ensures store_of_node_0 { IsInRange (store_of (Audit 0)) → ⊥ }
     ensures check { IsInRange (Check (word []) (word [])) }
-    ensures secret { IsInRange (Secret (word [])) }
+    ensures secret { IsInRange (Secret (word [])) × IsInRange SecretOfInput }
 {}
 
 /// Worked cases. The cluster file that a task names.
@@ -114,7 +114,7 @@ pub fn paths_are_worked()
     ensures none { map cluster_path_of (lines_at 0 (given_nodes 1) ∷ sim_at 0 (given_nodes 1)
         ∷ cluster_at 0 (given_nodes 1) ∷ store_of usual_init ∷ store_of Export ∷ store_of (Audit 1)
         ∷ store_of (Migrate 1) ∷ store_of (floors_of 1) ∷ store_of (Gates 1) ∷ store_of (unlock_of 1)
-        ∷ Secret file ∷ []) ≡ replicate 11 None }
+        ∷ Secret file ∷ SecretOfInput ∷ []) ≡ replicate 12 None }
     ensures given_remake { (former : AnyFormer) → path_of_action (usual_remake former) ≡ None }
     ensures given_serve { (members : Vec SocketAddrV4) → path_of_action (usual_serve members) ≡ None }
     ensures level { (floors : Vec (Bor (List ℕ))) → path_of_action (level_by floors 1) ≡ None }

@@ -243,11 +243,19 @@ pub(crate) const DATABASE: TextWord = TextWord {
 pub(crate) const HEX: TextWord = TextWord {
     name: "HEX",
     value_name: None,
-    is_required: true,
-    unless: None,
-    conflicts: &[],
+    is_required: false,
+    unless: Some("stdin"),
+    conflicts: &["stdin"],
     is_digit: false,
     help: "The secret in hexadecimal: two digits for each of 1 to 128 bytes",
+};
+
+/// The flag that reads a secret from standard input.
+pub(crate) const STDIN: FlagWord = FlagWord {
+    name: "stdin",
+    conflicts: &["HEX"],
+    needs: &[],
+    help: "Read HEX from standard input, where nobody else sees it",
 };
 
 /// The number of the node.

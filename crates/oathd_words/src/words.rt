@@ -1,8 +1,8 @@
-ghost use Rattle.std.specs.Prelude.{◌≡◌, ℕ, List, Some, codes, IfSome, IfNone, IfOk};
+ghost use Rattle.std.specs.Prelude.{◌≡◌, ℕ, List, None, Some, codes, false, IfSome, IfNone, IfOk};
 ghost use Rattle.std.specs.Option.{option_map};
 ghost use Rattle.clap.specs.Matches.{first_value, found_of};
 ghost use Rattle.otp_core.specs.Limits.{Limits};
-ghost use Rattle.oathd_words.specs.Given.{GivesLimits, GivesMember};
+ghost use Rattle.oathd_words.specs.Given.{GivesLimits, GivesMember, is_flag};
 ghost use Rattle.oathd_words.specs.NodesWords.{AsksForNodes};
 ghost use Rattle.oathd_words.specs.StoreWords.{AsksForStore, GivesMoment};
 ghost use Rattle.oathd_words.specs.Words.{AsksFor, AsksForNothing, AsksToCheck, IsInRange, cluster_path_of};
@@ -11,7 +11,7 @@ ghost use Rattle.oathd_words.specs.declared.store_words.Action.{Action as AnyAct
 
 use crate::command_words::{COMMANDS, CommandWords, VERSION_COMMAND, program, value_error};
 use crate::nodes_words::{NodesWords, nodes_words};
-use crate::store_words::{Action, read_action};
+use crate::store_words::{Action, is_given, read_action};
 use clap::error::ErrorKind;
 use clap::{ArgMatches, Command, Error};
 use command_line::number_of;
@@ -58,6 +58,8 @@ pub enum Task<'a> {
     },
     /// Prints a new key of a client.
     NewKey,
+    /// Prints the base32 text of a secret, which the input gives in hexadecimal.
+    SecretOfInput,
     /// Prints the base32 text of a secret.
     Secret {
         /// The secret in hexadecimal, two digits for each byte. It may be any text here: running the task refuses a
@@ -77,7 +79,7 @@ impl<'a> Task<'a> {
             }
             Task::Store { action, .. } => action.cluster_path(),
             Task::Check { cluster, .. } => Some(*cluster),
-            Task::NewKey | Task::Secret { .. } => None,
+            Task::NewKey | Task::SecretOfInput | Task::Secret { .. } => None,
         }
     }
 }
@@ -176,11 +178,15 @@ fn check_task<'a>(matches: &ArgMatches<'a>) -> Option<Task<'a>>
     Some(Task::Check { users, cluster })
 }
 
-/// Returns the task of `secret`, or `None` if its value is missing.
+/// Returns the task of `secret`, or `None` if it has neither its value nor `--stdin`.
 fn secret_task<'a>(matches: &ArgMatches<'a>) -> Option<Task<'a>>
     ensures some { IfSome result (AsksFor (codes "secret") (found_of matches.now)) }
-    ensures none { IfNone result (first_value (found_of matches.now) (codes "HEX") ≡ None) }
+    ensures none { IfNone result ((first_value (found_of matches.now) (codes "HEX") ≡ None)
+        × (is_flag (first_value (found_of matches.now) (codes "stdin")) ≡ false)) }
 {
+    if is_given(matches, "stdin") {
+        return Some(Task::SecretOfInput);
+    }
     let hex = matches.get_str("HEX")?;
     Some(Task::Secret { hex })
 }

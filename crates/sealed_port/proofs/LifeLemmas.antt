@@ -30,9 +30,9 @@ keeps_lead : (b : Bool) (client : Client) (moment ahead : ℕ) → client.window
 keeps_lead true client moment ahead h = ahead_stays client.window moment ∙ h
 keeps_lead false client moment ahead h = h
 
-lead_with : (gate : GateRecord) (address : ℕ) (found : Option SealedLine) (n ahead : ℕ) → HasLead gate n ahead → HasLead (gate_with gate address found) n ahead
-lead_with gate address None n ahead h = h
-lead_with gate address (Some line) n ahead h = λ client e.
+lead_with : (gate : GateRecord) (now : Option ℕ) (address : ℕ) (found : Option SealedLine) (n ahead : ℕ) → HasLead gate n ahead → HasLead (gate_with gate now address found) n ahead
+lead_with gate now address None n ahead h = h
+lead_with gate now address (Some line) n ahead h = λ client e.
     from (named n gate.clients) refl (sym (named_stays n line.client line.moment gate.clients) ∙ e)
   where
     from : {client : Client} (o : Option Client) → named n gate.clients ≡ o → option_map (with_moment line.client line.moment) o ≡ Some client → client.window.ahead ≡ ahead
@@ -87,7 +87,7 @@ near_before gate (Comes now address bytes) steps line n = from (opened gate now 
           near = subst (λ (k : ℕ). line.moment ≤ last_at n.second k) lead n.near;
         }
 
-    from : (o : Option SealedLine) → named line.client (gate_with gate address o).clients ≡ Some n.client → IsNear gate (Comes now address bytes ∷ steps) line
+    from : (o : Option SealedLine) → named line.client (gate_with gate now address o).clients ≡ Some n.client → IsNear gate (Comes now address bytes ∷ steps) line
     from None is = record { second = n.second; told = inr n.told; client = n.client; is_client = is; near = n.near }
     from (Some line') is = go line' (named line.client gate.clients) refl (sym (named_stays line.client line'.client line'.moment gate.clients) ∙ is)
 

@@ -9,7 +9,9 @@ use Rattle.sealed_wire.specs.declared.head.Kind.{Kind}
 use Rattle.sealed_wire.specs.declared.head.Kind.TheVariants.{Line, Answer, Request, Report}
 use Rattle.sealed_wire.proofs.TagLemmas.{takes}
 use Rattle.sealed_port.specs.Gate.{GateRecord, SealedLine, cause_at, cause_of, is_admitted, is_line, keeper_of, line_of, line_under, named, opened, ruling, ruling_on, sealed_line}
+use Rattle.sealed_port.specs.Failures.{is_limited}
 use Rattle.sealed_port.specs.declared.cause.Cause.{Cause}
+use Rattle.sealed_port.specs.declared.cause.Cause.TheVariants.{Limited}
 use Rattle.sealed_port.specs.Runs.{IsOpenedOf, line_head}
 use Rattle.sealed_port.specs.declared.client.Client.{Client}
 
@@ -94,10 +96,13 @@ sealed_is gate bytes line e = by_head (head_of bytes) refl e
 pub opened_law : (gate : GateRecord) (now : Option ℕ) (bytes : List ℕ) (line : SealedLine) → opened gate now bytes ≡ Some line → IsOpenedOf gate now bytes line
 opened_law gate now bytes line e = from now (sealed_line gate bytes) refl e
   where
-    go : (second : ℕ) (b : Bool) (one : SealedLine) → sealed_line gate bytes ≡ Ok one → is_admitted gate second one ≡ b
-        → result_ok (ruled b one (cause_at gate second one)) ≡ Some line → IsOpenedOf gate (Some second) bytes line
-    go second false one is admitted found = absurd cc
-    go second true one is admitted found =
+    go : (second : ℕ) (limited b : Bool) (one : SealedLine) → sealed_line gate bytes ≡ Ok one
+        → is_limited gate.failures second one.client ≡ limited → is_admitted gate second one ≡ b
+        → result_ok (cond limited (Err Limited) (ruled b one (cause_at gate second one))) ≡ Some line
+        → IsOpenedOf gate (Some second) bytes line
+    go second true b one is limited admitted found = absurd cc
+    go second false false one is limited admitted found = absurd cc
+    go second false true one is limited admitted found =
         let same = some_is one line found in
         let read = sealed_is gate bytes line (is ∙ ap fine same) in
         record {
@@ -108,12 +113,14 @@ opened_law gate now bytes line e = from now (sealed_line gate bytes) refl e
           second = second;
           told = refl;
           admitted = subst (λ (l : SealedLine). is_admitted gate second l ≡ true) same admitted;
+          unlimited = subst (λ (l : SealedLine). is_limited gate.failures second l.client ≡ false) same limited;
         }
 
     from : (now : Option ℕ) (r : Result SealedLine Cause) → sealed_line gate bytes ≡ r → result_ok (ruling_on gate now r) ≡ Some line → IsOpenedOf gate now bytes line
     from now (Err cause) is found = absurd cc
     from None (Ok one) is found = absurd cc
-    from (Some second) (Ok one) is found = go second (is_admitted gate second one) one is refl found
+    from (Some second) (Ok one) is found =
+        go second (is_limited gate.failures second one.client) (is_admitted gate second one) one is refl refl found
 
 -- exactly what a gate doesn't open has a cause
 pub cause_law : (gate : GateRecord) (now : Option ℕ) (bytes : List ℕ) → is_none (opened gate now bytes) ≡ is_some (cause_of gate now bytes)

@@ -68,7 +68,7 @@ kept moments gate unopened (Datagram (Client address) len) buffer e =
     let plain = none_is_plain (is_plain gate address) (address, len) e in
     unasked moments gate unopened (Received (Client address) bytes)
     (front (is_plain gate address) (Some (Received (Client address) bytes)) (handed_line (opened gate None bytes)) plain)
-    (front (is_plain gate address) gate (gate_with gate address (opened gate None bytes)) plain)
+    (front (is_plain gate address) gate (gate_with gate None address (opened gate None bytes)) plain)
     (front (is_plain gate address) [] (None ∷ []) plain)
     (front (is_plain gate address) unopened (counted unopened (cause_of gate None bytes)) plain)
 kept moments gate unopened (Datagram (Peer number) len) buffer e = unasked moments gate unopened (Received (Peer number) (take len buffer)) refl refl refl refl
@@ -79,7 +79,7 @@ kept moments gate unopened Fault buffer e = unasked moments gate unopened (event
 pub taken : (old_clock new_clock : Option (List (Option ℕ))) (gate after : GateRecord) (before counts : Unopened) (received : Receive) (buffer : List ℕ) (address len : ℕ) (handed : Option PortEvent)
     → sealed_from gate received ≡ Some (address, len)
     → ((now : Option ℕ) × Grows old_clock new_clock (now ∷ []) × (handed ≡ handed_line (opened gate now (take len buffer)))
-    × (after ≡ gate_with gate address (opened gate now (take len buffer)))
+    × (after ≡ gate_with gate now address (opened gate now (take len buffer)))
     × (counts ≡ counted before (cause_of gate now (take len buffer))))
     → TakesIn old_clock new_clock gate after before counts (event_of_receive received buffer) handed
 taken old_clock new_clock gate after before counts (Datagram (Client from) size) buffer address len handed e answer =
@@ -94,8 +94,8 @@ taken old_clock new_clock gate after before counts (Datagram (Client from) size)
       clock = subst (Grows old_clock new_clock) (sym (back (is_plain gate from) [] (now ∷ []) found.0)) answer.1;
       handed_is = answer.2 ∙ ap (λ (b : List ℕ). handed_line (opened gate now b)) bytes_same
           ∙ sym (back (is_plain gate from) (Some (Received (Client from) bytes)) (handed_line (opened gate now bytes)) found.0);
-      gate_is = answer.3 ∙ ap (λ (b : List ℕ). gate_with gate address (opened gate now b)) bytes_same ∙ ap (λ (a : ℕ). gate_with gate a (opened gate now bytes)) (sym same_from)
-          ∙ sym (back (is_plain gate from) gate (gate_with gate from (opened gate now bytes)) found.0);
+      gate_is = answer.3 ∙ ap (λ (b : List ℕ). gate_with gate now address (opened gate now b)) bytes_same ∙ ap (λ (a : ℕ). gate_with gate now a (opened gate now bytes)) (sym same_from)
+          ∙ sym (back (is_plain gate from) gate (gate_with gate now from (opened gate now bytes)) found.0);
       counts = answer.4 ∙ ap (λ (b : List ℕ). counted before (cause_of gate now b)) bytes_same
           ∙ sym (back (is_plain gate from) before (counted before (cause_of gate now bytes)) found.0);
     }
@@ -127,7 +127,7 @@ passed_is gate now (Received (Client address) bytes) before e =
       event_is = refl;
       now_is = refl;
       told_is = back (is_plain gate address) [] (now ∷ []) u.0;
-      gate_is = back (is_plain gate address) gate (gate_with gate address (opened gate now bytes)) u.0 ∙ ap (gate_with gate address) u.1;
+      gate_is = back (is_plain gate address) gate (gate_with gate now address (opened gate now bytes)) u.0 ∙ ap (gate_with gate now address) u.1;
       counts_are = back (is_plain gate address) before (counted before (cause_of gate now bytes)) u.0;
     }
 passed_is gate now (Received (Peer number) bytes) before e = absurd cc

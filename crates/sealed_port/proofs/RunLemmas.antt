@@ -69,9 +69,9 @@ keeps_cover : (b : Bool) (client : Client) (moment other : ℕ) → IsCovered cl
 keeps_cover true client moment other h = stays_covered client.window moment other h
 keeps_cover false client moment other h = h
 
-stays_seen : (gate : GateRecord) (address : ℕ) (found : Option SealedLine) (n m : ℕ) → IsSeen gate n m → IsSeen (gate_with gate address found) n m
-stays_seen gate address None n m h = h
-stays_seen gate address (Some line) n m h = λ client e.
+stays_seen : (gate : GateRecord) (now : Option ℕ) (address : ℕ) (found : Option SealedLine) (n m : ℕ) → IsSeen gate n m → IsSeen (gate_with gate now address found) n m
+stays_seen gate now address None n m h = h
+stays_seen gate now address (Some line) n m h = λ client e.
     let stays : option_map (with_moment line.client line.moment) (named n gate.clients) ≡ Some client = sym (named_stays n line.client line.moment gate.clients) ∙ e in
     from (named n gate.clients) refl stays
   where
@@ -81,7 +81,7 @@ stays_seen gate address (Some line) n m h = λ client e.
         subst (λ (c : Client). IsCovered c.window m) (some_is _ _ e) (keeps_cover (eqb before.number line.client) before line.moment m (h before is))
 
 stays_seen_step : (gate : GateRecord) (step : Step) (n m : ℕ) → IsSeen gate n m → IsSeen (gate_step gate step) n m
-stays_seen_step gate (Comes now address bytes) n m h = stays_seen gate address (opened gate now bytes) n m h
+stays_seen_step gate (Comes now address bytes) n m h = stays_seen gate now address (opened gate now bytes) n m h
 stays_seen_step gate (Answers client answer) n m h = h
 
 is_itself : (n k : ℕ) → n ≡ k → eqb n k ≡ true
@@ -94,8 +94,8 @@ covers_here : (b : Bool) (client : Client) (moment : ℕ) → b ≡ true → IsC
 covers_here true client moment e = covers_itself client.window moment
 covers_here false client moment e = absurd cc
 
-seen_now : (gate : GateRecord) (address : ℕ) (line : SealedLine) → IsSeen (gate_with gate address (Some line)) line.client line.moment
-seen_now gate address line = λ client e.
+seen_now : (gate : GateRecord) (now : Option ℕ) (address : ℕ) (line : SealedLine) → IsSeen (gate_with gate now address (Some line)) line.client line.moment
+seen_now gate now address line = λ client e.
     let stays : option_map (with_moment line.client line.moment) (named line.client gate.clients) ≡ Some client =
     sym (named_stays line.client line.client line.moment gate.clients) ∙ e in
     from (named line.client gate.clients) refl stays
@@ -143,7 +143,7 @@ never_again_in gate (Answers client answer ∷ steps) one seen = never_again_in 
 never_again_in gate (Comes now address bytes ∷ steps) one seen =
     all_append (λ y. is_same one y ≡ false) (opening_of address (opened gate now bytes)) (opened_in (gate_step gate (Comes now address bytes)) steps)
     (from (opened gate now bytes) refl)
-    (never_again_in (gate_step gate (Comes now address bytes)) steps one (stays_seen gate address (opened gate now bytes) one.client one.moment seen))
+    (never_again_in (gate_step gate (Comes now address bytes)) steps one (stays_seen gate now address (opened gate now bytes) one.client one.moment seen))
   where
     from : (o : Option SealedLine) → opened gate now bytes ≡ o → AllByRecursion (λ y. is_same one y ≡ false) (opening_of address o)
     from None is = tt
@@ -153,12 +153,12 @@ pub once_law : (gate : GateRecord) (steps : List Step) → IsDistinct is_same (o
 unfolding IsDistinct
 once_law gate [] = tt
 once_law gate (Answers client answer ∷ steps) = once_law (gate_step gate (Answers client answer)) steps
-once_law gate (Comes now address bytes ∷ steps) = from (opened gate now bytes) (once_law (gate_with gate address (opened gate now bytes)) steps)
+once_law gate (Comes now address bytes ∷ steps) = from (opened gate now bytes) (once_law (gate_with gate now address (opened gate now bytes)) steps)
   where
-    from : (o : Option SealedLine) → IsDistinct is_same (opened_in (gate_with gate address o) steps)
-        → IsDistinct is_same (opening_of address o ++ opened_in (gate_with gate address o) steps)
+    from : (o : Option SealedLine) → IsDistinct is_same (opened_in (gate_with gate now address o) steps)
+        → IsDistinct is_same (opening_of address o ++ opened_in (gate_with gate now address o) steps)
     from None rest = rest
-    from (Some line) rest = (never_again_in (gate_with gate address (Some line)) steps (asked_of address line) (seen_now gate address line), rest)
+    from (Some line) rest = (never_again_in (gate_with gate now address (Some line)) steps (asked_of address line) (seen_now gate now address line), rest)
 
 -- ---- what is remembered was opened
 
@@ -227,7 +227,7 @@ among_step gate (Answers client answer) before h = λ a is.
     subst (λ (l : List AskedRecord). IsAmong l a) (sym (append-nil before)) (h a (among_without (answered_place gate client answer) gate.asked a is))
 among_step gate (Comes now address bytes) before h = from (opened gate now bytes)
   where
-    from : (o : Option SealedLine) → AreAmong (gate_with gate address o).asked (before ++ opening_of address o)
+    from : (o : Option SealedLine) → AreAmong (gate_with gate now address o).asked (before ++ opening_of address o)
     from None = λ a is. subst (λ (l : List AskedRecord). IsAmong l a) (sym (append-nil before)) (h a is)
     from (Some line) = λ a is. elim (among_remembered gate.asked (asked_of address line) a is) as (λ k. IsAmong (before ++ opening_of address (Some line)) a) [
       | inl old ↦ among_front before (asked_of address line ∷ []) a (h a old)

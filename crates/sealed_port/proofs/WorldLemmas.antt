@@ -32,9 +32,9 @@ key_kept : (b : Bool) (client : Client) (moment : ℕ) → (cond b (record clien
 key_kept true client moment = refl
 key_kept false client moment = refl
 
-key_with : (key : List ℕ) (client : ℕ) (gate : GateRecord) (address : ℕ) (found : Option SealedLine) → HasKey key client gate → HasKey key client (gate_with gate address found)
-key_with key client gate address None h = h
-key_with key client gate address (Some line) h = λ owner e. from (named client gate.clients) refl (sym (named_stays client line.client line.moment gate.clients) ∙ e)
+key_with : (key : List ℕ) (client : ℕ) (gate : GateRecord) (now : Option ℕ) (address : ℕ) (found : Option SealedLine) → HasKey key client gate → HasKey key client (gate_with gate now address found)
+key_with key client gate now address None h = h
+key_with key client gate now address (Some line) h = λ owner e. from (named client gate.clients) refl (sym (named_stays client line.client line.moment gate.clients) ∙ e)
   where
     from : {owner : Client} (o : Option Client) → named client gate.clients ≡ o → option_map (with_moment line.client line.moment) o ≡ Some owner → owner.key ≡ key
     from None is e = absurd cc
@@ -42,7 +42,7 @@ key_with key client gate address (Some line) h = λ owner e. from (named client 
         ap (λ (c : Client). c.key) (sym (some_is _ _ e)) ∙ key_kept (eqb before.number line.client) before line.moment ∙ h before is
 
 key_step : (key : List ℕ) (client : ℕ) (gate : GateRecord) (step : Step) → HasKey key client gate → HasKey key client (gate_step gate step)
-key_step key client gate (Comes now address bytes) h = key_with key client gate address (opened gate now bytes) h
+key_step key client gate (Comes now address bytes) h = key_with key client gate now address (opened gate now bytes) h
 key_step key client gate (Answers other answer) h = h
 
 key_run : (key : List ℕ) (client : ℕ) (gate : GateRecord) (steps : List Step) → HasKey key client gate → HasKey key client (gate_run gate steps)
@@ -51,13 +51,13 @@ key_run key client gate (step ∷ steps) h = key_run key client (gate_step gate 
 
 -- ---- a gate's node stays
 
-node_with : (gate : GateRecord) (address : ℕ) (found : Option SealedLine) → (gate_with gate address found).node ≡ gate.node
-node_with gate address None = refl
-node_with gate address (Some line) = refl
+node_with : (gate : GateRecord) (now : Option ℕ) (address : ℕ) (found : Option SealedLine) → (gate_with gate now address found).node ≡ gate.node
+node_with gate now address None = refl
+node_with gate now address (Some line) = refl
 
 node_run : (gate : GateRecord) (steps : List Step) → (gate_run gate steps).node ≡ gate.node
 node_run gate [] = refl
-node_run gate (Comes now address bytes ∷ steps) = node_run (gate_with gate address (opened gate now bytes)) steps ∙ node_with gate address (opened gate now bytes)
+node_run gate (Comes now address bytes ∷ steps) = node_run (gate_with gate now address (opened gate now bytes)) steps ∙ node_with gate now address (opened gate now bytes)
 node_run gate (Answers client answer ∷ steps) = node_run (gate_step gate (Answers client answer)) steps
 
 -- ---- a line that was opened was made
@@ -106,11 +106,11 @@ opened_is_made key made client gate [] line makings has come among of_client = a
 opened_is_made key made client gate (Answers other answer ∷ steps) line makings has come among of_client =
     opened_is_made key made client (gate_step gate (Answers other answer)) steps line makings has come among of_client
 opened_is_made key made client gate (Comes now address bytes ∷ steps) line makings has come among of_client =
-    from (opened gate now bytes) refl (λ later. opened_is_made key made client (gate_with gate address (opened gate now bytes)) steps line makings
-    (key_with key client gate address (opened gate now bytes) has) come.2 later of_client)
+    from (opened gate now bytes) refl (λ later. opened_is_made key made client (gate_with gate now address (opened gate now bytes)) steps line makings
+    (key_with key client gate now address (opened gate now bytes) has) come.2 later of_client)
     among
   where
-    node_stays : (o : Option SealedLine) → LineMade key made (gate_with gate address o).node line → LineMade key made gate.node line
+    node_stays : (o : Option SealedLine) → LineMade key made (gate_with gate now address o).node line → LineMade key made gate.node line
     node_stays None h = h
     node_stays (Some found) h = h
 
@@ -123,9 +123,9 @@ opened_is_made key made client gate (Comes now address bytes ∷ steps) line mak
     here (Some found) is h = first found is h
 
     from : (o : Option SealedLine) → opened gate now bytes ≡ o
-        → (IsAmong (opened_in (gate_with gate address (opened gate now bytes)) steps) line → LineMade key made (gate_with gate address (opened gate now bytes)).node line)
-        → IsAmong (opening_of address (opened gate now bytes) ++ opened_in (gate_with gate address (opened gate now bytes)) steps) line → LineMade key made gate.node line
-    from o is rest all = elim (among_parts (opening_of address (opened gate now bytes)) (opened_in (gate_with gate address (opened gate now bytes)) steps) line all) as (λ k. LineMade key made gate.node line) [
+        → (IsAmong (opened_in (gate_with gate now address (opened gate now bytes)) steps) line → LineMade key made (gate_with gate now address (opened gate now bytes)).node line)
+        → IsAmong (opening_of address (opened gate now bytes) ++ opened_in (gate_with gate now address (opened gate now bytes)) steps) line → LineMade key made gate.node line
+    from o is rest all = elim (among_parts (opening_of address (opened gate now bytes)) (opened_in (gate_with gate now address (opened gate now bytes)) steps) line all) as (λ k. LineMade key made gate.node line) [
       | inl front ↦ here o is (subst (λ (x : Option SealedLine). IsAmong (opening_of address x) line) is front)
       | inr back ↦ node_stays (opened gate now bytes) (rest back)
     ]

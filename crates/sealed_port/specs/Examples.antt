@@ -4,10 +4,12 @@ use Rattle.sealed_wire.specs.Examples.{answer_head, line_head, line_tag}
 use Rattle.sealed_wire.specs.Making.{Making}
 use Rattle.replay_window.specs.Window.{WindowRecord}
 use Rattle.sealed_port.specs.Asked.{AskedRecord}
+use Rattle.sealed_port.specs.Failures.{FailuresRecord}
 use Rattle.sealed_port.specs.Gate.{GateRecord, SealedLine}
 use Rattle.sealed_port.specs.Port.{Passed}
 use Rattle.sealed_port.specs.Runs.{GateLife, Comes}
 use Rattle.sealed_port.specs.declared.client.Client.{Client}
+use Rattle.sealed_port.specs.declared.failures.Failed.{Failed}
 
 -- the line `CHECK k1 ann 755224 -`
 abbrev pub check_line : List ℕ
@@ -34,10 +36,22 @@ asked_at client nonce line =
 abbrev pub asked_line : AskedRecord
 asked_line = asked_at 258 (codes "k1") check_line
 
+-- no limit of failures, in the first minute of the clock
+abbrev pub no_limit : FailuresRecord
+no_limit = record { most = None; minute = 0; failed = [] }
+
+-- the failures of clients in a minute of the clock, of which the second is the last
+abbrev pub failures_in : ℕ → List Failed → FailuresRecord
+failures_in minute failed = record { most = Some 2; minute = minute; failed = failed }
+
+-- a client that failed a number of times
+abbrev pub failed_at : ℕ → ℕ → Failed
+failed_at client number = record { client = client; number = number }
+
 -- a gate whose one client is 258, with lines without an answer; clients at 127.0.0.1 may speak plainly
 abbrev pub gate_at : WindowRecord → List AskedRecord → GateRecord
 gate_at window asked =
-    record { node = 2; clients = client_at 258 window ∷ []; plain = 2130706433 ∷ []; asked = asked }
+    record { node = 2; clients = client_at 258 window ∷ []; plain = 2130706433 ∷ []; asked = asked; failures = no_limit }
 
 -- the gate before it opened anything, and after it opened the line
 abbrev pub first_gate : GateRecord

@@ -10,17 +10,19 @@ use Rattle.replay_window.specs.Window.{is_fresh, refusal_of, with_seen}
 use Rattle.replay_window.specs.declared.refusal.Refusal.{Refusal}
 use Rattle.sealed_port.specs.Causes.{cause_by}
 use Rattle.sealed_port.specs.declared.cause.Cause.{Cause}
-use Rattle.sealed_port.specs.declared.cause.Cause.TheVariants.{Form, Tag, Early}
+use Rattle.sealed_port.specs.declared.cause.Cause.TheVariants.{Form, Tag, Early, Limited}
+use Rattle.sealed_port.specs.Failures.{FailuresRecord, failures_after, failures_at, is_limited}
 use Rattle.sealed_port.specs.Asked.{AskedRecord, clashes, line_at, nonce_in, nonce_of, place_of, remembered, without}
 use Rattle.sealed_port.specs.declared.client.Client.{Client}
 
--- A gate: its node, the clients that share a key with it, the plain IPv4 addresses, and the lines without an answer.
--- Clients at a plain address may speak plainly.
+-- A gate: its node, the clients that share a key with it, the plain IPv4 addresses, the lines without an answer, and the
+-- failures of clients. Clients at a plain address may speak plainly.
 pub record GateRecord : Type 0 where
   pub node : ℕ
   pub clients : List Client
   pub plain : List ℕ
   pub asked : List AskedRecord
+  pub failures : FailuresRecord
 
 -- a client's line with the values of its seal
 pub record SealedLine : Type 0 where
@@ -88,10 +90,13 @@ abbrev pub ruling_on : GateRecord → Option ℕ → Result SealedLine Cause →
 ruling_on gate now (Err cause) = Err cause
 ruling_on gate None (Ok line) = Err Early
 ruling_on gate (Some now) (Ok line) =
-    if is_admitted gate now line then Ok line else Err (cause_at gate now line)
+    if is_limited gate.failures now line.client then Err Limited
+    else if is_admitted gate now line then Ok line
+    else Err (cause_at gate now line)
 
 -- The ruling of a gate on a datagram, with what the clock tells. The gate opens a line that is sealed under the key of
--- the client that it names, and for the gate's node. The window of the client admits its moment.
+-- the client that it names, and for the gate's node. The window of the client admits its moment, and the failures of the
+-- client are below the limit.
 abbrev pub ruling : GateRecord → Option ℕ → List ℕ → Result SealedLine Cause
 ruling gate now bytes = ruling_on gate now (sealed_line gate bytes)
 
@@ -119,12 +124,18 @@ asked_of address line = record {
   tag = line.tag;
 }
 
--- the gate after it opened a line from an address, or nothing
-abbrev pub gate_with : GateRecord → ℕ → Option SealedLine → GateRecord
-gate_with gate address None = gate
-gate_with gate address (Some line) = record gate {
+-- the failures at what the clock tells
+abbrev pub failures_told : Option ℕ → FailuresRecord → FailuresRecord
+failures_told None failures = failures
+failures_told (Some now) failures = failures_at now failures
+
+-- the gate after it opened a line from an address, or nothing, with what the clock told
+abbrev pub gate_with : GateRecord → Option ℕ → ℕ → Option SealedLine → GateRecord
+gate_with gate now address None = gate
+gate_with gate now address (Some line) = record gate {
   clients = map (with_moment line.client line.moment) gate.clients;
   asked = remembered gate.asked (asked_of address line);
+  failures = failures_told now gate.failures;
 }
 
 -- whether a client at an address may speak plainly; the IPv4 address is the number without its last 16 bits
@@ -166,4 +177,7 @@ answered gate client answer =
 
 -- the gate after an answer to a client
 abbrev pub gate_answered : GateRecord → ℕ → List ℕ → GateRecord
-gate_answered gate client answer = record gate { asked = without (answered_place gate client answer) gate.asked }
+gate_answered gate client answer = record gate {
+  asked = without (answered_place gate client answer) gate.asked;
+  failures = failures_after client answer gate.failures;
+}

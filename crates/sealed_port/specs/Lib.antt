@@ -1,5 +1,6 @@
 pub mod Asked
 pub mod Causes
+pub mod Failures
 pub mod Examples
 pub mod Gate
 pub mod Port

@@ -36,7 +36,7 @@ handed_in gate now (Offered to bytes) = Some (Offered to bytes)
 -- the gate after an event of the port below
 abbrev pub gate_after : GateRecord → Option ℕ → PortEvent → GateRecord
 gate_after gate now (Received (Client address) bytes) =
-    if is_plain gate address then gate else gate_with gate address (opened gate now bytes)
+    if is_plain gate address then gate else gate_with gate now address (opened gate now bytes)
 gate_after gate now (Received (Peer number) bytes) = gate
 gate_after gate now Quiet = gate
 gate_after gate now Faulted = gate

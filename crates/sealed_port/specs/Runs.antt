@@ -1,11 +1,12 @@
 -- The lines that a gate opens and the answers that it seals in an execution.
-use Rattle.std.specs.Prelude.{◌≡◌, ◌⊎◌, ◌≤◌, true, ℕ, ◌==◌, ◌&&◌, Bool, List, [], ◌∷◌, ◌++◌, Option, Some, None}
+use Rattle.std.specs.Prelude.{◌≡◌, ◌⊎◌, ◌≤◌, true, false, ℕ, ◌==◌, ◌&&◌, Bool, List, [], ◌∷◌, ◌++◌, Option, Some, None}
 use Rattle.std.specs.List.{AllByRecursion}
 use Rattle.replay_window.specs.Window.{last_at}
 use Rattle.sealed_wire.specs.Sealed.{sealed_at, sealed_bytes, tag_at}
 use Rattle.sealed_wire.specs.declared.head.Head.{Head}
 use Rattle.sealed_wire.specs.declared.head.Kind.TheVariants.{Line}
 use Rattle.sealed_port.specs.Asked.{AskedRecord, nonce_of}
+use Rattle.sealed_port.specs.Failures.{is_limited}
 use Rattle.sealed_port.specs.Gate.{GateRecord, Sealed, SealedLine, answer_head, asked_of, gate_answered, gate_with, is_admitted, named, opened}
 use Rattle.sealed_port.specs.declared.client.Client.{Client}
 
@@ -16,7 +17,7 @@ pub data Step : Type 0 where
 
 -- the gate after a step
 abbrev pub gate_step : GateRecord → Step → GateRecord
-gate_step gate (Comes now address bytes) = gate_with gate address (opened gate now bytes)
+gate_step gate (Comes now address bytes) = gate_with gate now address (opened gate now bytes)
 gate_step gate (Answers client answer) = gate_answered gate client answer
 
 -- the gate after the steps, in order
@@ -96,7 +97,7 @@ line_head node line = record { kind = Line; client = line.client; node = node; m
 
 -- A gate's opening of a datagram. The client that the line names shares a key with the gate. The datagram is the line,
 -- sealed under the key for the gate's node at the line's moment, with its tag. The clock told a second, and the gate
--- admits the line.
+-- admits the line. The client's failures are below the limit.
 pub record IsOpenedOf (gate : GateRecord) (now : Option ℕ) (bytes : List ℕ) (line : SealedLine) : Type 0 where
   pub owner : Client
   pub is_owner : named line.client gate.clients ≡ Some owner
@@ -105,3 +106,4 @@ pub record IsOpenedOf (gate : GateRecord) (now : Option ℕ) (bytes : List ℕ) 
   pub second : ℕ
   pub told : now ≡ Some second
   pub admitted : is_admitted gate second line ≡ true
+  pub unlimited : is_limited gate.failures second line.client ≡ false

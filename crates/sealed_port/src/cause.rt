@@ -16,6 +16,8 @@ pub enum Cause {
     Late,
     /// The moment was seen or is at or below the mark, or another line with the same nonce waits for its answer.
     Again,
+    /// The client has as many failures in the clock's minute as it may have.
+    Limited,
 }
 
 /// The numbers of datagrams that a gate didn't open, by their causes. None goes beyond `u64::MAX`.
@@ -31,11 +33,13 @@ pub struct Unopened {
     pub late: u64,
     /// The number of lines with a moment that was seen or is at or below the mark, or with the nonce of a waiting line.
     pub again: u64,
+    /// The number of lines of clients with as many failures in the clock's minute as they may have.
+    pub limited: u64,
 }
 
 impl Unopened {
     /// Returns the numbers before any datagram.
-    pub(crate) fn new() -> Self
+    pub fn new() -> Self
         ensures { result ≡ nothing }
     {
         Unopened {
@@ -44,6 +48,7 @@ impl Unopened {
             early: 0,
             late: 0,
             again: 0,
+            limited: 0,
         }
     }
 
@@ -57,6 +62,7 @@ impl Unopened {
             Cause::Early => self.early = self.early.saturating_add(1),
             Cause::Late => self.late = self.late.saturating_add(1),
             Cause::Again => self.again = self.again.saturating_add(1),
+            Cause::Limited => self.limited = self.limited.saturating_add(1),
         }
     }
 }

@@ -10,6 +10,7 @@ ghost use Rattle.sealed_port.specs.Gate.{admits, answer_to, answered, cause_at, 
 use crate::asked::{Asked, AskedLines};
 use crate::cause::Cause;
 use crate::client::Client;
+use crate::failures::Failures;
 use arrayvec::ArrayVec;
 use sealed_wire::{Head, Kind, MAX_SEALED_LEN, MAX_TEXT_LEN, TAG_LEN, head_of, open, seal};
 use std::marker::Model;
@@ -44,6 +45,7 @@ pub struct Gate {
     clients: Vec<Client>,
     plain: Vec<u32>,
     asked: AskedLines,
+    failures: Failures,
 }
 
 impl Model for Gate {
@@ -56,6 +58,7 @@ impl Model for Gate {
       clients = gate.clients.items;
       plain = gate.plain.items;
       asked = gate.asked;
+      failures = gate.failures;
     } };
 }
 
@@ -97,15 +100,22 @@ fn tag_at(bytes: &[u8]) -> [u8; TAG_LEN]
 
 impl Gate {
     /// Returns a gate before the node `node`. `clients` share keys with it, and clients at the IPv4 addresses `plain`
-    /// may speak plainly.
-    pub fn new(node: u8, clients: Vec<Client>, plain: Vec<u32>) -> Self
-        ensures { result ≡ record { node = node; clients = clients.items; plain = plain.items; asked = [] } }
+    /// may speak plainly. `failures` says how often a client may fail in a minute.
+    pub fn new(node: u8, clients: Vec<Client>, plain: Vec<u32>, failures: Failures) -> Self
+        ensures { result ≡ record {
+          node = node;
+          clients = clients.items;
+          plain = plain.items;
+          asked = [];
+          failures = failures;
+        } }
     {
         Gate {
             node,
             clients,
             plain,
             asked: AskedLines::new(),
+            failures,
         }
     }
 
@@ -205,22 +215,26 @@ impl Gate {
             (λ line. record { client = line.client; moment = line.moment; tag = line.tag; line = line.line.now })
             (result_ok result) ≡ opened self.old now bytes.now }
         ensures cause { result_err result ≡ cause_of self.old now bytes.now }
-        ensures gate { self.new ≡ gate_with self.old address (opened self.old now bytes.now) }
+        ensures gate { self.new ≡ gate_with self.old now address (opened self.old now bytes.now) }
         ensures len { IfOk result (λ line. length line.line.now ≤ 256) }
     {
         let line = self.sealed_line(bytes)?;
         let Some(now) = now else {
             return Err(Cause::Early);
         };
+        if self.failures.is_limited(now, line.client) {
+            return Err(Cause::Limited);
+        }
         if !self.is_admitted(now, &line) {
             return Err(self.cause_at(now, &line));
         }
+        self.failures.begin(now);
         see(&mut self.clients, line.client, line.moment);
         self.asked.add(Asked::new(line.client, line.line, address, line.moment, line.tag));
         Ok(line)
     }
 
-    /// Seals an answer of the node to a client, and forgets the client's line.
+    /// Seals an answer of the node to a client, forgets the client's line, and counts a failure.
     ///
     /// Returns None if the gate remembers no line for the answer, or knows no client with the number. Returns None too
     /// if the answer has more than 256 bytes.
@@ -229,6 +243,7 @@ impl Gate {
             ≡ answered self.old client answer.now }
         ensures gate { self.new ≡ gate_answered self.old client answer.now }
     {
+        self.failures.note(client, answer);
         let asked = self.asked.take(client, answer);
         self.seal_for(asked?, answer)
     }

@@ -10,6 +10,7 @@
 mod asked;
 mod cause;
 mod client;
+mod failures;
 mod gate;
 mod laws;
 mod port;
@@ -21,6 +22,7 @@ mod worked;
 pub use asked::{Asked, AskedLines, MAX_ASKED};
 pub use cause::{Cause, Unopened};
 pub use client::Client;
+pub use failures::{Failed, Failures};
 pub use gate::{Gate, MAX_CLIENTS, SealedLine};
 pub use laws::{
     answers_are_for_their_lines, nothing_is_opened_twice, what_is_not_opened_has_a_cause,
@@ -28,6 +30,7 @@ pub use laws::{
 };
 pub use port::SealedPort;
 pub use worked::{
-    asked_lines_are_worked, events_are_worked, lives_can_be_broken, numbers_are_worked,
-    premises_can_be_met, promises_can_be_broken, rulings_are_worked, sealed_answers_are_worked,
+    asked_lines_are_worked, events_are_worked, failures_are_worked, lives_can_be_broken,
+    numbers_are_worked, premises_can_be_met, promises_can_be_broken, rulings_are_worked,
+    sealed_answers_are_worked,
 };

@@ -107,7 +107,7 @@ impl<P: Port + Drop, C: Clock + Drop> SealedPort<P, C> {
         ensures takes { (now : Option ℕ) × Grows (C.moments self.old.clock) (C.moments self.new.clock) (now ∷ [])
             × (option_map (λ received. event_of_receive received buffer.new) result
             ≡ handed_line (opened self.old.gate now (take len buffer.old)))
-            × (self.new.gate ≡ gate_with self.old.gate address (opened self.old.gate now (take len buffer.old)))
+            × (self.new.gate ≡ gate_with self.old.gate now address (opened self.old.gate now (take len buffer.old)))
             × (self.new.unopened
             ≡ counted self.old.unopened (cause_of self.old.gate now (take len buffer.old))) }
     {

@@ -1,6 +1,6 @@
 //! A gate over ports in memory.
 
-use crate::{Client, Gate, SealedPort, Unopened};
+use crate::{Client, Failures, Gate, SealedPort, Unopened};
 use datagram_port::{Coming, ListClock, ListPort, Port, PortEntry, Received, Sender};
 use replay_window::Ahead;
 use sealed_wire::ClientKey;
@@ -24,14 +24,14 @@ const ANSWER: [u8; 54] = [
     0x61, 0x0b, 0xfe, 0x30, 0x4c, 0x32,
 ];
 
-/// The gate of node 2, with client 258 and a process that began at 0.
-fn gate(alloc: Global) -> Result<Gate, Fail> {
+/// The gate of node 2, with client 258 and a process that began at 0. `most` limits the failures of a minute.
+fn gate(alloc: Global, most: Option<u64>) -> Result<Gate, Fail> {
     let key = ClientKey::new(&[0; 32]).ok_or("a key")?;
     let mut clients = Vec::new(alloc);
     clients.push(Client::new(258, key, Ahead::default(), 0))?;
     let mut plain = Vec::new(alloc);
     plain.push(0x7f00_0001)?;
-    Ok(Gate::new(2, clients, plain))
+    Ok(Gate::new(2, clients, plain, Failures::new(most)))
 }
 
 /// A client's datagram from an address.
@@ -60,7 +60,7 @@ fn port<'a>(
     Ok(SealedPort::new(
         ListPort::new(alloc, comings),
         ListClock::new(alloc, moments),
-        gate(alloc)?,
+        gate(alloc, None)?,
     ))
 }
 
@@ -75,15 +75,16 @@ fn is_line(received: Received, buffer: &[u8; 512]) -> bool {
 }
 
 /// Returns whether the numbers are these.
-fn are(unopened: Unopened, numbers: [u64; 5]) -> bool {
+fn are(unopened: Unopened, numbers: [u64; 6]) -> bool {
     let Unopened {
         form,
         tag,
         early,
         late,
         again,
+        limited,
     } = unopened;
-    [form, tag, early, late, again] == numbers
+    [form, tag, early, late, again, limited] == numbers
 }
 
 /// A receive passes over three datagrams that are not opened, and hands in the line after them.
@@ -101,7 +102,7 @@ fn receives_the_line_after_junk(rt: HostRuntime) -> Result<(), Fail> {
     let mut buffer = [0; 512];
     let received = port.receive(&mut buffer);
     assert!(rt; is_line(received, &buffer));
-    assert!(rt; are(port.take_unopened(), [2, 1, 0, 0, 0]));
+    assert!(rt; are(port.take_unopened(), [2, 1, 0, 0, 0, 0]));
     Ok(())
 }
 
@@ -114,8 +115,8 @@ fn receives_a_flood_as_one_quiet_turn(rt: HostRuntime) -> Result<(), Fail> {
     let mut port = port(rt.alloc(), &comings, &moments)?;
     let received = port.receive(&mut [0; 512]);
     assert!(rt; received == Received::Quiet);
-    assert!(rt; are(port.take_unopened(), [299, 0, 0, 0, 0]));
-    assert!(rt; are(port.take_unopened(), [0, 0, 0, 0, 0]));
+    assert!(rt; are(port.take_unopened(), [299, 0, 0, 0, 0, 0]));
+    assert!(rt; are(port.take_unopened(), [0, 0, 0, 0, 0, 0]));
     Ok(())
 }
 
@@ -148,7 +149,7 @@ fn polls_past_a_copy(rt: HostRuntime) -> Result<(), Fail> {
     };
     assert!(rt; port.poll(&mut buffer) == Some(plain));
     assert!(rt; port.poll(&mut buffer).is_none());
-    assert!(rt; are(port.take_unopened(), [1, 0, 0, 0, 1]));
+    assert!(rt; are(port.take_unopened(), [1, 0, 0, 0, 1, 0]));
     Ok(())
 }
 
@@ -174,9 +175,9 @@ fn counts_moments(rt: HostRuntime) -> Result<(), Fail> {
     let mut buffer = [0; 512];
     let received = port.receive(&mut buffer);
     assert!(rt; is_line(received, &buffer));
-    assert!(rt; are(port.take_unopened(), [0, 0, 1, 1, 0]));
+    assert!(rt; are(port.take_unopened(), [0, 0, 1, 1, 0, 0]));
     assert!(rt; port.receive(&mut buffer) == Received::Quiet);
-    assert!(rt; are(port.take_unopened(), [0, 0, 1, 0, 2]));
+    assert!(rt; are(port.take_unopened(), [0, 0, 1, 0, 2, 0]));
     Ok(())
 }
 
@@ -207,6 +208,22 @@ fn seals_an_answer_once(rt: HostRuntime) -> Result<(), Fail> {
     assert!(rt; port.send(client, b"OK k1 0"));
     assert!(rt; offers(&port.port, Sender::Client(7), &ANSWER));
     assert!(rt; !port.send(client, b"OK k1 0"));
+    Ok(())
+}
+
+/// A client that failed as often as it may is heard again in the next minute of the clock. Its line is then a copy.
+#[test]
+fn limits_failures(rt: HostRuntime) -> Result<(), Fail> {
+    let comings = [from(7, &LINE); 4];
+    let mut port = SealedPort::new(
+        ListPort::new(rt.alloc(), &comings),
+        ListClock::new(rt.alloc(), &[100, 101, 119, 120]),
+        gate(rt.alloc(), Some(1))?,
+    );
+    let _line = port.receive(&mut [0; 512]);
+    assert!(rt; port.send(Sender::Client((1 << 48) + 258), b"NO k1 INVALID"));
+    assert!(rt; port.receive(&mut [0; 512]) == Received::Quiet);
+    assert!(rt; are(port.take_unopened(), [0, 0, 0, 0, 1, 2]));
     Ok(())
 }
 

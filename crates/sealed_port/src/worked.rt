@@ -13,12 +13,13 @@ ghost use Rattle.datagram_port.specs.declared.port.Received.TheVariants.{Datagra
 ghost use Rattle.datagram_port.specs.declared.port.Sender.TheVariants.{Client, Peer};
 ghost use Rattle.replay_window.specs.declared.refusal.Refusal.TheVariants.{Again as OldMoment, Early as EarlyMoment, Late as LateMoment};
 ghost use Rattle.sealed_port.specs.Asked.{clashes, nonce_in, nonce_of, place_of, remembered, with_one, without};
+ghost use Rattle.sealed_port.specs.Failures.{failed_after, failures_after, failures_at, is_failure, is_limited, with_one_of};
 ghost use Rattle.sealed_port.specs.Causes.{cause_by, counted, nothing};
-ghost use Rattle.sealed_port.specs.Examples.{asked_at, asked_line, check_line, client_at, first_gate, gate_at, later_gate, life_at, opened_line, passed_at, plain_address, answer_making, line_making, two_makings, window_at, zeros};
-ghost use Rattle.sealed_port.specs.Gate.{admits, answered, cause_of, gate_answered, gate_with, is_line, is_plain, opened, refusal_in, ruling, with_moment};
+ghost use Rattle.sealed_port.specs.Examples.{asked_at, asked_line, check_line, client_at, failed_at, failures_in, first_gate, gate_at, later_gate, life_at, no_limit, opened_line, passed_at, plain_address, answer_making, line_making, two_makings, window_at, zeros};
+ghost use Rattle.sealed_port.specs.Gate.{admits, answered, cause_of, failures_told, gate_answered, gate_with, is_line, is_plain, opened, refusal_in, ruling, with_moment};
 ghost use Rattle.sealed_port.specs.Port.{ArePassedOver, Opens, PassesOver, counted_after, counted_over, gate_after, gate_offered, handed_in, offered, sealed_from, told_for};
 ghost use Rattle.sealed_port.specs.Runs.{Answers, AreGatesInOrder, Comes, IsAmong, WasTold, gate_run, is_same, opened_in};
-ghost use Rattle.sealed_port.specs.declared.cause.Cause.TheVariants.{Again, Early, Form, Late, Tag};
+ghost use Rattle.sealed_port.specs.declared.cause.Cause.TheVariants.{Again, Early, Form, Late, Limited, Tag};
 
 /// Worked cases. Rulings of a gate on the line, sealed at second 1 with a lead of 2 seconds, and on other datagrams.
 pub fn rulings_are_worked()
@@ -43,10 +44,42 @@ pub fn rulings_are_worked()
         ≡ Some Again }
     ensures same_line { opened (gate_at (window_at 0 []) (asked_line ∷ [])) (Some 1) sealed_line
         ≡ Some opened_line }
+    // two failures of client 258 in the clock's minute are its limit
+    ensures limited { cause_of (record first_gate { failures = failures_in 0 (failed_at 258 2 ∷ []) }) (Some 1) sealed_line
+        ≡ Some Limited }
+    ensures below_the_limit { opened (record first_gate { failures = failures_in 0 (failed_at 258 1 ∷ []) }) (Some 1)
+        sealed_line ≡ Some opened_line }
     ensures kinds { map is_line (Line ∷ Answer ∷ Request ∷ Report ∷ []) ≡ true ∷ false ∷ false ∷ false ∷ [] }
     ensures unknown_client { (admits None 1 1000000 ≡ false) × (refusal_in None 1 1000000 ≡ None) }
     ensures reasons { map cause_by (None ∷ Some EarlyMoment ∷ Some LateMoment ∷ Some OldMoment ∷ [])
         ≡ Again ∷ Early ∷ Late ∷ Again ∷ [] }
+{}
+
+/// Worked cases. The failures of clients in a minute, of which two are the limit, and the answers that are failures.
+pub fn failures_are_worked()
+    ensures answers { map is_failure (codes "NO k1 INVALID" ∷ codes "NO k1 PASSWORD" ∷ codes "NO k1 UNKNOWN"
+        ∷ codes "NO k1 THROTTLED 5" ∷ codes "OK k1 0" ∷ codes "NO - BADLINE" ∷ codes "NO k1" ∷ [])
+        ≡ true ∷ true ∷ replicate 5 false }
+    ensures limited { map (λ failures. is_limited failures 60 258) (failures_in 1 (failed_at 258 2 ∷ [])
+        ∷ failures_in 1 (failed_at 7 2 ∷ failed_at 258 3 ∷ []) ∷ failures_in 1 (failed_at 258 1 ∷ [])
+        ∷ failures_in 1 (failed_at 7 2 ∷ []) ∷ failures_in 0 (failed_at 258 2 ∷ []) ∷ [])
+        ≡ true ∷ true ∷ replicate 3 false }
+    ensures last_second { is_limited (failures_in 1 (failed_at 258 2 ∷ [])) 119 258 ≡ true }
+    ensures next_minute { is_limited (failures_in 1 (failed_at 258 2 ∷ [])) 120 258 ≡ false }
+    ensures no_limit { is_limited (record no_limit { failed = failed_at 258 99 ∷ [] }) 0 258 ≡ false }
+    ensures same_minute { failures_at 119 (failures_in 1 (failed_at 258 2 ∷ []))
+        ≡ failures_in 1 (failed_at 258 2 ∷ []) }
+    ensures another_minute { failures_at 120 (failures_in 1 (failed_at 258 2 ∷ [])) ≡ failures_in 2 [] }
+    ensures no_clock { failures_told None (failures_in 1 (failed_at 258 2 ∷ []))
+        ≡ failures_in 1 (failed_at 258 2 ∷ []) }
+    ensures first { failures_after 258 (codes "NO k1 INVALID") (failures_in 1 (failed_at 7 1 ∷ []))
+        ≡ failures_in 1 (failed_at 7 1 ∷ failed_at 258 1 ∷ []) }
+    ensures one_more { failures_after 258 (codes "NO k1 INVALID") (failures_in 1 (failed_at 7 1 ∷ failed_at 258 1 ∷ []))
+        ≡ failures_in 1 (failed_at 7 1 ∷ failed_at 258 2 ∷ []) }
+    ensures no_failure { failures_after 258 (codes "OK k1 0") (failures_in 1 []) ≡ failures_in 1 [] }
+    ensures room { failed_after 258 (replicate 63 (failed_at 7 1)) ≡ replicate 63 (failed_at 7 1) ++ failed_at 258 1 ∷ [] }
+    ensures full { failed_after 258 (replicate 64 (failed_at 7 1)) ≡ replicate 64 (failed_at 7 1) }
+    ensures most { with_one_of 258 (failed_at 258 (2 ^ 64 - 1)) ≡ failed_at 258 (2 ^ 64 - 1) }
 {}
 
 /// Worked cases. The lines without an answer, and their nonces.
@@ -67,8 +100,8 @@ pub fn asked_lines_are_worked()
     ensures room { with_one (replicate 95 asked_line) (asked_at 7 [] [])
         ≡ replicate 95 asked_line ++ asked_at 7 [] [] ∷ [] }
     ensures full { with_one (asked_at 7 [] [] ∷ replicate 95 asked_line) asked_line ≡ replicate 96 asked_line }
-    ensures opened { gate_with first_gate 7 (Some opened_line) ≡ later_gate }
-    ensures unopened { gate_with first_gate 7 None ≡ first_gate }
+    ensures opened { gate_with first_gate (Some 1) 7 (Some opened_line) ≡ later_gate }
+    ensures unopened { gate_with first_gate (Some 1) 7 None ≡ first_gate }
     ensures windows { map (with_moment 258 9) (client_at 7 (window_at 0 []) ∷ client_at 258 (window_at 0 []) ∷ [])
         ≡ client_at 7 (window_at 0 []) ∷ client_at 258 (window_at 0 (9 ∷ [])) ∷ [] }
 {}
@@ -82,6 +115,10 @@ pub fn sealed_answers_are_worked()
     ensures long { answered later_gate 258 (codes "OK k1 " ++ replicate 251 48) ≡ None }
     ensures forgotten { gate_answered later_gate 258 (codes "OK k1 0") ≡ gate_at (window_at 0 (1000000 ∷ [])) [] }
     ensures kept { gate_answered later_gate 258 (codes "OK k2 0") ≡ later_gate }
+    ensures failed { gate_answered (record first_gate { failures = failures_in 0 [] }) 258 (codes "NO k1 INVALID")
+        ≡ record first_gate { failures = failures_in 0 (failed_at 258 1 ∷ []) } }
+    ensures begun { gate_with (record first_gate { failures = failures_in 0 (failed_at 258 1 ∷ []) }) (Some 60) 7
+        (Some opened_line) ≡ record later_gate { failures = failures_in 1 [] } }
     ensures opened { opened_in first_gate (Comes (Some 1) 7 sealed_line ∷ Comes (Some 1) 8 sealed_line
         ∷ Answers 258 (codes "OK k1 0") ∷ []) ≡ asked_line ∷ [] }
     ensures run { gate_run first_gate (Comes (Some 1) 7 sealed_line ∷ Answers 258 (codes "OK k1 0") ∷ [])
@@ -123,22 +160,24 @@ pub fn events_are_worked()
 
 /// Worked cases. The numbers of unopened datagrams.
 pub fn numbers_are_worked()
-    ensures one { map (counted nothing) (None ∷ Some Form ∷ Some Tag ∷ Some Early ∷ Some Late ∷ Some Again ∷ [])
+    ensures one { map (counted nothing) (None ∷ Some Form ∷ Some Tag ∷ Some Early ∷ Some Late ∷ Some Again ∷ Some Limited ∷ [])
         ≡ nothing ∷ record nothing { form = 1 } ∷ record nothing { tag = 1 } ∷ record nothing { early = 1 }
-        ∷ record nothing { late = 1 } ∷ record nothing { again = 1 } ∷ [] }
+        ∷ record nothing { late = 1 } ∷ record nothing { again = 1 } ∷ record nothing { limited = 1 } ∷ [] }
     ensures most { map (λ cause. counted (record {
       form = 2 ^ 64 - 1;
       tag = 2 ^ 64 - 1;
       early = 2 ^ 64 - 1;
       late = 2 ^ 64 - 1;
       again = 2 ^ 64 - 1;
-    }) (Some cause)) (Form ∷ Tag ∷ Early ∷ Late ∷ Again ∷ [])
-        ≡ replicate 5 (record {
+      limited = 2 ^ 64 - 1;
+    }) (Some cause)) (Form ∷ Tag ∷ Early ∷ Late ∷ Again ∷ Limited ∷ [])
+        ≡ replicate 6 (record {
           form = 2 ^ 64 - 1;
           tag = 2 ^ 64 - 1;
           early = 2 ^ 64 - 1;
           late = 2 ^ 64 - 1;
           again = 2 ^ 64 - 1;
+          limited = 2 ^ 64 - 1;
         }) }
     ensures event { map (counted_after first_gate nothing (Some 1)) (Received (Client 7) []
         ∷ Received (Client plain_address) [] ∷ Received (Peer 3) [] ∷ Quiet ∷ Faulted ∷ [])

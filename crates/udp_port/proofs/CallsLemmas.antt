@@ -1,8 +1,9 @@
 -- The events of one more call.
-use Rattle.std.proofs.Common.{◌≡◌, ℕ, Bool, List, [], ◌∷◌, ◌++◌, sym, ap, ◌∙◌, append-nil, append_assoc}
+use Rattle.std.proofs.Common.{◌≡◌, ℕ, ◌+◌, Bool, false, true, List, [], ◌∷◌, ◌++◌, length, length-append, refl, sym, ap, ◌∙◌, append-nil, append_assoc, arith}
 use Rattle.std.specs.declared.net.socket_addr.SocketAddrV4.{SocketAddrV4}
 use Rattle.udp_port.specs.declared.calls.Call.{Call}
-use Rattle.udp_port.specs.Calls.{events_of_call, events_of_calls}
+use Rattle.udp_port.specs.declared.calls.Call.TheVariants.{GivenUp}
+use Rattle.udp_port.specs.Calls.{IsOneCall, Perseveres, events_of_call, events_of_calls, is_given_up}
 
 pub events_more : (skips alone : Bool) (members : List SocketAddrV4) (calls : List (Call × List ℕ)) (call : Call × List ℕ)
     → events_of_calls skips alone members (calls ++ call ∷ [])
@@ -11,3 +12,67 @@ events_more skips alone members [] call = append-nil (events_of_call skips alone
 events_more skips alone members (first ∷ calls) call =
     ap (λ rest. events_of_call skips alone members first ++ rest) (events_more skips alone members calls call)
     ∙ sym (append_assoc (events_of_call skips alone members first) (events_of_calls skips alone members calls) (events_of_call skips alone members call))
+
+pub one_call : (old new : List (Call × List ℕ)) (call : Call × List ℕ) → new ≡ old ++ call ∷ [] → is_given_up call.0 ≡ false
+    → IsOneCall old new
+one_call old new call calls goes_on = record { call = call; calls = calls; goes_on = goes_on }
+
+-- some more calls
+pub record AreCalls (old new : List (Call × List ℕ)) (number : ℕ) : Type 0 where
+  pub others : List (Call × List ℕ)
+  pub calls : new ≡ old ++ others
+  pub many : length others ≡ number
+
+pub no_calls : (old : List (Call × List ℕ)) → AreCalls old old 0
+no_calls old = record { others = []; calls = sym (append-nil old); many = refl }
+
+pub calls_more : (old now new : List (Call × List ℕ)) (number : ℕ) → AreCalls old now number → IsOneCall now new
+    → AreCalls old new (number + 1)
+calls_more old now new number a one = record {
+  others = a.others ++ one.call ∷ [];
+  calls = one.calls ∙ ap (λ l. l ++ one.call ∷ []) a.calls ∙ append_assoc old a.others (one.call ∷ []);
+  many = length-append a.others (one.call ∷ []) ∙ ap (λ n. n + 1) a.many;
+}
+
+pub goes_on : (most : ℕ) (old now new : List (Call × List ℕ)) (number : ℕ) → AreCalls old now number → IsOneCall now new
+    → Perseveres most old new
+goes_on most old now new number a one = record {
+  others = a.others;
+  last = one.call;
+  calls = one.calls ∙ ap (λ l. l ++ one.call ∷ []) a.calls;
+  gives_up = λ e. let clash : true ≡ false = sym e ∙ one.goes_on in absurd cc;
+}
+
+pub gives_up : (most : ℕ) (old now new : List (Call × List ℕ)) (number : ℕ) → AreCalls old now number → number ≡ most
+    → new ≡ now ++ (GivenUp, []) ∷ [] → Perseveres most old new
+gives_up most old now new number a is one = record {
+  others = a.others;
+  last = (GivenUp, []);
+  calls = one ∙ ap (λ l. l ++ (GivenUp, []) ∷ []) a.calls;
+  gives_up = λ e. a.many ∙ is;
+}
+
+-- no tail is both empty and longer
+not_longer : {X : Type 0} (xs : List X) (x : X) → [] ≡ xs ++ x ∷ [] → ⊥
+not_longer [] x e = absurd cc
+not_longer (y ∷ xs) x e = absurd cc
+
+abbrev tail_of : {X : Type 0} → List X → List X
+tail_of [] = []
+tail_of (x ∷ xs) = xs
+
+-- a receive without a call, and one that gives up at once
+pub calls_nothing : (most : ℕ) → Perseveres most [] [] → ⊥
+calls_nothing most p = not_longer p.others p.last p.calls
+
+abbrev is_first : List (Call × List ℕ) → Bool
+is_first [] = false
+is_first (call ∷ calls) = is_given_up call.0
+
+pub gives_up_at_once : Perseveres 1 [] ((GivenUp, []) ∷ []) → ⊥
+gives_up_at_once p = from p.others p.calls p.gives_up
+  where
+    from : (others : List (Call × List ℕ)) → (GivenUp, []) ∷ [] ≡ others ++ p.last ∷ []
+        → (is_given_up p.last.0 ≡ true → length others ≡ 1) → ⊥
+    from [] calls few = let none : 0 ≡ 1 = few (ap is_first (sym calls)) in absurd (omega (arith, none))
+    from (x ∷ others) calls few = not_longer others p.last (ap tail_of calls)

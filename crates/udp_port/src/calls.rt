@@ -29,8 +29,10 @@ pub(crate) enum Heard {
 pub(crate) enum Call {
     /// A `recv_from`. In blocking mode it waits for a datagram.
     Hear { waits: bool, heard: Heard },
-    /// A quiet turn without a wait.
+    /// A quiet turn without a wait, which was due.
     Turn,
+    /// A quiet turn of a receive that passed over its maximum of datagrams.
+    GivenUp,
     /// A receive for which the socket could not be switched to blocking mode.
     Stuck,
     /// A datagram to a member or a client, and whether the socket took it. Without an address `send_to` is not called.

@@ -1,4 +1,4 @@
-ghost use Rattle.std.specs.Prelude.{◌≡◌, ℕ, ◌+◌, ◌*◌, Bool, Err, ◌<◌, ◌≤◌, ◌∷◌, [], List, Ok, Some, None, true, false, codes, map};
+ghost use Rattle.std.specs.Prelude.{◌≡◌, ℕ, ◌+◌, ◌*◌, Bool, Err, ◌<◌, ◌≤◌, ◌∷◌, [], List, Ok, Some, None, true, false, codes, map, replicate};
 ghost use Rattle.std.specs.declared.io.ErrorKind.TheVariants.{ConnectionRefused, ConnectionReset, Interrupted, NotFound, TimedOut, WouldBlock};
 ghost use Rattle.std.specs.declared.net.socket_addr.SocketAddr.TheVariants.{V4, V6};
 ghost use Rattle.std.specs.declared.net.socket_addr.SocketAddrV6.{SocketAddrV6};
@@ -8,10 +8,10 @@ ghost use Rattle.std.specs.IoError.{error_kind};
 ghost use Rattle.datagram_port.specs.declared.port.Sender.TheVariants.{Client, Peer};
 ghost use Rattle.datagram_port.specs.declared.port.Received.TheVariants.{Datagram, Fault, Quiet};
 ghost use Rattle.datagram_port.specs.Port.{Faulted, Offered, Quiet as QuietEvent, Received as ReceivedEvent};
-ghost use Rattle.udp_port.specs.declared.calls.Call.TheVariants.{Hear, Send, Stuck, Turn};
+ghost use Rattle.udp_port.specs.declared.calls.Call.TheVariants.{GivenUp, Hear, Send, Stuck, Turn};
 ghost use Rattle.udp_port.specs.declared.calls.Heard.TheVariants.{Datagram as Came, Failed, Other};
 ghost use Rattle.udp_port.specs.Address.{HasNoAddress, IsAddressOf, number_of, sender_of};
-ghost use Rattle.udp_port.specs.Calls.{events_of_calls};
+ghost use Rattle.udp_port.specs.Calls.{Perseveres, events_of_calls, is_given_up};
 ghost use Rattle.udp_port.specs.Examples.{at_host, at_local, events_by_one, received_by_one, received_from};
 ghost use Rattle.udp_port.specs.Pace.{AreClose, AreUpTo, due_after_quiet, due_after_start, interval, is_due, last_of, paced_of};
 ghost use Rattle.udp_port.specs.Receipt.{failure_of, heard_of, is_answer, is_loopback, receipt_of};
@@ -73,6 +73,9 @@ pub fn calls_are_worked()
     ensures passed_over { events_by_one ((Hear true (Failed Interrupted), []) ∷ (Hear false (Failed Interrupted), [])
         ∷ (Hear true (Came 3 (at_local 2)), codes "NO ") ∷ (Hear false (Came 3 (at_local 2)), codes "OK ") ∷ []) ≡ [] }
     ensures turn { events_by_one ((Turn, []) ∷ []) ≡ QuietEvent ∷ [] }
+    ensures given_up { events_by_one ((GivenUp, []) ∷ []) ≡ QuietEvent ∷ [] }
+    ensures gives_up { map is_given_up (GivenUp ∷ Turn ∷ Stuck ∷ Hear true (Failed WouldBlock) ∷ Send (Peer 2) true ∷ [])
+        ≡ true ∷ replicate 4 false }
     ensures sent { events_by_one ((Send (Peer 2) false, 5 ∷ []) ∷ (Send (Peer 1) true, 6 ∷ []) ∷ [])
         ≡ Offered (Peer 2) (5 ∷ []) ∷ Offered (Peer 1) (6 ∷ []) ∷ [] }
     ensures settings { events_of_calls false true [] ((Hear true (Came 1 (at_host 10 1)), 7 ∷ []) ∷ []) ≡ [] }
@@ -108,6 +111,14 @@ pub fn quiet_turns_keep_their_pace()
         → due + interval * (paced_of due moments).quiets ≤ last + interval }
     ensures all { (before due : ℕ) (moments : List ℕ) → before < due → due ≤ before + interval → AreClose before moments
         → last_of before moments < due + interval * (paced_of due moments).quiets }
+{}
+
+/// Counterexamples: the calls of a receive that may pass over one datagram.
+pub fn receives_can_be_broken()
+    ensures turn { Perseveres 1 [] ((Turn, []) ∷ []) }
+    ensures gives_up { Perseveres 1 [] ((Hear true (Failed Interrupted), []) ∷ (GivenUp, []) ∷ []) }
+    ensures gives_up_at_once { Perseveres 1 [] ((GivenUp, []) ∷ []) → ⊥ }
+    ensures nothing { Perseveres 1 [] [] → ⊥ }
 {}
 
 /// Counterexamples: each promise of an address and of moments fails for a minimal one. The result of any receive that

@@ -35,7 +35,7 @@ pub use address::{client_address, client_number};
 pub use clock::{NoClock, SystemClock};
 pub use laws::{
     addresses_are_worked, addresses_can_be_broken, calls_are_worked, quiet_turns_are_worked,
-    quiet_turns_keep_their_pace, receipts_are_worked,
+    quiet_turns_keep_their_pace, receipts_are_worked, receives_can_be_broken,
 };
 pub use pace::QUIET_MILLIS;
 pub use port::{MAX_MEMBERS, UdpPort};

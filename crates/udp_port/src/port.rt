@@ -1,11 +1,11 @@
 //! A port over a UDP socket.
 
-ghost use Rattle.std.specs.Prelude.{◌≡◌, ◌≤◌, ◌++◌, ◌∷◌, [], true, false, length, IfSome, IsTrue};
-ghost use Rattle.datagram_port.specs.Port.{IsWithin, entries_of_poll};
+ghost use Rattle.std.specs.Prelude.{◌≡◌, ◌≤◌, ◌-◌, ◌^◌, ◌++◌, ◌∷◌, [], true, false, length, IfSome, IsTrue};
+ghost use Rattle.datagram_port.specs.Port.{IsWithin, entries_of_poll, event_of_receive};
 ghost use Rattle.datagram_port.specs.declared.port.Received.TheVariants.{Fault, Quiet as QuietReceive};
-ghost use Rattle.udp_port.specs.Calls.{events_of_calls};
+ghost use Rattle.udp_port.specs.Calls.{IsOneCall, Perseveres, events_of_calls};
 ghost use Rattle.udp_port.specs.Receipt.{IsHeard, failure_of, is_answer, is_barred, is_loopback, is_passed_over, receipt_of};
-ghost use Rattle.udp_port.specs.declared.calls.Call.TheVariants.{Hear, Send, Stuck, Turn};
+ghost use Rattle.udp_port.specs.declared.calls.Call.TheVariants.{GivenUp, Hear, Send, Stuck, Turn};
 
 use crate::address::{address_of, sender_of};
 use crate::calls::{Call, Calls, Heard, heard_of};
@@ -19,8 +19,8 @@ use std::time::Clock as TimeSource;
 /// The maximum number of members of a cluster.
 pub const MAX_MEMBERS: usize = otp_core::MAX_MEMBERS as usize;
 
-/// The maximum number of datagrams that a receive passes over.
-const MAX_PASSED_OVER: u8 = 64;
+/// The maximum number of datagrams that a poll passes over, and a receive of a port without a gate above it.
+const MAX_PASSED_OVER: u64 = 64;
 
 /// A port over a UDP socket. Its record is made of the calls of the socket, which it notes beside each call.
 #[derive(Drop)]
@@ -31,6 +31,8 @@ pub struct UdpPort<R: TimeSource + Drop> {
     pace: Pace,
     skips_answers: bool,
     takes_loopback_alone: bool,
+    /// The maximum number of datagrams that a receive passes over before it is quiet.
+    most_passed_over: u64,
     waits: bool,
     calls: Calls,
     ghost few: { length members.items ≤ 9 },
@@ -124,6 +126,7 @@ impl<R: TimeSource + Drop> UdpPort<R> {
         ensures members { result.members ≡ members }
         ensures skips { result.skips_answers ≡ true }
         ensures hosts { result.takes_loopback_alone ≡ false }
+        ensures most { result.most_passed_over ≡ 64 }
         ensures calls { result.calls.made ≡ [] }
     {
         UdpPort {
@@ -133,6 +136,7 @@ impl<R: TimeSource + Drop> UdpPort<R> {
             pace: Pace::default(),
             skips_answers: true,
             takes_loopback_alone: false,
+            most_passed_over: MAX_PASSED_OVER,
             waits: true,
             calls: Calls::new(),
         }
@@ -145,9 +149,23 @@ impl<R: TimeSource + Drop> UdpPort<R> {
         ensures hosts { result.takes_loopback_alone ≡ true }
         ensures members { result.members ≡ self.members }
         ensures skips { result.skips_answers ≡ self.skips_answers }
+        ensures most { result.most_passed_over ≡ self.most_passed_over }
         ensures calls { result.calls ≡ self.calls }
     {
         self.takes_loopback_alone = true;
+        self
+    }
+
+    /// Returns the port as one under a gate. Its receive passes over datagrams until a quiet turn is due, and makes no
+    /// turn for their number.
+    pub fn under_gate(mut self) -> UdpPort<R>
+        ensures most { result.most_passed_over ≡ 2 ^ 64 - 1 }
+        ensures members { result.members ≡ self.members }
+        ensures skips { result.skips_answers ≡ self.skips_answers }
+        ensures hosts { result.takes_loopback_alone ≡ self.takes_loopback_alone }
+        ensures calls { result.calls ≡ self.calls }
+    {
+        self.most_passed_over = u64::MAX;
         self
     }
 }
@@ -161,6 +179,7 @@ impl UdpPort<NoClock> {
         ensures members { result.members ≡ members }
         ensures skips { result.skips_answers ≡ false }
         ensures hosts { result.takes_loopback_alone ≡ false }
+        ensures most { result.most_passed_over ≡ 64 }
         ensures calls { result.calls.made ≡ [] }
     {
         UdpPort {
@@ -170,6 +189,7 @@ impl UdpPort<NoClock> {
             pace: Pace::default(),
             skips_answers: false,
             takes_loopback_alone: false,
+            most_passed_over: MAX_PASSED_OVER,
             waits: true,
             calls: Calls::new(),
         }
@@ -219,13 +239,23 @@ impl<R: TimeSource + Drop> UdpPort<R> {
         is_taken
     }
 
-    /// Notes a quiet turn without a wait, and returns it.
+    /// Notes a quiet turn that is due, and returns it.
     fn note_turn(&mut self) -> Received
         ensures quiet { result ≡ QuietReceive }
         ensures noted { self.new.calls.made ≡ self.old.calls.made ++ (Turn, []) ∷ [] }
         ensures same { self.new ≡ record self.old { calls = self.new.calls } }
     {
         self.calls.note(&Call::Turn, &[]);
+        Received::Quiet
+    }
+
+    /// Notes a quiet turn after the maximum of datagrams was passed over, and returns it.
+    fn note_given_up(&mut self) -> Received
+        ensures quiet { result ≡ QuietReceive }
+        ensures noted { self.new.calls.made ≡ self.old.calls.made ++ (GivenUp, []) ∷ [] }
+        ensures same { self.new ≡ record self.old { calls = self.new.calls } }
+    {
+        self.calls.note(&Call::GivenUp, &[]);
         Received::Quiet
     }
 
@@ -257,8 +287,10 @@ impl<R: TimeSource + Drop> UdpPort<R> {
 
     /// Receives once: a quiet turn if one is due, or else what the socket gives. Returns None if the port passes over
     /// it.
+    #[tactic(auto, using(crate::proofs::CallsLemmas::one_call))]
     fn receive_once(&mut self, buffer: &mut [u8; 512]) -> Option<Received>
         ensures within { IfSome result IsWithin }
+        ensures call { IsOneCall self.old.calls.made self.new.calls.made }
         ensures event { events_of_calls self.new.skips_answers self.new.takes_loopback_alone self.new.members.items
             self.new.calls.made
             ≡ events_of_calls self.old.skips_answers self.old.takes_loopback_alone self.old.members.items
@@ -286,13 +318,21 @@ impl<R: TimeSource + Drop> Port for UdpPort<R> {
     ghost events = { λ port. Some (events_of_calls port.skips_answers port.takes_loopback_alone port.members.items
         port.calls.made) };
 
-    fn receive(&mut self, buffer: &mut [u8; 512]) -> Received {
-        for _ in 0..MAX_PASSED_OVER {
+    #[tactic(auto, using(crate::proofs::CallsLemmas::no_calls, crate::proofs::CallsLemmas::calls_more, crate::proofs::CallsLemmas::goes_on, crate::proofs::CallsLemmas::gives_up))]
+    fn receive(&mut self, buffer: &mut [u8; 512]) -> Received
+        ensures within { IsWithin result }
+        ensures event { events_of_calls self.new.skips_answers self.new.takes_loopback_alone self.new.members.items
+            self.new.calls.made
+            ≡ events_of_calls self.old.skips_answers self.old.takes_loopback_alone self.old.members.items
+            self.old.calls.made ++ event_of_receive result buffer.new ∷ [] }
+        ensures perseveres { Perseveres self.old.most_passed_over self.old.calls.made self.new.calls.made }
+    {
+        for _ in 0..self.most_passed_over {
             if let Some(received) = self.receive_once(buffer) {
                 return received;
             }
         }
-        self.note_turn()
+        self.note_given_up()
     }
 
     fn poll(&mut self, buffer: &mut [u8; 512]) -> Option<Received> {

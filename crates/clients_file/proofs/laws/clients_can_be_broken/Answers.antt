@@ -33,6 +33,7 @@ returns-clause-clients c = record {
   plain = one_loopback;
   least_ahead = lit≤ tt;
   most_ahead = lit≤ tt;
+  failures = (lit≤ tt, lit≤ tt);
 }
 
 pub returns-clause-nobody : goal.returns-clause-nobody
@@ -67,3 +68,9 @@ returns-clause-no_seconds c = λ are. let least : 1 ≤ 0 = are.least_ahead in a
 
 pub returns-clause-sixty_one_seconds : goal.returns-clause-sixty_one_seconds
 returns-clause-sixty_one_seconds c = λ are. let most : 61 ≤ 60 = are.most_ahead in absurd (omega (arith, most))
+
+pub returns-clause-no_failures : goal.returns-clause-no_failures
+returns-clause-no_failures c = λ are. let least : 1 ≤ 0 = are.failures.0 in absurd (omega (arith, least))
+
+pub returns-clause-many_failures : goal.returns-clause-many_failures
+returns-clause-many_failures c = λ are. let most : 65536 ≤ 65535 = are.failures.1 in absurd (omega (arith, most))

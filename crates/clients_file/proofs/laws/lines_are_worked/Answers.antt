@@ -79,3 +79,15 @@ returns-clause-missing c = refl
 pub returns-clause-surplus : goal.returns-clause-surplus
 unfolding read_ipv4 read_octet read_number decode_pairs
 returns-clause-surplus c = refl
+
+pub returns-clause-failures : goal.returns-clause-failures
+unfolding read_ipv4 read_octet read_number decode_pairs
+returns-clause-failures c = refl
+
+pub returns-clause-bad_failures : goal.returns-clause-bad_failures
+unfolding read_ipv4 read_octet read_number decode_pairs
+returns-clause-bad_failures c = refl
+
+pub returns-clause-twice_failures : goal.returns-clause-twice_failures
+unfolding read_ipv4 read_octet read_number decode_pairs
+returns-clause-twice_failures c = refl

@@ -10,6 +10,6 @@ returns-clause-audited g c =
     let book = c.in_ok-_users._users.book in
     let floors = c.in_ok-_users._users.floors.items in
     let imported = subst (λ (limits : Limits). IfSome a (IsImported limits 0 16777216 book floors)) c.default.ensures c.in_ok-_users.ensures.users in
-    has_audited default_limits 0 16777216 a book floors imported g.S.Store c.args.node (g.W.Write.contents c.args.writer.now)
+    has_audited default_limits 0 16777216 a book floors imported g.S.Store g.D.Database.finds c.args.node (g.W.Write.contents c.args.writer.now)
     (g.W.Write.contents c.write_audit.new.writer) c.in_ok-_users.store c.write_audit.new.store c.in_ok-_users.ensures.opened c.write_audit.ensures.keeps
     c.write_audit.result c.write_audit.ensures.written

@@ -10,5 +10,5 @@ returns-clause-told g c =
     let book = c.in_ok-users.users.book in
     let floors = c.in_ok-users.users.floors.items in
     let imported = subst (λ (limits : Limits). IfSome a (IsImported limits 0 16777216 book floors)) c.default.ensures c.in_ok-users.ensures.users in
-    has_told default_limits 16777216 a book floors imported g.S.Store c.args.node (g.W.Write.contents c.args.writer.now)
+    has_told default_limits 16777216 a book floors imported g.S.Store g.D.Database.finds c.args.node (g.W.Write.contents c.args.writer.now)
     (g.W.Write.contents c.write_gates.new.writer) c.in_ok-users.store c.in_ok-users.ensures.opened c.write_gates.result c.write_gates.ensures.written

@@ -1,6 +1,7 @@
 use Rattle.std.proofs.Common.{◌≡◌, ◌∙◌, ℕ, List, Option, Some, None, IfSome, ap, subst}
 use Rattle.sqlite.specs.Store.{Ghosts}
 use Rattle.sqlite.specs.Held as sql
+use Rattle.sqlite.specs.State.{HasCleanDisk}
 use Rattle.otp_core.specs.Limits.{Limits}
 use Rattle.token_file.specs.Credential.{Credential}
 use Rattle.floor_sql.specs.Calls.{IsMade}
@@ -14,13 +15,14 @@ use Rattle.oathd_database.proofs.UsersLemmas.{refused, refused_by_store}
 use Rattle.oathd_database.proofs.init.init_store.Goals as goal
 
 -- the store is made
-made : (limits : Limits) (moment longest : ℕ) {S : Type 0} (g : Ghosts S) (node : ℕ) (a : Option (List ℕ)) (conn : sql.Held S) (store : SqlHeld S)
+made : (limits : Limits) (moment longest : ℕ) {S : Type 0} (g : Ghosts S) (finds : sql.Held S → Type 0) (node : ℕ) (a : Option (List ℕ)) (conn : sql.Held S) (store : SqlHeld S)
     (book : List Credential) (floors given : List ℕ) → IfSome a (IsImported limits moment longest book floors)
-    → given ≡ drifted_floors limits.drift book floors → IsMade g conn node 0 given store → IfSome a (HasMade g limits moment longest node store)
-made limits moment longest g node None conn store book floors given h same is = tt
-made limits moment longest g node (Some text) conn store book floors given h same is = record {
+    → given ≡ drifted_floors limits.drift book floors → (HasCleanDisk (sql.state g conn) → finds conn) → IsMade g conn node 0 given store → IfSome a (HasMade g finds limits moment longest node store)
+made limits moment longest g finds node None conn store book floors given h same found is = tt
+made limits moment longest g finds node (Some text) conn store book floors given h same found is = record {
   import = record { book = book; floors = floors; imported = h };
   conn = conn;
+  found = found;
   made = subst (λ (fs : List ℕ). IsMade g conn node 0 fs store) same is;
 }
 
@@ -40,7 +42,7 @@ returns-in_err-conn-clause-fault g c =
 
 pub returns-in-Ok-init-clause-made : goal.returns-in-Ok-init-clause-made
 returns-in-Ok-init-clause-made g c =
-    made c.args.settings c.args.moment 16777216 g.S.Store c.args.node (g.R.Read.remaining c.args.users) _ c.in-Ok-init.store
+    made c.args.settings c.args.moment 16777216 g.S.Store g.D.Database.finds c.args.node (g.R.Read.remaining c.args.users) _ c.in-Ok-init.store
     c.in_ok-users.users.book c.in_ok-users.users.floors.items _ c.in_ok-users.ensures.imported
     (c.deref.ensures.value ∙ c.in-Ok.ensures.floors ∙ ap (λ d. drifted_floors d c.in_ok-users.users.book c.in_ok-users.users.floors.items) c.drift.ensures.value)
-    c.in-Ok-init.ensures.opening
+    c.in_ok-conn.ensures.found c.in-Ok-init.ensures.opening

@@ -1,5 +1,5 @@
 -- Each promise is asked about the one that breaks it.
-use Rattle.std.proofs.Common.{◌≡◌, ℕ, zero, suc, ◌+◌, false, List, [], ◌∷◌, length, true, refl, ap, subst, ◌∙◌, arith}
+use Rattle.std.proofs.Common.{◌≡◌, inl, inr, ℕ, zero, suc, ◌+◌, false, List, [], ◌∷◌, length, true, refl, ap, subst, ◌∙◌, arith}
 use Rattle.std.specs.Prelude.{codes}
 use Rattle.sqlite.specs.Effect.{Database}
 use Rattle.sqlite.specs.Tree.{Trees}
@@ -19,13 +19,14 @@ use Rattle.oath_node.specs.declared.turns.Served.{Served}
 use Rattle.oathd_database.specs.Broken.{booting, conn_of, old_and_new, new_store, one_book, so_much, small_conn, two_tables}
 use Rattle.oathd_database.specs.Floors.{told_floors}
 use Rattle.oathd_database.specs.Text.{export_text}
-use Rattle.oathd_database.proofs.BrokenLemmas.{clean_is, fallen_is, fallen_made, fallen_migrated, fallen_opened, imported_is, none_held, nothing_served, nothing_written, one_token, opened_over, stays}
+use Rattle.oathd_database.proofs.BrokenLemmas.{clean_is, fallen_is, fallen_made, fallen_migrated, fallen_opened, imported_is, no_output, none_held, nothing_served, nothing_written, one_token, opened_over, stays}
 use Rattle.oathd_database.proofs.laws.commands_can_be_broken.Goals as goal
 
 pub returns-clause-made : goal.returns-clause-made
 returns-clause-made c users is = record {
   import = record { book = time_token Time30 ∷ []; floors = 3 ∷ []; imported = is };
   conn = small_conn;
+  found = λ clean. tt;
   made = fallen_made 1 0 (5 ∷ []);
 }
 
@@ -38,8 +39,8 @@ returns-clause-made_node c h =
 
 pub returns-clause-opened : goal.returns-clause-opened
 returns-clause-opened c = (
-  record { conn = small_conn; node = 1; is_given = refl; opened = fallen_opened 1 0 (new_store 4 []).mirror },
-  record { conn = small_conn; node = 1; is_given = tt; opened = fallen_opened 1 0 (new_store 4 []).mirror },
+  record { conn = small_conn; found = λ clean. tt; node = 1; is_given = refl; opened = fallen_opened 1 0 (new_store 4 []).mirror },
+  record { conn = small_conn; found = λ clean. tt; node = 1; is_given = tt; opened = fallen_opened 1 0 (new_store 4 []).mirror },
 )
 
 pub returns-clause-opened_given : goal.returns-clause-opened_given
@@ -60,6 +61,7 @@ pub returns-clause-migrated : goal.returns-clause-migrated
 returns-clause-migrated c users is = record {
   import = record { book = one_book; floors = 0 ∷ []; imported = is };
   old = small_conn;
+  found = λ clean. tt;
   migrated = fallen_migrated 1 1;
 }
 
@@ -107,7 +109,7 @@ pub returns-clause-exported : goal.returns-clause-exported
 returns-clause-exported c users is = record {
   import = record { book = one_book; floors = 0 ∷ []; imported = is };
   store = new_store 4 [];
-  opened = record { conn = small_conn; node = 1; is_given = tt; opened = fallen_opened 1 1 (new_store 4 []).mirror };
+  opened = record { conn = small_conn; found = λ clean. tt; node = 1; is_given = tt; opened = fallen_opened 1 1 (new_store 4 []).mirror };
   written = λ clean. absurd (fallen_is small_conn clean);
 }
 
@@ -127,7 +129,7 @@ pub returns-clause-audited : goal.returns-clause-audited
 returns-clause-audited c users is = record {
   import = record { book = one_book; floors = 0 ∷ []; imported = is };
   found = new_store 4 [];
-  opened = record { conn = small_conn; node = 1; is_given = refl; opened = fallen_opened 1 1 (new_store 4 []).mirror };
+  opened = record { conn = small_conn; found = λ clean. tt; node = 1; is_given = refl; opened = fallen_opened 1 1 (new_store 4 []).mirror };
   store = new_store 4 [];
   kept = record {
     content = (refl, refl, refl);
@@ -180,7 +182,7 @@ pub returns-clause-told : goal.returns-clause-told
 returns-clause-told c users is = record {
   import = record { book = one_book; floors = 0 ∷ []; imported = is };
   store = new_store 4 [];
-  opened = record { conn = small_conn; node = 1; is_given = refl; opened = fallen_opened 1 1 (new_store 4 []).mirror };
+  opened = record { conn = small_conn; found = λ clean. tt; node = 1; is_given = refl; opened = fallen_opened 1 1 (new_store 4 []).mirror };
   written = λ clean. absurd (fallen_is small_conn clean);
 }
 
@@ -221,3 +223,27 @@ returns-clause-served_serves c address h =
 pub returns-clause-served_record : goal.returns-clause-served_record
 returns-clause-served_record c address h =
     (nothing_served (sql_held booting) h.first h.last (so_much 0 0) h.served_is (clean_is (λ disk. tables_at (4 + disk) []) h.last.store.conn)).1
+
+pub returns-clause-opened_found : goal.returns-clause-opened_found
+returns-clause-opened_found c h = h.found (clean_is (λ disk. tables_at 4 []) h.conn)
+
+pub returns-clause-opened_on_a_fallen_disk : goal.returns-clause-opened_on_a_fallen_disk
+returns-clause-opened_on_a_fallen_disk c = record {
+  conn = small_conn;
+  found = λ clean. absurd (fallen_is small_conn clean);
+  node = 1;
+  is_given = refl;
+  opened = fallen_opened 1 0 (new_store 4 []).mirror;
+}
+
+pub returns-clause-made_found : goal.returns-clause-made_found
+returns-clause-made_found c h = h.found (clean_is (λ disk. tables_at 0 []) h.conn)
+
+pub returns-clause-migrated_found : goal.returns-clause-migrated_found
+returns-clause-migrated_found c h = h.found (clean_is old_and_new h.old)
+
+pub returns-clause-ends_before : goal.returns-clause-ends_before
+returns-clause-ends_before c address = inl (record { book = []; floors = []; imported = refl })
+
+pub returns-clause-ends_as_no_turn : goal.returns-clause-ends_as_no_turn
+returns-clause-ends_as_no_turn c address h = elim h [ inl before ↦ before | inr has ↦ no_output has.served_is.end has.served_is.ends ]

@@ -69,6 +69,7 @@ returns-clause-remade c users is = record {
   floors = 5 ∷ [];
   gathered = record { files = node_alone ∷ []; read = refl; told = refl; greatest = refl };
   conn = small_conn;
+  found = λ clean. tt;
   made = fallen_made 1 1048576 (5 ∷ []);
 }
 
@@ -85,7 +86,7 @@ returns-clause-levelled c users is = record {
   files = [];
   read = refl;
   found = new_store 4 [];
-  opened = record { conn = small_conn; node = 1; is_given = refl; opened = fallen_opened 1 1 (new_store 4 []).mirror };
+  opened = record { conn = small_conn; found = λ clean. tt; node = 1; is_given = refl; opened = fallen_opened 1 1 (new_store 4 []).mirror };
   levels = record {
     ok = λ clean. absurd (fallen_is small_conn clean);
     err = λ clean. tt;
@@ -106,3 +107,6 @@ returns-clause-levelled_levels c h =
     let found : h.found.mirror.boot ≡ 4 = (opened_over (λ disk. 4) h.opened.conn h.opened.node (length h.import.book) h.found h.opened.opened).2 in
     let now : 5 ≡ h.found.mirror.boot = ap (λ (content : Content). content.boot) (h.levels.ok (clean_is (λ disk. tables_at 4 []) small_conn)) in
     omega (arith, found, now)
+
+pub returns-clause-remade_found : goal.returns-clause-remade_found
+returns-clause-remade_found c h = h.found (clean_is (λ disk. tables_at 1048576 []) h.conn)

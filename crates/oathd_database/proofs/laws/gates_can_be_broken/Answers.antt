@@ -47,7 +47,7 @@ pub returns-clause-unlocks : goal.returns-clause-unlocks
 returns-clause-unlocks c users is = record {
   known = record { import = of_one users is; token = 0; of_user = refl };
   old = new_store 4 (0 ∷ []);
-  opened = record { conn = small_conn; node = 1; is_given = refl; opened = fallen_opened 1 1 (new_store 4 (0 ∷ [])).mirror };
+  opened = record { conn = small_conn; found = λ clean. tt; node = 1; is_given = refl; opened = fallen_opened 1 1 (new_store 4 (0 ∷ [])).mirror };
   writes = record {
     makes = record {
       ok = λ clean. absurd (fallen_is small_conn clean);
@@ -126,7 +126,7 @@ pub returns-clause-told : goal.returns-clause-told
 returns-clause-told c users is = record {
   import = of_one users is;
   store = new_store 4 [];
-  opened = record { conn = small_conn; node = 1; is_given = refl; opened = fallen_opened 1 1 (new_store 4 []).mirror };
+  opened = record { conn = small_conn; found = λ clean. tt; node = 1; is_given = refl; opened = fallen_opened 1 1 (new_store 4 []).mirror };
   written = λ clean. absurd (fallen_is small_conn clean);
 }
 

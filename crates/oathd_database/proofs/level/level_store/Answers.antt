@@ -10,6 +10,6 @@ returns-in-Ok-level_rows-clause-levelled g c =
     let book = c.in-Ok-open_store.opened.0.book in
     let floors = c.in-Ok-open_store.opened.0.floors.items in
     let imported = subst (λ (limits : Limits). IfSome a (IsImported limits 0 16777216 book floors)) c.default.ensures c.in-Ok-open_store.ensures.users in
-    has_levelled default_limits 16777216 c.args.node g.S.Store a (map (λ text. text.items) c.args.texts.now) c.in-Ok.files.items c.deref.result.now
+    has_levelled default_limits 16777216 c.args.node g.S.Store g.D.Database.finds a (map (λ text. text.items) c.args.texts.now) c.in-Ok.files.items c.deref.result.now
     c.in-Ok-open_store.opened.1 c.level_rows.new.store book floors c.in-Ok-level_rows.field-0 imported c.in-Ok.ensures.read
     c.in-Ok-open_store.ensures.opened c.deref.ensures.value c.in-Ok-level_rows.ensures

@@ -24,10 +24,10 @@ returns-in-Ok-init_at-clause-made g c =
     let book = c.in-Ok.users.book in
     let floors = c.in-Ok.users.floors.items in
     remade c.args.settings c.args.moment 16777216 c.args.lost (map (λ text. text.items) c.args.texts.now) book
-    floors g.S.Store (g.R.Read.remaining c.args.users) _ c.in-Ok-init_at.store c.deref.result.now c.in-Ok-lost_floors.floors.items _
+    floors g.S.Store g.D.Database.finds (g.R.Read.remaining c.args.users) _ c.in-Ok-init_at.store c.deref.result.now c.in-Ok-lost_floors.floors.items _
     c.in-Ok.ensures.imported c.deref-2.ensures.value
     (c.deref.ensures.value ∙ c.in-Ok-drifted_floors.ensures.floors ∙ ap (λ d. drifted_floors d book floors) c.drift.ensures.value)
-    c.in-Ok-lost_floors.ensures.floors c.in-Ok-init_at.ensures.opening
+    c.in-Ok-lost_floors.ensures.floors c.in-Ok-connect.ensures.found c.in-Ok-init_at.ensures.opening
 
 pub returns-clause-fault : goal.returns-clause-fault
 returns-clause-fault g c =

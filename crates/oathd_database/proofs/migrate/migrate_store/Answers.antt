@@ -2,6 +2,7 @@ use Rattle.std.proofs.Common.{ℕ, List, length, Option, Some, None, IfSome, IfO
 use Rattle.std.specs.Prelude.{Result, Ok, Err}
 use Rattle.sqlite.specs.Store.{Ghosts}
 use Rattle.sqlite.specs.Held as sql
+use Rattle.sqlite.specs.State.{HasCleanDisk}
 use Rattle.otp_core.specs.Limits.{Limits, default_limits}
 use Rattle.token_file.specs.Credential.{Credential}
 use Rattle.floor_sql.specs.Migrate.{IsMigrated}
@@ -13,14 +14,15 @@ use Rattle.oathd_database.proofs.UsersLemmas.{refused, refused_late}
 use Rattle.oathd_database.proofs.migrate.migrate_store.Goals as goal
 
 -- the store is migrated
-migrated : (limits : Limits) (moment longest : ℕ) {S : Type 0} (g : Ghosts S) (node : ℕ) (a : Option (List ℕ)) (old : sql.Held S)
+migrated : (limits : Limits) (moment longest : ℕ) {S : Type 0} (g : Ghosts S) (finds : sql.Held S → Type 0) (node : ℕ) (a : Option (List ℕ)) (old : sql.Held S)
     (result : Result (sql.Held S) Fault) (book : List Credential) (floors : List ℕ) → IfSome a (IsImported limits moment longest book floors)
-    → IfOk result (IsMigrated g node (length book) old) → IfOk result (λ conn. IfSome a (HasMigrated g limits moment longest node conn))
-migrated limits moment longest g node a old (Err fault) book floors h is = tt
-migrated limits moment longest g node None old (Ok conn) book floors h is = tt
-migrated limits moment longest g node (Some text) old (Ok conn) book floors h is = record {
+    → (HasCleanDisk (sql.state g old) → finds old) → IfOk result (IsMigrated g node (length book) old) → IfOk result (λ conn. IfSome a (HasMigrated g finds limits moment longest node conn))
+migrated limits moment longest g finds node a old (Err fault) book floors h found is = tt
+migrated limits moment longest g finds node None old (Ok conn) book floors h found is = tt
+migrated limits moment longest g finds node (Some text) old (Ok conn) book floors h found is = record {
   import = record { book = book; floors = floors; imported = h };
   old = old;
+  found = found;
   migrated = is;
 }
 
@@ -38,7 +40,7 @@ returns-clause-migrated g c =
     let book = c.in_ok-users.users.book in
     let floors = c.in_ok-users.users.floors.items in
     let imported = subst (λ (limits : Limits). IfSome a (IsImported limits 0 16777216 book floors)) c.default.ensures c.in_ok-users.ensures.imported in
-    migrated default_limits 0 16777216 g.S.Store c.args.node a c.in_ok-conn.conn c.migrate_tables.result book floors imported c.migrate_tables.ensures.migrated
+    migrated default_limits 0 16777216 g.S.Store g.D.Database.finds c.args.node a c.in_ok-conn.conn c.migrate_tables.result book floors imported c.in_ok-conn.ensures.found c.migrate_tables.ensures.migrated
 
 pub returns-clause-fault : goal.returns-clause-fault
 returns-clause-fault g c =

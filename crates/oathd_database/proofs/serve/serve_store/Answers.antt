@@ -1,9 +1,8 @@
 use Rattle.std.proofs.Common.{IfSome, Some, length, subst, ◌∙◌}
-use Rattle.oathd_database.specs.Commands.{HasOpened}
 use Rattle.oathd_database.specs.declared.fault.Fault.{Fault}
-use Rattle.oathd_database.specs.Commands.{EndsServing}
+use Rattle.oathd_database.specs.Commands.{EndsServing, HasOpened}
 use Rattle.oathd_database.proofs.FaultLemmas.{err_is}
-use Rattle.oathd_database.proofs.EndLemmas.{ends_front, ends_memory, ends_opening, ends_socket, ends_turns, has_served}
+use Rattle.oathd_database.proofs.EndLemmas.{ends_front, ends_memory, ends_opening, ends_served, ends_socket, has_served, not_served}
 use Rattle.oathd_database.proofs.serve.serve_store.Goals as goal
 
 pub returns-clause-served : goal.returns-clause-served
@@ -14,54 +13,66 @@ returns-clause-served g c =
     let last = c.serve_front.new.node in
     let result = c.serve_front.result in
     let serving = c.args.serving in
-    let opened = subst (λ n. HasOpened g.S.Store (Some n) (length book) found) c.me.ensures.value c.in_ok-users.ensures.opened in
-    has_served g.S.Store serving (g.R.Read.remaining c.args.users) book c.in_ok-users.users.floors.items found node last
+    let opened = subst (λ n. HasOpened g.S.Store g.D.Database.finds (Some n) (length book) found) c.me.ensures.value c.in_ok-users.ensures.opened in
+    has_served g.S.Store g.D.Database.finds serving (g.R.Read.remaining c.args.users) book c.in_ok-users.users.floors.items found node last
     c.in_ok-users.ensures.users opened c.in_ok-node.ensures.opened c.in_ok-node.ensures.book c.in_ok-node.ensures.limits
     (c.in_ok-node.ensures.key ∙ c.in_ok-key.ensures.key)
     c.in_ok-node.ensures.place result c.serve_front.ensures.turns
 
 pub returns-clause-fault : goal.returns-clause-fault
 returns-clause-fault g c =
-    let served = c.serve_front.ensures.turns in
-    ends_turns c.args.serving.settings 0 16777216 (g.R.Read.remaining c.args.users) c.in_ok-users.users.book c.in_ok-users.users.floors.items
-    c.in_ok-users.ensures.users c.serve_front.result served.end served.ends
+    let book = c.in_ok-users.users.book in
+    let found = c.in_ok-users.store in
+    let node = c.in_ok-node.node in
+    let last = c.serve_front.new.node in
+    let result = c.serve_front.result in
+    let serving = c.args.serving in
+    let opened = subst (λ n. HasOpened g.S.Store g.D.Database.finds (Some n) (length book) found) c.me.ensures.value c.in_ok-users.ensures.opened in
+    ends_served g.S.Store g.D.Database.finds serving (g.R.Read.remaining c.args.users) book c.in_ok-users.users.floors.items found node last
+    c.in_ok-users.ensures.users opened c.in_ok-node.ensures.opened c.in_ok-node.ensures.book c.in_ok-node.ensures.limits
+    (c.in_ok-node.ensures.key ∙ c.in_ok-key.ensures.key)
+    c.in_ok-node.ensures.place result c.serve_front.ensures.turns
 
 pub returns-in_err-key-clause-fault : goal.returns-in_err-key-clause-fault
 returns-in_err-key-clause-fault g c =
     let a = g.R.Read.remaining c.args.users in
     let fault = c.in_err-key.field-0.0 in
     let limits = c.args.serving.settings in
-    err_is c.from_residual-in_err-key.result fault (λ (x : Fault). IfSome a (EndsServing limits 0 16777216 x))
+    err_is c.from_residual-in_err-key.result fault (λ (x : Fault). IfSome a (EndsServing g.S.Store g.D.Database.finds c.args.serving x))
     c.from_residual-in_err-key.ensures.1
+    (not_served g.S.Store g.D.Database.finds c.args.serving a fault
     (ends_memory limits 0 16777216 a c.in_ok-users.users.book c.in_ok-users.users.floors.items c.in_ok-users.ensures.users fault
-    c.in_err-key.ensures.fault)
+    c.in_err-key.ensures.fault))
 
 pub returns-in_err-front-clause-fault : goal.returns-in_err-front-clause-fault
 returns-in_err-front-clause-fault g c =
     let a = g.R.Read.remaining c.args.users in
     let fault = c.in_err-front.field-0.0 in
     let limits = c.args.serving.settings in
-    err_is c.from_residual-in_err-front.result fault (λ (x : Fault). IfSome a (EndsServing limits 0 16777216 x))
+    err_is c.from_residual-in_err-front.result fault (λ (x : Fault). IfSome a (EndsServing g.S.Store g.D.Database.finds c.args.serving x))
     c.from_residual-in_err-front.ensures.1
+    (not_served g.S.Store g.D.Database.finds c.args.serving a fault
     (ends_front limits 0 16777216 a c.in_ok-users.users.book c.in_ok-users.users.floors.items c.in_ok-users.ensures.users fault
-    c.in_err-front.ensures.fault)
+    c.in_err-front.ensures.fault))
 
 pub returns-in_err-socket_at-clause-fault : goal.returns-in_err-socket_at-clause-fault
 returns-in_err-socket_at-clause-fault g c =
     let a = g.R.Read.remaining c.args.users in
     let fault = c.in_err-socket_at.field-0.0 in
     let limits = c.args.serving.settings in
-    err_is c.from_residual-in_err-socket_at.result fault (λ (x : Fault). IfSome a (EndsServing limits 0 16777216 x))
+    err_is c.from_residual-in_err-socket_at.result fault (λ (x : Fault). IfSome a (EndsServing g.S.Store g.D.Database.finds c.args.serving x))
     c.from_residual-in_err-socket_at.ensures.1
+    (not_served g.S.Store g.D.Database.finds c.args.serving a fault
     (ends_socket limits 0 16777216 a c.in_ok-users.users.book c.in_ok-users.users.floors.items c.in_ok-users.ensures.users fault
-    c.in_err-socket_at.ensures)
+    c.in_err-socket_at.ensures))
 
 pub returns-in_err-node-clause-fault : goal.returns-in_err-node-clause-fault
 returns-in_err-node-clause-fault g c =
     let a = g.R.Read.remaining c.args.users in
     let fault = c.in_err-node.field-0.0 in
     let limits = c.args.serving.settings in
-    err_is c.from_residual-in_err-node.result fault (λ (x : Fault). IfSome a (EndsServing limits 0 16777216 x))
+    err_is c.from_residual-in_err-node.result fault (λ (x : Fault). IfSome a (EndsServing g.S.Store g.D.Database.finds c.args.serving x))
     c.from_residual-in_err-node.ensures.1
+    (not_served g.S.Store g.D.Database.finds c.args.serving a fault
     (ends_opening limits 0 16777216 a c.in_ok-users.users.book c.in_ok-users.users.floors.items c.in_ok-users.ensures.users fault
-    c.in_err-node.ensures.fault)
+    c.in_err-node.ensures.fault))

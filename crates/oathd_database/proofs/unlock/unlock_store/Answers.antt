@@ -26,7 +26,7 @@ returns-in-Ok-open_gate-clause-unlocked g c =
     let book = c.in-Ok.users.book in
     let floors = c.in-Ok.users.floors.items in
     let imported = subst (λ (limits : Limits). IfSome a (IsImported limits 0 16777216 book floors)) c.default-settings.ensures c.in-Ok.ensures.users in
-    has_unlocked default_limits 16777216 a book floors imported c.args.user.now g.S.Store c.args.node c.in-Some.token c.value.result
+    has_unlocked default_limits 16777216 a book floors imported c.args.user.now g.S.Store g.D.Database.finds c.args.node c.in-Some.token c.value.result
     c.in-Ok.store c.open_gate.new.store
     (ap (λ (name : List ℕ). place_of name book) (sym c.as_bytes.ensures.value) ∙ sym c.in-Some.ensures.place) c.value.ensures.value
     c.in-Ok.ensures.opened c.in-Ok-open_gate.ensures

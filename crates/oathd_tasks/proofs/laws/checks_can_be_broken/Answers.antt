@@ -35,7 +35,7 @@ returns-clause-tokens_left_out c h =
     let lengths : 1 ≡ 0 = ap (λ r. length (book_in r)) h.read in omega (arith, lengths)
 
 pub returns-clause-has_checked : goal.returns-clause-has_checked
-returns-clause-has_checked c = record { book = []; has_tokens = record { floors = []; read = refl }; written = refl }
+returns-clause-has_checked c = record { book = []; unmarked = refl; has_tokens = record { floors = []; read = refl }; written = refl }
 
 -- the number of event tokens is in the text
 told_apart : checked one_token ≡ checked [] → ⊥
@@ -52,7 +52,7 @@ unfolding word_line
 returns-clause-has_checked_written c h = let e = h.written in absurd cc
 
 pub returns-clause-checks : goal.returns-clause-checks
-returns-clause-checks c = (small_cluster, small_says, [], tt, record { book = one_token; has_tokens = tt; written = refl })
+returns-clause-checks c = (small_cluster, small_says, [], tt, record { book = one_token; unmarked = tt; has_tokens = tt; written = refl })
 
 pub returns-clause-checks_no_file : goal.returns-clause-checks_no_file
 returns-clause-checks_no_file c h = nothing_says h.0 h.1
@@ -62,3 +62,6 @@ returns-clause-checks_under_the_key c old new h =
     let same = says_one keyed_text _ _ keyed_says h.1 in
     let key = subst (λ (cluster : ClusterRecord). IsKeyIn cluster.key h.2) (sym same) h.3 in
     subst₂ (λ key cluster. HasChecked key cluster None old new) key (sym same) h.4
+
+pub returns-clause-checks_past_a_mark : goal.returns-clause-checks_past_a_mark
+returns-clause-checks_past_a_mark c old new h = let e = h.4.unmarked in absurd cc

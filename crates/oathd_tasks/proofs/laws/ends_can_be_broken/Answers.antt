@@ -1,16 +1,20 @@
 -- Each run is computed.
-use Rattle.std.proofs.Common.{◌≡◌, inl, inr, ℕ, List, [], ◌∷◌, map, Some, refl}
+use Rattle.std.proofs.Common.{◌≡◌, inl, inr, ℕ, List, [], ◌∷◌, map, take, Option, None, Some, Ok, Err, refl, ap, subst, arith}
 use Rattle.std.specs.Fmt.{digits}
-use Rattle.std.specs.Prelude.{codes}
+use Rattle.std.specs.Prelude.{codes, slice_index}
 use Rattle.hex.specs.Hex.{decode_pairs}
 use Rattle.secret_text.specs.Bits.{bits_of}
+use Rattle.secret_text.specs.Hexadecimal.{hex_refusal_of}
+use Rattle.secret_text.specs.declared.fault.SecretFault.{SecretFault}
 use Rattle.secret_text.specs.declared.fault.SecretFault.TheVariants.{BadLength, Empty}
 use Rattle.oath_node.specs.Report.{report_from}
 use Rattle.cluster_sim.specs.World.{world_after_events}
 use Rattle.oathd_cluster.specs.Run.{Reply, printed}
-use Rattle.oathd_lines.specs.declared.fault.Fault.TheVariants.{BadKey}
+use Rattle.client_lines.specs.Request.{without_lf}
+use Rattle.oathd_lines.specs.Secret.{EndsWithText, secret_end}
+use Rattle.oathd_lines.specs.declared.fault.Fault.TheVariants.{BadKey, Memory}
 use Rattle.oathd_tasks.specs.Broken.{run_ended_by}
-use Rattle.oathd_tasks.specs.Nodes.{SecretEndsSo}
+use Rattle.oathd_tasks.specs.Nodes.{InputEndsSo, SecretEndsSo}
 use Rattle.oathd_tasks.proofs.laws.ends_can_be_broken.Goals as goal
 
 pub returns-clause-lines : goal.returns-clause-lines
@@ -66,6 +70,46 @@ returns-clause-secret c = (refl, refl)
 pub returns-clause-secret_is_lost : goal.returns-clause-secret_is_lost
 unfolding bits_of decode_pairs
 returns-clause-secret_is_lost c h = let e = h.1 in absurd cc
+
+pub returns-clause-input_secret : goal.returns-clause-input_secret
+unfolding bits_of decode_pairs
+returns-clause-input_secret c = (inl (codes "00", refl, inr (refl, refl)), inl (codes "00", refl, inr (refl, refl)))
+
+-- a secret of two digits on the input
+input_ends : (hex : List ℕ) (new : List ℕ) → InputEndsSo (Some hex) (Ok tt) (Some []) (Some new)
+    → EndsWithText (without_lf (take 258 hex)) (Ok tt) (Some []) (Some new)
+input_ends hex new (inl w) = elim w.2 [
+  | inl e ↦ absurd cc
+  | inr ends ↦ subst (λ digits. EndsWithText digits (Ok tt) (Some []) (Some new)) w.1 ends
+]
+input_ends hex new (inr w) = absurd w.0
+
+pub returns-clause-input_secret_is_lost : goal.returns-clause-input_secret_is_lost
+unfolding bits_of decode_pairs
+returns-clause-input_secret_is_lost c h = let e = (input_ends (codes "00") [] h).1 in absurd cc
+
+pub returns-clause-input_secret_of_another : goal.returns-clause-input_secret_of_another
+unfolding bits_of decode_pairs
+returns-clause-input_secret_of_another c h =
+    let seconds : 65 ≡ 69 = ap (λ (text : List ℕ). slice_index text 1) (input_ends (codes "01\n") (codes "AA======\n") h).1 in omega (arith, seconds)
+
+pub returns-clause-no_input : goal.returns-clause-no_input
+returns-clause-no_input c = (inr (tt, refl), inr (tt, refl))
+
+-- the end of a secret is no lack of memory
+no_memory : (refusal : Option SecretFault) → Err Memory ≡ secret_end refusal → ⊥
+no_memory None e = absurd cc
+no_memory (Some fault) e = absurd cc
+
+pub returns-clause-no_input_and_writes : goal.returns-clause-no_input_and_writes
+returns-clause-no_input_and_writes c h = by h
+  where
+    by : InputEndsSo None (run_ended_by Memory) (Some []) (Some (codes "x")) → ⊥
+    by (inl w) = elim w.2 [
+      | inl e ↦ absurd cc
+      | inr ends ↦ no_memory (hex_refusal_of w.0) ends.0
+    ]
+    by (inr w) = let e = w.1 in absurd cc
 
 pub returns-clause-refused_secret : goal.returns-clause-refused_secret
 returns-clause-refused_secret c = (inr (refl, refl), inl refl)

@@ -65,3 +65,11 @@ returns-clause-nonce c = refl
 pub returns-clause-same_line : goal.returns-clause-same_line
 unfolding tag_of sealed_bytes sealed_at head_at sha256_steps.first_words sha256_steps.schedule sha256_steps.rounds sha256_steps.compress sha256_steps.hash_after sha256_steps.digest_bytes sha256_steps.sha256
 returns-clause-same_line c = refl
+
+pub returns-clause-limited : goal.returns-clause-limited
+unfolding tag_of sealed_bytes sealed_at head_at sha256_steps.first_words sha256_steps.schedule sha256_steps.rounds sha256_steps.compress sha256_steps.hash_after sha256_steps.digest_bytes sha256_steps.sha256
+returns-clause-limited c = refl
+
+pub returns-clause-below_the_limit : goal.returns-clause-below_the_limit
+unfolding tag_of sealed_bytes sealed_at head_at sha256_steps.first_words sha256_steps.schedule sha256_steps.rounds sha256_steps.compress sha256_steps.hash_after sha256_steps.digest_bytes sha256_steps.sha256
+returns-clause-below_the_limit c = refl

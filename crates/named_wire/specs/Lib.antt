@@ -1,0 +1,4 @@
+pub mod Bytes
+pub mod Head
+pub mod Datagram
+pub mod Examples

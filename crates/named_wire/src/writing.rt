@@ -1,0 +1,55 @@
+//! Writing of datagrams.
+
+ghost use Rattle.std.specs.Prelude.{◌≡◌, ◌+◌, ◌≤◌, ◌++◌, length};
+ghost use Rattle.arrayvec.specs.ArrayVec.{array_vec_len};
+ghost use Rattle.named_wire.specs.Datagram.{datagram_bytes};
+ghost use Rattle.named_wire.specs.Head.{head_bytes};
+
+use crate::head::Head;
+use arrayvec::ArrayVec;
+use vote_wire::{ClusterKey, tag};
+
+/// The maximum length of a body, in bytes: 20 floors and their count.
+pub const MAX_BODY_LEN: usize = 481;
+
+/// The maximum length of a datagram, in bytes.
+pub const MAX_DATAGRAM_LEN: usize = 511;
+
+/// The first bytes of a datagram.
+pub(crate) const MARK: [u8; 2] = *b"OV";
+
+/// The version of the format.
+pub(crate) const VERSION: u8 = 3;
+
+/// Appends `bytes`.
+fn push_all(out: &mut ArrayVec<u8, MAX_DATAGRAM_LEN>, bytes: &[u8])
+    requires { array_vec_len out.old + length bytes.now ≤ 511 }
+    ensures { out.new.items ≡ out.old.items ++ bytes.now }
+{
+    let _ = out.try_extend_from_slice(bytes);
+}
+
+/// Returns the head as bytes.
+fn head_text(head: Head) -> ArrayVec<u8, MAX_DATAGRAM_LEN>
+    ensures bytes { result.items ≡ head_bytes head }
+    ensures len { array_vec_len result ≡ 14 }
+{
+    let mut out = ArrayVec::new();
+    push_all(&mut out, &MARK);
+    push_all(&mut out, &[VERSION, head.kind.byte(), head.from, head.to]);
+    push_all(&mut out, &head.boot.to_be_bytes());
+    out
+}
+
+/// Returns the datagram of a head and a body of at most 481 bytes, under the cluster's key.
+#[tactic(auto, unfolding(crate::specs::Datagram::datagram_bytes))]
+pub fn write_datagram(key: &ClusterKey, head: Head, body: &[u8]) -> ArrayVec<u8, MAX_DATAGRAM_LEN>
+    requires { length body.now ≤ 481 }
+    ensures { result.items ≡ datagram_bytes key.now head body.now }
+{
+    let mut out = head_text(head);
+    push_all(&mut out, body);
+    let tag = tag(key, &out);
+    push_all(&mut out, &tag);
+    out
+}

@@ -1,0 +1,51 @@
+-- The minutes of a log: after each one it says which datagrams were not opened.
+use Rattle.std.specs.Prelude.{ℕ, ◌+◌, ◌==◌, ◌&&◌, nat_lt, not, Bool, if◌then◌else◌, List, [], ◌++◌, codes}
+use Rattle.std.specs.Fmt.{decimal}
+use Rattle.datagram_port.specs.Port.{PortEvent, Received, Quiet, Faulted, Offered}
+use Rattle.sealed_port.specs.declared.cause.Unopened.{Unopened}
+use Rattle.node_log.specs.declared.minute.Minute.{Minute}
+
+-- the minute before any quiet turn
+abbrev pub new_minute : Minute
+new_minute = record { quiets = 0 }
+
+-- whether a minute is over: it has 300 quiet turns, five a second
+abbrev pub is_over : Minute → Bool
+is_over minute = not (nat_lt minute.quiets 300)
+
+-- the minute after an entry of a port's record
+abbrev pub minute_after : PortEvent → Minute → Minute
+minute_after (Received sender bytes) minute = minute
+minute_after Quiet minute = if nat_lt minute.quiets 300 then record { quiets = minute.quiets + 1 } else minute
+minute_after Faulted minute = minute
+minute_after (Offered to bytes) minute = minute
+
+-- the minute in which a receive begins: a new one if the last one is over
+abbrev pub minute_at_receive : Minute → Minute
+minute_at_receive minute = if is_over minute then new_minute else minute
+
+-- a word with a number, or nothing if the number is 0
+unfoldable pub numbered : List ℕ → ℕ → List ℕ
+numbered word number = if number == 0 then [] else word ++ decimal number
+
+-- the causes for which datagrams were not opened, each with its number
+unfoldable pub causes_text : Unopened → List ℕ
+causes_text unopened =
+    numbered (codes " form=") unopened.form ++ numbered (codes " tag=") unopened.tag
+    ++ numbered (codes " early=") unopened.early ++ numbered (codes " late=") unopened.late
+    ++ numbered (codes " again=") unopened.again ++ numbered (codes " limited=") unopened.limited
+
+-- whether all numbers are 0
+abbrev pub has_none : Unopened → Bool
+has_none unopened =
+    unopened.form == 0 && unopened.tag == 0 && unopened.early == 0 && unopened.late == 0 && unopened.again == 0
+    && unopened.limited == 0
+
+-- the line of the datagrams that were not opened, or nothing if there are none
+unfoldable pub unopened_line : Unopened → List ℕ
+unopened_line unopened =
+    if has_none unopened then [] else codes "unopened" ++ causes_text unopened ++ codes "\n"
+
+-- the text at the beginning of a receive: the line of a minute that is over
+abbrev pub minute_text : Minute → Unopened → List ℕ
+minute_text minute unopened = if is_over minute then unopened_line unopened else []

@@ -1,0 +1,93 @@
+//! The minutes of a log, and the line of the datagrams that were not opened in one.
+
+ghost use Rattle.std.specs.Prelude.{◌≡◌, OnOk};
+ghost use Rattle.std.specs.Io.KnownBytes.{Appends};
+ghost use Rattle.datagram_port.specs.Port.{Quiet};
+ghost use Rattle.node_log.specs.Minute.{causes_text, has_none, is_over, minute_after, new_minute, numbered, unopened_line};
+
+use sealed_port::Unopened;
+use std::io::{self, Write};
+
+/// The number of quiet turns of a minute.
+const QUIETS_OF_MINUTE: u16 = 300;
+
+/// The quiet turns since the log last asked which datagrams were not opened. Five come in a second.
+#[derive(Clone, Copy, Debug, PartialEq, Eq)]
+pub struct Minute {
+    quiets: u16,
+}
+
+impl Minute {
+    /// Returns a minute before any quiet turn.
+    pub(crate) fn new() -> Self
+        ensures { result ≡ new_minute }
+    {
+        Minute { quiets: 0 }
+    }
+
+    /// Returns whether the minute is over.
+    pub(crate) fn is_over(&self) -> bool
+        ensures { result ≡ is_over self.now }
+    {
+        self.quiets >= QUIETS_OF_MINUTE
+    }
+
+    /// Notes a quiet turn.
+    pub(crate) fn rest(&mut self)
+        ensures { self.new ≡ minute_after Quiet self.old }
+    {
+        if self.quiets < QUIETS_OF_MINUTE {
+            self.quiets += 1;
+        }
+    }
+}
+
+/// Returns whether all numbers are 0.
+fn has_none(unopened: &Unopened) -> bool
+    ensures { result ≡ has_none unopened.now }
+{
+    unopened.form == 0
+        && unopened.tag == 0
+        && unopened.early == 0
+        && unopened.late == 0
+        && unopened.again == 0
+        && unopened.limited == 0
+}
+
+/// Writes a word and a number, or nothing if the number is 0.
+#[tactic(auto, unfolding(crate::specs::Minute::numbered))]
+fn write_numbered<W: Write>(writer: &mut W, word: &[u8], number: u64) -> io::Result<()>
+    ensures { OnOk result (Appends (W.contents writer.old) (W.contents writer.new) (numbered word.now number)) }
+{
+    if number == 0 {
+        return Ok(());
+    }
+    writer.write_all(word)?;
+    write!(writer, "{number}")
+}
+
+/// Writes the causes for which datagrams were not opened, each with its number.
+#[tactic(auto, unfolding(crate::specs::Minute::causes_text))]
+fn write_causes<W: Write>(writer: &mut W, unopened: &Unopened) -> io::Result<()>
+    ensures { OnOk result (Appends (W.contents writer.old) (W.contents writer.new) (causes_text unopened.now)) }
+{
+    write_numbered(writer, b" form=", unopened.form)?;
+    write_numbered(writer, b" tag=", unopened.tag)?;
+    write_numbered(writer, b" early=", unopened.early)?;
+    write_numbered(writer, b" late=", unopened.late)?;
+    write_numbered(writer, b" again=", unopened.again)?;
+    write_numbered(writer, b" limited=", unopened.limited)
+}
+
+/// Writes the line of the datagrams that were not opened, or nothing if there are none.
+#[tactic(auto, unfolding(crate::specs::Minute::unopened_line))]
+pub(crate) fn write_unopened<W: Write>(writer: &mut W, unopened: &Unopened) -> io::Result<()>
+    ensures { OnOk result (Appends (W.contents writer.old) (W.contents writer.new) (unopened_line unopened.now)) }
+{
+    if has_none(unopened) {
+        return Ok(());
+    }
+    writer.write_all(b"unopened")?;
+    write_causes(writer, unopened)?;
+    writer.write_all(b"\n")
+}

@@ -1,0 +1,74 @@
+//! Logs over ports in memory.
+
+use crate::LogPort;
+use arrayvec::ArrayVec;
+use datagram_port::{Coming, ListClock, ListPort, Port, Sender};
+use sealed_port::{Failures, Gate, SealedPort};
+use std::alloc::Global;
+use std::test::Fail;
+
+/// The line of an answer to a plain line outside the grammar.
+const BAD_LINE: &[u8] = b"refused from=0.0.0.0:7 NO - BADLINE\n";
+
+/// Offers `answers` answers to lines outside the grammar, and then has `quiets` quiet turns. Returns the log.
+fn log_of_bad_lines(alloc: Global, answers: u8, quiets: u8) -> Result<Vec<u8>, Fail> {
+    let mut text = Vec::new(alloc);
+    let mut port = LogPort::new(ListPort::new(alloc, &[]), &mut text, ArrayVec::new());
+    for _ in 0..answers {
+        let _taken = port.send(Sender::Client(7), b"NO - BADLINE");
+    }
+    for _ in 0..quiets {
+        let _quiet = port.receive(&mut [0; 512]);
+    }
+    drop(port);
+    Ok(text)
+}
+
+/// Of twelve answers to bad lines in a second ten have a line, and one line tells of the others when the second ends.
+#[test]
+fn tells_more_bad_lines(rt: HostRuntime) -> Result<(), Fail> {
+    let text = log_of_bad_lines(rt.alloc(), 12, 4)?;
+    assert!(rt; text.len() == 10 * BAD_LINE.len() && text.starts_with(BAD_LINE));
+    let text = log_of_bad_lines(rt.alloc(), 12, 10)?;
+    assert!(rt; text.len() == 10 * BAD_LINE.len() + 15 && text.ends_with(b"\nbadline more=2\n"));
+    let text = log_of_bad_lines(rt.alloc(), 10, 10)?;
+    assert!(rt; text.len() == 10 * BAD_LINE.len());
+    Ok(())
+}
+
+/// Returns the log of a port with a gate without clients, to which `comings` come in `receives` receives.
+fn log_of_gate<'a>(
+    alloc: Global,
+    comings: &'a [Coming<'a>],
+    receives: u16,
+) -> Result<Vec<u8>, Fail> {
+    let mut text = Vec::new(alloc);
+    let gate = Gate::new(1, Vec::new(alloc), Vec::new(alloc), Failures::new(None));
+    let port = SealedPort::new(
+        ListPort::new(alloc, comings),
+        ListClock::new(alloc, &[]),
+        gate,
+    );
+    let mut port = LogPort::new(port, &mut text, ArrayVec::new());
+    for _ in 0..receives {
+        let _quiet = port.receive(&mut [0; 512]);
+    }
+    drop(port);
+    Ok(text)
+}
+
+/// After 300 quiet turns the next receive tells what the gate did not open. Later ones tell of nothing.
+#[test]
+fn tells_the_unopened_once(rt: HostRuntime) -> Result<(), Fail> {
+    let junk = Coming::Datagram {
+        sender: Sender::Client(7),
+        bytes: b"CHECK",
+    };
+    let text = log_of_gate(rt.alloc(), &[junk, junk], 300)?;
+    assert!(rt; text.is_empty());
+    let text = log_of_gate(rt.alloc(), &[junk, junk], 301)?;
+    assert!(rt; text.as_slice() == b"unopened form=2\n".as_slice());
+    let text = log_of_gate(rt.alloc(), &[junk, junk], 901)?;
+    assert!(rt; text.as_slice() == b"unopened form=2\n".as_slice());
+    Ok(())
+}

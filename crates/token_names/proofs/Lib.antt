@@ -1,0 +1,2 @@
+pub mod IdentityLemmas
+pub mod NamesLemmas

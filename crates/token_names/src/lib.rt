@@ -1,0 +1,24 @@
+//! The names of tokens, which are the same at each member of a cluster.
+//!
+//! A name is the first 16 bytes of HMAC-SHA-256 of the token's type, user and secret under a public word of the
+//! cluster. The row, the password and the counter are no part of it.
+#![tactic(auto)]
+
+mod fault;
+mod identity;
+mod laws;
+mod name;
+mod names;
+mod salt;
+#[cfg(test)]
+mod tests;
+
+pub use fault::NamesFault;
+pub use identity::{MAX_IDENTITY_LEN, identity_of};
+pub use laws::{
+    identities_are_worked, identities_tell, names_are_worked, names_can_be_broken, names_tell,
+    passwords_are_left_out,
+};
+pub use name::{NAME_LEN, Name};
+pub use names::names_of;
+pub use salt::{Salt, name_of};
