@@ -28,7 +28,8 @@ _oathd() {
         floors) options='--node --members --cluster' files=yes ;;
         level) options='--node --floors' files=yes ;;
         check) options='--cluster' files=yes ;;
-        new-key | secret | version) ;;
+        secret) options='--stdin' ;;
+        new-key | version) ;;
         help) ((cword == 2)) && COMPREPLY=($(compgen -W "$commands" -- "$cur")); return ;;
         *) return ;;
     esac

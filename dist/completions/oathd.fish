@@ -50,4 +50,5 @@ complete -c oathd -n $answering -l look-ahead -x -d 'How far an event code is se
 complete -c oathd -n $skewed -l skew -x -d 'Time steps before and after the present one, 0 to 10'
 complete -c oathd -n $answering -l range -x -d 'How far a resynchronization searches, 0 to 1000'
 complete -c oathd -n $skewed -l drift -x -d 'Time steps that a window may move, 0 to 10'
+complete -c oathd -n '__fish_seen_subcommand_from secret' -l stdin -d 'Read the secret from standard input'
 complete -c oathd -n $importing -l moment -x -d 'When the users are imported, in seconds since 1970'

@@ -238,15 +238,33 @@ class Tests(unittest.TestCase):
                                   ("00" * 65, False), ("", False), ("0" * 33, False), ("zz" * 16, False),
                                   ("00" * 16 + "\n\n", False), ("00 " * 16, False)):
                 with open(path, "w") as file:
+                    os.chmod(path, 0o600)
                     file.write(text)
                 if is_good:
                     self.assertEqual(repr(wakdulg.read_key("7:" + path)), "Key(7, ..)")
                 else:
                     with self.assertRaises(ValueError, msg=text):
                         wakdulg.read_key("7:" + path)
+            for mode, is_good in (0o400, True), (0o640, True), (0o604, False), (0o620, False), (0o602, False):
+                with open(path, "w") as file:
+                    os.chmod(path, mode)
+                    file.write("00" * 32 + "\n")
+                if is_good:
+                    self.assertEqual(wakdulg.read_key("7:" + path).client, 7)
+                else:
+                    with self.assertRaises(ValueError, msg="%o" % mode):
+                        wakdulg.read_key("7:" + path)
+                os.chmod(path, 0o600)
             for word in path, ":" + path, "65536:" + path, "-1:" + path, "x:" + path:
                 with self.assertRaises(ValueError, msg=word):
                     wakdulg.read_key(word)
+            with open(path, "w") as file:
+                file.write("00" * 32 + "\n")
+            self.assertEqual(wakdulg.key_of("7:" + path, False).client, 7)
+            self.assertIsNone(wakdulg.key_of(None, True))
+            for words in ("7:" + path, True), (None, False), ("", False):
+                with self.assertRaises(ValueError, msg=words):
+                    wakdulg.key_of(*words)
         for nodes in "127.0.0.1:1,127.0.0.1:1", "2=127.0.0.1:1,127.0.0.1:2", "0=127.0.0.1:1":
             with self.assertRaises(ValueError, msg=nodes):
                 wakdulg.Cluster(nodes, key=KEY)

@@ -153,6 +153,18 @@ class Tests(test_wakdulg.Tests):
                 else:
                     with self.assertRaises(ValueError, msg=text):
                         made.set_key("7:" + file.name)
+            file.seek(0)
+            file.truncate()
+            file.write("00" * 32 + "\n")
+            file.flush()
+            for mode, is_good in (0o400, True), (0o640, True), (0o604, False), (0o620, False), (0o602, False):
+                os.chmod(file.name, mode)
+                if is_good:
+                    Cluster(self.library, "127.0.0.1:1").set_key("7:" + file.name)
+                else:
+                    with self.assertRaises(ValueError, msg="%o" % mode):
+                        Cluster(self.library, "127.0.0.1:1").set_key("7:" + file.name)
+            os.chmod(file.name, 0o600)
             for word in file.name, ":" + file.name, "65536:" + file.name, "-1:" + file.name, "x:" + file.name, "7:/none":
                 with self.assertRaises(ValueError, msg=word):
                     Cluster(self.library, "127.0.0.1:1").set_key(word)

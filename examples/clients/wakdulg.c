@@ -13,6 +13,7 @@
 #include <stdlib.h>
 #include <string.h>
 #include <sys/socket.h>
+#include <sys/stat.h>
 #include <time.h>
 #include <unistd.h>
 
@@ -121,6 +122,11 @@ int wakdulg_set_key(struct wakdulg_cluster *cluster, const char *number_and_file
     FILE *file = fopen(number_and_file + digits + 1, "re");
     if (!file)
         return -1;
+    struct stat about;
+    if (fstat(fileno(file), &about) < 0 || about.st_mode & 037) {
+        fclose(file);
+        return -1;
+    }
     char text[2 * WAKDULG_MAX_KEY + 3];
     size_t len = fread(text, 1, sizeof text - 1, file);
     fclose(file);

@@ -64,7 +64,8 @@ struct wakdulg_answer {
 int wakdulg_set_nodes(struct wakdulg_cluster *cluster, const char *nodes);
 
 /* Sets the key, as `NUMBER:FILE`: the client's number, and a file with the key in hexadecimal on one line. Returns 0, or
- * -1 if there is no such file or key, or a node stands twice. */
+ * -1 if there is no such file or key, if others than its owner and its group may read the file or others than its owner
+ * may write it, or if a node stands twice. */
 int wakdulg_set_key(struct wakdulg_cluster *cluster, const char *number_and_file);
 
 /* Submits a code of a user, with a password or NULL. */

@@ -9,7 +9,7 @@
 Only a call that returns lets a user in. One call is one submission: its line has one random nonce, and is the same at
 each node that is asked. A node that says nothing is sent the line again from the same socket, and then the next node is
 asked; so it is after TIMEOUT, BUSY and CLOCK, which are about the node. Every other answer decides. A call has sockets
-of its own, and may be made by any number of threads at once. docs/reference/clients.md says why each of these things is so.
+of its own, and may be made by any number of threads at once. docs/reference/clients.md says why.
 
 With a key the line is sealed for each node, anew each time that it is sent, and only an answer that is sealed for that
 very datagram counts. Without a key whoever takes a node's port, or sees the traffic, can let in whom he likes.
@@ -18,6 +18,7 @@ import hashlib
 import hmac
 import ipaddress
 import json
+import os
 import re
 import secrets
 import socket
@@ -131,16 +132,31 @@ class Key:
         return body[self.HEAD.size:] if hmac.compare_digest(tag, self._tag(body, bound)) else None
 
 
+def read_private(path):
+    """Returns the text of a small file that its owner alone writes, and its owner and its group read. Any other mode is
+    refused, since others may have the secret then."""
+    with open(path, encoding="ascii", errors="replace") as file:
+        if os.fstat(file.fileno()).st_mode & 0o037:
+            raise ValueError("others may read or write it: chmod 600 " + path)
+        return file.read(1024)
+
+
 def read_key(word):
-    """Returns the key of `NUMBER:FILE`. The file has the key in hexadecimal, on one line, as `oathd new-key` writes it."""
+    """Returns the key of `NUMBER:FILE`. The file has it in hexadecimal, on one line, as `oathd new-key` writes it."""
     number, colon, path = word.partition(":")
     if not colon or not re.fullmatch("[0-9]{1,5}", number):
         raise ValueError("not a NUMBER:FILE: " + word)
-    with open(path, encoding="ascii", errors="replace") as file:
-        text = file.read(1024)
+    text = read_private(path)
     if not re.fullmatch("([0-9A-Fa-f]{2})+\n?", text):
         raise ValueError("not one line of hexadecimal digits: " + path)
     return Key(int(number), bytes.fromhex(text.strip()))
+
+
+def key_of(word, is_plain):
+    """Returns the key of a front end's words: that of `NUMBER:FILE`, or None where it is to ask plainly."""
+    if bool(word) == is_plain:
+        raise ValueError("a front end has a key file, or the word for plain lines, and not both")
+    return None if is_plain else read_key(word)
 
 
 class Plain:

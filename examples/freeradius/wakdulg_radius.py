@@ -1,9 +1,10 @@
 """Access-Requests of FreeRADIUS (its module rlm_python3) as submissions to the nodes of a cluster.
 
-The environment of the RADIUS server has NODES, as `127.0.0.1:717,127.0.0.1:718`. User-Password is the code, of DIGITS
-digits or 6. With PASSWORDS=yes a password may stand before the code, which the node checks: then no row of the users
-file may have `+`, at which a node takes any password. The folder of wakdulg.py stands in python_path, as that of this
-file.
+The environment of the RADIUS server has NODES, as `127.0.0.1:717,127.0.0.1:718`, and WAKDULG_KEY_FILE: the number of
+this client and its key file, as `7:FILE`, which freerad alone may read. PLAIN_LINES=yes in its place asks without a
+key. User-Password is the code, of DIGITS digits or 6. With PASSWORDS=yes a password may stand before the code, which
+the node checks: then no row of the users file may have `+`, at which a node takes any password. The folder of
+wakdulg.py stands in python_path, as that of this file.
 """
 import os
 import re
@@ -13,8 +14,9 @@ import wakdulg
 
 DIGITS = int(os.environ.get("DIGITS", "6"))
 PASSWORDS = os.environ.get("PASSWORDS", "no") == "yes"
+KEY = wakdulg.key_of(os.environ.get("WAKDULG_KEY_FILE"), os.environ.get("PLAIN_LINES", "no") == "yes")
 # A request has to be answered within max_request_time, and the access device asks again after some seconds.
-CLUSTER = wakdulg.Cluster(os.environ["NODES"], total=6.0)
+CLUSTER = wakdulg.Cluster(os.environ["NODES"], total=6.0, key=KEY)
 NEXT_CODE = (("Reply-Message", "Give the next code."),)
 
 

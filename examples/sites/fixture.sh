@@ -5,25 +5,29 @@
 #   enter_namespace               runs the script once more in a mount namespace of its own, with $work in memory
 #   make_root                     makes a Debian of its own in $root, over that of CHROOT, else by debootstrap
 #   find_programs                 sets oathd and oathtool to program files
-#   make_cluster                  makes in $work: key, front.key, clients (client 7 has front.key), users (u1 to u99,
-#                                 an event token each with the secret of RFC 4226; pin with the password hunter2; plus
-#                                 with the password +; eight of 8 digits; clock1, clock2 and clock3, time tokens, the
-#                                 last one with the password watchword), and three databases; and starts the nodes
-#   start_node I; kill_node I     starts node I and waits until it answers; ends it at once
+#   make_cluster                  makes in $work: key, cluster (its cluster file), clients (client 7, the front end, has
+#                                 front.key, and client 8, as which this script asks, has ask.key), users (u1 to u99, an
+#                                 event token each with the secret of RFC 4226; pin with the password hunter2; plus with
+#                                 the password +; eight of 8 digits; clock1 to clock30, time tokens; probe1 to probe3,
+#                                 time tokens with the password watchword), and three databases; and starts the nodes
+#   start_node I [CLUSTER USERS]  starts node I and waits until it answers, with other files than those
+#   kill_node I                   ends it at once
 #   begin STEP                    names what comes next
 #   same WHAT WANTED GOT          ends the script where both differ
 #   await COMMAND..               waits until it succeeds, two minutes at most
 #   code N                        the code of counter N
 #
-# $front_key is `7:FILE`, as clients take it. $nodes has the three addresses, $free a fourth port, which nobody has by
-# UDP nor by TCP. What `pids` names is killed at the end, and $work is removed. OATHD is the program, else ./oathd. At a
-# fault the status is 1, and standard error names the step, after the last lines of the files that `logs` names.
+# $front_key is `7:FILE`, as front ends take it; no node takes a plain line. $nodes has the three addresses, $free a
+# fourth port, which nobody has by UDP nor by TCP. What `pids` names is killed at the end, and $work is removed. OATHD is
+# the program, else ./oathd. At a fault the status is 1, and standard error names the step, after the last lines of the
+# files that `logs` names.
 set -eu
 top=$(cd "$(dirname "${BASH_SOURCE[0]}")/../.." && pwd)
 oathd=${OATHD:-$top/oathd}
 secret=3132333435363738393031323334353637383930
 step='the beginning'
 front_key=
+ask_key=
 pids=()
 logs=()
 work=$(mktemp -d)
@@ -159,28 +163,35 @@ PY
     free=${port[3]}
 }
 
+# Prints a cluster file of the three nodes, with another life where one is named.
+write_cluster_file() { # KEY_FILE [LIFE]
+    local node
+    for node in 1 2 3; do echo "member $node 127.0.0.1:${port[$node - 1]}"; done
+    printf '%s\n' "key-file $1" "life ${2:-1}"
+}
+
 make_cluster() {
-    local node user
+    local name node user
     begin 'three nodes are made and started'
     take_ports
     (
         umask 077
-        "$oathd" new-key > "$work/key"
-        "$oathd" new-key > "$work/front.key"
-        echo "client 7 $(cat "$work/front.key")" > "$work/clients"
+        for name in key front.key ask.key; do "$oathd" new-key > "$work/$name"; done
+        printf 'client %s\n' "7 $(cat "$work/front.key")" "8 $(cat "$work/ask.key")" > "$work/clients"
+        write_cluster_file "$work/key" > "$work/cluster"
         {
             for user in {1..99}; do echo "HOTP u$user - $secret"; done
             echo "HOTP pin hunter2 $secret"
             echo "HOTP plus + $secret"
             echo "HOTP/E/8 eight - $secret"
-            for user in clock1 clock2; do echo "HOTP/T30 $user - $secret"; done
-            echo "HOTP/T30 clock3 watchword $secret"
+            for user in clock{1..30}; do echo "HOTP/T30 $user - $secret"; done
+            for user in probe{1..3}; do echo "HOTP/T30 $user watchword $secret"; done
         } > "$work/users"
         for node in 1 2 3; do
-            "$oathd" init "$work/node$node.db" "$work/users" --node $node --moment 0
+            "$oathd" init "$work/node$node.db" "$work/users" --node $node --cluster "$work/cluster" --moment 0
         done
     )
-    front_key=7:$work/front.key
+    front_key=7:$work/front.key ask_key=8:$work/ask.key
     for node in 1 2 3; do
         start_node $node
     done
@@ -189,12 +200,12 @@ make_cluster() {
 # Whether a node answers. It has to be running.
 answers() {
     kill -0 "${pids[$1]}" || { echo "$site: node $1 has ended" >&2; exit 1; }
-    [ "$("$top/examples/clients/ask.py" ${front_key:+--key-file "$front_key"} 'CHECK up nobody 000000 -' \
+    [ "$("$top/examples/clients/ask.py" ${ask_key:+--key-file "$ask_key"} 'CHECK up nobody 000000 -' \
         "$1=127.0.0.1:${port[$1 - 1]}" 2> /dev/null)" = 'NO up UNKNOWN' ]
 }
 
 start_node() {
-    "$oathd" serve "$work/node$1.db" "$work/users" --node "$1" --key "${2:-$work/key}" --members "$nodes" \
+    "$oathd" serve "$work/node$1.db" "${3:-$work/users}" --node "$1" --cluster "${2:-$work/cluster}" \
         --clients "$work/clients" --forever &
     pids[$1]=$!
     await answers "$1"
