@@ -10,7 +10,8 @@ use Rattle.node_log.specs.declared.bad_lines.BadLines.{BadLines}
 abbrev pub new_second : BadLines
 new_second = record { quiets = 0; number = 0 }
 
--- whether an answer says that a plain line is outside the grammar; clients of the clients file have numbers from 2^48 on
+-- whether an answer says that a plain line is outside the grammar; a client of the clients file has a number of at
+-- least 2^48
 abbrev pub is_bad_line : ℕ → List ℕ → Bool
 is_bad_line client answer = nat_lt client (2 ^ 48) && bytes_eq answer (codes "NO - BADLINE")
 

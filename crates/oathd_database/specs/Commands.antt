@@ -95,8 +95,8 @@ module _ {S : Type 0} (g : Ghosts S) (finds : sql.Held S → Type 0) where
     pub kept : KeepsTables g found store
     pub written : HasCleanDisk (sql.state g store.conn) → WritesAudit g store old new
 
-  -- A node was opened over its store and served for the given turns, or until the fault that ended them. The store is in
-  -- some database and has the tokens of the users file.
+  -- A node was opened over its store and served for the given turns, or until the fault that ended them. The store is
+  -- in some database and has the tokens of the users file.
   pub record HasServed (serving : Serving) (result : Result Served Fault) (text : List ℕ) : Type 0 where
     pub import : HasImport serving.settings 0 16777216 text
     pub found : SqlHeld S

@@ -18,10 +18,13 @@ use Rattle.oathd_tasks.specs.Notes.{shown}
 
 -- the advice for a fault of a users file, by whether the secret is base32
 abbrev pub users_advice : users_line.LineFault → Bool → List ℕ
-users_advice users.BadSecret true = codes "the secret is base32, and oathd reads hexadecimal: oathtool -v -b SECRET of OATH Toolkit prints it so"
+users_advice users.BadSecret true =
+    codes "the secret is base32, and oathd reads hexadecimal: oathtool -v -b SECRET of OATH Toolkit prints it so"
 users_advice users.BadSecret false = codes "a secret has 2 to 256 hexadecimal digits, two for each byte"
-users_advice users.MissingField is_base32 = codes "a row has a type, a user, a password column (- for none) and a secret"
-users_advice users.BadCounter is_base32 = codes "the counter of an event token has 1 to 19 decimal digits, and is at most 4611686018427387904"
+users_advice users.MissingField is_base32 =
+    codes "a row has a type, a user, a password column (- for none) and a secret"
+users_advice users.BadCounter is_base32 =
+    codes "the counter of an event token has 1 to 19 decimal digits, and is at most 4611686018427387904"
 users_advice users.DuplicateUser is_base32 = codes "one token for each user, and an earlier row has this one"
 users_advice users.NameTooLong is_base32 = codes "a user and a password column have 1 to 64 bytes"
 users_advice users.TooMany is_base32 = codes "a users file has at most 10000 tokens"

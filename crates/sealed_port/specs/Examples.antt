@@ -53,10 +53,11 @@ abbrev pub gate_at : WindowRecord → List AskedRecord → GateRecord
 gate_at window asked =
     record { node = 2; clients = client_at 258 window ∷ []; plain = 2130706433 ∷ []; asked = asked; failures = no_limit }
 
--- the gate before it opened anything, and after it opened the line
+-- the gate before it opened anything
 abbrev pub first_gate : GateRecord
 first_gate = gate_at (window_at 0 []) []
 
+-- the gate after it opened the line
 abbrev pub later_gate : GateRecord
 later_gate = gate_at (window_at 0 (1000000 ∷ [])) (asked_line ∷ [])
 
@@ -72,15 +73,18 @@ passed_at address = record { now = None; address = address; bytes = [] }
 abbrev pub life_at : ℕ → GateLife
 life_at low = record { gate = gate_at (window_at low []) []; steps = Comes (Some 10) 7 [] ∷ [] }
 
--- the makings of the client's line and of node 2's answer to it, and the key
+-- the making of the client's line
 abbrev pub line_making : Making
 line_making = record { bound = []; head = line_head; text = check_line }
 
+-- the making of node 2's answer to the line
 abbrev pub answer_making : Making
 answer_making = record { bound = line_tag; head = answer_head; text = codes "OK k1 0" }
 
+-- both, the line first
 abbrev pub two_makings : List Making
 two_makings = line_making ∷ answer_making ∷ []
 
+-- the key of client 258
 abbrev pub zeros : List ℕ
 zeros = replicate 32 0

@@ -15,8 +15,8 @@ use Rattle.sealed_port.specs.Failures.{FailuresRecord, failures_after, failures_
 use Rattle.sealed_port.specs.Asked.{AskedRecord, clashes, line_at, nonce_in, nonce_of, place_of, remembered, without}
 use Rattle.sealed_port.specs.declared.client.Client.{Client}
 
--- A gate: its node, the clients that share a key with it, the plain IPv4 addresses, the lines without an answer, and the
--- failures of clients. Clients at a plain address may speak plainly.
+-- A gate: its node, the clients that share a key with it, the plain IPv4 addresses, the lines without an answer, and
+-- the failures of clients. Clients at a plain address may speak plainly.
 pub record GateRecord : Type 0 where
   pub node : ℕ
   pub clients : List Client
@@ -95,8 +95,8 @@ ruling_on gate (Some now) (Ok line) =
     else Err (cause_at gate now line)
 
 -- The ruling of a gate on a datagram, with what the clock tells. The gate opens a line that is sealed under the key of
--- the client that it names, and for the gate's node. The window of the client admits its moment, and the failures of the
--- client are below the limit.
+-- the client that it names, and for the gate's node. The window of the client admits its moment, and the failures of
+-- the client are below the limit.
 abbrev pub ruling : GateRecord → Option ℕ → List ℕ → Result SealedLine Cause
 ruling gate now bytes = ruling_on gate now (sealed_line gate bytes)
 

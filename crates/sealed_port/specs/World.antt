@@ -48,9 +48,9 @@ GatesAnswer key made client =
     (making : Making) → IsMade made making → making.head.kind ≡ Answer → WasSealed key made client making
 
 -- A datagram is the node's answer to a client's line. In one run, which began without a remembered line, the gate of
--- the line's node opened exactly the line at its moment, and then sealed the datagram. The datagram is the node's answer
--- to the line's client, with the line's nonce. It goes to the address that the line came from. Its head repeats the
--- line's.
+-- the line's node opened exactly the line at its moment, and then sealed the datagram. The datagram is the node's
+-- answer to the line's client, with the line's nonce. It goes to the address that the line came from. Its head repeats
+-- the line's.
 pub record IsAnswered (line : Making) (head : Head) (answer bytes : List ℕ) : Type 0 where
   pub gate : GateRecord
   pub steps : List Step

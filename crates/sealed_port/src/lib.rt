@@ -3,8 +3,8 @@
 //! A [`SealedPort`] is a node's port over another one. It passes on the line of a client's datagram if the line is for
 //! the node and comes for the first time. The line must be sealed under the key of the client that it names. The port
 //! passes over any other datagram of a client: it makes no turn, ends no wait and gets no answer. The port counts it by
-//! its [`Cause`]. It seals an answer under the same key and binds it to the line. Members' datagrams pass unchanged, and
-//! so do those of clients that may speak plainly.
+//! its [`Cause`]. It seals an answer under the same key and binds it to the line. Members' datagrams pass unchanged,
+//! and so do those of clients that may speak plainly.
 #![tactic(auto)]
 
 mod asked;

@@ -16,8 +16,8 @@ polled_of (Some QuietReceive) = None
 polled_of (Some Fault) = Some Fault
 polled_of (Some (Datagram sender len)) = Some (Datagram sender len)
 
--- The events of a call with its buffer, at a port with the given members. A datagram that the port passes over has none.
--- A poll that found nothing has none.
+-- The events of a call with its buffer, at a port with the given members. A datagram that the port passes over has
+-- none. A poll that found nothing has none.
 abbrev pub events_of_call : Bool → Bool → List SocketAddrV4 → Call × List ℕ → List PortEvent
 events_of_call skips alone members (Hear true heard, buffer) =
     entries_of_poll (receipt_of skips alone members heard buffer) buffer
