@@ -6,14 +6,14 @@
 
 With a key, which WAKDULG_KEY_FILE may name too, the line is sealed for each node: the nodes stand in the order of their
 numbers, from 1 on, or each has its number before it, as 2=ADDRESS:PORT.
-LINE is `CHECK nonce user code password` or `RESYNC nonce user code next-code password`. With `-` it is the first line
-of standard input: the words of a command are seen by every user of the machine. A line with a field less has no nonce,
-and a random one is put into it. The line is the same for each node, so that its code is used up once at most. A
-node is sent it twice, the second time where no answer came within a second, and is left after 2.5 seconds, or at once
-where the system tells that nobody is there or no way leads there. TIMEOUT, BUSY and CLOCK are about the node, so the
-next one is asked; any other answer decides. What is no answer to this very line is passed over.
+LINE is `CHECK nonce user code password` or `RESYNC nonce user code next-code password`. Without a nonce, ask.py puts
+in a random one. With `-` the line is the first one of standard input, since every user of the machine sees the
+words of a command. The line is the same for each node, so that its code is used up once at most.
 
-It asks by wakdulg.py, which lies beside it.
+ask.py sends a node the line, and sends it again if no answer comes within a second. It leaves the node after 2.5
+seconds, or at once if the system reports that nobody is there or that no route leads there. After TIMEOUT, BUSY and
+CLOCK, which are about the node, it asks the next one. Any other answer decides. It ignores all that is no answer to
+this line. It asks by wakdulg.py, which lies beside it.
 """
 import os
 import re
