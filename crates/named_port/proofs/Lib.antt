@@ -1,0 +1,5 @@
+pub mod MemberLemmas
+pub mod NamesLemmas
+pub mod WireLemmas
+pub mod RunLemmas
+pub mod SpellingLemmas

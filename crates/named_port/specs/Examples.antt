@@ -1,0 +1,86 @@
+-- Two nodes with their books, and their datagrams. The tags are by Python's hmac.
+use Rattle.std.specs.Prelude.{ℕ, List, [], ◌∷◌, ◌++◌, replicate, drop, Option, Some}
+use Rattle.datagram_port.specs.Port.{PortEvent, Received}
+use Rattle.datagram_port.specs.declared.port.Sender.TheVariants.{Peer}
+use Rattle.named_wire.specs.declared.head.Head.{Head}
+use Rattle.named_wire.specs.declared.head.Kind.{Kind}
+use Rattle.named_wire.specs.declared.head.Kind.TheVariants.{Floor}
+use Rattle.vote_wire.specs.Examples.{ask_body, ask_tag, eight_bytes}
+use Rattle.named_port.specs.Translator.{TranslatorRecord, new_translator}
+use Rattle.named_port.specs.declared.translator.Older.{Older}
+
+-- a key of 32 zeros
+abbrev pub zeros : List ℕ
+zeros = replicate 32 0
+
+-- the name of a token: sixteen times the byte
+abbrev pub name_with : ℕ → List ℕ
+name_with byte = replicate 16 byte
+
+-- the names of node 1's book, and of node 2's, in other orders
+abbrev pub names_of_1 : List (List ℕ)
+names_of_1 = name_with 0xaa ∷ name_with 0xcc ∷ []
+
+abbrev pub names_of_2 : List (List ℕ)
+names_of_2 = name_with 0xbb ∷ name_with 0xaa ∷ []
+
+-- node 1 in its boot 2, which has heard nobody
+abbrev pub node_1 : TranslatorRecord
+node_1 = new_translator zeros names_of_1 1 2
+
+-- node 2 in its boot 5, which has heard nobody
+abbrev pub node_2 : TranslatorRecord
+node_2 = new_translator zeros names_of_2 2 5
+
+-- node 2 after it heard node 1 in a boot, and node 3 in another one
+abbrev pub node_2_after : ℕ → ℕ → TranslatorRecord
+node_2_after one three = record node_2 { heard = 0 ∷ one ∷ 0 ∷ three ∷ replicate 6 0 }
+
+-- the Ask of node 1 for node 2 about the first token of its book
+abbrev pub numbered_ask : List ℕ
+numbered_ask = ask_body ++ ask_tag
+
+-- the same with the name, from node 1 in boot 2
+abbrev pub named_ask_front : List ℕ
+named_ask_front =
+    0x4f ∷ 0x56 ∷ 3 ∷ 1 ∷ 1 ∷ 2 ∷ eight_bytes 2 ++ name_with 0xaa ++ drop 10 ask_body
+
+abbrev pub named_ask : List ℕ
+named_ask = named_ask_front
+    ++ 0xa7 ∷ 0xef ∷ 0x2a ∷ 0x81 ∷ 0x90 ∷ 0xa3 ∷ 0x8d ∷ 0x40 ∷ 0x96 ∷ 0x4c ∷ 0x60 ∷ 0x69 ∷ 0x24 ∷ 0x2b ∷ 0xd6 ∷ 0x1d ∷ []
+
+-- the same for node 2, which has the token at the second row of its book
+abbrev pub renumbered_ask : List ℕ
+renumbered_ask =
+    0x4f ∷ 0x56 ∷ 2 ∷ 1 ∷ 1 ∷ 2 ∷ 0 ∷ 0 ∷ 0 ∷ 1 ∷ drop 10 ask_body
+    ++ 0x3a ∷ 0x08 ∷ 0xcb ∷ 0xe2 ∷ 0x62 ∷ 0xb8 ∷ 0x88 ∷ 0x7c ∷ 0xf0 ∷ 0x6b ∷ 0x4e ∷ 0x1a ∷ 0xd3 ∷ 0xee ∷ 0x8a ∷ 0x08 ∷ []
+
+-- the head of a datagram of a kind from a member in a boot to node 2
+abbrev pub floor_head : Kind → ℕ → ℕ → Head
+floor_head kind member boot = record { kind = kind; from = member; to = 2; boot = boot }
+
+-- the body of a Floor of node 2's first token
+abbrev pub floor_body : List ℕ
+floor_body = name_with 0xbb ++ eight_bytes 4
+
+-- what is read of a Floor from a member in a boot to node 2
+abbrev pub floor_from : ℕ → ℕ → Option (Head × List ℕ)
+floor_from member boot = Some (floor_head Floor member boot, floor_body)
+
+-- the Floor of member 3 in boot 7
+abbrev pub floor_7 : List ℕ
+floor_7 = 0x4f ∷ 0x56 ∷ 3 ∷ 4 ∷ 3 ∷ 2 ∷ eight_bytes 7 ++ floor_body
+    ++ 0x8b ∷ 0x0c ∷ 0xeb ∷ 0xaa ∷ 0x09 ∷ 0xe8 ∷ 0x93 ∷ 0x05 ∷ 0x1e ∷ 0x98 ∷ 0x7f ∷ 0xfc ∷ 0x4f ∷ 0xb3 ∷ 0x85 ∷ 0x9b ∷ []
+
+-- the Floor of member 3 in boot 6
+abbrev pub floor_6 : List ℕ
+floor_6 = 0x4f ∷ 0x56 ∷ 3 ∷ 4 ∷ 3 ∷ 2 ∷ eight_bytes 6 ++ floor_body
+    ++ 0xbb ∷ 0x3c ∷ 0xae ∷ 0xfd ∷ 0xa4 ∷ 0x53 ∷ 0x01 ∷ 0xd8 ∷ 0xa3 ∷ 0xb6 ∷ 0xc0 ∷ 0x74 ∷ 0xf2 ∷ 0x54 ∷ 0xf6 ∷ 0x64 ∷ []
+
+-- a datagram comes from member 3
+abbrev pub from_3 : List ℕ → PortEvent
+from_3 bytes = Received (Peer 3) bytes
+
+-- the last dropped datagram
+abbrev pub older : ℕ → ℕ → Option Older
+older member boot = Some (record { member = member; boot = boot })

@@ -1,0 +1,6 @@
+pub mod Names
+pub mod Wire
+pub mod Translator
+pub mod Port
+pub mod Runs
+pub mod Examples

@@ -1,0 +1,61 @@
+-- The events of the port below in an execution, and the boots that they tell of members.
+use Rattle.std.specs.Prelude.{◌≡◌, ℕ, ◌≤◌, ◌==◌, max, true, if◌then◌else◌, List, [], ◌∷◌, drop, take, slice_get, Option, Some, None}
+use Rattle.datagram_port.specs.Port.{PortEvent, Received, Quiet, Faulted, Offered}
+use Rattle.datagram_port.specs.declared.port.Sender.TheVariants.{Client, Peer}
+use Rattle.named_wire.specs.Datagram.{datagram_at}
+use Rattle.named_wire.specs.declared.head.Head.{Head}
+use Rattle.vote_core.specs.declared.message.Message.{Message}
+use Rattle.named_port.specs.Translator.{TranslatorRecord, after_event, between}
+use Rattle.named_port.specs.Wire.{is_of_one_token, named_bytes, numbered_bytes, token_of}
+
+-- the boot of a head, or 0
+abbrev pub boot_of : Option (Head × List ℕ) → ℕ
+boot_of None = 0
+boot_of (Some read) = read.0.boot
+
+-- The boot that an event tells of a member: that of a datagram which the member sent to the node `me`, with a right
+-- tag. Any other event tells 0.
+abbrev pub boot_told : List ℕ → ℕ → ℕ → PortEvent → ℕ
+boot_told key me member (Received (Peer number) bytes) =
+    if number == member then boot_of (between number me (datagram_at key bytes)) else 0
+boot_told key me member (Received (Client number) bytes) = 0
+boot_told key me member Quiet = 0
+boot_told key me member Faulted = 0
+boot_told key me member (Offered to bytes) = 0
+
+-- the greatest boot that the events tell of a member
+abbrev pub greatest_boot : List ℕ → ℕ → ℕ → List PortEvent → ℕ
+greatest_boot key me member [] = 0
+greatest_boot key me member (event ∷ events) = max (boot_told key me member event) (greatest_boot key me member events)
+
+-- the translator after events of the port below, in order
+abbrev pub after_events : TranslatorRecord → List PortEvent → TranslatorRecord
+after_events translator [] = translator
+after_events translator (event ∷ events) = after_events (after_event translator event) events
+
+-- Bytes that were handed to the node `me` as a datagram of a member: the translation of an event. The event is a
+-- datagram from the member, under the key, that the member sent to the node in a boot. No earlier event told a greater
+-- boot of the member. The book has the datagram's name, and the bytes have its number and the same fields.
+pub record IsTranslated (key : List ℕ) (names : List (List ℕ)) (me : ℕ) (before : List PortEvent) (event : PortEvent)
+    (member : ℕ) (bytes : List ℕ) : Type 0 where
+  pub named : List ℕ
+  pub event_is : event ≡ Received (Peer member) named
+  pub head : Head
+  pub body : List ℕ
+  pub reads : datagram_at key named ≡ Some (head, body)
+  pub from_is : head.from ≡ member
+  pub to_is : head.to ≡ me
+  pub boot_is : greatest_boot key me member before ≤ head.boot
+  pub one_token : is_of_one_token head.kind ≡ true
+  pub number : ℕ
+  pub name_is : slice_get names number ≡ Some (take 16 body)
+  pub bytes_are : Some bytes ≡ numbered_bytes key head (drop 16 body) (Some number)
+
+-- A named datagram of a head says by name what a message says by number.
+pub record IsNamedOf (key : List ℕ) (names : List (List ℕ)) (head : Head) (bytes : List ℕ) (from to : ℕ)
+    (message : Message) : Type 0 where
+  pub name : List ℕ
+  pub name_is : slice_get names (token_of message) ≡ Some name
+  pub bytes_are : bytes ≡ named_bytes key head.boot from to name message
+  pub from_is : from ≡ head.from
+  pub to_is : to ≡ head.to

@@ -1,0 +1,49 @@
+ghost use Rattle.std.specs.Prelude.{◌≡◌, ◌<◌, ◌≤◌, ◌^◌, ◌∷◌, ◌++◌, [], ℕ, List, Some, length, slice_get, slice_index};
+ghost use Rattle.datagram_port.specs.Port.{PortEvent, Received};
+ghost use Rattle.datagram_port.specs.declared.port.Sender.TheVariants.{Peer};
+ghost use Rattle.named_wire.specs.Bytes.{AreBytes};
+ghost use Rattle.named_wire.specs.Datagram as named_spec;
+ghost use Rattle.named_wire.specs.declared.head.Head.{Head};
+ghost use Rattle.token_names.specs.Names.{AreDistinct};
+ghost use Rattle.vote_core.specs.declared.message.Message.{Message};
+ghost use Rattle.vote_wire.specs.Body.{HasSpelling};
+ghost use Rattle.vote_wire.specs.Datagram.{datagram_at, datagram_bytes};
+ghost use Rattle.named_port.specs.Runs.{IsNamedOf, IsTranslated, after_events, greatest_boot};
+ghost use Rattle.named_port.specs.Translator.{handed_in, new_translator};
+ghost use Rattle.named_port.specs.Wire.{named_at, named_bytes, numbered_at, numbered_of, token_of};
+
+/// One spelling: a message has one numbered and one named datagram, and each is the translation of the other.
+///
+/// If a node reads a message in the numbered datagram of a named one, the named one says the same by name.
+pub fn named_one_spelling()
+    ensures named { (key name : List ℕ) (names : List (List ℕ)) (boot from to : ℕ) (message : Message) →
+        HasSpelling from to message → slice_get names (token_of message) ≡ Some name →
+        named_at key names boot (datagram_bytes key from to message)
+        ≡ Some (named_bytes key boot from to name message) }
+    ensures numbered { (key name : List ℕ) (names : List (List ℕ)) (boot from to : ℕ) (message : Message) →
+        HasSpelling from to message → boot < 2 ^ 64 → length name ≡ 16 → AreDistinct names →
+        slice_get names (token_of message) ≡ Some name →
+        numbered_at key names (named_bytes key boot from to name message)
+        ≡ Some (datagram_bytes key from to message) }
+    ensures read { (key bytes body out : List ℕ) (names : List (List ℕ)) (head : Head) (from to : ℕ)
+        (message : Message) → length names ≤ 10000 → AreBytes bytes →
+        named_spec.datagram_at key bytes ≡ Some (head, body) → numbered_of key names head body ≡ Some out →
+        datagram_at key out ≡ Some (from, to, message) → IsNamedOf key names head bytes from to message }
+{}
+
+/// Boots: a translator's boot of a member is the greatest one that the member's datagrams told it, in every execution.
+pub fn boots_are_the_greatest()
+    ensures { (key : List ℕ) (names : List (List ℕ)) (me boot member : ℕ) (events : List PortEvent) →
+        slice_index (after_events (new_translator key names me boot) events).heard member
+        ≡ greatest_boot key me member events }
+{}
+
+/// Translations: each datagram of a member that is handed in with bytes is the translation of one that came from it.
+///
+/// The datagram is under the key, and from the member to the node. No earlier event told a greater boot of the member.
+pub fn what_is_handed_in_came()
+    ensures { (key bytes : List ℕ) (names : List (List ℕ)) (me boot member : ℕ) (before : List PortEvent)
+        (event : PortEvent) →
+        handed_in (after_events (new_translator key names me boot) before) event ≡ Received (Peer member) bytes →
+        (bytes ≡ [] → ⊥) → IsTranslated key names me before event member bytes }
+{}

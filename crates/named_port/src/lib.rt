@@ -1,0 +1,27 @@
+//! A port that speaks to members of tokens by their names, and to its node by the numbers of its own book.
+//!
+//! A [`NamedPort`] is a node's port over another one. A node and its port speak in numbered datagrams, of version 2,
+//! under the cluster's key. Members speak in named datagrams, of version 3, under the same key. The port translates one
+//! datagram into one. It hands a member's datagram without a translation to the node as one without bytes, which the
+//! node drops. So it drops a datagram whose head has an older boot than its member was heard in ([`Older`]). Clients'
+//! datagrams pass unchanged.
+#![tactic(auto)]
+
+mod laws;
+mod names;
+mod port;
+mod record;
+#[cfg(test)]
+mod tests;
+mod translator;
+mod wire;
+mod worked;
+
+pub use laws::{boots_are_the_greatest, named_one_spelling, what_is_handed_in_came};
+pub use names::Names;
+pub use port::NamedPort;
+pub use translator::{Older, Translator};
+pub use wire::{MAX_NUMBERED_LEN, named, numbered};
+pub use worked::{
+    boots_are_worked, events_are_worked, receives_can_be_broken, translations_are_worked,
+};

@@ -1,0 +1,130 @@
+//! The translation of members' datagrams, by the book of a node.
+
+ghost use Rattle.std.specs.Option.{option_map};
+ghost use Rattle.std.specs.Prelude.{◌≡◌, ◌<◌, None, IfSome};
+ghost use Rattle.named_port.specs.Translator.{after_read, new_translator, sent_by, translated};
+ghost use Rattle.named_port.specs.Wire.{named_at};
+
+use crate::names::Names;
+use crate::wire::{MAX_NUMBERED_LEN, named, numbered};
+use arrayvec::ArrayVec;
+use named_wire::{Head, MAX_DATAGRAM_LEN, read_datagram};
+use std::marker::Model;
+use vote_wire::ClusterKey;
+
+/// The number of places for the boots of members: member 0, which there is not, to member 9.
+const PLACES: usize = 10;
+
+/// A dropped datagram of an older boot than its member was heard in.
+#[derive(Clone, Copy, Debug, PartialEq, Eq)]
+pub struct Older {
+    /// The member.
+    pub member: u8,
+    /// The boot of the datagram.
+    pub boot: u64,
+}
+
+/// The translation of a node's datagrams to the other members, and of theirs to the node.
+#[derive(Drop)]
+pub struct Translator<'k> {
+    key: &'k ClusterKey,
+    names: &'k Names,
+    me: u8,
+    boot: u64,
+    heard: [u64; PLACES],
+    older: Option<Older>,
+}
+
+impl<'k> Model for Translator<'k> {
+    ghost use Rattle.std.specs.Prelude.{◌≡◌, length};
+    ghost use Rattle.named_port.specs.Translator.{TranslatorRecord};
+
+    ghost Value = { TranslatorRecord };
+
+    ghost view = { λ translator. record {
+      key = translator.key.now;
+      names = translator.names.now;
+      me = translator.me;
+      boot = translator.boot;
+      heard = translator.heard;
+      older = translator.older;
+    } };
+}
+
+impl<'k> Translator<'k> {
+    /// Returns a translator for the node `me` in `boot`, with the names of the node's book. It has heard no member.
+    pub fn new(key: &'k ClusterKey, names: &'k Names, me: u8, boot: u64) -> Self
+        ensures { result ≡ new_translator key.now names.now me boot }
+    {
+        Translator {
+            key,
+            names,
+            me,
+            boot,
+            heard: [0; PLACES],
+            older: None,
+        }
+    }
+
+    /// Returns the last dropped datagram of an older boot since the last call, or None.
+    pub fn take_older(&mut self) -> Option<Older>
+        ensures older { result ≡ self.old.older }
+        ensures others { self.new ≡ record self.old { older = None } }
+    {
+        self.older.take()
+    }
+
+    /// Returns the greatest boot of each member that the translator heard, from member 0 to 9. A member that it didn't
+    /// hear has 0.
+    pub fn heard(&self) -> [u64; PLACES]
+        ensures { result ≡ self.now.heard }
+    {
+        self.heard
+    }
+
+    /// Returns the named datagram of the node's numbered one, or None.
+    pub(crate) fn named(&self, bytes: &[u8]) -> Option<ArrayVec<u8, MAX_DATAGRAM_LEN>>
+        ensures { option_map (λ out. out.items) result
+            ≡ named_at self.now.key self.now.names self.now.boot bytes.now }
+    {
+        named(self.key, self.names, self.boot, bytes)
+    }
+
+    /// Returns the head and the body of a datagram that `member` sent to the node, or None.
+    fn sent_by<'a>(&self, member: u8, bytes: &'a [u8]) -> Option<(Head, &'a [u8])>
+        ensures read { option_map (λ read. (read.0, read.1.now)) result ≡ sent_by self.now member bytes.now }
+        ensures member { IfSome result (λ read. read.0.from < 10) }
+    {
+        let (head, body) = read_datagram(self.key, bytes)?;
+        if head.from == member && head.to == self.me {
+            return Some((head, body));
+        }
+        None
+    }
+
+    /// Returns the numbered datagram of a datagram that came from `member`, and remembers the boot of its head.
+    ///
+    /// Returns None if it is no datagram of one token that the member sent to the node, if its boot is below the
+    /// greatest one that the member was heard in, or if the book has no token with its name.
+    pub(crate) fn numbered(
+        &mut self,
+        member: u8,
+        bytes: &[u8],
+    ) -> Option<ArrayVec<u8, MAX_NUMBERED_LEN>>
+        ensures translated { option_map (λ out. out.items) result
+            ≡ translated self.old (sent_by self.old member bytes.now) }
+        ensures after { self.new ≡ after_read self.old (sent_by self.old member bytes.now) }
+    {
+        let (head, body) = self.sent_by(member, bytes)?;
+        let place = usize::from(head.from);
+        if head.boot < self.heard[place] {
+            self.older = Some(Older {
+                member: head.from,
+                boot: head.boot,
+            });
+            return None;
+        }
+        self.heard[place] = head.boot;
+        numbered(self.key, self.names, head, body)
+    }
+}

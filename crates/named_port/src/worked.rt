@@ -1,0 +1,101 @@
+ghost use Rattle.std.specs.Prelude.{◌≡◌, [], ◌∷◌, ◌++◌, Some, None, codes, false, map, replicate, slice_set, take, true};
+ghost use Rattle.datagram_port.specs.Port.{Faulted, Offered, Quiet, Received};
+ghost use Rattle.datagram_port.specs.declared.port.Sender.TheVariants.{Client, Peer};
+ghost use Rattle.named_wire.specs.declared.head.Head.{Head};
+ghost use Rattle.named_wire.specs.declared.head.Kind.TheVariants.{Floor, Floors};
+ghost use Rattle.vote_wire.specs.Examples.{ask_body};
+ghost use Rattle.named_port.specs.Examples.{floor_6, floor_7, floor_from, floor_head, from_3, name_with, named_ask, names_of_1, names_of_2, node_1, node_2, node_2_after, numbered_ask, older, renumbered_ask, zeros};
+ghost use Rattle.named_port.specs.Names.{number_of};
+ghost use Rattle.named_port.specs.Port.{Polls, Receives};
+ghost use Rattle.named_port.specs.Runs.{after_events, boot_told, greatest_boot};
+ghost use Rattle.named_port.specs.Translator.{after_event, after_read, between, handed_in, offered, translated};
+ghost use Rattle.named_port.specs.Wire.{is_named, is_numbered, named_at, numbered_at, numbered_of};
+
+/// Worked cases. An Ask of node 1 with the number of its token, with the name, and with the number at node 2.
+pub fn translations_are_worked()
+    ensures numbers { map (number_of names_of_2) (name_with 0xbb ∷ name_with 0xaa ∷ name_with 0xcc ∷ [])
+        ≡ Some 0 ∷ Some 1 ∷ None ∷ [] }
+    ensures named { named_at zeros names_of_1 2 numbered_ask ≡ Some named_ask }
+    ensures numbered { numbered_at zeros names_of_2 named_ask ≡ Some renumbered_ask }
+    ensures back { numbered_at zeros names_of_1 named_ask ≡ Some numbered_ask }
+    ensures key { numbered_at (replicate 32 1) names_of_2 named_ask ≡ None }
+    ensures no_name { numbered_at zeros (name_with 0xbb ∷ name_with 0xcc ∷ []) named_ask ≡ None }
+    ensures no_number { named_at zeros [] 2 numbered_ask ≡ None }
+    ensures no_tag { map (named_at zeros names_of_1 2) ([] ∷ replicate 15 0 ∷ []) ≡ None ∷ None ∷ [] }
+    ensures kinds { map (λ kind. named_at zeros names_of_1 2 (slice_set numbered_ask 3 kind)) (0 ∷ 5 ∷ 6 ∷ [])
+        ≡ None ∷ None ∷ None ∷ [] }
+    ensures lengths { map (λ len. is_numbered (take len (ask_body ++ 0 ∷ []))) (17 ∷ 18 ∷ 43 ∷ 44 ∷ [])
+        ≡ false ∷ true ∷ true ∷ false ∷ [] }
+    ensures marks { map (λ place. is_numbered (slice_set ask_body place 3)) (0 ∷ 1 ∷ 2 ∷ 3 ∷ [])
+        ≡ false ∷ false ∷ false ∷ true ∷ [] }
+    ensures bodies { map (λ len. is_named (floor_head Floor 3 7) (replicate len 0)) (23 ∷ 24 ∷ 49 ∷ 50 ∷ [])
+        ≡ false ∷ true ∷ true ∷ false ∷ [] }
+    ensures several { numbered_of zeros names_of_2 (floor_head Floors 3 7) (name_with 0xbb ++ replicate 8 0) ≡ None }
+{}
+
+/// Worked cases. The boots of members 1 and 3 at node 2.
+pub fn boots_are_worked()
+    ensures first { after_read node_2 (floor_from 3 7) ≡ node_2_after 0 7 }
+    ensures equal { after_read (node_2_after 0 7) (floor_from 3 7) ≡ node_2_after 0 7 }
+    ensures greater { after_read (node_2_after 0 7) (floor_from 3 8) ≡ node_2_after 0 8 }
+    ensures older { after_read (node_2_after 0 7) (floor_from 3 6) ≡ record (node_2_after 0 7) { older = older 3 6 } }
+    ensures older_after_greater { after_read (after_read (node_2_after 0 7) (floor_from 3 8)) (floor_from 3 7)
+        ≡ record (node_2_after 0 8) { older = older 3 7 } }
+    ensures members_apart { after_read (node_2_after 0 7) (floor_from 1 6) ≡ node_2_after 6 7 }
+    ensures unread { after_read (node_2_after 0 7) None ≡ node_2_after 0 7 }
+
+    ensures equal_is_taken { translated (node_2_after 0 7) (floor_from 3 7) ≡ translated node_2 (floor_from 3 7) }
+    ensures other_is_taken { translated (node_2_after 0 7) (floor_from 1 6) ≡ translated node_2 (floor_from 1 6) }
+    ensures older_is_dropped { translated (node_2_after 0 7) (floor_from 3 6) ≡ None }
+    ensures unread_is_dropped { translated (node_2_after 0 7) None ≡ None }
+
+    ensures sent { between 3 2 (floor_from 3 7) ≡ floor_from 3 7 }
+    ensures sent_by_another { between 1 2 (floor_from 3 7) ≡ None }
+    ensures sent_to_another { between 3 1 (floor_from 3 7) ≡ None }
+{}
+
+/// Worked cases. Events of the port below, what is handed in for them, and offers.
+pub fn events_are_worked()
+    ensures handed { handed_in node_2 (Received (Peer 1) named_ask) ≡ Received (Peer 1) renumbered_ask }
+    ensures heard { after_event node_2 (Received (Peer 1) named_ask) ≡ node_2_after 2 0 }
+    ensures older { handed_in (node_2_after 3 0) (Received (Peer 1) named_ask) ≡ Received (Peer 1) [] }
+    ensures older_is_noted { after_event (node_2_after 3 0) (Received (Peer 1) named_ask)
+        ≡ record (node_2_after 3 0) { older = older 1 2 } }
+    ensures by_another { handed_in node_2 (Received (Peer 3) named_ask) ≡ Received (Peer 3) [] }
+    ensures by_another_is_unheard { after_event node_2 (Received (Peer 3) named_ask) ≡ node_2 }
+    ensures version_2 { handed_in node_2 (Received (Peer 1) numbered_ask) ≡ Received (Peer 1) [] }
+    ensures unchanged { map (handed_in node_2)
+        (Received (Client 1) named_ask ∷ Quiet ∷ Faulted ∷ Offered (Peer 1) named_ask ∷ [])
+        ≡ Received (Client 1) named_ask ∷ Quiet ∷ Faulted ∷ Offered (Peer 1) named_ask ∷ [] }
+    ensures unheard { map (after_event node_2)
+        (Received (Client 1) named_ask ∷ Quiet ∷ Faulted ∷ Offered (Peer 1) named_ask ∷ []) ≡ replicate 4 node_2 }
+
+    ensures offered { offered node_1 (Peer 2) numbered_ask ≡ Offered (Peer 2) named_ask ∷ [] }
+    ensures offered_without_name { offered node_1 (Peer 2) (slice_set numbered_ask 9 2) ≡ [] }
+    ensures offered_to_client { offered node_1 (Client 2) numbered_ask ≡ Offered (Client 2) numbered_ask ∷ [] }
+
+    // a Floor of member 3 in boot 7, and one in boot 6
+    ensures run { after_events node_2 (from_3 floor_7 ∷ from_3 floor_6 ∷ [])
+        ≡ record (node_2_after 0 7) { older = older 3 6 } }
+    ensures greatest { greatest_boot zeros 2 3 (from_3 floor_7 ∷ from_3 floor_6 ∷ []) ≡ 7 }
+    ensures greatest_at_last { greatest_boot zeros 2 3 (from_3 floor_6 ∷ from_3 floor_7 ∷ []) ≡ 7 }
+    ensures none_of_another { greatest_boot zeros 2 1 (from_3 floor_7 ∷ from_3 floor_6 ∷ []) ≡ 0 }
+    ensures none_to_another { greatest_boot zeros 1 3 (from_3 floor_7 ∷ from_3 floor_6 ∷ []) ≡ 0 }
+    ensures none_by_others { map (boot_told zeros 2 3) (Received (Client 3) floor_7 ∷ Quiet ∷ Faulted
+        ∷ Offered (Peer 3) floor_7 ∷ Received (Peer 1) floor_7 ∷ []) ≡ replicate 5 0 }
+{}
+
+/// Counterexamples: each promise of a receive and of a poll fails for a minimal one.
+pub fn receives_can_be_broken()
+    ensures receives { Receives (Some []) (Some (Quiet ∷ [])) node_2 node_2 Quiet }
+    ensures receives_client { Receives (Some []) (Some (Received (Client 1) (codes "CHECK") ∷ [])) node_2 node_2
+        (Received (Client 1) (codes "CHECK")) }
+    ensures unrecorded { Receives (Some []) (Some []) node_2 node_2 Quiet → ⊥ }
+    ensures recorded_twice { Receives (Some []) (Some (Quiet ∷ Quiet ∷ [])) node_2 node_2 Quiet → ⊥ }
+    ensures another_event { Receives (Some []) (Some (Quiet ∷ [])) node_2 node_2 Faulted → ⊥ }
+    ensures another_translator { Receives (Some []) (Some (Quiet ∷ [])) node_2 (node_2_after 0 7) Quiet → ⊥ }
+    ensures polls { Polls (Some []) (Some (Quiet ∷ [])) node_2 node_2 (Some Quiet) }
+    ensures polls_nothing { Polls (Some []) (Some []) node_2 node_2 None }
+    ensures polls_nothing_and_receives { Polls (Some []) (Some (Quiet ∷ [])) node_2 node_2 None → ⊥ }
+    ensures polls_nothing_and_hears { Polls (Some []) (Some []) node_2 (node_2_after 0 7) None → ⊥ }
+{}
