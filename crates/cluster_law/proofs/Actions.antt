@@ -18,7 +18,7 @@ inputs_of_turn received (FromClient client bytes None) = []
 inputs_of_turn received Nothing = Time ∷ []
 inputs_of_turn received Failure = []
 
-abbrev inputs_of_turns : ℕ → List Receipt → List Input
+abbrev pub inputs_of_turns : ℕ → List Receipt → List Input
 inputs_of_turns received [] = []
 inputs_of_turns received (x ∷ xs) = inputs_of_turn (received_with x received) x ++ inputs_of_turns (received_with x received) xs
 
@@ -33,7 +33,7 @@ turn_same key received (FromClient client bytes None) = refl
 turn_same key received Nothing = refl
 turn_same key received Failure = refl
 
-turns_same : (key : List ℕ) (received : ℕ) (xs : List Receipt) → map (event_of key) (inputs_of_turns received xs) ≡ events_of_turns key received xs
+pub turns_same : (key : List ℕ) (received : ℕ) (xs : List Receipt) → map (event_of key) (inputs_of_turns received xs) ≡ events_of_turns key received xs
 turns_same key received [] = refl
 turns_same key received (x ∷ xs) =
     let n = received_with x received in
@@ -47,14 +47,14 @@ take_same f (suc n) [] = refl
 take_same f (suc n) (x ∷ xs) = ap (λ ys. f x ∷ ys) (take_same f n xs)
 
 -- the actions that take the given inputs
-abbrev takes : ℕ → List Input → List Action
+abbrev pub takes : ℕ → List Input → List Action
 takes node inputs = map (λ (input : Input). Takes node input) inputs
 
-takes_serve : (node : ℕ) (inputs : List Input) → AreServing node (takes node inputs)
+pub takes_serve : (node : ℕ) (inputs : List Input) → AreServing node (takes node inputs)
 takes_serve node [] = tt
 takes_serve node (input ∷ inputs) = (tt, takes_serve node inputs)
 
-takes_take : (node : ℕ) (inputs : List Input) → inputs_at node (takes node inputs) ≡ inputs
+pub takes_take : (node : ℕ) (inputs : List Input) → inputs_at node (takes node inputs) ≡ inputs
 takes_take node [] = refl
 takes_take node (input ∷ inputs) =
     ap (λ xs. xs ++ inputs_at node (takes node inputs)) (cond-true (eqb node node) (input ∷ []) [] (eq-eqb node node refl)) ∙ ap (λ xs. input ∷ xs) (takes_take node inputs)

@@ -12,7 +12,7 @@ use Rattle.cluster_sim.proofs.Owners.{get_more}
 use Rattle.cluster_sim.specs.Answered.{HasAnswer, IsAnsweredIn, IsAskedIn}
 use Rattle.cluster_sim.specs.World.{Answer, WorldEvent, passes_in, told_reply}
 use Rattle.cluster_law.specs.Answered.{AnswersAll, EndsProcess, HasOk, HasYetToOffer, IsAnsweredInAction, IsLost, IsOfferedOrEnds}
-use Rattle.cluster_law.specs.Lives.{Action, Opens, FailsToOpen, Takes, Offers, Stops, StopsIn, Loses, Remakes, Unlocks, Raises, Output, ToPeer, ToClient, IsHistory, ClusterState, Setting, ProcessState, Down, Up, answers_among, can_be, first_cluster, outputs_of_step, made_by_input, node_of_action, offers_by, cluster_after, cluster_after_action, cluster_at, process_after, start_of}
+use Rattle.cluster_law.specs.Lives.{Action, Opens, FailsToOpen, Takes, Offers, Stops, StopsIn, Loses, Remakes, Unlocks, Raises, Output, ToPeer, ToClient, IsHistory, ClusterState, Setting, ProcessState, Down, Up, accepted_in, answers_among, can_be, first_cluster, outputs_of_step, made_by_input, node_of_action, offers_by, cluster_after, cluster_after_action, cluster_at, process_after, start_of}
 use Rattle.cluster_law.specs.Promises.{IsAskedInAction, IsToldAmong}
 use Rattle.cluster_law.proofs.Follow.{answers_by, answers_made, get_after}
 use Rattle.cluster_law.proofs.Commands.{IsBaseOf, Walk, walk}
@@ -23,7 +23,7 @@ use Rattle.cluster_law.proofs.Told.{asked_action, at_place, by_base, silent_none
 
 -- ---- lists
 
-abbrev IsIn : {A : Type 0} → A → List A → Type 0
+abbrev pub IsIn : {A : Type 0} → A → List A → Type 0
 IsIn x xs = (k : ℕ) × (slice_get xs k ≡ Some x)
 
 get_either : {A : Type 0} (xs ys : List A) (k : ℕ) (x : A) → slice_get (xs ++ ys) k ≡ Some x → IsIn x xs ⊎ IsIn x ys
@@ -41,7 +41,7 @@ replied_at e i [] k t h = absurd (none-some t h)
 replied_at e i (r ∷ rs) zero t h = ap (λ (z : Answer). z.node) (sym (same_Some (told_reply e i r) t h))
 replied_at e i (r ∷ rs) (suc k) t h = replied_at e i rs k t h
 
-among : (hs : List Output) (k : ℕ) (t : Answer) → slice_get hs k ≡ Some (ToClient t) → IsToldAmong t (answers_among hs)
+pub among : (hs : List Output) (k : ℕ) (t : Answer) → slice_get hs k ≡ Some (ToClient t) → IsToldAmong t (answers_among hs)
 among [] k t h = absurd (none-some (ToClient t) h)
 among (ToPeer l ∷ hs) zero t h = absurd (apart l t h)
   where
@@ -238,7 +238,7 @@ answered_action setting history x p d e is h =
     (λ y silent q. silent_none (λ z. InWorld setting history x p (Some z)) y silent q (λ a z. z) (λ i z. z) (λ i z. z)) (λ i boot floors z. z)
     (λ i input act is_act q. has_ok setting history x p q) (λ i input act is_act q. tt)
 
-pub answers_all : GroundLaw → GateLaw → (setting : Setting) (history : List Action) → IsHistory setting history → AnswersAll setting history
+pub answers_all : GroundLaw → GateLaw → (setting : Setting) (history : List Action) → IsHistory setting history → AnswersAll setting history (accepted_in setting history)
 answers_all grounds gates setting history g = λ i p at.
     let x = walk setting history g in
     let w = world_of_steps setting.config (start_of setting) x.steps in

@@ -12,7 +12,7 @@ use Rattle.cluster_sim.specs.Drifts.{drift_after, drift_by, moment_in, moment_of
 use Rattle.cluster_sim.specs.Justified.{IsGroundIn, IsGroundOf}
 use Rattle.cluster_sim.specs.World.{MayStart, Act, Note, WorldEvent, acceptance_in, begun_in, passes_in}
 use Rattle.cluster_law.specs.Justified.{IsGroundInAction, JustifiesAll, drift_in, drift_of_pass, drift_with, moment_in_action, results_held}
-use Rattle.cluster_law.specs.Lives.{Action, Takes, StopsIn, IsHistory, Setting, cluster_of, start_of}
+use Rattle.cluster_law.specs.Lives.{Action, Takes, StopsIn, IsHistory, Setting, accepted_in, cluster_of, start_of}
 use Rattle.cluster_law.proofs.Commands.{IsBaseOf, Walk, walk}
 use Rattle.cluster_law.proofs.Follow.{same_next}
 use Rattle.cluster_law.proofs.StepLaws.{drift_of_steps, events_in, results_of_steps, steps_justified}
@@ -111,7 +111,7 @@ drift_same grounds gates votes setting history x may node token event =
     same_drift setting history (events_in x.steps) node token (pos 0) (passes_since node notes) (since_each (SameMoment history (events_in x.steps)) node notes (same_moments grounds gates votes setting history x may event))
     ∙ ap (λ ns. drift_with setting history node token (pos 0) (passes_since node ns)) (x.parts event).matches.notes
 
-pub justifies_all : GroundLaw → GateLaw → VoteLaw → (setting : Setting) (history : List Action) → IsHistory setting history → JustifiesAll setting history
+pub justifies_all : GroundLaw → GateLaw → VoteLaw → (setting : Setting) (history : List Action) → IsHistory setting history → JustifiesAll setting history (accepted_in setting history)
 justifies_all grounds gates votes setting history g = λ i p at.
     let x = walk setting history g in
     let config = setting.config in

@@ -268,7 +268,7 @@ ends_node held setting node old new entries batches m received stands =
 -- ---- a call that a fault of the node ended
 
 -- one more action
-own_stop : (setting : Setting) (node e : ℕ) (ds : List Action) (a : ProcessState) (s : NodeState) (waiting : List Output) → own_process setting node e ds a ≡ Up s waiting → own_process setting node e (ds ++ Stops node ∷ []) a ≡ Down s.content
+pub own_stop : (setting : Setting) (node e : ℕ) (ds : List Action) (a : ProcessState) (s : NodeState) (waiting : List Output) → own_process setting node e ds a ≡ Up s waiting → own_process setting node e (ds ++ Stops node ∷ []) a ≡ Down s.content
 unfolding own_process
 own_stop setting node e [] a s waiting is =
     cond-true (eqb node node) (process_after setting e (Stops node) a) a (eq-eqb node node refl) ∙ ap (λ z. process_after setting e (Stops node) z) is

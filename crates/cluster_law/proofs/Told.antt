@@ -94,7 +94,7 @@ at_place P Q setting history x k empty is p =
     absurd (empty (subst P (slice_get_past (events_in x.steps) k (subst (λ n. n ≤ k) number q.0)) p)))
     (slice_get_cases history k).1
 
-pub answer_truly : GroundLaw → GateLaw → (setting : Setting) (history : List Action) → IsHistory setting history → AnswerTruly setting history
+pub answer_truly : GroundLaw → GateLaw → (setting : Setting) (history : List Action) → IsHistory setting history → AnswerTruly setting history (answered_in setting history)
 answer_truly grounds gates setting history g i told at ok =
     let x = walk setting history g in
     let events = events_in x.steps in

@@ -4,7 +4,7 @@ use Rattle.otp_core.specs.Acceptance.{Acceptance}
 use Rattle.oath_node.specs.Machine.{NodeState}
 use Rattle.cluster_sim.specs.Answered.{ok_bytes}
 use Rattle.cluster_sim.specs.World.{Answer}
-use Rattle.cluster_law.specs.Lives.{Action, Takes, Stops, StopsIn, Loses, Output, ToClient, Setting, ProcessState, Up, accepted_in, answered_in, cluster_of}
+use Rattle.cluster_law.specs.Lives.{Action, Takes, Stops, StopsIn, Loses, Output, ToClient, Setting, ProcessState, Up, answered_in, cluster_of}
 use Rattle.cluster_law.specs.Promises.{IsAskedInAction, IsToldAmong}
 
 -- the process still has to offer the answer
@@ -52,8 +52,8 @@ IsAnsweredInAction setting history pass (Some (Takes node input)) = HasOk settin
 IsAnsweredInAction setting history pass (Some (StopsIn node true input)) = Unit {0}
 IsAnsweredInAction setting history pass _ = ⊥
 
--- each acceptance of the history has its OK, or ended in a stop
-abbrev pub AnswersAll : Setting → List Action → Type 0
-AnswersAll setting history =
-    (i : ℕ) (pass : Acceptance) → slice_get (accepted_in setting history) i ≡ Some pass
+-- each of the acceptances has its OK in the history, or ended in a stop
+abbrev pub AnswersAll : Setting → List Action → List Acceptance → Type 0
+AnswersAll setting history passes =
+    (i : ℕ) (pass : Acceptance) → slice_get passes i ≡ Some pass
     → IsAnsweredInAction setting history pass (slice_get history pass.ended)

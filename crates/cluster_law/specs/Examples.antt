@@ -9,11 +9,14 @@ use Rattle.vote_wire.specs.Datagram.{datagram_bytes}
 use Rattle.oath_node.specs.Machine.{Made, NodeState, opened_node, quiet_made}
 use Rattle.otp_core.specs.Acceptance.{Acceptance}
 use Rattle.client_lines.specs.declared.answer.Outcome.TheVariants.{Accepted}
+use Rattle.datagram_port.specs.Port.{PortEvent, Quiet}
 use Rattle.oath_node.specs.Turns.{FromClient, Receipt}
 use Rattle.cluster_sim.specs.Examples.{acceptance, clock_config, config, told_outcome}
 use Rattle.cluster_sim.specs.World.{Answer}
-use Rattle.cluster_law.specs.Lives.{ToClient, Datagram, Action, FailsToOpen, Output, Input, Line, Loses, Offers, Opens, ToPeer, Raises, Remakes, ClusterState, Setting, Stops, StopsIn, Takes, Unlocks, first_setting, cluster_of}
+use Rattle.cluster_law.specs.Lives.{ToClient, Datagram, Action, FailsToOpen, Output, Input, Line, Loses, Offers, Opens, ToPeer, Raises, Remakes, ClusterState, Setting, Stops, StopsIn, Takes, Time, Unlocks, first_setting, cluster_of}
+use Rattle.cluster_law.specs.Processes.{offer_of_output}
 use Rattle.cluster_law.specs.SingleNode.{reference_of}
+use Rattle.cluster_law.specs.Uses.{Serves, StoreUse, Writes}
 
 -- ---- One node
 
@@ -290,3 +293,26 @@ old_floor = record { sender = 2; receiver = 1; message = Floor 0 1 }
 -- the old floor arrives at node 1
 abbrev pub old_floor_comes : List Action
 old_floor_comes = Opens 1 ∷ Takes 1 (Datagram 2 (bytes_of old_floor)) ∷ []
+
+-- ---- Uses of a store
+
+-- an answer and a Floor in a port's record
+abbrev pub answer_entry : PortEvent
+answer_entry = offer_of_output [] answer_out
+
+abbrev pub floor_entry : PortEvent
+floor_entry = offer_of_output [] floor_out
+
+-- a process offers the answer and stops, the next one fails to open, and a third one offers the Floor
+abbrev pub opened_twice : List StoreUse
+opened_twice =
+    Serves (content_of_boot 0) [] (Quiet ∷ answer_entry ∷ []) (content_of_boot 1) ∷ Writes (FailsToOpen 1 true)
+    ∷ Serves (content_of_boot 2) [] (floor_entry ∷ Quiet ∷ []) (content_of_boot 3) ∷ []
+
+-- a process opens the store and stops, and a command unlocks a token
+abbrev pub served_and_unlocked : List StoreUse
+served_and_unlocked = Serves (content_of_boot 0) [] [] (content_of_boot 1) ∷ Writes (Unlocks 1 0) ∷ []
+
+-- the same, among actions of node 2
+abbrev pub among_another : List Action
+among_another = Opens 2 ∷ Opens 1 ∷ Takes 2 Time ∷ Stops 1 ∷ Unlocks 1 0 ∷ Stops 2 ∷ []

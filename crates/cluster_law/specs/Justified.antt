@@ -6,7 +6,7 @@ use Rattle.admit_core.specs.Throttle.{Result}
 use Rattle.oath_node.specs.Machine.{Config}
 use Rattle.cluster_sim.specs.Drifts.{drift_by, passes_since}
 use Rattle.cluster_sim.specs.Justified.{IsGround}
-use Rattle.cluster_law.specs.Lives.{Action, Takes, StopsIn, Input, Line, Setting, accepted_in, floor_in, cluster_of}
+use Rattle.cluster_law.specs.Lives.{Action, Takes, StopsIn, Input, Line, Setting, floor_in, cluster_of}
 
 -- the moment at which a process took a client's line in an action, also if it ended inside the step
 abbrev pub moment_in_action : Option Action → Option ℕ
@@ -62,8 +62,7 @@ IsJustifiedInAction setting history accepted =
     let results = results_held setting history accepted.node accepted.token accepted.began in
     IsGroundInAction setting.config next drift results accepted (slice_get history accepted.began)
 
--- each acceptance of the history is justified
-abbrev pub JustifiesAll : Setting → List Action → Type 0
-JustifiesAll setting history =
-    (i : ℕ) (accepted : Acceptance) → slice_get (accepted_in setting history) i ≡ Some accepted
-    → IsJustifiedInAction setting history accepted
+-- the history justifies each of the acceptances
+abbrev pub JustifiesAll : Setting → List Action → List Acceptance → Type 0
+JustifiesAll setting history passes =
+    (i : ℕ) (pass : Acceptance) → slice_get passes i ≡ Some pass → IsJustifiedInAction setting history pass

@@ -108,8 +108,8 @@ pub record BelongsToAcceptance (setting : Setting) (history : List Action) (answ
   pub bytes : answer.bytes ≡ ok_bytes nonce pass.hi
   pub again : pass.ended < answer.event → IsSaidInAction answer.node answer.client line (slice_get history answer.event)
 
--- each offered answer that begins as an OK belongs to an acceptance
-abbrev pub AnswerTruly : Setting → List Action → Type 0
-AnswerTruly setting history =
-    (i : ℕ) (answer : Answer) → slice_get (answered_in setting history) i ≡ Some answer → IsOk answer.bytes
+-- each of the answers that begins as an OK belongs to an acceptance of the history
+abbrev pub AnswerTruly : Setting → List Action → List Answer → Type 0
+AnswerTruly setting history answers =
+    (i : ℕ) (answer : Answer) → slice_get answers i ≡ Some answer → IsOk answer.bytes
     → BelongsToAcceptance setting history answer

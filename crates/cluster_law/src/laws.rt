@@ -7,6 +7,7 @@ ghost use Rattle.otp_core.specs.Acceptance.{HaveSingleUse, KeepRealTimeOrder};
 ghost use Rattle.otp_core.specs.Gate.{clear_gate};
 ghost use Rattle.vote_core.specs.Rows.{row as row_in, row_with_gate};
 ghost use Rattle.vote_core.specs.Safety.{HaveMajority};
+ghost use Rattle.vote_core.specs.Schedule.{is_member};
 ghost use Rattle.vote_core.specs.Voting.{raise};
 ghost use Rattle.cluster_sim.specs.World.{Anew, Cut, Happens, Lost, Restart, Ticks, WorldEvent};
 ghost use Rattle.floor_store.specs.Content.{Content, opening_row, with_row};
@@ -16,29 +17,32 @@ ghost use Rattle.floor_store.specs.Range.{IsCount};
 ghost use Rattle.floor_store.specs.declared.fault.StoreFault.{StoreFault};
 ghost use Rattle.oath_node.specs.Calls.{CommitsNode, Handles, IsOpened, Takes as TakesEvent};
 ghost use Rattle.oath_node.specs.Hosted.{Hosted, state_of};
-ghost use Rattle.oath_node.specs.Machine.{Config, NodeState, opened_node, stopped_node};
+ghost use Rattle.oath_node.specs.Machine.{Config, NodeState, Tick, opened_node, stopped_node};
 ghost use Rattle.oath_node.specs.Outputs.{OutputsRecord};
 ghost use Rattle.oath_node.specs.declared.fault.NodeFault.{NodeFault};
-ghost use Rattle.oath_node.specs.Turns.{Nothing, Receipt, offers_in, receipts_in, run_at, run_with_batches};
+ghost use Rattle.oath_node.specs.Turns.{FromPeer, Nothing, Receipt, offers_in, receipts_in, run_at, run_with_batches};
 ghost use Rattle.client_lines.specs.declared.answer.Outcome.TheVariants.{Accepted, Refused};
 ghost use Rattle.client_lines.specs.declared.answer.Reason.TheVariants.{Invalid};
 ghost use Rattle.cluster_sim.specs.Examples.{acceptance, told_outcome};
-ghost use Rattle.datagram_port.specs.Port.{PortEvent, Quiet};
+ghost use Rattle.datagram_port.specs.Port.{Offered, PortEvent, Quiet};
+ghost use Rattle.datagram_port.specs.declared.port.Sender.TheVariants.{Client as ToClient};
+ghost use Rattle.cluster_sim.specs.Answered.{IsOk};
 ghost use Rattle.oath_node.specs.TurnServing.{Serves};
 ghost use Rattle.oath_node.specs.declared.serve_fault.ServeFault.{ServeFault};
 ghost use Rattle.oath_node.specs.declared.serve_fault.ServeFault.TheVariants.{Clock, Node, Port};
 ghost use Rattle.oath_node.specs.declared.turns.Served.{Served};
 ghost use Rattle.cluster_law.specs.Answered.{AnswersAll, EndsProcess, HasYetToOffer, IsAnsweredInAction, IsLost, IsOfferedOrEnds};
-ghost use Rattle.cluster_law.specs.Broken.{answers_late, content_with_pass, hurries, just_opened, late_node, owning_node, pending_node, right_text, second_floor_comes, stops_late, tick_made, told_by_tick, two_floors, with_process};
+ghost use Rattle.cluster_law.specs.Broken.{answers_late, answers_twice_late, content_with_pass, hurries, just_opened, late_node, owning_node, pending_node, right_text, opens_late, second_floor_comes, stops_between, stops_late, tick_made, told_by_tick, tokens_open, two_floors, uneven_open, uneven_tokens, with_process};
 ghost use Rattle.cluster_law.specs.Bytes.{IsSized, IsUnforgedHistory};
 ghost use Rattle.cluster_law.specs.Commands.{raised_content, raises_of};
-ghost use Rattle.cluster_law.specs.Examples.{accepts_anew, among_strangers, answer_out, answers_once, clock_node, clock_nodes, closed_content, closed_row, comes_to_no_store, comes_to_nobody, content_of_boot, drifts_and_loses, ends_after_the_answer, ends_before_the_answer, ends_behind, ends_in_the_step, fails_and_loses, fails_around, first_ok, first_pass, floor_comes, floor_out, grant, grant_before_its_offer, grant_from, granted_by_two, loses_one, loses_two, made_anew, nodes_after, old_floor, old_floor_comes, old_grant_comes, one_node, one_open, opens_twice, quiet_node, right_line, right_receipt, stop_in_a_forged_grant, strangers, takes_behind, takes_twice, tells_both, three_nodes, told_by_reference, two_open, uneven_nodes, wrong_line};
+ghost use Rattle.cluster_law.specs.Examples.{accepts_anew, among_another, among_strangers, answer_entry, answer_out, answers_once, clock_node, clock_nodes, closed_content, closed_row, comes_to_no_store, comes_to_nobody, content_of_boot, drifts_and_loses, ends_after_the_answer, ends_before_the_answer, ends_behind, ends_in_the_step, fails_and_loses, fails_around, first_ok, first_pass, floor_comes, floor_entry, floor_out, grant, grant_before_its_offer, grant_from, granted_by_two, loses_one, loses_two, made_anew, nodes_after, old_floor, old_floor_comes, old_grant_comes, one_node, one_open, opened_twice, opens_twice, quiet_node, right_line, right_receipt, served_and_unlocked, stop_in_a_forged_grant, strangers, takes_behind, takes_twice, tells_both, three_nodes, told_by_reference, two_open, uneven_nodes, wrong_line};
 ghost use Rattle.cluster_law.specs.Justified.{IsJustifiedInAction, JustifiesAll, drift_in, moment_in_action, results_held};
-ghost use Rattle.cluster_law.specs.Lives.{Datagram, Action, Down, FailsToOpen, Input, IsHistory, LeaveGate, LeaveRows, LeaveStore, Loses, Offers, Opens, ToPeer, Raises, Remakes, ClusterState, Setting, ProcessState, Stops, StopsIn, Takes, Time, Unlocks, Up, accepted_in, answered_in, answers_among, content_at, event_of, first_cluster, floor_in, outputs_of_step, has_store, made_boot, made_by_input, made_content, nodes_of, offers_by, own_process, cluster_after, cluster_of, process_after, process_cut, process_half_opened, process_offered, process_opened, results_unlocked, start_of};
-ghost use Rattle.cluster_law.specs.Processes.{AreServing, CanTakeSome, CanTakeTurns, IsEndedNode, IsFailedNode, IsHalfOpened, IsMemberIn, IsNoFaultOfNode, IsServed, IsServedNode, IsStopped, TakesSome, TakesTurns, item_of, member_in, run_over};
+ghost use Rattle.cluster_law.specs.Lives.{Datagram, Action, Down, FailsToOpen, Input, IsHistory, LeaveGate, LeaveRows, LeaveStore, Loses, Offers, Opens, ToPeer, Raises, Remakes, ClusterState, Setting, ProcessState, Stops, StopsIn, Takes, Time, Unlocks, Up, accepted_in, answered_in, answers_among, content_at, event_of, first_cluster, floor_in, outputs_of_step, has_store, lost_after, made_boot, made_by_input, made_content, nodes_of, offers_by, own_offers, own_process, cluster_after, cluster_of, process_after, process_cut, process_half_opened, process_offered, process_opened, results_unlocked, start_of};
+ghost use Rattle.cluster_law.specs.Processes.{AreServing, CanTakeSome, CanTakeTurns, IsEndedNode, IsFailedNode, IsHalfOpened, IsMemberIn, IsNoFaultOfNode, IsServed, IsServedNode, IsStopped, TakesSome, TakesTurns, events_after, item_of, member_in, offer_of_output, run_over};
 ghost use Rattle.cluster_law.specs.Promises.{AnswerTruly, BelongsToAcceptance, HasAct, HasEvent, IsActOf, IsAskedInAction, IsEventOf, IsExplained, IsRunOf, IsSaidInAction, nothing};
 ghost use Rattle.cluster_law.specs.SingleNode.{IsPartOf, reference_of, setting_of_one};
 ghost use Rattle.cluster_law.specs.Sweeps.{IsLive, IsSweep, IsSwept, IsTick, SweepsLevel, greatest_in, is_step_of};
+ghost use Rattle.cluster_law.specs.Uses.{AreAllUses, AreUses, HasHistory, HasUses, IsHistoryOf, IsProcess, IsTrueReply, Serves as ServesStore, StoreUse, TakesAndOffers, WasProcess, Writes, content_after, offers_recorded};
 ghost use Rattle.std.specs.List.{filter};
 
 use admit_core::{failures_are_spaced, gate_keeps_throttle};
@@ -75,14 +79,14 @@ pub fn lives_are_worlds()
     // Each offered answer that begins as an `OK` belongs to an acceptance of its node. The answer's client sent the
     // line of the acceptance there.
     ensures told { (setting : Setting) (history : List Action) → IsHistory setting history
-        → AnswerTruly setting history }
+        → AnswerTruly setting history (answered_in setting history) }
     // The line with which it began justifies each acceptance, by the content and the acceptances of its store before.
     ensures justified { (setting : Setting) (history : List Action) → IsHistory setting history
-        → JustifiesAll setting history }
+        → JustifiesAll setting history (accepted_in setting history) }
     // Each acceptance in a step that its process finished has its `OK`. The process offered the `OK` or still has to,
     // unless it ended first.
     ensures answered { (setting : Setting) (history : List Action) → IsHistory setting history
-        → AnswersAll setting history }
+        → AnswersAll setting history (accepted_in setting history) }
 {
     world_is_safe();
     answers_belong_to_passes();
@@ -277,6 +281,46 @@ pub fn served_nodes_are_actions<S: FloorStore>()
         → IsNoFaultOfNode result → content ≡ (state_of S.held new).content }
 {}
 
+/// Processes: over any store, a process that `Node::open` opened and `run_turns` served is a use of its store.
+///
+/// It is one at every end of the turns, with every content that a stop leaves.
+pub fn served_nodes_are_processes<S: FloorStore>()
+    ensures { (setting : Setting) (place : ℕ) (store : S) (old new : Hosted S) (entries : List PortEvent)
+        (asked told : Option (List (Option ℕ))) (turns : ℕ) (result : Result Served ServeFault) (content : Content)
+        → IsMemberIn setting place old → IsOpened S.held store old → (S.held old.store).is_clean
+        → IsCount (S.held old.store).content.boot
+        → Serves S.held old new (Some []) (Some entries) asked told turns result → (S.held new.store).is_clean
+        → (S.held new.store).leaves content
+        → WasProcess setting place (S.held store).content entries content }
+{}
+
+/// One history: the processes and commands of all nodes, each on what the one before it left, have a history.
+///
+/// If no datagram is forged in it, all promises of histories hold of these processes.
+pub fn uses_make_histories()
+    ensures history { (setting : Setting) (uses : ℕ → List StoreUse) → AreAllUses setting uses
+        → HasHistory setting uses }
+    // In each history of them, in any order between the nodes, each member's store has at the end what its last use
+    // left.
+    ensures stores { (setting : Setting) (uses : ℕ → List StoreUse) (history : List Action) (node : ℕ)
+        → AreAllUses setting uses → IsHistoryOf setting uses history → is_member (nodes_of setting) node ≡ true
+        → (cluster_of setting history).processes node
+        ≡ Down (content_after setting (uses node) (made_content setting node)) }
+    // Each member offers exactly what its ports recorded, in order.
+    ensures offers { (setting : Setting) (uses : ℕ → List StoreUse) (history : List Action) (node : ℕ)
+        → AreAllUses setting uses → IsHistoryOf setting uses history → is_member (nodes_of setting) node ≡ true
+        → map (offer_of_output setting.key) (own_offers setting node 0 history (Down (made_content setting node)))
+        ≡ offers_recorded (uses node) }
+    // If no datagram of the history is forged, each recorded reply that begins as an `OK` belongs to an acceptance.
+    ensures told { (setting : Setting) (uses : ℕ → List StoreUse) (history : List Action) (node i client : ℕ)
+        (bytes : List ℕ) → AreAllUses setting uses → IsHistoryOf setting uses history → IsHistory setting history
+        → is_member (nodes_of setting) node ≡ true
+        → slice_get (offers_recorded (uses node)) i ≡ Some (Offered (ToClient client) bytes) → IsOk bytes
+        → IsTrueReply setting history node client bytes }
+{
+    lives_are_worlds();
+}
+
 /// Worked cases.
 pub fn histories_are_worked()
     ensures accepted { accepted_in one_node answers_once ≡ acceptance 1 1 1 0 0 ∷ [] }
@@ -319,12 +363,23 @@ pub fn losses_are_worked()
         ≡ Down (record (made_content uneven_nodes 1) { boot = 2 }) }
     ensures least { (cluster_of uneven_nodes loses_one).least 0 ≡ 1 }
     ensures least_of_the_others { (cluster_of uneven_nodes (Loses 2 ∷ [])).least 0 ≡ 0 }
+    ensures least_stays { (cluster_of uneven_nodes (loses_one ++ Opens 2 ∷ [])).least 0 ≡ 1 }
+    // The latest loss asks for the floors of the remaining nodes, and the earlier loss stays.
+    ensures least_of_the_third { (cluster_of uneven_nodes loses_two).least 0 ≡ 0 }
+    ensures least_of_the_last { (cluster_of uneven_nodes (Loses 2 ∷ Loses 1 ∷ [])).least 0 ≡ 0 }
+    ensures lost_before { (cluster_of uneven_nodes loses_two).lost 1 ≡ true }
+    ensures lost_again { (cluster_of uneven_nodes loses_two).lost 2 ≡ true }
+    ensures both_are_down { (cluster_of uneven_nodes (Opens 2 ∷ loses_two)).processes 2
+        ≡ Down (record (made_content uneven_nodes 2) { boot = 2 }) }
+    ensures other_stays_lost { lost_after (Remakes 1 2 []) (λ node. true) 2 ≡ true }
     // A lost node does nothing.
     ensures nothing_there { cluster_of uneven_nodes comes_to_no_store ≡ cluster_of uneven_nodes loses_one }
     ensures too_low { cluster_of uneven_nodes (made_anew 2 0) ≡ cluster_of uneven_nodes loses_one }
     ensures used_boot { cluster_of uneven_nodes (made_anew 1 1) ≡ cluster_of uneven_nodes loses_one }
     // The last boot is 2^62 - 1, and no process opens after it.
     ensures last_boot { cluster_of uneven_nodes (made_anew 4611686018427387903 1) ≡ cluster_of uneven_nodes loses_one }
+    ensures opens_in_the_last { content_at ((cluster_of uneven_nodes opens_late).processes 1)
+        ≡ record (made_content uneven_nodes 2) { boot = 4611686018427387903 } }
     ensures late_boot { (content_at ((cluster_of uneven_nodes (made_anew 4611686018427387902 1)).processes 1)).boot
         ≡ 4611686018427387902 }
     ensures too_many { cluster_of uneven_nodes (loses_two ++ Remakes 1 2 (1 ∷ []) ∷ [])
@@ -444,6 +499,9 @@ pub fn grounds_are_worked()
     ensures node_in_a_stop { IsJustifiedInAction one_node (ends_in_the_step true) (acceptance 1 1 2 0 0) → ⊥ }
     // A failure 4 seconds before has closed the token.
     ensures closed { IsJustifiedInAction one_node hurries (acceptance 2 2 1 0 0) → ⊥ }
+    // An offer justifies no acceptance, at any place of the list.
+    ensures first_unjustified { JustifiesAll one_node answers_once (acceptance 2 2 1 0 0 ∷ first_pass ∷ []) → ⊥ }
+    ensures second_unjustified { JustifiesAll one_node answers_once (first_pass ∷ acceptance 2 2 1 0 0 ∷ []) → ⊥ }
 {}
 
 /// Worked cases.
@@ -479,6 +537,11 @@ pub fn answers_are_worked()
         (Some (Takes 1 right_line)) → ⊥ }
     ensures with_another_factor { IsAnsweredInAction one_node answers_once (record first_pass { hi = 1 })
         (Some (Takes 1 right_line)) → ⊥ }
+    // No acceptance ends in an offer, at any place of the list.
+    ensures first_unanswered { AnswersAll one_node answers_once (record first_pass { ended = 2 } ∷ first_pass ∷ [])
+        → ⊥ }
+    ensures second_unanswered { AnswersAll one_node answers_once (first_pass ∷ record first_pass { ended = 2 } ∷ [])
+        → ⊥ }
 {}
 
 /// Worked cases.
@@ -514,6 +577,9 @@ pub fn takes_are_worked()
     ensures one_of_a_batch { TakesSome one_node 1 (Takes 1 Time ∷ Takes 1 right_line ∷ []) (Nothing ∷ [])
         (right_receipt ∷ Nothing ∷ []) 1 }
     ensures too_few { TakesSome one_node 1 (Takes 1 Time ∷ []) (Nothing ∷ []) (right_receipt ∷ []) 1 → ⊥ }
+    // A tick follows the 64th datagram, in whichever batch it is.
+    ensures ticks { length (events_after [] (replicate 63 (FromPeer 2 [])) (FromPeer 2 [] ∷ [])) ≡ 2 }
+    ensures ticks_not_yet { length (events_after [] (replicate 62 (FromPeer 2 [])) (FromPeer 2 [] ∷ [])) ≡ 1 }
     ensures offers { AreServing 1 (Takes 1 Time ∷ Offers 1 ∷ Stops 2 ∷ []) }
     ensures stops { AreServing 1 (Takes 1 Time ∷ Stops 1 ∷ []) → ⊥ }
     ensures stops_in_a_step { AreServing 1 (StopsIn 1 false Time ∷ []) → ⊥ }
@@ -523,6 +589,7 @@ pub fn takes_are_worked()
     // A store stays if no action loses or replaces it.
     ensures leaves { LeaveStore 1 (Opens 1 ∷ StopsIn 1 true right_line ∷ Loses 2 ∷ Remakes 2 2 [] ∷ []) }
     ensures loses_the_store { LeaveStore 1 (Loses 1 ∷ []) → ⊥ }
+    ensures loses_the_store_later { LeaveStore 1 (Opens 1 ∷ Loses 1 ∷ []) → ⊥ }
     ensures makes_the_store { LeaveStore 1 (Remakes 1 2 [] ∷ []) → ⊥ }
 {}
 
@@ -558,6 +625,9 @@ pub fn promises_of_processes_can_be_broken()
     // A quiet turn without a tick.
     ensures never_ticked { IsServedNode three_nodes 1 (just_opened three_nodes) (just_opened three_nodes)
         (Quiet ∷ []) → ⊥ }
+    // Two quiet turns with one tick.
+    ensures ticked_once { IsServedNode three_nodes 1 (just_opened three_nodes) tick_made.state
+        (Quiet ∷ told_by_tick ++ Quiet ∷ []) → ⊥ }
     // A line without a receive.
     ensures failed_with_a_line_unasked { IsFailedNode one_node 1 (just_opened one_node) [] content_with_pass → ⊥ }
 {}
@@ -585,6 +655,9 @@ pub fn answers_can_be_broken()
     ensures told_another_factor { BelongsToAcceptance one_node answers_once
         (told_outcome 1 1 7 (codes "1") (Accepted 1)) → ⊥ }
     ensures told_again_unasked { BelongsToAcceptance one_node answers_once (record first_ok { event = 2 }) → ⊥ }
+    // An OK for a client that sent no line, at any place of the list.
+    ensures first_untrue { AnswerTruly one_node answers_once (record first_ok { client = 8 } ∷ first_ok ∷ []) → ⊥ }
+    ensures second_untrue { AnswerTruly one_node answers_once (first_ok ∷ record first_ok { client = 8 } ∷ []) → ⊥ }
 {}
 
 /// Counterexamples: each promise of a sweep fails for a minimal one.
@@ -595,6 +668,8 @@ pub fn sweeps_can_be_broken()
     ensures proposal_waits { IsSwept one_node (1 ∷ []) one_open (with_process pending_node) 1 → ⊥ }
     ensures line_waits { IsSwept one_node (1 ∷ []) one_open (with_process owning_node) 1 → ⊥ }
     ensures factor_ahead { IsSwept one_node (1 ∷ []) one_open (cluster_of one_node answers_once) 1 → ⊥ }
+    ensures factor_behind { IsSwept uneven_nodes (1 ∷ 2 ∷ []) uneven_open uneven_open 1 → ⊥ }
+    ensures second_token_behind { IsSwept uneven_tokens (1 ∷ 2 ∷ []) tokens_open tokens_open 1 → ⊥ }
 {}
 
 /// Counterexamples: histories that are not runs of the world.
@@ -617,11 +692,38 @@ pub fn runs_can_be_broken()
     ensures another_event { HasEvent [] (Stops 1) 0 (Restart 1 ∷ []) → ⊥ }
     ensures run_with_an_event_more { IsRunOf one_node [] (nothing ∷ []) → ⊥ }
     ensures run_with_another_event { IsRunOf one_node (Stops 1 ∷ []) (Restart 1 ∷ []) → ⊥ }
+    ensures run_with_another_first_event { IsRunOf one_node (Stops 1 ∷ Stops 1 ∷ []) (Restart 1 ∷ nothing ∷ []) → ⊥ }
+    ensures run_with_another_second_event { IsRunOf one_node (Stops 1 ∷ Stops 1 ∷ []) (nothing ∷ Restart 1 ∷ []) → ⊥ }
     // The acts are those of its inputs, but their effects on the nodes differ.
     ensures run_with_another_floor { IsRunOf two_floors old_floor_comes second_floor_comes → ⊥ }
     ensures run_without_the_answer { IsRunOf late_node answers_late stops_late → ⊥ }
+    ensures run_without_the_second_answer { IsRunOf late_node answers_twice_late stops_between → ⊥ }
     // No node ever sent the accepted Grant.
     ensures explained_by_no_run { IsExplained three_nodes old_grant_comes → ⊥ }
+{}
+
+/// Worked cases.
+pub fn uses_are_worked()
+    ensures content { content_after one_node opened_twice (content_of_boot 0) ≡ content_of_boot 3 }
+    ensures offers { offers_recorded opened_twice ≡ answer_entry ∷ floor_entry ∷ [] }
+    // A use may stand among another node's actions.
+    ensures uses { HasUses one_node 1 served_and_unlocked among_another }
+{}
+
+/// Counterexamples: each condition of a node's uses fails for minimal ones.
+pub fn uses_can_be_broken()
+    ensures second_found_another { AreUses one_node 1 (content_of_boot 0)
+        (Writes (FailsToOpen 1 true) ∷ ServesStore (content_of_boot 0) [] [] (content_of_boot 1) ∷ []) → ⊥ }
+    ensures written_elsewhere { AreUses one_node 1 (content_of_boot 0) (Writes (Unlocks 2 0) ∷ []) → ⊥ }
+    ensures loss_is_a_use { AreUses one_node 1 (content_of_boot 0) (Writes (Loses 1) ∷ []) → ⊥ }
+    // A tick without a receive, and a stop that forgets the boot.
+    ensures ticked_unasked { IsProcess three_nodes 1 (content_of_boot 0) (Tick ∷ []) [] (content_of_boot 1) → ⊥ }
+    ensures left_as_found { IsProcess one_node 1 (content_of_boot 0) [] [] (content_of_boot 0) → ⊥ }
+    ensures recorded_unoffered { TakesAndOffers three_nodes 1 (made_content three_nodes 1) (Tick ∷ [])
+        (Quiet ∷ told_by_tick) (Takes 1 Time ∷ []) → ⊥ }
+    ensures one_action_more { HasUses one_node 1 [] (Opens 2 ∷ Opens 1 ∷ []) → ⊥ }
+    ensures second_use_is_missing { HasUses one_node 1 (Writes (Unlocks 1 0) ∷ Writes (Unlocks 1 1) ∷ [])
+        (Unlocks 1 0 ∷ []) → ⊥ }
 {}
 
 /// Worked cases.

@@ -12,7 +12,8 @@ pub use laws::{
     commands_are_actions, commands_are_worked, former_lives_are_worked, grounds_are_worked,
     histories_are_worked, histories_can_be_broken, history_of_three_is_worked, lives_are_worlds,
     losses_are_worked, one_node_answers_as_the_reference, promises_of_processes_can_be_broken,
-    reference_is_worked, runs_can_be_broken, served_nodes_are_actions, sweeps_are_worked,
-    sweeps_can_be_broken, sweeps_level_stores, takes_are_worked, turns_are_actions,
-    unforged_bytes_are_genuine,
+    reference_is_worked, runs_can_be_broken, served_nodes_are_actions, served_nodes_are_processes,
+    sweeps_are_worked, sweeps_can_be_broken, sweeps_level_stores, takes_are_worked,
+    turns_are_actions, unforged_bytes_are_genuine, uses_are_worked, uses_can_be_broken,
+    uses_make_histories,
 };

@@ -14,7 +14,7 @@ use Rattle.client_lines.proofs.RequestLemmas.{line_of_request, request_of_line}
 use Rattle.cluster_sim.specs.Answered.{IsTextOf, ok_bytes}
 use Rattle.cluster_sim.specs.World.{Answer}
 use Rattle.cluster_law.specs.Answered.{EndsProcess, HasYetToOffer, IsLost, IsOfferedOrEnds}
-use Rattle.cluster_law.specs.Examples.{among_strangers, answers_once, ends_after_the_answer, first_ok, one_node}
+use Rattle.cluster_law.specs.Examples.{among_strangers, answers_once, ends_after_the_answer, first_ok, first_pass, one_node}
 use Rattle.cluster_law.specs.Lives.{ToClient, Down, Output, ProcessState, Up, answered_in, cluster_after, cluster_after_action, cluster_of}
 use Rattle.cluster_law.specs.Promises.{IsToldAmong}
 use Rattle.cluster_law.proofs.laws.answers_are_worked.Goals as goal
@@ -227,3 +227,11 @@ returns-clause-with_another_factor c h =
     let same = is_first h.answer none h.becomes in
     let nonce = asked_nonce h.line h.nonce h.asked.2 in
     other_factor (sym (ap (λ (told : Answer). told.bytes) same) ∙ h.bytes ∙ ap (λ (nonce : List ℕ). ok_bytes nonce 1) nonce)
+
+-- ---- each acceptance of a list
+
+pub returns-clause-first_unanswered : goal.returns-clause-first_unanswered
+returns-clause-first_unanswered c h = h 0 (record first_pass { ended = 2 }) refl
+
+pub returns-clause-second_unanswered : goal.returns-clause-second_unanswered
+returns-clause-second_unanswered c h = h 1 (record first_pass { ended = 2 }) refl

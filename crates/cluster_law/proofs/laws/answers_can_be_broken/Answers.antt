@@ -129,11 +129,21 @@ returns-clause-belongs_to_a_later_one c h =
     let ended : 1 ≤ 0 = subst (λ (p : Acceptance). p.ended ≤ 0) (sym same) h.ended in
     omega (arith, ended)
 
-pub returns-clause-told_to_another_client : goal.returns-clause-told_to_another_client
-returns-clause-told_to_another_client c h =
+-- client 8 sent no line
+unasked : BelongsToAcceptance one_node answers_once (record first_ok { client = 8 }) → ⊥
+unasked h =
     let same = is_first (record first_ok { client = 8 }) h in
     let asked = asked_at 1 8 h.line h.nonce h.pass same h.asked in
     omega (arith, asked.1)
+
+pub returns-clause-told_to_another_client : goal.returns-clause-told_to_another_client
+returns-clause-told_to_another_client c h = unasked h
+
+pub returns-clause-first_untrue : goal.returns-clause-first_untrue
+returns-clause-first_untrue c h = unasked (h 0 (record first_ok { client = 8 }) refl refl)
+
+pub returns-clause-second_untrue : goal.returns-clause-second_untrue
+returns-clause-second_untrue c h = unasked (h 1 (record first_ok { client = 8 }) refl refl)
 
 pub returns-clause-told_another_factor : goal.returns-clause-told_another_factor
 returns-clause-told_another_factor c h =

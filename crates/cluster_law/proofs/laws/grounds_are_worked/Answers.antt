@@ -5,6 +5,7 @@ use Rattle.admit_core.specs.Fit.{code_at}
 use Rattle.sha1.specs.Sha1.{first_words, schedule, rounds, compress, hash_after, digest_bytes, sha1}
 use Rattle.vote_core.specs.Voting.{propose, propose_alone, propose_among, tick}
 use Rattle.oath_node.specs.Machine.{made_by_proposal, made_by_ruling, made_by_datagram, made_while_running, made_by_event}
+use Rattle.cluster_sim.specs.Examples.{acceptance}
 use Rattle.cluster_law.specs.Lives.{cluster_after, cluster_after_action}
 use Rattle.cluster_law.proofs.laws.grounds_are_worked.Goals as goal
 
@@ -76,6 +77,12 @@ returns-clause-tick c h = h
 
 pub returns-clause-node_in_a_stop : goal.returns-clause-node_in_a_stop
 returns-clause-node_in_a_stop c h = let node : 1 ≡ 2 = h.0 in omega (arith, node)
+
+pub returns-clause-first_unjustified : goal.returns-clause-first_unjustified
+returns-clause-first_unjustified c h = h 0 (acceptance 2 2 1 0 0) refl
+
+pub returns-clause-second_unjustified : goal.returns-clause-second_unjustified
+returns-clause-second_unjustified c h = h 1 (acceptance 2 2 1 0 0) refl
 
 pub returns-clause-closed : goal.returns-clause-closed
 unfolding code_at first_words schedule rounds compress hash_after digest_bytes sha1 cluster_after cluster_after_action made_by_event made_while_running made_by_datagram made_by_ruling made_by_proposal propose propose_alone propose_among tick

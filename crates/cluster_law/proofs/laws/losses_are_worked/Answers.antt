@@ -23,6 +23,37 @@ pub returns-clause-least_of_the_others : goal.returns-clause-least_of_the_others
 unfolding cluster_after cluster_after_action
 returns-clause-least_of_the_others c = refl
 
+pub returns-clause-opens_in_the_last : goal.returns-clause-opens_in_the_last
+unfolding cluster_after cluster_after_action
+returns-clause-opens_in_the_last c = refl
+
+pub returns-clause-least_stays : goal.returns-clause-least_stays
+unfolding cluster_after cluster_after_action
+returns-clause-least_stays c = refl
+
+pub returns-clause-least_of_the_third : goal.returns-clause-least_of_the_third
+unfolding cluster_after cluster_after_action
+returns-clause-least_of_the_third c = refl
+
+pub returns-clause-least_of_the_last : goal.returns-clause-least_of_the_last
+unfolding cluster_after cluster_after_action
+returns-clause-least_of_the_last c = refl
+
+pub returns-clause-lost_before : goal.returns-clause-lost_before
+unfolding cluster_after cluster_after_action
+returns-clause-lost_before c = refl
+
+pub returns-clause-lost_again : goal.returns-clause-lost_again
+unfolding cluster_after cluster_after_action
+returns-clause-lost_again c = refl
+
+pub returns-clause-both_are_down : goal.returns-clause-both_are_down
+unfolding cluster_after cluster_after_action
+returns-clause-both_are_down c = refl
+
+pub returns-clause-other_stays_lost : goal.returns-clause-other_stays_lost
+returns-clause-other_stays_lost c = refl
+
 pub returns-clause-nothing_there : goal.returns-clause-nothing_there
 unfolding cluster_after cluster_after_action
 returns-clause-nothing_there c = refl

@@ -1,5 +1,6 @@
 -- No receipts, or one, can have come: so it is said what the process did.
 use Rattle.std.proofs.Common.{◌≡◌, ℕ, zero, suc, Bool, true, false, if◌then◌else◌, List, [], ◌∷◌, ◌++◌, length, map, refl, sym, ap, ◌∙◌, arith}
+use Rattle.std.proofs.lemmas.List.{length-map}
 use Rattle.admit_core.specs.Fit.{code_at}
 use Rattle.sha1.specs.Sha1.{first_words, schedule, rounds, compress, hash_after, digest_bytes, sha1}
 use Rattle.vote_core.specs.Rows.{row}
@@ -83,6 +84,9 @@ no_receipts : (receipts : List Receipt) → map entry_of receipts ≡ [] → rec
 no_receipts [] e = refl
 no_receipts (receipt ∷ receipts) e = absurd cc
 
+tail_of : (entries : List PortEvent) → Quiet ∷ entries ≡ Quiet ∷ Quiet ∷ [] → entries ≡ Quiet ∷ []
+tail_of entries e = cc
+
 one_quiet : (receipts : List Receipt) → map entry_of receipts ≡ Quiet ∷ [] → receipts ≡ Nothing ∷ []
 one_quiet [] e = absurd cc
 one_quiet (FromPeer from bytes ∷ receipts) e = absurd cc
@@ -153,6 +157,34 @@ pub returns-clause-never_ticked : goal.returns-clause-never_ticked
 returns-clause-never_ticked c h =
     let one = one_quiet (receipts_in h.batches) h.received in
     never_silent (h.served 0 (Takes 1 Time ∷ []) (tt, tt) (takes_quiet (receipts_in h.batches) one))
+
+-- two ticks leave four to offer
+never_half : IsServed three_nodes 1 0 (Takes 1 Time ∷ Takes 1 Time ∷ []) (just_opened three_nodes) tick_made.state (offers_in (Quiet ∷ told_by_tick ++ Quiet ∷ [])) → ⊥
+unfolding own_process own_offers made_by_event made_while_running tick
+never_half h =
+    let four : 4 ≡ length h.left = ap (λ (process : ProcessState). left_in process) h.process in
+    let two : 2 ≡ length h.left = ap (λ (offers : List PortEvent). length offers) h.offered ∙ length-map h.left (offer_of_output three_nodes.key) in
+    omega (arith, four, two)
+
+two_quiet : (receipts : List Receipt) → map entry_of receipts ≡ Quiet ∷ Quiet ∷ [] → receipts ≡ Nothing ∷ Nothing ∷ []
+two_quiet [] e = absurd cc
+two_quiet (FromPeer from bytes ∷ receipts) e = absurd cc
+two_quiet (FromClient client bytes moment ∷ receipts) e = absurd cc
+two_quiet (Nothing ∷ receipts) e = ap (λ (later : List Receipt). Nothing ∷ later) (one_quiet receipts (tail_of (map entry_of receipts) e))
+two_quiet (Failure ∷ receipts) e = absurd cc
+
+takes_two : (receipts : List Receipt) → receipts ≡ Nothing ∷ Nothing ∷ [] → TakesTurns three_nodes 1 (Takes 1 Time ∷ Takes 1 Time ∷ []) receipts
+takes_two receipts e = sym (ap (λ (rs : List Receipt). events_of_turns three_nodes.key 0 rs) e)
+
+-- the two quiet turns are what was received
+received_two : receives_in (Quiet ∷ told_by_tick ++ Quiet ∷ []) ≡ Quiet ∷ Quiet ∷ []
+unfolding made_by_event made_while_running tick
+received_two = refl
+
+pub returns-clause-ticked_once : goal.returns-clause-ticked_once
+returns-clause-ticked_once c h =
+    let two = two_quiet (receipts_in h.batches) (h.received ∙ received_two) in
+    never_half (h.served 0 (Takes 1 Time ∷ Takes 1 Time ∷ []) (tt, (tt, tt)) (takes_two (receipts_in h.batches) two))
 
 -- a stop of a process that did nothing leaves factor 0
 left_behind : IsStopped one_node 1 0 [] (just_opened one_node) [] content_with_pass → ⊥

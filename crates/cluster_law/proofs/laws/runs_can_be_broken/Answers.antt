@@ -15,7 +15,7 @@ use Rattle.vote_wire.specs.Key.{tag_of}
 use Rattle.oath_node.specs.Machine.{made_by_proposal, made_by_ruling, made_by_datagram, made_while_running, made_by_event}
 use Rattle.oath_node.specs.Hosted.{envelope_at}
 use Rattle.cluster_sim.specs.Examples.{acceptance, told_bad_line}
-use Rattle.cluster_sim.specs.World.{Act, Says, Deliver, Ticks, Noise, WorldEvent, Happens, Cut, Restart, Lost, Anew, acting_node, passes_of, world_with_made, world_after_turn, world_after_act, world_after_restart, world_after_event, world_after_events}
+use Rattle.cluster_sim.specs.World.{Act, Answer, Says, Deliver, Ticks, Noise, WorldEvent, Happens, Cut, Restart, Lost, Anew, acting_node, passes_of, world_with_made, world_after_turn, world_after_act, world_after_restart, world_after_event, world_after_events}
 use Rattle.cluster_law.specs.Examples.{bytes_of, grant, grant_comes, old_grant_comes, one_node, right_line, three_nodes}
 use Rattle.cluster_law.specs.Lives.{Opens, Stops, Takes, Time, accepted_in, cluster_after, cluster_after_action, start_of}
 use Rattle.cluster_law.specs.Promises.{HasAct, HasEvent, IsActOf, IsEventOf, nothing}
@@ -138,6 +138,16 @@ returns-clause-run_with_an_event_more c h = let number : 1 ≡ 0 = h.number in o
 pub returns-clause-run_with_another_event : goal.returns-clause-run_with_another_event
 returns-clause-run_with_another_event c h = stops_only one_node.key (h.each 0 (Stops 1) refl)
 
+pub returns-clause-run_with_another_first_event : goal.returns-clause-run_with_another_first_event
+returns-clause-run_with_another_first_event c h =
+    let first = h.each 0 (Stops 1) refl in
+    is_something (same_Some (Restart 1) first.event first.is_there ∙ first.is_event)
+
+pub returns-clause-run_with_another_second_event : goal.returns-clause-run_with_another_second_event
+returns-clause-run_with_another_second_event c h =
+    let second = h.each 1 (Stops 1) refl in
+    is_something (same_Some (Restart 1) second.event second.is_there ∙ second.is_event)
+
 -- ---- what a history leaves, and what its run does
 
 pub returns-clause-run_with_another_floor : goal.returns-clause-run_with_another_floor
@@ -149,6 +159,18 @@ unfolding cluster_after cluster_after_action world_after_events world_after_even
 returns-clause-run_without_the_answer c h =
     let among = h.answered 0 (told_bad_line 2 1 7) refl in
     none-some (told_bad_line 2 1 7) among.is_there
+
+-- the run tells one answer
+told_one : (told : Answer) (place : ℕ) → slice_get (told_bad_line 1 1 7 ∷ []) place ≡ Some told → told.event ≡ 1
+told_one told zero e = sym (ap (λ (answer : Answer). answer.event) (same_Some (told_bad_line 1 1 7) told e))
+told_one told (suc place) e = absurd (none-some told e)
+
+pub returns-clause-run_without_the_second_answer : goal.returns-clause-run_without_the_second_answer
+unfolding cluster_after cluster_after_action world_after_events world_after_event world_after_act world_after_turn world_with_made world_after_restart made_by_event made_while_running made_by_datagram made_by_ruling made_by_proposal propose propose_alone propose_among on_ask accept count_grant on_grant raise count_deny on_deny on_floor on_message tick
+returns-clause-run_without_the_second_answer c h =
+    let among = h.answered 1 (told_bad_line 4 1 7) refl in
+    let event : 4 ≡ 1 = told_one (told_bad_line 4 1 7) among.place among.is_there in
+    omega (arith, event)
 
 -- ---- a Grant that was never sent
 

@@ -53,6 +53,21 @@ returns-clause-line_waits c h =
     let number : 1 ≡ 0 = ap (λ (state : NodeState). length state.owners) same ∙ ap (λ (owners : List Owner). length owners) h.owners in
     omega (arith, number)
 
+-- node 2 had a greater factor, and node 1 is below it
+pub returns-clause-factor_behind : goal.returns-clause-factor_behind
+unfolding cluster_after cluster_after_action
+returns-clause-factor_behind c h =
+    let short : 0 < 1 = omega arith in
+    let next : 0 ≡ 1 = h.next 0 short in
+    omega (arith, next)
+
+pub returns-clause-second_token_behind : goal.returns-clause-second_token_behind
+unfolding cluster_after cluster_after_action
+returns-clause-second_token_behind c h =
+    let short : 1 < 2 = omega arith in
+    let next : 0 ≡ 1 = h.next 1 short in
+    omega (arith, next)
+
 pub returns-clause-factor_ahead : goal.returns-clause-factor_ahead
 unfolding code_at first_words schedule rounds compress hash_after digest_bytes sha1 cluster_after cluster_after_action made_by_event made_while_running made_by_datagram made_by_ruling made_by_proposal propose propose_alone propose_among tick
 returns-clause-factor_ahead c h =

@@ -25,6 +25,12 @@ returns-clause-one_of_a_batch c = refl
 pub returns-clause-too_few : goal.returns-clause-too_few
 returns-clause-too_few c h = let number : 1 ≡ 2 = ap (λ (events : List NodeEvent). length events) h in omega (arith, number)
 
+pub returns-clause-ticks : goal.returns-clause-ticks
+returns-clause-ticks c = refl
+
+pub returns-clause-ticks_not_yet : goal.returns-clause-ticks_not_yet
+returns-clause-ticks_not_yet c = refl
+
 pub returns-clause-offers : goal.returns-clause-offers
 returns-clause-offers c = (tt, (tt, ((λ (at : 1 ≡ 2). absurd (omega (arith, at))), tt)))
 
@@ -51,3 +57,6 @@ returns-clause-loses_the_store c h = h.0 refl
 
 pub returns-clause-makes_the_store : goal.returns-clause-makes_the_store
 returns-clause-makes_the_store c h = h.0 refl
+
+pub returns-clause-loses_the_store_later : goal.returns-clause-loses_the_store_later
+returns-clause-loses_the_store_later c h = h.1.0 refl
