@@ -3,3 +3,4 @@ pub mod NamesLemmas
 pub mod WireLemmas
 pub mod RunLemmas
 pub mod SpellingLemmas
+pub mod CallLemmas

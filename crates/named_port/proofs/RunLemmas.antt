@@ -49,36 +49,37 @@ sent_parts key member me bytes read e = by_read (datagram_at key bytes) refl e
 
 -- ---- what a translator keeps
 
-record Keeps (old new : TranslatorRecord) : Type 0 where
-  key : new.key ≡ old.key
-  names : new.names ≡ old.names
-  me : new.me ≡ old.me
-  places : length new.heard ≡ length old.heard
+pub record Keeps (old new : TranslatorRecord) : Type 0 where
+  pub key : new.key ≡ old.key
+  pub names : new.names ≡ old.names
+  pub me : new.me ≡ old.me
+  pub boot : new.boot ≡ old.boot
+  pub places : length new.heard ≡ length old.heard
 
 keeps_all : (t : TranslatorRecord) → Keeps t t
-keeps_all t = record { key = refl; names = refl; me = refl; places = refl }
+keeps_all t = record { key = refl; names = refl; me = refl; boot = refl; places = refl }
 
 keeps_read : (t : TranslatorRecord) (read : Option (Head × List ℕ)) → Keeps t (after_read t read)
 keeps_read t None = keeps_all t
 keeps_read t (Some read) = go (is_older t.heard read.0)
   where
     go : (older : Bool) → Keeps t (cond older (record t { older = Some (record { member = read.0.from; boot = read.0.boot }) }) (record t { heard = slice_set t.heard read.0.from read.0.boot }))
-    go true = record { key = refl; names = refl; me = refl; places = refl }
-    go false = record { key = refl; names = refl; me = refl; places = length-set t.heard read.0.from read.0.boot }
+    go true = record { key = refl; names = refl; me = refl; boot = refl; places = refl }
+    go false = record { key = refl; names = refl; me = refl; boot = refl; places = length-set t.heard read.0.from read.0.boot }
 
-keeps_event : (t : TranslatorRecord) (event : PortEvent) → Keeps t (after_event t event)
+pub keeps_event : (t : TranslatorRecord) (event : PortEvent) → Keeps t (after_event t event)
 keeps_event t (Received (Peer number) bytes) = keeps_read t (sent_by t number bytes)
 keeps_event t (Received (Client number) bytes) = keeps_all t
 keeps_event t Quiet = keeps_all t
 keeps_event t Faulted = keeps_all t
 keeps_event t (Offered to bytes) = keeps_all t
 
-keeps_events : (t : TranslatorRecord) (events : List PortEvent) → Keeps t (after_events t events)
+pub keeps_events : (t : TranslatorRecord) (events : List PortEvent) → Keeps t (after_events t events)
 keeps_events t [] = keeps_all t
 keeps_events t (event ∷ events) =
     let first = keeps_event t event in
     let rest = keeps_events (after_event t event) events in
-    record { key = rest.key ∙ first.key; names = rest.names ∙ first.names; me = rest.me ∙ first.me; places = rest.places ∙ first.places }
+    record { key = rest.key ∙ first.key; names = rest.names ∙ first.names; me = rest.me ∙ first.me; boot = rest.boot ∙ first.boot; places = rest.places ∙ first.places }
 
 -- ---- the greatest boots
 

@@ -1,11 +1,11 @@
 -- The events of the port below in an execution, and the boots that they tell of members.
-use Rattle.std.specs.Prelude.{◌≡◌, ℕ, ◌≤◌, ◌==◌, max, true, if◌then◌else◌, List, [], ◌∷◌, drop, take, slice_get, Option, Some, None}
+use Rattle.std.specs.Prelude.{◌≡◌, ℕ, ◌≤◌, ◌==◌, max, true, if◌then◌else◌, List, [], ◌∷◌, ◌++◌, drop, take, slice_get, Option, Some, None}
 use Rattle.datagram_port.specs.Port.{PortEvent, Received, Quiet, Faulted, Offered}
 use Rattle.datagram_port.specs.declared.port.Sender.TheVariants.{Client, Peer}
 use Rattle.named_wire.specs.Datagram.{datagram_at}
 use Rattle.named_wire.specs.declared.head.Head.{Head}
 use Rattle.vote_core.specs.declared.message.Message.{Message}
-use Rattle.named_port.specs.Translator.{TranslatorRecord, after_event, between}
+use Rattle.named_port.specs.Translator.{TranslatorRecord, after_event, between, handed_in, new_translator, offered}
 use Rattle.named_port.specs.Wire.{is_of_one_token, named_bytes, numbered_bytes, token_of}
 
 -- the boot of a head, or 0
@@ -32,6 +32,39 @@ greatest_boot key me member (event ∷ events) = max (boot_told key me member ev
 abbrev pub after_events : TranslatorRecord → List PortEvent → TranslatorRecord
 after_events translator [] = translator
 after_events translator (event ∷ events) = after_events (after_event translator event) events
+
+-- ---- the calls of a node's port: the events that the port below received, and the node's offers
+
+-- a translator as it was at its start
+abbrev pub at_start : TranslatorRecord → TranslatorRecord
+at_start translator = new_translator translator.key translator.names translator.me translator.boot
+
+-- the events of the node's port: what is handed in for each event of the port below, and the node's offers
+abbrev pub handed_events : TranslatorRecord → List PortEvent → List PortEvent
+handed_events translator [] = []
+handed_events translator (event ∷ events) =
+    handed_in translator event ∷ handed_events (after_event translator event) events
+
+-- the events of the port below for a call: what it received, or what it was offered for an offer of the node
+abbrev pub below_event : TranslatorRecord → PortEvent → List PortEvent
+below_event translator (Received sender bytes) = Received sender bytes ∷ []
+below_event translator Quiet = Quiet ∷ []
+below_event translator Faulted = Faulted ∷ []
+below_event translator (Offered to bytes) = offered translator to bytes
+
+-- the events of the port below for calls, in order
+abbrev pub below_events : TranslatorRecord → List PortEvent → List PortEvent
+below_events translator [] = []
+below_events translator (event ∷ events) =
+    below_event translator event ++ below_events (after_event translator event) events
+
+-- A port and its translator after calls, from a start at which the port below had no event. If the port below keeps a
+-- record, the record is that of the calls.
+pub record IsAfter (below : Option (List PortEvent)) (translator : TranslatorRecord) (calls : List PortEvent) : Type 0 where
+  pub heard_is : translator.heard ≡ (after_events (at_start translator) calls).heard
+  pub below_is : (events : List PortEvent) → below ≡ Some events → events ≡ below_events (at_start translator) calls
+
+-- ---- translations
 
 -- Bytes that were handed to the node `me` as a datagram of a member: the translation of an event. The event is a
 -- datagram from the member, under the key, that the member sent to the node in a boot. No earlier event told a greater

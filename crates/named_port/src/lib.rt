@@ -20,7 +20,7 @@ mod worked;
 pub use laws::{boots_are_the_greatest, named_one_spelling, what_is_handed_in_came};
 pub use names::Names;
 pub use port::NamedPort;
-pub use translator::{Older, Translator};
+pub use translator::Older;
 pub use wire::{MAX_NUMBERED_LEN, named, numbered};
 pub use worked::{
     boots_are_worked, events_are_worked, receives_can_be_broken, translations_are_worked,

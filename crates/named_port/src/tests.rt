@@ -3,7 +3,7 @@
 ghost use Rattle.std.specs.Prelude.{◌≤◌, IfOk};
 ghost use Rattle.datagram_port.specs.Port.{IsWithin};
 
-use crate::{NamedPort, Names, Older, Translator};
+use crate::{NamedPort, Names, Older};
 use datagram_port::{Coming, ListPort, Port, PortEntry, Received, Sender};
 use floor_store::{Proposal, Span};
 use otp_core::{Factor, MAX_TOKENS, Settings};
@@ -52,8 +52,7 @@ fn ask(token: u32) -> Result<Message, Fail> {
 fn offered(alloc: Global, boot: u64, token: u32) -> Result<Vec<u8>, Fail> {
     let key = key()?;
     let names = names(alloc, ROWS_OF_1)?;
-    let translator = Translator::new(&key, &names, 1, boot);
-    let mut port = NamedPort::new(ListPort::new(alloc, &[]), translator);
+    let mut port = NamedPort::new(ListPort::new(alloc, &[]), &key, &names, 1, boot);
     let bytes = write_message(&key, 1, 2, &ask(token)?);
     port.send(Sender::Peer(2), &bytes);
     let below = port.into_inner();
@@ -93,12 +92,11 @@ fn other_orders_are_understood(rt: HostRuntime) -> Result<(), Fail> {
     assert!(rt; sent.len() == 79);
     let comings = [from_1(&sent)];
     let names = names(rt.alloc(), ROWS_OF_2)?;
-    let translator = Translator::new(&key, &names, 2, 9);
-    let mut port = NamedPort::new(ListPort::new(rt.alloc(), &comings), translator);
+    let mut port = NamedPort::new(ListPort::new(rt.alloc(), &comings), &key, &names, 2, 9);
     let mut buffer = [0; 512];
     let len = len_of(port.receive(&mut buffer))?;
     assert!(rt; read_message(&key, &buffer[..len]) == Some((1, 2, ask(0)?)));
-    assert!(rt; port.translator().heard()[1] == 5 && port.take_older().is_none());
+    assert!(rt; port.heard()[1] == 5 && port.take_older().is_none());
     Ok(())
 }
 
@@ -111,8 +109,7 @@ fn strange_names_and_older_boots(rt: HostRuntime) -> Result<(), Fail> {
     let of_boot_5 = offered(rt.alloc(), 5, 0)?;
     let comings = [from_1(&of_bob), from_1(&of_boot_4), from_1(&of_boot_5)];
     let names = names(rt.alloc(), ROWS_OF_2)?;
-    let translator = Translator::new(&key, &names, 2, 9);
-    let mut port = NamedPort::new(ListPort::new(rt.alloc(), &comings), translator);
+    let mut port = NamedPort::new(ListPort::new(rt.alloc(), &comings), &key, &names, 2, 9);
     let mut buffer = [0; 512];
     assert!(rt; len_of(port.receive(&mut buffer))? == 0);
     assert!(rt; len_of(port.receive(&mut buffer))? == 0);
@@ -133,8 +130,7 @@ fn clients_pass(rt: HostRuntime) -> Result<(), Fail> {
         bytes: b"CHECK k1 ann 755224 -",
     };
     let comings = [line];
-    let translator = Translator::new(&key, &names, 2, 9);
-    let mut port = NamedPort::new(ListPort::new(rt.alloc(), &comings), translator);
+    let mut port = NamedPort::new(ListPort::new(rt.alloc(), &comings), &key, &names, 2, 9);
     let mut buffer = [0; 512];
     let received = Received::Datagram {
         sender: Sender::Client(7),

@@ -26,7 +26,7 @@ pub struct Older {
 
 /// The translation of a node's datagrams to the other members, and of theirs to the node.
 #[derive(Drop)]
-pub struct Translator<'k> {
+pub(crate) struct Translator<'k> {
     key: &'k ClusterKey,
     names: &'k Names,
     me: u8,
@@ -53,7 +53,7 @@ impl<'k> Model for Translator<'k> {
 
 impl<'k> Translator<'k> {
     /// Returns a translator for the node `me` in `boot`, with the names of the node's book. It has heard no member.
-    pub fn new(key: &'k ClusterKey, names: &'k Names, me: u8, boot: u64) -> Self
+    pub(crate) fn new(key: &'k ClusterKey, names: &'k Names, me: u8, boot: u64) -> Self
         ensures { result ≡ new_translator key.now names.now me boot }
     {
         Translator {
@@ -67,7 +67,7 @@ impl<'k> Translator<'k> {
     }
 
     /// Returns the last dropped datagram of an older boot since the last call, or None.
-    pub fn take_older(&mut self) -> Option<Older>
+    pub(crate) fn take_older(&mut self) -> Option<Older>
         ensures older { result ≡ self.old.older }
         ensures others { self.new ≡ record self.old { older = None } }
     {
@@ -76,7 +76,7 @@ impl<'k> Translator<'k> {
 
     /// Returns the greatest boot of each member that the translator heard, from member 0 to 9. A member that it didn't
     /// hear has 0.
-    pub fn heard(&self) -> [u64; PLACES]
+    pub(crate) fn heard(&self) -> [u64; PLACES]
         ensures { result ≡ self.now.heard }
     {
         self.heard
