@@ -1,15 +1,15 @@
 -- The boots of members over events of the port below, and what is handed in.
-use Rattle.std.proofs.Common.{◌≡◌, ◌≢◌, ℕ, ◌<◌, ◌≤◌, max, Bool, true, false, cond, eqb, ltb, List, [], ◌∷◌, length, take, get_or, Option, Some, None, refl, sym, ap, subst, ◌∙◌, arith, true≢false, inl, inr}
-use Rattle.std.specs.Prelude.{◌&&◌, slice_index, slice_set, replicate}
+use Rattle.std.proofs.Common.{◌≡◌, ◌≢◌, ℕ, zero, suc, ◌<◌, ◌≤◌, max, Bool, true, false, cond, eqb, ltb, List, [], ◌∷◌, ◌++◌, length, take, get_or, Option, Some, None, refl, sym, ap, subst, ◌∙◌, arith, true≢false, inl, inr}
+use Rattle.std.specs.Prelude.{◌⊎◌, ◌&&◌, slice_get, slice_index, slice_set, replicate}
 use Rattle.std.proofs.lemmas.Bool.{and_parts, cases_lt, eqb-true, eqb-false, ltb-true, ltb-false}
 use Rattle.std.proofs.lemmas.List.{get_or-set_same, get_or-set_other, length-set, get_or-replicate, get_or_past}
 use Rattle.datagram_port.specs.Port.{PortEvent, Received, Quiet, Faulted, Offered}
 use Rattle.datagram_port.specs.declared.port.Sender.TheVariants.{Client, Peer}
 use Rattle.named_wire.specs.Datagram.{datagram_at}
 use Rattle.named_wire.specs.declared.head.Head.{Head}
-use Rattle.named_port.specs.Runs.{IsTranslated, after_events, boot_of, boot_told, greatest_boot}
-use Rattle.named_port.specs.Translator.{TranslatorRecord, after_event, after_read, between, bytes_or_none, handed_in, is_older, new_translator, sent_by, translated}
-use Rattle.named_port.specs.Wire.{numbered_of}
+use Rattle.named_port.specs.Runs.{Has, IsOfferOf, IsTranslated, after_events, below_event, below_events, boot_of, boot_told, greatest_boot, handed_events}
+use Rattle.named_port.specs.Translator.{TranslatorRecord, after_event, after_read, between, bytes_or_none, handed_in, is_older, new_translator, offer_to, sent_by, translated}
+use Rattle.named_port.specs.Wire.{named_at, numbered_of}
 use Rattle.named_port.proofs.MemberLemmas.{from_below}
 use Rattle.named_port.proofs.NamesLemmas.{name_of_number}
 use Rattle.named_port.proofs.WireLemmas.{numbered_parts}
@@ -272,3 +272,103 @@ handed_law key names me boot before event member bytes e some =
       name_is = name_of_number names n.number (take 16 o.body) n.number_is;
       bytes_are = sym n.bytes_are;
     }
+
+-- ---- the calls of an execution
+
+-- what is handed in at a place is handed in for the event there
+record IsAt (t : TranslatorRecord) (calls : List PortEvent) (place : ℕ) (handed : PortEvent) : Type 0 where
+  event : PortEvent
+  there : slice_get calls place ≡ Some event
+  handed_is : handed_in (after_events t (take place calls)) event ≡ handed
+
+handed_at : (t : TranslatorRecord) (calls : List PortEvent) (place : ℕ) (handed : PortEvent) → slice_get (handed_events t calls) place ≡ Some handed → IsAt t calls place handed
+handed_at t [] place handed e = absurd cc
+handed_at t (event ∷ calls) zero handed e = record { event = event; there = refl; handed_is = some_is (handed_in t event) handed e }
+handed_at t (event ∷ calls) (suc place) handed e =
+    let rest = handed_at (after_event t event) calls place handed e in
+    record { event = rest.event; there = rest.there; handed_is = rest.handed_is }
+
+pub place_law : (key : List ℕ) (names : List (List ℕ)) (me boot : ℕ) (calls : List PortEvent) (place member : ℕ) (bytes : List ℕ)
+    → slice_get (handed_events (new_translator key names me boot) calls) place ≡ Some (Received (Peer member) bytes) → (bytes ≡ [] → ⊥)
+    → (event : PortEvent) × (slice_get calls place ≡ Some event) × IsTranslated key names me (take place calls) event member bytes
+place_law key names me boot calls place member bytes e some =
+    let h = handed_at (new_translator key names me boot) calls place (Received (Peer member) bytes) e in
+    (h.event, h.there, handed_law key names me boot (take place calls) h.event member bytes h.handed_is some)
+
+-- ---- what the port below is offered
+
+abbrev is_to_member : PortEvent → Bool
+is_to_member (Offered (Peer member) bytes) = true
+is_to_member (Offered (Client number) bytes) = false
+is_to_member (Received sender bytes) = false
+is_to_member Quiet = false
+is_to_member Faulted = false
+
+abbrev offered_to : PortEvent → ℕ
+offered_to (Offered (Peer member) bytes) = member
+offered_to (Offered (Client number) bytes) = 0
+offered_to (Received sender bytes) = 0
+offered_to Quiet = 0
+offered_to Faulted = 0
+
+abbrev offered_bytes : PortEvent → List ℕ
+offered_bytes (Offered to bytes) = bytes
+offered_bytes (Received sender bytes) = []
+offered_bytes Quiet = []
+offered_bytes Faulted = []
+
+has_parts : (xs ys : List PortEvent) (one : PortEvent) → Has (xs ++ ys) one → Has xs one ⊎ Has ys one
+has_parts [] ys one h = inr h
+has_parts (x ∷ xs) ys one (inl is) = inl (inl is)
+has_parts (x ∷ xs) ys one (inr later) = elim (has_parts xs ys one later) [
+  | inl front ↦ inl (inr front)
+  | inr back ↦ inr back
+]
+
+abbrev to_member : ℕ → List ℕ → PortEvent
+to_member member bytes = Offered (Peer member) bytes
+
+not_only : (event : PortEvent) (member : ℕ) (bytes : List ℕ) → is_to_member event ≡ false → Has (event ∷ []) (to_member member bytes) → ⊥
+not_only event member bytes other (inl is) = true≢false (sym (ap is_to_member is) ∙ other)
+not_only event member bytes other (inr none) = none
+
+-- the offers for one call
+offer_of_call : (t : TranslatorRecord) (event : PortEvent) (calls : List PortEvent) (member : ℕ) (bytes : List ℕ) → Has (below_event t event) (to_member member bytes)
+    → IsOfferOf t.key t.names t.boot (event ∷ calls) member bytes
+offer_of_call t (Received sender named) calls member bytes h = absurd (not_only (Received sender named) member bytes refl h)
+offer_of_call t Quiet calls member bytes h = absurd (not_only Quiet member bytes refl h)
+offer_of_call t Faulted calls member bytes h = absurd (not_only Faulted member bytes refl h)
+offer_of_call t (Offered (Client number) offer) calls member bytes h = absurd (not_only (Offered (Client number) offer) member bytes refl h)
+offer_of_call t (Offered (Peer number) offer) calls member bytes h = by_named (named_at t.key t.names t.boot offer) refl h
+  where
+    by_named : (o : Option (List ℕ)) → named_at t.key t.names t.boot offer ≡ o → Has (offer_to number o) (to_member member bytes) → IsOfferOf t.key t.names t.boot (to_member number offer ∷ calls) member bytes
+    by_named None is none = absurd none
+    by_named (Some named) is (inr none) = absurd none
+    by_named (Some named) is (inl e) =
+        let same : number ≡ member = ap offered_to e in
+        let named_is : named ≡ bytes = ap offered_bytes e in
+        record {
+          offer = offer;
+          is_offered = inl (ap (λ (n : ℕ). to_member n offer) same);
+          bytes_are = is ∙ ap present named_is;
+        }
+
+offers_over : (t : TranslatorRecord) (calls : List PortEvent) (member : ℕ) (bytes : List ℕ) → Has (below_events t calls) (to_member member bytes) → IsOfferOf t.key t.names t.boot calls member bytes
+offers_over t [] member bytes h = absurd h
+offers_over t (event ∷ calls) member bytes h = elim (has_parts (below_event t event) (below_events (after_event t event) calls) (to_member member bytes) h) [
+  | inl front ↦ offer_of_call t event calls member bytes front
+  | inr back ↦
+      let k = keeps_event t event in
+      let o = offers_over (after_event t event) calls member bytes back in
+      record {
+        offer = o.offer;
+        is_offered = inr o.is_offered;
+        bytes_are = ap (λ (x : List ℕ). named_at x t.names t.boot o.offer) (sym k.key)
+            ∙ ap (λ (x : List (List ℕ)). named_at (after_event t event).key x t.boot o.offer) (sym k.names)
+            ∙ ap (λ (x : ℕ). named_at (after_event t event).key (after_event t event).names x o.offer) (sym k.boot) ∙ o.bytes_are;
+      }
+]
+
+pub offers_law : (key : List ℕ) (names : List (List ℕ)) (me boot : ℕ) (calls : List PortEvent) (member : ℕ) (bytes : List ℕ)
+    → Has (below_events (new_translator key names me boot) calls) (Offered (Peer member) bytes) → IsOfferOf key names boot calls member bytes
+offers_law key names me boot calls member bytes h = offers_over (new_translator key names me boot) calls member bytes h

@@ -1,12 +1,12 @@
 -- The events of the port below in an execution, and the boots that they tell of members.
-use Rattle.std.specs.Prelude.{◌≡◌, ℕ, ◌≤◌, ◌==◌, max, true, if◌then◌else◌, List, [], ◌∷◌, ◌++◌, drop, take, slice_get, Option, Some, None}
+use Rattle.std.specs.Prelude.{◌≡◌, ◌⊎◌, ℕ, ◌≤◌, ◌==◌, max, true, if◌then◌else◌, List, [], ◌∷◌, ◌++◌, drop, take, slice_get, Option, Some, None}
 use Rattle.datagram_port.specs.Port.{PortEvent, Received, Quiet, Faulted, Offered}
 use Rattle.datagram_port.specs.declared.port.Sender.TheVariants.{Client, Peer}
 use Rattle.named_wire.specs.Datagram.{datagram_at}
 use Rattle.named_wire.specs.declared.head.Head.{Head}
 use Rattle.vote_core.specs.declared.message.Message.{Message}
 use Rattle.named_port.specs.Translator.{TranslatorRecord, after_event, between, handed_in, new_translator, offered}
-use Rattle.named_port.specs.Wire.{is_of_one_token, named_bytes, numbered_bytes, token_of}
+use Rattle.named_port.specs.Wire.{is_of_one_token, named_at, named_bytes, numbered_bytes, token_of}
 
 -- the boot of a head, or 0
 abbrev pub boot_of : Option (Head × List ℕ) → ℕ
@@ -65,6 +65,18 @@ pub record IsAfter (below : Option (List PortEvent)) (translator : TranslatorRec
   pub below_is : (events : List PortEvent) → below ≡ Some events → events ≡ below_events (at_start translator) calls
 
 -- ---- translations
+
+-- the event is in the list
+abbrev pub Has : List PortEvent → PortEvent → Type 0
+Has [] one = ⊥
+Has (event ∷ events) one = (event ≡ one) ⊎ Has events one
+
+-- a datagram that the port below was offered for a member is the translation of one that the node offered
+pub record IsOfferOf (key : List ℕ) (names : List (List ℕ)) (boot : ℕ) (calls : List PortEvent) (member : ℕ)
+    (bytes : List ℕ) : Type 0 where
+  pub offer : List ℕ
+  pub is_offered : Has calls (Offered (Peer member) offer)
+  pub bytes_are : named_at key names boot offer ≡ Some bytes
 
 -- Bytes that were handed to the node `me` as a datagram of a member: the translation of an event. The event is a
 -- datagram from the member, under the key, that the member sent to the node in a boot. No earlier event told a greater

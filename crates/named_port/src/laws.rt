@@ -1,5 +1,5 @@
-ghost use Rattle.std.specs.Prelude.{◌≡◌, ◌<◌, ◌≤◌, ◌^◌, ◌∷◌, ◌++◌, [], ℕ, List, Some, length, slice_get, slice_index};
-ghost use Rattle.datagram_port.specs.Port.{PortEvent, Received};
+ghost use Rattle.std.specs.Prelude.{◌≡◌, ◌<◌, ◌≤◌, ◌^◌, ◌∷◌, ◌++◌, [], ℕ, List, Some, length, slice_get, slice_index, take};
+ghost use Rattle.datagram_port.specs.Port.{Offered, PortEvent, Received};
 ghost use Rattle.datagram_port.specs.declared.port.Sender.TheVariants.{Peer};
 ghost use Rattle.named_wire.specs.Bytes.{AreBytes};
 ghost use Rattle.named_wire.specs.Datagram as named_spec;
@@ -8,7 +8,7 @@ ghost use Rattle.token_names.specs.Names.{AreDistinct};
 ghost use Rattle.vote_core.specs.declared.message.Message.{Message};
 ghost use Rattle.vote_wire.specs.Body.{HasSpelling};
 ghost use Rattle.vote_wire.specs.Datagram.{datagram_at, datagram_bytes};
-ghost use Rattle.named_port.specs.Runs.{IsNamedOf, IsTranslated, after_events, greatest_boot};
+ghost use Rattle.named_port.specs.Runs.{Has, IsNamedOf, IsOfferOf, IsTranslated, after_events, below_events, greatest_boot, handed_events};
 ghost use Rattle.named_port.specs.Translator.{handed_in, new_translator};
 ghost use Rattle.named_port.specs.Wire.{named_at, named_bytes, numbered_at, numbered_of, token_of};
 
@@ -42,8 +42,20 @@ pub fn boots_are_the_greatest()
 ///
 /// The datagram is under the key, and from the member to the node. No earlier event told a greater boot of the member.
 pub fn what_is_handed_in_came()
-    ensures { (key bytes : List ℕ) (names : List (List ℕ)) (me boot member : ℕ) (before : List PortEvent)
+    ensures next { (key bytes : List ℕ) (names : List (List ℕ)) (me boot member : ℕ) (before : List PortEvent)
         (event : PortEvent) →
         handed_in (after_events (new_translator key names me boot) before) event ≡ Received (Peer member) bytes →
         (bytes ≡ [] → ⊥) → IsTranslated key names me before event member bytes }
+    ensures at_each_place { (key bytes : List ℕ) (names : List (List ℕ)) (me boot place member : ℕ)
+        (calls : List PortEvent) →
+        slice_get (handed_events (new_translator key names me boot) calls) place ≡ Some (Received (Peer member) bytes) →
+        (bytes ≡ [] → ⊥) → (event : PortEvent) × (slice_get calls place ≡ Some event)
+        × IsTranslated key names me (take place calls) event member bytes }
+{}
+
+/// Offers: each datagram for a member that the port below is offered is the translation of one that the node offered.
+pub fn what_is_offered_is_the_nodes()
+    ensures { (key bytes : List ℕ) (names : List (List ℕ)) (me boot member : ℕ) (calls : List PortEvent) →
+        Has (below_events (new_translator key names me boot) calls) (Offered (Peer member) bytes) →
+        IsOfferOf key names boot calls member bytes }
 {}

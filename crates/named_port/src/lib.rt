@@ -17,11 +17,15 @@ mod translator;
 mod wire;
 mod worked;
 
-pub use laws::{boots_are_the_greatest, named_one_spelling, what_is_handed_in_came};
+pub use laws::{
+    boots_are_the_greatest, named_one_spelling, what_is_handed_in_came,
+    what_is_offered_is_the_nodes,
+};
 pub use names::Names;
 pub use port::NamedPort;
 pub use translator::Older;
 pub use wire::{MAX_NUMBERED_LEN, named, numbered};
 pub use worked::{
-    boots_are_worked, events_are_worked, receives_can_be_broken, translations_are_worked,
+    boots_are_worked, calls_are_worked, calls_can_be_broken, events_are_worked,
+    receives_can_be_broken, translations_are_worked,
 };

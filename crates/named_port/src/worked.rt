@@ -7,7 +7,7 @@ ghost use Rattle.vote_wire.specs.Examples.{ask_body};
 ghost use Rattle.named_port.specs.Examples.{floor_6, floor_7, floor_from, floor_head, from_3, name_with, named_ask, names_of_1, names_of_2, node_1, node_2, node_2_after, numbered_ask, older, renumbered_ask, zeros};
 ghost use Rattle.named_port.specs.Names.{number_of};
 ghost use Rattle.named_port.specs.Port.{Polls, Receives};
-ghost use Rattle.named_port.specs.Runs.{after_events, boot_told, greatest_boot};
+ghost use Rattle.named_port.specs.Runs.{Has, IsAfter, after_events, at_start, below_events, boot_told, greatest_boot, handed_events};
 ghost use Rattle.named_port.specs.Translator.{after_event, after_read, between, handed_in, offered, translated};
 ghost use Rattle.named_port.specs.Wire.{is_named, is_numbered, named_at, numbered_at, numbered_of};
 
@@ -83,6 +83,27 @@ pub fn events_are_worked()
     ensures none_to_another { greatest_boot zeros 1 3 (from_3 floor_7 ∷ from_3 floor_6 ∷ []) ≡ 0 }
     ensures none_by_others { map (boot_told zeros 2 3) (Received (Client 3) floor_7 ∷ Quiet ∷ Faulted
         ∷ Offered (Peer 3) floor_7 ∷ Received (Peer 1) floor_7 ∷ []) ≡ replicate 5 0 }
+{}
+
+/// Worked cases. The events of a node's port and of the port below for some calls.
+pub fn calls_are_worked()
+    ensures handed { handed_events (node_2_after 0 7) (from_3 floor_6 ∷ Quiet ∷ Offered (Client 1) [] ∷ [])
+        ≡ Received (Peer 3) [] ∷ Quiet ∷ Offered (Client 1) [] ∷ [] }
+    ensures below { below_events node_1 (Offered (Peer 2) numbered_ask ∷ Quiet ∷ Offered (Peer 2) [] ∷ Faulted
+        ∷ Received (Client 1) [] ∷ Offered (Client 1) [] ∷ [])
+        ≡ Offered (Peer 2) named_ask ∷ Quiet ∷ Faulted ∷ Received (Client 1) [] ∷ Offered (Client 1) [] ∷ [] }
+    ensures start { at_start (record (node_2_after 0 7) { older = older 3 6 }) ≡ node_2 }
+{}
+
+/// Counterexamples: each promise of a port after calls fails for a minimal one.
+pub fn calls_can_be_broken()
+    ensures after { IsAfter (Some (Quiet ∷ Faulted ∷ [])) node_2 (Quiet ∷ Faulted ∷ []) }
+    ensures no_record { IsAfter None node_2 (Quiet ∷ []) }
+    ensures unrecorded { IsAfter (Some []) node_2 (Quiet ∷ []) → ⊥ }
+    ensures second_unrecorded { IsAfter (Some (Quiet ∷ [])) node_2 (Quiet ∷ Faulted ∷ []) → ⊥ }
+    ensures unheard { IsAfter None (node_2_after 0 7) [] → ⊥ }
+    ensures has { Has (Quiet ∷ Faulted ∷ []) Faulted }
+    ensures has_not { Has (Quiet ∷ []) Faulted → ⊥ }
 {}
 
 /// Counterexamples: each promise of a receive and of a poll fails for a minimal one.
