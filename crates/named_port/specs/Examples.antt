@@ -17,10 +17,11 @@ zeros = replicate 32 0
 abbrev pub name_with : ℕ → List ℕ
 name_with byte = replicate 16 byte
 
--- the names of node 1's book, and of node 2's, in other orders
+-- the names of node 1's book
 abbrev pub names_of_1 : List (List ℕ)
 names_of_1 = name_with 0xaa ∷ name_with 0xcc ∷ []
 
+-- the names of node 2's book, of which one is node 1's
 abbrev pub names_of_2 : List (List ℕ)
 names_of_2 = name_with 0xbb ∷ name_with 0xaa ∷ []
 
@@ -40,20 +41,30 @@ node_2_after one three = record node_2 { heard = 0 ∷ one ∷ 0 ∷ three ∷ r
 abbrev pub numbered_ask : List ℕ
 numbered_ask = ask_body ++ ask_tag
 
--- the same with the name, from node 1 in boot 2
+-- the bytes before the tag of the same with the name, from node 1 in boot 2
 abbrev pub named_ask_front : List ℕ
 named_ask_front =
     0x4f ∷ 0x56 ∷ 3 ∷ 1 ∷ 1 ∷ 2 ∷ eight_bytes 2 ++ name_with 0xaa ++ drop 10 ask_body
 
+-- the tag of the named Ask
+abbrev pub named_ask_tag : List ℕ
+named_ask_tag =
+    0xa7 ∷ 0xef ∷ 0x2a ∷ 0x81 ∷ 0x90 ∷ 0xa3 ∷ 0x8d ∷ 0x40 ∷ 0x96 ∷ 0x4c ∷ 0x60 ∷ 0x69 ∷ 0x24 ∷ 0x2b ∷ 0xd6 ∷ 0x1d ∷ []
+
+-- the same Ask with the name
 abbrev pub named_ask : List ℕ
-named_ask = named_ask_front
-    ++ 0xa7 ∷ 0xef ∷ 0x2a ∷ 0x81 ∷ 0x90 ∷ 0xa3 ∷ 0x8d ∷ 0x40 ∷ 0x96 ∷ 0x4c ∷ 0x60 ∷ 0x69 ∷ 0x24 ∷ 0x2b ∷ 0xd6 ∷ 0x1d ∷ []
+named_ask = named_ask_front ++ named_ask_tag
+
+-- the tag of the numbered Ask for node 2
+abbrev pub renumbered_ask_tag : List ℕ
+renumbered_ask_tag =
+    0x3a ∷ 0x08 ∷ 0xcb ∷ 0xe2 ∷ 0x62 ∷ 0xb8 ∷ 0x88 ∷ 0x7c ∷ 0xf0 ∷ 0x6b ∷ 0x4e ∷ 0x1a ∷ 0xd3 ∷ 0xee ∷ 0x8a ∷ 0x08 ∷ []
 
 -- the same for node 2, which has the token at the second row of its book
 abbrev pub renumbered_ask : List ℕ
 renumbered_ask =
     0x4f ∷ 0x56 ∷ 2 ∷ 1 ∷ 1 ∷ 2 ∷ 0 ∷ 0 ∷ 0 ∷ 1 ∷ drop 10 ask_body
-    ++ 0x3a ∷ 0x08 ∷ 0xcb ∷ 0xe2 ∷ 0x62 ∷ 0xb8 ∷ 0x88 ∷ 0x7c ∷ 0xf0 ∷ 0x6b ∷ 0x4e ∷ 0x1a ∷ 0xd3 ∷ 0xee ∷ 0x8a ∷ 0x08 ∷ []
+    ++ renumbered_ask_tag
 
 -- the head of a datagram of a kind from a member in a boot to node 2
 abbrev pub floor_head : Kind → ℕ → ℕ → Head
@@ -67,15 +78,25 @@ floor_body = name_with 0xbb ++ eight_bytes 4
 abbrev pub floor_from : ℕ → ℕ → Option (Head × List ℕ)
 floor_from member boot = Some (floor_head Floor member boot, floor_body)
 
+-- the tag of the Floor of boot 7
+abbrev pub floor_7_tag : List ℕ
+floor_7_tag =
+    0x8b ∷ 0x0c ∷ 0xeb ∷ 0xaa ∷ 0x09 ∷ 0xe8 ∷ 0x93 ∷ 0x05 ∷ 0x1e ∷ 0x98 ∷ 0x7f ∷ 0xfc ∷ 0x4f ∷ 0xb3 ∷ 0x85 ∷ 0x9b ∷ []
+
 -- the Floor of member 3 in boot 7
 abbrev pub floor_7 : List ℕ
 floor_7 = 0x4f ∷ 0x56 ∷ 3 ∷ 4 ∷ 3 ∷ 2 ∷ eight_bytes 7 ++ floor_body
-    ++ 0x8b ∷ 0x0c ∷ 0xeb ∷ 0xaa ∷ 0x09 ∷ 0xe8 ∷ 0x93 ∷ 0x05 ∷ 0x1e ∷ 0x98 ∷ 0x7f ∷ 0xfc ∷ 0x4f ∷ 0xb3 ∷ 0x85 ∷ 0x9b ∷ []
+    ++ floor_7_tag
+
+-- the tag of the Floor of boot 6
+abbrev pub floor_6_tag : List ℕ
+floor_6_tag =
+    0xbb ∷ 0x3c ∷ 0xae ∷ 0xfd ∷ 0xa4 ∷ 0x53 ∷ 0x01 ∷ 0xd8 ∷ 0xa3 ∷ 0xb6 ∷ 0xc0 ∷ 0x74 ∷ 0xf2 ∷ 0x54 ∷ 0xf6 ∷ 0x64 ∷ []
 
 -- the Floor of member 3 in boot 6
 abbrev pub floor_6 : List ℕ
 floor_6 = 0x4f ∷ 0x56 ∷ 3 ∷ 4 ∷ 3 ∷ 2 ∷ eight_bytes 6 ++ floor_body
-    ++ 0xbb ∷ 0x3c ∷ 0xae ∷ 0xfd ∷ 0xa4 ∷ 0x53 ∷ 0x01 ∷ 0xd8 ∷ 0xa3 ∷ 0xb6 ∷ 0xc0 ∷ 0x74 ∷ 0xf2 ∷ 0x54 ∷ 0xf6 ∷ 0x64 ∷ []
+    ++ floor_6_tag
 
 -- a datagram comes from member 3
 abbrev pub from_3 : List ℕ → PortEvent

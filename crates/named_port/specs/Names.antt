@@ -10,7 +10,8 @@ use Rattle.token_names.specs.Names.{AreDistinct}
 -- the place of the first name that is `name`, counted from `number`, or None
 abbrev pub number_from : ℕ → List (List ℕ) → List ℕ → Option ℕ
 number_from number [] name = None
-number_from number (other ∷ names) name = if bytes_eq other name then Some number else number_from (number + 1) names name
+number_from number (other ∷ names) name =
+    if bytes_eq other name then Some number else number_from (number + 1) names name
 
 -- the number of the token with a name: its place from 0, or None
 abbrev pub number_of : List (List ℕ) → List ℕ → Option ℕ

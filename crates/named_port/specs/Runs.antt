@@ -60,7 +60,8 @@ below_events translator (event ∷ events) =
 
 -- A port and its translator after calls, from a start at which the port below had no event. If the port below keeps a
 -- record, the record is that of the calls.
-pub record IsAfter (below : Option (List PortEvent)) (translator : TranslatorRecord) (calls : List PortEvent) : Type 0 where
+pub record IsAfter (below : Option (List PortEvent)) (translator : TranslatorRecord) (calls : List PortEvent)
+    : Type 0 where
   pub heard_is : translator.heard ≡ (after_events (at_start translator) calls).heard
   pub below_is : (events : List PortEvent) → below ≡ Some events → events ≡ below_events (at_start translator) calls
 
