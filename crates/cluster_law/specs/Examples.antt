@@ -87,10 +87,11 @@ grant = record { sender = 2; receiver = 1; message = Grant first_proposal 0 (spa
 abbrev pub bytes_of : Envelope → List ℕ
 bytes_of envelope = datagram_bytes three_nodes.key envelope.sender envelope.receiver envelope.message
 
--- the arrivals of the Ask and of the Grant
+-- the arrival of the Ask
 abbrev pub ask_comes : Input
 ask_comes = Datagram 1 (bytes_of ask)
 
+-- the arrival of the Grant
 abbrev pub grant_comes : Input
 grant_comes = Datagram 2 (bytes_of grant)
 
@@ -220,10 +221,11 @@ second_line = Line 7 100 (codes "CHECK 2 silver 287082 -")
 abbrev pub proposal_anew : ProposalRecord
 proposal_anew = record { node = 1; boot = 3; seq = 0 }
 
--- the process's Ask, and the Grant of node 2
+-- the process's Ask
 abbrev pub ask_anew : Envelope
 ask_anew = record { sender = 1; receiver = 2; message = Ask proposal_anew 0 (span_of 1 1) }
 
+-- the Grant of node 2
 abbrev pub grant_anew : Envelope
 grant_anew = record { sender = 2; receiver = 1; message = Grant proposal_anew 0 (span_of 1 1) }
 
@@ -243,10 +245,11 @@ fails_and_loses =
 abbrev pub clock_nodes : Setting
 clock_nodes = first_setting (clock_config 10) (replicate 32 1) (replicate 3 (2 ∷ []))
 
--- node 1 asks for the step before the present one, and node 2 grants it
+-- node 1 asks for the step before the present one
 abbrev pub ask_behind : Envelope
 ask_behind = record { sender = 1; receiver = 2; message = Ask first_proposal 0 (span_of 3 3) }
 
+-- node 2 grants it
 abbrev pub grant_behind : Envelope
 grant_behind = record { sender = 2; receiver = 1; message = Grant first_proposal 0 (span_of 3 3) }
 
@@ -296,10 +299,11 @@ old_floor_comes = Opens 1 ∷ Takes 1 (Datagram 2 (bytes_of old_floor)) ∷ []
 
 -- ---- Uses of a store
 
--- an answer and a Floor in a port's record
+-- an answer in a port's record
 abbrev pub answer_entry : PortEvent
 answer_entry = offer_of_output [] answer_out
 
+-- a Floor in a port's record
 abbrev pub floor_entry : PortEvent
 floor_entry = offer_of_output [] floor_out
 
