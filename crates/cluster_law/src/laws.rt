@@ -3,13 +3,13 @@
 ghost use Rattle.std.specs.Prelude.{pos, negsuc, ◌≡◌, ◌⊎◌, ◌+◌, ◌<◌, ◌^◌, ℕ, List, [], ◌∷◌, ◌++◌, length, Option, Some, Result, Ok, Err, None, true, false, map, replicate, slice_get, take, codes};
 ghost use Rattle.admit_core.specs.Throttle.{Accepted as Passed, Failed, SpacesFailures};
 ghost use Rattle.cluster_sim.specs.Results.{results_in};
-ghost use Rattle.otp_core.specs.Acceptance.{HaveSingleUse, KeepRealTimeOrder};
+ghost use Rattle.otp_core.specs.Acceptance.{Acceptance, HaveSingleUse, KeepRealTimeOrder};
 ghost use Rattle.otp_core.specs.Gate.{clear_gate};
 ghost use Rattle.vote_core.specs.Rows.{row as row_in, row_with_gate};
 ghost use Rattle.vote_core.specs.Safety.{HaveMajority};
 ghost use Rattle.vote_core.specs.Schedule.{is_member};
 ghost use Rattle.vote_core.specs.Voting.{raise};
-ghost use Rattle.cluster_sim.specs.World.{Anew, Cut, Happens, Lost, Restart, Ticks, WorldEvent};
+ghost use Rattle.cluster_sim.specs.World.{Anew, Answer, Cut, Happens, Lost, Restart, Ticks, WorldEvent};
 ghost use Rattle.floor_store.specs.Content.{Content, opening_row, with_row};
 ghost use Rattle.floor_store.specs.Held.{Commits, IsSettled, MayPut, MayWrite, RaisesBoot};
 ghost use Rattle.floor_store.specs.Records.{RowRecord};
@@ -499,7 +499,10 @@ pub fn grounds_are_worked()
     ensures node_in_a_stop { IsJustifiedInAction one_node (ends_in_the_step true) (acceptance 1 1 2 0 0) → ⊥ }
     // A failure 4 seconds before has closed the token.
     ensures closed { IsJustifiedInAction one_node hurries (acceptance 2 2 1 0 0) → ⊥ }
-    // An offer justifies no acceptance, at any place of the list.
+    // Each acceptance of a list is meant. An offer justifies none, at any place.
+    ensures each { (setting : Setting) (history : List Action) (passes : List Acceptance) (i : ℕ) (pass : Acceptance)
+        → JustifiesAll setting history passes → slice_get passes i ≡ Some pass
+        → IsJustifiedInAction setting history pass }
     ensures first_unjustified { JustifiesAll one_node answers_once (acceptance 2 2 1 0 0 ∷ first_pass ∷ []) → ⊥ }
     ensures second_unjustified { JustifiesAll one_node answers_once (first_pass ∷ acceptance 2 2 1 0 0 ∷ []) → ⊥ }
 {}
@@ -537,7 +540,10 @@ pub fn answers_are_worked()
         (Some (Takes 1 right_line)) → ⊥ }
     ensures with_another_factor { IsAnsweredInAction one_node answers_once (record first_pass { hi = 1 })
         (Some (Takes 1 right_line)) → ⊥ }
-    // No acceptance ends in an offer, at any place of the list.
+    // Each acceptance of a list is meant. None ends in an offer, at any place.
+    ensures each { (setting : Setting) (history : List Action) (passes : List Acceptance) (i : ℕ) (pass : Acceptance)
+        → AnswersAll setting history passes → slice_get passes i ≡ Some pass
+        → IsAnsweredInAction setting history pass (slice_get history pass.ended) }
     ensures first_unanswered { AnswersAll one_node answers_once (record first_pass { ended = 2 } ∷ first_pass ∷ [])
         → ⊥ }
     ensures second_unanswered { AnswersAll one_node answers_once (first_pass ∷ record first_pass { ended = 2 } ∷ [])
@@ -655,7 +661,10 @@ pub fn answers_can_be_broken()
     ensures told_another_factor { BelongsToAcceptance one_node answers_once
         (told_outcome 1 1 7 (codes "1") (Accepted 1)) → ⊥ }
     ensures told_again_unasked { BelongsToAcceptance one_node answers_once (record first_ok { event = 2 }) → ⊥ }
-    // An OK for a client that sent no line, at any place of the list.
+    // Each OK of a list is meant. None is for a client that sent no line, at any place.
+    ensures each { (setting : Setting) (history : List Action) (answers : List Answer) (i : ℕ) (answer : Answer)
+        → AnswerTruly setting history answers → slice_get answers i ≡ Some answer → IsOk answer.bytes
+        → BelongsToAcceptance setting history answer }
     ensures first_untrue { AnswerTruly one_node answers_once (record first_ok { client = 8 } ∷ first_ok ∷ []) → ⊥ }
     ensures second_untrue { AnswerTruly one_node answers_once (first_ok ∷ record first_ok { client = 8 } ∷ []) → ⊥ }
 {}
@@ -692,6 +701,9 @@ pub fn runs_can_be_broken()
     ensures another_event { HasEvent [] (Stops 1) 0 (Restart 1 ∷ []) → ⊥ }
     ensures run_with_an_event_more { IsRunOf one_node [] (nothing ∷ []) → ⊥ }
     ensures run_with_another_event { IsRunOf one_node (Stops 1 ∷ []) (Restart 1 ∷ []) → ⊥ }
+    ensures each { (setting : Setting) (history : List Action) (events : List WorldEvent) (place : ℕ) (action : Action)
+        → IsRunOf setting history events → slice_get history place ≡ Some action
+        → HasEvent setting.key action place events }
     ensures run_with_another_first_event { IsRunOf one_node (Stops 1 ∷ Stops 1 ∷ []) (Restart 1 ∷ nothing ∷ []) → ⊥ }
     ensures run_with_another_second_event { IsRunOf one_node (Stops 1 ∷ Stops 1 ∷ []) (nothing ∷ Restart 1 ∷ []) → ⊥ }
     // The acts are those of its inputs, but their effects on the nodes differ.

@@ -235,3 +235,6 @@ returns-clause-first_unanswered c h = h 0 (record first_pass { ended = 2 }) refl
 
 pub returns-clause-second_unanswered : goal.returns-clause-second_unanswered
 returns-clause-second_unanswered c h = h 1 (record first_pass { ended = 2 }) refl
+
+pub returns-clause-each : goal.returns-clause-each
+returns-clause-each c = λ setting history passes i pass h at. h i pass at

@@ -157,3 +157,6 @@ returns-clause-told_again_unasked c h =
     let same = is_first (record first_ok { event = 2 }) h in
     let late : h.pass.ended < 2 = subst (λ (p : Acceptance). p.ended < 2) same (omega arith) in
     h.again late
+
+pub returns-clause-each : goal.returns-clause-each
+returns-clause-each c = λ setting history answers i answer h at ok. h i answer at ok

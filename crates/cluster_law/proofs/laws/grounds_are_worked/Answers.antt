@@ -89,3 +89,6 @@ unfolding code_at first_words schedule rounds compress hash_after digest_bytes s
 returns-clause-closed c h =
     let is_open : (1 ≡ 0) ⊎ (105 ≤ 104) = h.1.entitled.is_open in
     elim is_open [ inl x ↦ omega (arith, x) | inr x ↦ omega (arith, x) ]
+
+pub returns-clause-each : goal.returns-clause-each
+returns-clause-each c = λ setting history passes i pass h at. h i pass at

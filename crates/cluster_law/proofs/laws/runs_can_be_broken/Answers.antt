@@ -275,3 +275,6 @@ returns-clause-explained_by_no_run c h =
     let none : AcceptsNone h.events = subst (λ events. AcceptsNone events) (sym same) (none_by_event a.0 b.0 third.event third.is_event) in
     let number : 1 ≡ 0 = ap (λ (passes : List Acceptance). length passes) (sym old_grant_counts ∙ run.accepted ∙ none) in
     omega (arith, number)
+
+pub returns-clause-each : goal.returns-clause-each
+returns-clause-each c = λ setting history events place action h at. h.each place action at
