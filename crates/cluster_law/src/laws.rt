@@ -41,7 +41,7 @@ ghost use Rattle.cluster_law.specs.Lives.{Datagram, Action, Down, FailsToOpen, I
 ghost use Rattle.cluster_law.specs.Processes.{AreServing, CanTakeSome, CanTakeTurns, IsEndedNode, IsFailedNode, IsHalfOpened, IsMemberIn, IsNoFaultOfNode, IsServed, IsServedNode, IsStopped, TakesSome, TakesTurns, events_after, item_of, member_in, offer_of_output, run_over};
 ghost use Rattle.cluster_law.specs.Promises.{AnswerTruly, BelongsToAcceptance, HasAct, HasEvent, IsActOf, IsAskedInAction, IsEventOf, IsExplained, IsRunOf, IsSaidInAction, nothing};
 ghost use Rattle.cluster_law.specs.SingleNode.{IsPartOf, reference_of, setting_of_one};
-ghost use Rattle.cluster_law.specs.Sweeps.{IsLive, IsSweep, IsSwept, IsTick, SweepsLevel, greatest_in, is_step_of};
+ghost use Rattle.cluster_law.specs.Sweeps.{IsLive, IsSweep, IsSwept, IsTick, SweepsLevel, greatest_in, is_step_of, next_in};
 ghost use Rattle.cluster_law.specs.Uses.{AreAllUses, AreUses, HasHistory, HasUses, IsHistoryOf, IsProcess, IsTrueReply, Serves as ServesStore, StoreUse, TakesAndOffers, WasProcess, Writes, content_after, offers_recorded};
 ghost use Rattle.std.specs.List.{filter};
 
@@ -631,7 +631,11 @@ pub fn promises_of_processes_can_be_broken()
     // A quiet turn without a tick.
     ensures never_ticked { IsServedNode three_nodes 1 (just_opened three_nodes) (just_opened three_nodes)
         (Quiet ∷ []) → ⊥ }
-    // Two quiet turns with one tick.
+    // The turns of all batches are taken. Two quiet turns have two ticks.
+    ensures all_batches { (setting : Setting) (node first : ℕ) (state new : NodeState) (entries : List PortEvent)
+        (actions : List Action) (served : IsServedNode setting node state new entries) → AreServing node actions
+        → TakesTurns setting node actions (receipts_in served.batches)
+        → IsServed setting node first actions state new (offers_in entries) }
     ensures ticked_once { IsServedNode three_nodes 1 (just_opened three_nodes) tick_made.state
         (Quiet ∷ told_by_tick ++ Quiet ∷ []) → ⊥ }
     // A line without a receive.
@@ -677,6 +681,9 @@ pub fn sweeps_can_be_broken()
     ensures proposal_waits { IsSwept one_node (1 ∷ []) one_open (with_process pending_node) 1 → ⊥ }
     ensures line_waits { IsSwept one_node (1 ∷ []) one_open (with_process owning_node) 1 → ⊥ }
     ensures factor_ahead { IsSwept one_node (1 ∷ []) one_open (cluster_of one_node answers_once) 1 → ⊥ }
+    ensures each_floor { (setting : Setting) (live : List ℕ) (old new : ClusterState) (node token : ℕ)
+        → IsSwept setting live old new node → token < length setting.config.book
+        → next_in new node token ≡ greatest_in live old token }
     ensures factor_behind { IsSwept uneven_nodes (1 ∷ 2 ∷ []) uneven_open uneven_open 1 → ⊥ }
     ensures second_token_behind { IsSwept uneven_tokens (1 ∷ 2 ∷ []) tokens_open tokens_open 1 → ⊥ }
 {}

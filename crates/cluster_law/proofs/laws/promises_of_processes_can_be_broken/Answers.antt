@@ -195,3 +195,6 @@ pub returns-clause-failed_with_a_line_unasked : goal.returns-clause-failed_with_
 returns-clause-failed_with_a_line_unasked c h =
     let none = no_receipts (receipts_in h.before ++ h.last) h.received in
     left_behind (h.served 0 [] tt (takes_no_more (receipts_in h.before) h.last h.count none))
+
+pub returns-clause-all_batches : goal.returns-clause-all_batches
+returns-clause-all_batches c = λ setting node first state new entries actions h serving takes. h.served first actions serving takes

@@ -74,3 +74,6 @@ returns-clause-factor_ahead c h =
     let short : 0 < 1 = omega arith in
     let next : 1 ≡ 0 = h.next 0 short in
     omega (arith, next)
+
+pub returns-clause-each_floor : goal.returns-clause-each_floor
+returns-clause-each_floor c = λ setting live old new node token h short. h.next token short
