@@ -1,2 +1,5 @@
 pub mod Cluster
+pub mod Done
 pub mod Fault
+pub mod Serve
+pub mod Users

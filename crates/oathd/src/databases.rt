@@ -1,11 +1,18 @@
 //! Carries out the commands over a database.
 
-ghost use Rattle.std.specs.Prelude.{◌<◌, ◌≤◌, ◌^◌, IfOk, IfSome};
+ghost use Rattle.std.specs.Prelude.{◌≡◌, ◌<◌, ◌≤◌, ◌^◌, None, length, IfErr, IfOk, IfSome};
+ghost use Rattle.sqlite_wal.specs.Files.{image_at};
 ghost use Rattle.floor_sql.specs.Usable.{IsNode};
 ghost use Rattle.otp_core.specs.Range.{IsMoment};
+ghost use Rattle.oathd_database.specs.File.{FindsFiles};
 ghost use Rattle.oathd_database.specs.Gate.{IsSaid};
+ghost use Rattle.oathd_database.specs.declared.fault.Fault.TheVariants as database;
 ghost use Rattle.oathd_words.specs.StoreWords.{IsActionInRange, IsClusterInRange};
+ghost use Rattle.oathd_words.specs.declared.store_words.Action.TheVariants.{Audit, Export, Floors, Gates, Level, Migrate, Unlock};
 ghost use Rattle.oathd.specs.Cluster.{IsImportOf};
+ghost use Rattle.oathd.specs.Done.{IsCountOf, IsCreated, IsDone, IsMomentOf, IsReplaced};
+ghost use Rattle.oathd.specs.Serve.{AreLinesOf, IsAskedFor, IsMemberOf, IsOfTask, IsRunOf, ServeEndsSo};
+ghost use Rattle.oathd.specs.Users.{IsOfUsers};
 
 use crate::fault::Fault;
 use crate::floors::{floors_texts, with_paths};
@@ -20,7 +27,8 @@ use oathd_database::{
 use oathd_tasks::{clients_at, cluster_in, cluster_key, member_place, read_key};
 use oathd_words::{Action, ClientWords, ClusterWords, CountWords, FormerWords, ImportWords};
 use otp_core::{MOMENTS_END, Settings};
-use sqlite::Start;
+use sqlite::{FileFrom, FileStore, Start};
+use sqlite_trees::store::Store;
 use std::alloc::Global;
 use std::io::{Cursor, Write};
 use std::time::Clock as TimeSource;
@@ -28,7 +36,8 @@ use udp_port::SystemClock;
 
 /// Returns the current time.
 fn present_moment<'a, T: TimeSource>(source: &T) -> Result<u64, Fault<'a>>
-    ensures { IfOk result IsMoment }
+    ensures moment { IfOk result IsMoment }
+    ensures fault { IfErr result (λ fault. fault ≡ Fault.Database database.NoClock) }
 {
     match SystemClock::new(source).moment() {
         Some(moment) if moment < MOMENTS_END => Ok(moment),
@@ -60,7 +69,9 @@ fn import_settings<'a>(
 /// Returns `moment`, or the current time if None.
 fn moment_of<'a, T: TimeSource>(source: &T, moment: Option<u64>) -> Result<u64, Fault<'a>>
     requires { IfSome moment IsMoment }
-    ensures { IfOk result IsMoment }
+    ensures moment { IfOk result (IsMomentOf moment) }
+    ensures in_range { IfOk result IsMoment }
+    ensures fault { IfErr result (λ fault. (fault ≡ Fault.Database database.NoClock) × (moment ≡ None)) }
 {
     match moment {
         Some(moment) => Ok(moment),
@@ -77,6 +88,7 @@ fn member_count<'a>(
     text: &'a [u8],
 ) -> Result<u8, Fault<'a>>
     requires { 1 ≤ node }
+    ensures { IfOk result (IsCountOf count.entry text.now) }
 {
     match count {
         CountWords::Given(count) => Ok(count),
@@ -126,6 +138,7 @@ impl<'r, 'a> Site<'r, 'a> {
     /// Returns the text of the users file for an import with `settings` at `moment`.
     fn users(&self, settings: Settings, moment: u64) -> Result<Cursor<Vec<u8>>, Fault<'a>>
         requires { IsMoment moment }
+        ensures { IfErr result (IsOfUsers settings moment) }
     {
         Ok(Cursor::new(users_text(self.alloc, self.rt, self.users, settings, moment)?))
     }
@@ -145,6 +158,8 @@ impl<'r, 'a> Site<'r, 'a> {
     ) -> Result<(), Fault<'a>>
         requires node { IsNode node }
         requires moment { IfSome moment IsMoment }
+        ensures { IfOk result (λ _. IsCreated ⟦<FileStore<FileFrom<S>> as Store>⟧ (FindsFiles (image_at S.Start)) node
+            settings moment) }
     {
         let moment = moment_of(self.rt, moment)?;
         let users = self.users(settings, moment)?;
@@ -164,6 +179,8 @@ impl<'r, 'a> Site<'r, 'a> {
     ) -> Result<(), Fault<'a>>
         requires node { IsNode node }
         requires moment { IfSome moment IsMoment }
+        ensures { IfOk result (λ _. IsReplaced ⟦<FileStore<FileFrom<S>> as Store>⟧ (FindsFiles (image_at S.Start)) node
+            settings moment former.entry) }
     {
         let moment = moment_of(self.rt, moment)?;
         let (alloc, rt) = (self.alloc, self.rt);
@@ -195,7 +212,9 @@ impl<'r, 'a> Site<'r, 'a> {
 
     /// Returns the lines of clients that a node takes, from the words and the clients file that they name.
     fn lines_of(&self, clients: ClientWords<'a>) -> Result<ClientLines, Fault<'a>>
-        ensures { IfOk result IsSaid }
+        ensures lines { IfOk result (AreLinesOf clients.entry) }
+        ensures said { IfOk result IsSaid }
+        ensures fault { IfErr result IsOfTask }
     {
         match clients {
             ClientWords::Anybody => Ok(ClientLines::Anybody),
@@ -212,7 +231,10 @@ impl<'r, 'a> Site<'r, 'a> {
         start: S,
         serving: Serving<'_>,
         held: &mut O,
-    ) -> Result<(), Fault<'a>> {
+    ) -> Result<(), Fault<'a>>
+        ensures { ServeEndsSo ⟦<FileStore<FileFrom<S>> as Store>⟧ (FindsFiles (image_at S.Start))
+            (λ other. other ≡ serving.entry) result }
+    {
         let users = self.users(serving.settings, 0)?;
         let _served = serve_store(self.alloc, self.rt, users, serving, self.found(start), held)?;
         Ok(())
@@ -230,6 +252,8 @@ impl<'r, 'a> Site<'r, 'a> {
     ) -> Result<(), Fault<'a>>
         requires cluster { IsClusterInRange cluster }
         requires turns { turns < 2 ^ 54 }
+        ensures { ServeEndsSo ⟦<FileStore<FileFrom<S>> as Store>⟧ (FindsFiles (image_at S.Start))
+            (IsAskedFor cluster.entry turns is_logged clients.entry self.now.cluster.now) result }
     {
         match cluster {
             ClusterWords::Given {
@@ -269,6 +293,9 @@ impl<'r, 'a> Site<'r, 'a> {
     ) -> Result<(), Fault<'a>>
         requires node { 1 ≤ node }
         requires turns { turns < 2 ^ 54 }
+        ensures { ServeEndsSo ⟦<FileStore<FileFrom<S>> as Store>⟧ (FindsFiles (image_at S.Start))
+            (λ serving. IsMemberOf node self.now.cluster.now serving × IsRunOf turns is_logged clients.entry serving)
+            result }
     {
         let cluster = cluster_in(self.alloc, self.cluster)?;
         let place = member_place(&cluster, node)?;
@@ -281,13 +308,19 @@ impl<'r, 'a> Site<'r, 'a> {
     }
 
     /// Prints a users file with the store's content.
-    fn export<S: Start, O: Write>(&self, start: S, held: &mut O) -> Result<(), Fault<'a>> {
+    fn export<S: Start, O: Write>(&self, start: S, held: &mut O) -> Result<(), Fault<'a>>
+        ensures { IfOk result (λ _. IsDone ⟦<FileStore<FileFrom<S>> as Store>⟧ (FindsFiles (image_at S.Start)) Export
+            self.now.cluster.now (O.contents held.old) (O.contents held.new)) }
+    {
         export_store(self.alloc, self.users_alone()?, self.found(start), held)?;
         Ok(())
     }
 
     /// Prints the passes of the store.
-    fn audit<S: Start, O: Write>(&self, start: S, node: u8, held: &mut O) -> Result<(), Fault<'a>> {
+    fn audit<S: Start, O: Write>(&self, start: S, node: u8, held: &mut O) -> Result<(), Fault<'a>>
+        ensures { IfOk result (λ _. IsDone ⟦<FileStore<FileFrom<S>> as Store>⟧ (FindsFiles (image_at S.Start)) (Audit node)
+            self.now.cluster.now (O.contents held.old) (O.contents held.new)) }
+    {
         audit_store(
             self.alloc,
             self.users_alone()?,
@@ -299,7 +332,10 @@ impl<'r, 'a> Site<'r, 'a> {
     }
 
     /// Upgrades the store to the current format.
-    fn migrate<S: Start>(&self, start: S, node: u8) -> Result<(), Fault<'a>> {
+    fn migrate<S: Start>(&self, start: S, node: u8) -> Result<(), Fault<'a>>
+        ensures { IfOk result (λ _. IsDone ⟦<FileStore<FileFrom<S>> as Store>⟧ (FindsFiles (image_at S.Start)) (Migrate node)
+            self.now.cluster.now None None) }
+    {
         let _conn = migrate_store(self.alloc, self.users_alone()?, node, self.found(start))?;
         Ok(())
     }
@@ -313,6 +349,8 @@ impl<'r, 'a> Site<'r, 'a> {
         held: &mut O,
     ) -> Result<(), Fault<'a>>
         requires { 1 ≤ node }
+        ensures { IfOk result (λ _. IsDone ⟦<FileStore<FileFrom<S>> as Store>⟧ (FindsFiles (image_at S.Start)) (Floors node
+            count.entry) self.now.cluster.now (O.contents held.old) (O.contents held.new)) }
     {
         let members = member_count(self.alloc, count, node, self.cluster)?;
         let moment = present_moment(self.rt)?;
@@ -322,7 +360,10 @@ impl<'r, 'a> Site<'r, 'a> {
     }
 
     /// Raises the floors of a node (floor: the first free factor) to the greatest in floors files.
-    fn level<S: Start>(&self, start: S, node: u8, floors: Vec<&'a str>) -> Result<(), Fault<'a>> {
+    fn level<S: Start>(&self, start: S, node: u8, floors: Vec<&'a str>) -> Result<(), Fault<'a>>
+        ensures { IfOk result (λ _. IsDone ⟦<FileStore<FileFrom<S>> as Store>⟧ (FindsFiles (image_at S.Start)) (Level node floors.entry)
+            self.now.cluster.now None None) }
+    {
         let (alloc, rt) = (self.alloc, self.rt);
         let users = checked_users_text(alloc, rt, self.users, Settings::default(), 0)?;
         let texts = floors_texts(alloc, rt, &floors)?;
@@ -333,7 +374,10 @@ impl<'r, 'a> Site<'r, 'a> {
     }
 
     /// Prints the gates that have failures.
-    fn gates<S: Start, O: Write>(&self, start: S, node: u8, held: &mut O) -> Result<(), Fault<'a>> {
+    fn gates<S: Start, O: Write>(&self, start: S, node: u8, held: &mut O) -> Result<(), Fault<'a>>
+        ensures { IfOk result (λ _. IsDone ⟦<FileStore<FileFrom<S>> as Store>⟧ (FindsFiles (image_at S.Start)) (Gates node)
+            self.now.cluster.now (O.contents held.old) (O.contents held.new)) }
+    {
         gates_store(
             self.alloc,
             self.users_alone()?,
@@ -345,7 +389,10 @@ impl<'r, 'a> Site<'r, 'a> {
     }
 
     /// Clears the failures of a user.
-    fn unlock<S: Start>(&self, start: S, node: u8, user: &'a str) -> Result<(), Fault<'a>> {
+    fn unlock<S: Start>(&self, start: S, node: u8, user: &'a str) -> Result<(), Fault<'a>>
+        ensures { IfOk result (λ _. IsDone ⟦<FileStore<FileFrom<S>> as Store>⟧ (FindsFiles (image_at S.Start)) (Unlock node user.entry)
+            self.now.cluster.now None None) }
+    {
         let _store = unlock_store(
             self.alloc,
             self.users_alone()?,
@@ -365,6 +412,8 @@ impl<'r, 'a> Site<'r, 'a> {
         held: &mut O,
     ) -> Result<(), Fault<'a>>
         requires { IsActionInRange action }
+        ensures { IfOk result (λ _. IsDone ⟦<FileStore<FileFrom<S>> as Store>⟧ (FindsFiles (image_at S.Start)) action.entry
+            self.now.cluster.now (O.contents held.old) (O.contents held.new)) }
     {
         match action {
             Action::Init {

@@ -61,18 +61,33 @@ impl From<OutsideFault> for Fault<'_> {
 }
 
 impl<'a> From<oathd_tasks::Fault<'a>> for Fault<'a> {
+    ghost use Rattle.std.specs.Prelude.{◌≡◌};
+    ghost use Rattle.oathd.specs.declared.fault.Fault.TheVariants.{Task};
+
+    ghost from_gives = { λ task fault. fault ≡ Task task };
+
     fn from(fault: oathd_tasks::Fault<'a>) -> Self {
         Fault::Task(fault)
     }
 }
 
 impl From<oathd_database::Fault> for Fault<'_> {
+    ghost use Rattle.std.specs.Prelude.{◌≡◌};
+    ghost use Rattle.oathd.specs.declared.fault.Fault.TheVariants.{Database};
+
+    ghost from_gives = { λ command fault. fault ≡ Database command };
+
     fn from(fault: oathd_database::Fault) -> Self {
         Fault::Database(fault)
     }
 }
 
 impl<'a> From<UnlockFault<'a>> for Fault<'a> {
+    ghost use Rattle.std.specs.Prelude.{◌≡◌};
+    ghost use Rattle.oathd.specs.declared.fault.Fault.TheVariants.{Unlock};
+
+    ghost from_gives = { λ unlock fault. fault ≡ Unlock unlock };
+
     fn from(fault: UnlockFault<'a>) -> Self {
         Fault::Unlock(fault)
     }

@@ -1,6 +1,8 @@
 //! Reads the users file of a command.
 
+ghost use Rattle.std.specs.Prelude.{IfErr};
 ghost use Rattle.otp_core.specs.Range.{IsMoment};
+ghost use Rattle.oathd.specs.Users.{IsOfUsers};
 
 use crate::fault::Fault;
 use oathd_database::read_users;
@@ -18,6 +20,10 @@ const MAX_USERS_LEN: u64 = 16_777_216;
 struct Failing;
 
 impl Read for Failing {
+    ghost use Rattle.std.specs.Prelude.{[], Some};
+
+    ghost remaining = { λ _. Some [] };
+
     fn read(&mut self, _buf: &mut [u8]) -> io::Result<usize> {
         Err(ErrorKind::Other.into())
     }
@@ -32,6 +38,7 @@ fn cut_off<'a>(
     path: &'a str,
 ) -> Fault<'a>
     requires { IsMoment moment }
+    ensures { IsOfUsers settings moment result }
 {
     match read_users(alloc, text.chain(Failing), settings, moment) {
         Ok(_) => Fault::Task(oathd_tasks::Fault::CannotReadFile(path)),
@@ -54,6 +61,7 @@ pub(crate) fn users_text<'a, F: Files>(
     moment: u64,
 ) -> Result<Vec<u8>, Fault<'a>>
     requires { IsMoment moment }
+    ensures { IfErr result (IsOfUsers settings moment) }
 {
     let Ok(file) = fs::open(files, path) else {
         return Err(Fault::Task(oathd_tasks::Fault::CannotReadFile(path)));

@@ -1,0 +1,54 @@
+-- What the commands over a database have done.
+use Rattle.std.proofs.Common.{◌≡◌, ◌∙◌, ap, sym, ℕ, List, Option, None, Some, length}
+use Rattle.std.specs.Borrow.{Bor}
+use Rattle.std.specs.Option.{option_map}
+use Rattle.sqlite.specs.Store.{Ghosts}
+use Rattle.sqlite.specs.Held as sql
+use Rattle.otp_core.specs.Limits.{Limits, default_limits}
+use Rattle.otp_core.specs.Range.{IsMoment}
+use Rattle.floor_sql.specs.Held.{SqlHeld}
+use Rattle.oathd_words.specs.declared.former_words.FormerWords.{FormerWords}
+use Rattle.oathd_database.specs.Commands.{HasMade}
+use Rattle.oathd_database.specs.Floors.{HasToldFloors}
+use Rattle.oathd_database.specs.Level.{HasLevelled}
+use Rattle.oathd_database.specs.Lost.{HasRemade}
+use Rattle.oathd_database.specs.declared.lost.LostNode.{LostNode}
+use Rattle.oathd.specs.Done.{AreFloorsTold, IsCreated, IsLevelled, IsLostNodeOf, IsMomentOf, IsReplaced}
+
+module _ {V : Type 0} (items : V → List ℕ) (taken : Option (Bor (List ℕ))) (given : Option V) where
+  -- the nodes that are named
+  pub lost_named : (slice : Bor (List ℕ)) (nodes : V) → given ≡ Some nodes → slice.now ≡ items nodes → taken ≡ Some slice
+      → option_map (λ (lost : Bor (List ℕ)). lost.now) taken ≡ option_map items given
+  lost_named slice nodes is value at =
+      ap (λ (named : Option (Bor (List ℕ))). option_map (λ (lost : Bor (List ℕ)). lost.now) named) at
+      ∙ ap (λ (list : List ℕ). Some list) value
+      ∙ sym (ap (λ (named : Option V). option_map items named) is)
+
+  -- no node is named
+  pub lost_none : given ≡ None → taken ≡ None → option_map (λ (lost : Bor (List ℕ)). lost.now) taken ≡ option_map items given
+  lost_none is at =
+      ap (λ (named : Option (Bor (List ℕ))). option_map (λ (lost : Bor (List ℕ)). lost.now) named) at
+      ∙ sym (ap (λ (named : Option V). option_map items named) is)
+
+module _ {S : Type 0} (g : Ghosts S) (finds : sql.Held S → Type 0) (node : ℕ) (users : List ℕ) where
+  -- a store is created
+  pub created : (settings : Limits) (given : Option ℕ) (moment : ℕ) (store : SqlHeld S) → IsMomentOf given moment
+      → HasMade g finds settings moment 16777216 node store users → IsCreated g finds node settings given
+  created settings given moment store at h = record { moment = moment; of_moment = at; users = users; store = store; made = h }
+
+  -- a store is replaced
+  pub replaced : (settings : Limits) (given : Option ℕ) (former : FormerWords) (moment : ℕ) (lost : LostNode) (texts : List (List ℕ)) (store : SqlHeld S)
+      → IsMomentOf given moment → IsLostNodeOf node former lost → length texts ≡ length former.floors.items
+      → HasRemade g finds settings moment 16777216 lost texts store users → IsReplaced g finds node settings given former
+  replaced settings given former moment lost texts store at of_lost each h =
+      record { moment = moment; of_moment = at; users = users; lost = lost; of_lost = of_lost; texts = texts; each = each; store = store; made = h }
+
+  -- floors are raised
+  pub levelled : (count : ℕ) (texts : List (List ℕ)) (store : SqlHeld S) → length texts ≡ count
+      → HasLevelled g finds default_limits 16777216 node texts store users → IsLevelled g finds node count
+  levelled count texts store each h = record { users = users; texts = texts; each = each; store = store; levelled = h }
+
+  -- a floors file is written
+  pub floors_told : (members moment : ℕ) (old new : Option (List ℕ)) → IsMoment moment
+      → HasToldFloors g finds default_limits 16777216 node members moment old new users → AreFloorsTold g finds node members old new
+  floors_told members moment old new at h = record { moment = moment; is_moment = at; users = users; told = h }

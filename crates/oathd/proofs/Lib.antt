@@ -1,0 +1,4 @@
+mod FaultLemmas
+mod ServeLemmas
+mod WordsLemmas
+mod DoneLemmas

@@ -1,0 +1,114 @@
+-- The words of a command, and what they ask for.
+use Rattle.std.proofs.Common.{◌≡◌, ◌∙◌, refl, sym, subst, ℕ, List, Option, None, Some, Ok, Err, IfSome, length}
+use Rattle.std.specs.Prelude.{Result, Bool, IfOk}
+use Rattle.std.specs.Borrow.{Bor}
+use Rattle.std.proofs.lemmas.List.{length-map}
+use Rattle.std.specs.declared.net.socket_addr.SocketAddrV4.{SocketAddrV4}
+use Rattle.std.specs.Global.{Vec}
+use Rattle.sqlite.specs.Store.{Ghosts}
+use Rattle.sqlite.specs.Held as sql
+use Rattle.otp_core.specs.Limits.{Limits}
+use Rattle.vote_core.specs.NodeSet.{PlaceRecord}
+use Rattle.cluster_file.specs.Address.{address_value}
+use Rattle.cluster_file.specs.ClusterFile.{cluster_of, cluster_value}
+use Rattle.cluster_file.specs.Said.{key_place}
+use Rattle.cluster_file.specs.declared.cluster.Cluster.{Cluster}
+use Rattle.oathd_words.specs.declared.former_words.CountWords.{CountWords}
+use Rattle.oathd_words.specs.declared.former_words.CountWords.TheVariants as counts
+use Rattle.oathd_words.specs.declared.former_words.FormerWords.{FormerWords}
+use Rattle.oathd_words.specs.declared.store_words.Action.{Action}
+use Rattle.oathd_words.specs.declared.store_words.Action.TheVariants.{Init, Remake}
+use Rattle.oathd_words.specs.declared.store_words.ClientWords.{ClientWords}
+use Rattle.oathd_words.specs.declared.store_words.ClientWords.TheVariants as client_words
+use Rattle.oathd_words.specs.declared.store_words.ClusterWords.{ClusterWords}
+use Rattle.oathd_words.specs.declared.store_words.ClusterWords.TheVariants.{Given, Named}
+use Rattle.oathd_words.specs.declared.store_words.ImportWords.{ImportWords}
+use Rattle.oathd_database.specs.declared.serving.Serving.{Serving}
+use Rattle.oathd.specs.Cluster.{IsImportOf}
+use Rattle.oathd.specs.Done.{IsCountOf, IsCreated, IsDone, IsReplaced}
+use Rattle.oathd_tasks.specs.Check.{IsKeyIn}
+use Rattle.oathd_database.specs.Serving.{IsOfMember}
+use Rattle.oathd_database.specs.declared.gate.ClientLines.{ClientLines}
+use Rattle.oathd_database.specs.declared.gate.ClientLines.TheVariants.{Of}
+use Rattle.oathd_tasks.specs.Clients.{HasClients}
+use Rattle.clients_file.specs.declared.clients.Clients.{Clients}
+use Rattle.oathd_database.specs.declared.node_key.NodeKey.TheVariants.{Own}
+use Rattle.oathd.specs.Serve.{AreLinesOf, IsAskedFor, IsMemberOf, IsRunOf, IsServedAsAsked, ServeEndsSo}
+use Rattle.oathd.specs.declared.fault.Fault.{Fault}
+
+-- the number of members in the cluster file that the words name
+pub count_in_file : (count : CountWords) (path : Bor (List ℕ)) (text : List ℕ) (cluster : Cluster) (members : ℕ)
+    → count ≡ counts.Named path → cluster_of text ≡ Ok (cluster_value cluster) → members ≡ length cluster.members.items → IsCountOf count text members
+count_in_file count path text cluster members named said each =
+    subst (λ words. IsCountOf words text members) (sym named)
+    (cluster_value cluster, said, each ∙ sym (length-map cluster.members.items address_value))
+
+-- the lines of clients in the file that the words name
+pub lines_in_file : (words : ClientWords) (path : Bor (List ℕ)) (clients : Clients) → words ≡ client_words.Named path → HasClients clients
+    → AreLinesOf words (Of clients)
+lines_in_file words path clients named has = subst (λ said. AreLinesOf said (Of clients)) (sym named) (clients, has, refl)
+
+-- the member at its place of the described cluster, with the run that the words name
+pub member_asked : (node : ℕ) (text : List ℕ) (turns : ℕ) (is_logged : Bool) (clients : ClientWords) (serving : Serving) (cluster : Bor Cluster)
+    (own : List ℕ) (place : PlaceRecord) (lines : ClientLines) → cluster_of text ≡ Ok (cluster_value cluster.now) → IsKeyIn (key_place cluster.now.key) own
+    → place ≡ record { me = node; n = length cluster.now.members.items } → AreLinesOf clients lines
+    → IsOfMember cluster own place serving × (serving.turns ≡ turns) × (serving.is_logged ≡ is_logged) × (serving.lines ≡ lines)
+    → IsMemberOf node text serving × IsRunOf turns is_logged clients serving
+member_asked node text turns is_logged clients serving cluster own place lines said key_is at are made = (
+  record {
+    cluster = cluster;
+    of_text = said;
+    own = own;
+    of_key = key_is;
+    of_member = subst (λ (p : PlaceRecord). IsOfMember cluster own p serving) at made.0;
+  },
+  record {
+    for_turns = made.1;
+    with_log = made.2;
+    of_lines = subst (λ (taken : ClientLines). AreLinesOf clients taken) (sym made.3) are;
+  },
+)
+
+-- the node that the words describe, with the run that they name
+pub node_asked : (cluster : ClusterWords) (settings : Limits) (place : PlaceRecord) (members : Vec SocketAddrV4) (path : Bor (List ℕ)) (turns : ℕ)
+    (is_logged : Bool) (clients : ClientWords) (text : List ℕ) (serving : Serving) (own : List ℕ) → cluster ≡ Given settings place members path
+    → serving.settings ≡ settings → serving.place ≡ place → serving.members.items ≡ members.items → serving.key ≡ Own own → serving.turns ≡ turns
+    → serving.is_logged ≡ is_logged → AreLinesOf clients serving.lines → IsAskedFor cluster turns is_logged clients text serving
+node_asked cluster settings place members path turns is_logged clients text serving own is a b c d e f h =
+    subst (λ (words : ClusterWords). IsAskedFor words turns is_logged clients text serving) (sym is) (
+      record { of_settings = a; of_place = b; of_members = c; own = own; of_key = d },
+      record { for_turns = e; with_log = f; of_lines = h },
+    )
+
+module _ {S : Type 0} (g : Ghosts S) (finds : sql.Held S → Type 0) where
+  -- a command that serves ended well
+  pub served_well : (IsAsked : Serving → Type 0) (result : Result Unit Fault) → ServeEndsSo g finds IsAsked result
+      → IfOk result (λ _. IsServedAsAsked g finds IsAsked)
+  served_well IsAsked (Ok done) h = h
+  served_well IsAsked (Err fault) h = tt
+
+  -- an action with a name is the action
+  pub done_so : (action named : Action) (text : List ℕ) (old new : Option (List ℕ)) (result : Result Unit Fault) → action ≡ named
+      → IfOk result (λ _. IsDone g finds named text old new) → IfOk result (λ _. IsDone g finds action text old new)
+  done_so action named text old new result is h = subst (λ words. IfOk result (λ _. IsDone g finds words text old new)) (sym is) h
+
+  -- the node that the text of the named cluster file describes
+  pub named_ends : (cluster : ClusterWords) (node : ℕ) (path : Bor (List ℕ)) (turns : ℕ) (is_logged : Bool) (clients : ClientWords) (text : List ℕ)
+      (result : Result Unit Fault) → cluster ≡ Named node path
+      → ServeEndsSo g finds (IsAskedFor (Named node path) turns is_logged clients text) result
+      → ServeEndsSo g finds (IsAskedFor cluster turns is_logged clients text) result
+  named_ends cluster node path turns is_logged clients text result is h =
+      subst (λ words. ServeEndsSo g finds (IsAskedFor words turns is_logged clients text) result) (sym is) h
+
+  module _ (node : ℕ) (import : ImportWords) (moment : Option ℕ) (settings : Limits) (text : List ℕ) (old new : Option (List ℕ)) where
+    -- the store of the named node is created, with the settings of the named import
+    pub init_done : (result : Result Unit Fault) → IsImportOf import text settings → IfOk result (λ _. IsCreated g finds node settings moment)
+        → IfOk result (λ _. IsDone g finds (Init node import moment) text old new)
+    init_done (Ok done) is h = (settings, is, h)
+    init_done (Err fault) is h = tt
+
+    -- the store of the named node is replaced, with the settings of the named import
+    pub remake_done : (former : FormerWords) (result : Result Unit Fault) → IsImportOf import text settings
+        → IfOk result (λ _. IsReplaced g finds node settings moment former) → IfOk result (λ _. IsDone g finds (Remake node import moment former) text old new)
+    remake_done former (Ok done) is h = (settings, is, h)
+    remake_done former (Err fault) is h = tt

@@ -1,0 +1,42 @@
+use Rattle.std.proofs.Common.{None}
+use Rattle.oathd.specs.Serve.{IsAskedFor}
+use Rattle.oathd.proofs.WordsLemmas.{done_so, init_done, remake_done, served_well}
+use Rattle.oathd.proofs.databases.Site.perform.Goals as goal
+
+pub returns-in-Export : goal.returns-in-Export
+returns-in-Export g c = done_so _ _ c.args.action _ c.args.self.now.cluster.now _ _ c.export.result c.in-Export.is c.export.ensures
+
+pub returns-in-Audit : goal.returns-in-Audit
+returns-in-Audit g c = done_so _ _ c.args.action _ c.args.self.now.cluster.now _ _ c.audit.result c.in-Audit.is c.audit.ensures
+
+pub returns-in-Migrate : goal.returns-in-Migrate
+returns-in-Migrate g c = done_so _ _ c.args.action _ c.args.self.now.cluster.now _ _ c.migrate.result c.in-Migrate.is c.migrate.ensures
+
+pub returns-in-Floors : goal.returns-in-Floors
+returns-in-Floors g c = done_so _ _ c.args.action _ c.args.self.now.cluster.now _ _ c.floors.result c.in-Floors.is c.floors.ensures
+
+pub returns-in-Level : goal.returns-in-Level
+returns-in-Level g c = done_so _ _ c.args.action _ c.args.self.now.cluster.now _ _ c.level.result c.in-Level.is c.level.ensures
+
+pub returns-in-Gates : goal.returns-in-Gates
+returns-in-Gates g c = done_so _ _ c.args.action _ c.args.self.now.cluster.now _ _ c.gates.result c.in-Gates.is c.gates.ensures
+
+pub returns-in-Unlock : goal.returns-in-Unlock
+returns-in-Unlock g c = done_so _ _ c.args.action _ c.args.self.now.cluster.now _ _ c.unlock.result c.in-Unlock.is c.unlock.ensures
+
+pub returns-in-Serve : goal.returns-in-Serve
+returns-in-Serve g c =
+    done_so _ _ c.args.action _ c.args.self.now.cluster.now _ _ c.serve.result c.in-Serve.is
+    (served_well _ _ (IsAskedFor c.in-Serve.cluster c.in-Serve.turns c.in-Serve.is_logged c.in-Serve.clients c.args.self.now.cluster.now) c.serve.result c.serve.ensures)
+
+pub returns-in_ok-settings-in-Init : goal.returns-in_ok-settings-in-Init
+returns-in_ok-settings-in-Init g c =
+    done_so _ _ c.args.action _ c.args.self.now.cluster.now _ _ c.init.result c.in-Init.is
+    (init_done _ _ c.in-Init.node c.in-Init.import c.in-Init.moment c.in_ok-settings-in-Init.settings c.args.self.now.cluster.now None None c.init.result
+    c.in_ok-settings-in-Init.ensures.given c.init.ensures)
+
+pub returns-in_ok-settings-in-Remake : goal.returns-in_ok-settings-in-Remake
+returns-in_ok-settings-in-Remake g c =
+    done_so _ _ c.args.action _ c.args.self.now.cluster.now _ _ c.remake.result c.in-Remake.is
+    (remake_done _ _ c.in-Remake.node c.in-Remake.import c.in-Remake.moment c.in_ok-settings-in-Remake.settings c.args.self.now.cluster.now None None
+    c.in-Remake.former c.remake.result c.in_ok-settings-in-Remake.ensures.given c.remake.ensures)

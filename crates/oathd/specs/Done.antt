@@ -1,0 +1,99 @@
+-- The effects of the commands over a database, by their words.
+--
+-- Floor: the first free factor of a token at a node.
+use Rattle.std.specs.Prelude.{◌≡◌, ℕ, List, length, Option, None, Some, Ok}
+use Rattle.std.specs.Option.{option_map}
+use Rattle.sqlite.specs.Store.{Ghosts}
+use Rattle.sqlite.specs.Held as sql
+use Rattle.otp_core.specs.Limits.{Limits, default_limits}
+use Rattle.otp_core.specs.Range.{IsMoment}
+use Rattle.floor_sql.specs.Held.{SqlHeld}
+use Rattle.cluster_file.specs.ClusterFile.{ClusterRecord, cluster_of}
+use Rattle.oathd_words.specs.declared.former_words.CountWords.{CountWords}
+use Rattle.oathd_words.specs.declared.former_words.CountWords.TheVariants as counts
+use Rattle.oathd_words.specs.declared.former_words.FormerWords.{FormerWords}
+use Rattle.oathd_words.specs.declared.store_words.Action.{Action}
+use Rattle.oathd_words.specs.declared.store_words.Action.TheVariants.{Init, Remake, Serve, Export, Audit, Migrate, Floors, Level, Gates, Unlock}
+use Rattle.oathd_database.specs.Commands.{HasAudited, HasExported, HasMade, HasMigrated}
+use Rattle.oathd_database.specs.Floors.{HasToldFloors}
+use Rattle.oathd_database.specs.Gates.{HasToldGates}
+use Rattle.oathd_database.specs.Level.{HasLevelled}
+use Rattle.oathd_database.specs.Lost.{HasRemade}
+use Rattle.oathd_database.specs.Unlock.{Unlocks}
+use Rattle.oathd_database.specs.declared.lost.LostNode.{LostNode}
+use Rattle.oathd.specs.Cluster.{IsImportOf}
+use Rattle.oathd.specs.Serve.{IsAskedFor, IsServedAsAsked}
+
+-- the given moment, or any without one
+abbrev pub IsMomentOf : Option ℕ → ℕ → Type 0
+IsMomentOf None moment = IsMoment moment
+IsMomentOf (Some given) moment = moment ≡ given
+
+-- the number of members, from the words or from the text of a cluster file
+abbrev pub IsCountOf : CountWords → List ℕ → ℕ → Type 0
+IsCountOf (counts.Given count) text members = members ≡ count
+IsCountOf (counts.Named path) text members =
+    (cluster : ClusterRecord) × (cluster_of text ≡ Ok cluster) × (members ≡ length cluster.members)
+
+-- the node whose store is replaced, with the lost nodes and the moment that the words give
+pub record IsLostNodeOf (node : ℕ) (former : FormerWords) (lost : LostNode) : Type 0 where
+  pub of_node : lost.node ≡ node
+  pub of_lost : option_map (λ nodes. nodes.now) lost.lost ≡ option_map (λ nodes. nodes.items) former.lost
+  pub of_since : lost.since ≡ former.since
+
+-- Databases are opened by a connection that shows what `finds` says.
+module _ {S : Type 0} (g : Ghosts S) (finds : sql.Held S → Type 0) where
+  -- The node's store is created, as an import of some users file at the given moment or at any.
+  pub record IsCreated (node : ℕ) (settings : Limits) (given : Option ℕ) : Type 0 where
+    pub moment : ℕ
+    pub of_moment : IsMomentOf given moment
+    pub users : List ℕ
+    pub store : SqlHeld S
+    pub made : HasMade g finds settings moment 16777216 node store users
+
+  -- The node's store is replaced from the texts of floors files, one for each path.
+  pub record IsReplaced (node : ℕ) (settings : Limits) (given : Option ℕ) (former : FormerWords) : Type 0 where
+    pub moment : ℕ
+    pub of_moment : IsMomentOf given moment
+    pub users : List ℕ
+    pub lost : LostNode
+    pub of_lost : IsLostNodeOf node former lost
+    pub texts : List (List ℕ)
+    pub each : length texts ≡ length former.floors.items
+    pub store : SqlHeld S
+    pub made : HasRemade g finds settings moment 16777216 lost texts store users
+
+  -- The floors of the node's store are raised by the texts of `count` floors files.
+  pub record IsLevelled (node count : ℕ) : Type 0 where
+    pub users : List ℕ
+    pub texts : List (List ℕ)
+    pub each : length texts ≡ count
+    pub store : SqlHeld S
+    pub levelled : HasLevelled g finds default_limits 16777216 node texts store users
+
+  -- The floors file of the node's store is written, with the given number of members and some moment.
+  pub record AreFloorsTold (node members : ℕ) (old new : Option (List ℕ)) : Type 0 where
+    pub moment : ℕ
+    pub is_moment : IsMoment moment
+    pub users : List ℕ
+    pub told : HasToldFloors g finds default_limits 16777216 node members moment old new users
+
+  -- The action is done, with the text of the cluster file that its words name. The records of the output before and
+  -- after it are `old` and `new`.
+  abbrev pub IsDone : Action → List ℕ → Option (List ℕ) → Option (List ℕ) → Type 0
+  IsDone (Init node import moment) text old new =
+      (settings : Limits) × IsImportOf import text settings × IsCreated node settings moment
+  IsDone (Remake node import moment former) text old new =
+      (settings : Limits) × IsImportOf import text settings × IsReplaced node settings moment former
+  IsDone (Serve cluster turns is_logged clients) text old new =
+      IsServedAsAsked g finds (IsAskedFor cluster turns is_logged clients text)
+  IsDone Export text old new = (users : List ℕ) × HasExported g finds default_limits 0 16777216 old new users
+  IsDone (Audit node) text old new = (users : List ℕ) × HasAudited g finds default_limits 0 16777216 node old new users
+  IsDone (Migrate node) text old new =
+      (users : List ℕ) × (conn : sql.Held S) × HasMigrated g finds default_limits 0 16777216 node conn users
+  IsDone (Floors node count) text old new =
+      (members : ℕ) × IsCountOf count text members × AreFloorsTold node members old new
+  IsDone (Level node floors) text old new = IsLevelled node (length floors.items)
+  IsDone (Gates node) text old new = (users : List ℕ) × HasToldGates g finds default_limits 16777216 node old new users
+  IsDone (Unlock node user) text old new =
+      (users : List ℕ) × (store : SqlHeld S) × Unlocks g finds default_limits 16777216 node user.now store users
