@@ -318,8 +318,8 @@ impl<'r, 'a> Site<'r, 'a> {
 
     /// Prints the passes of the store.
     fn audit<S: Start, O: Write>(&self, start: S, node: u8, held: &mut O) -> Result<(), Fault<'a>>
-        ensures { IfOk result (λ _. IsDone ⟦<FileStore<FileFrom<S>> as Store>⟧ (FindsFiles (image_at S.Start)) (Audit node)
-            self.now.cluster.now (O.contents held.old) (O.contents held.new)) }
+        ensures { IfOk result (λ _. IsDone ⟦<FileStore<FileFrom<S>> as Store>⟧ (FindsFiles (image_at S.Start))
+            (Audit node) self.now.cluster.now (O.contents held.old) (O.contents held.new)) }
     {
         audit_store(
             self.alloc,
@@ -333,8 +333,8 @@ impl<'r, 'a> Site<'r, 'a> {
 
     /// Upgrades the store to the current format.
     fn migrate<S: Start>(&self, start: S, node: u8) -> Result<(), Fault<'a>>
-        ensures { IfOk result (λ _. IsDone ⟦<FileStore<FileFrom<S>> as Store>⟧ (FindsFiles (image_at S.Start)) (Migrate node)
-            self.now.cluster.now None None) }
+        ensures { IfOk result (λ _. IsDone ⟦<FileStore<FileFrom<S>> as Store>⟧ (FindsFiles (image_at S.Start))
+            (Migrate node) self.now.cluster.now None None) }
     {
         let _conn = migrate_store(self.alloc, self.users_alone()?, node, self.found(start))?;
         Ok(())
@@ -349,8 +349,8 @@ impl<'r, 'a> Site<'r, 'a> {
         held: &mut O,
     ) -> Result<(), Fault<'a>>
         requires { 1 ≤ node }
-        ensures { IfOk result (λ _. IsDone ⟦<FileStore<FileFrom<S>> as Store>⟧ (FindsFiles (image_at S.Start)) (Floors node
-            count.entry) self.now.cluster.now (O.contents held.old) (O.contents held.new)) }
+        ensures { IfOk result (λ _. IsDone ⟦<FileStore<FileFrom<S>> as Store>⟧ (FindsFiles (image_at S.Start))
+            (Floors node count.entry) self.now.cluster.now (O.contents held.old) (O.contents held.new)) }
     {
         let members = member_count(self.alloc, count, node, self.cluster)?;
         let moment = present_moment(self.rt)?;
@@ -361,8 +361,8 @@ impl<'r, 'a> Site<'r, 'a> {
 
     /// Raises the floors of a node (floor: the first free factor) to the greatest in floors files.
     fn level<S: Start>(&self, start: S, node: u8, floors: Vec<&'a str>) -> Result<(), Fault<'a>>
-        ensures { IfOk result (λ _. IsDone ⟦<FileStore<FileFrom<S>> as Store>⟧ (FindsFiles (image_at S.Start)) (Level node floors.entry)
-            self.now.cluster.now None None) }
+        ensures { IfOk result (λ _. IsDone ⟦<FileStore<FileFrom<S>> as Store>⟧ (FindsFiles (image_at S.Start))
+            (Level node floors.entry) self.now.cluster.now None None) }
     {
         let (alloc, rt) = (self.alloc, self.rt);
         let users = checked_users_text(alloc, rt, self.users, Settings::default(), 0)?;
@@ -375,8 +375,8 @@ impl<'r, 'a> Site<'r, 'a> {
 
     /// Prints the gates that have failures.
     fn gates<S: Start, O: Write>(&self, start: S, node: u8, held: &mut O) -> Result<(), Fault<'a>>
-        ensures { IfOk result (λ _. IsDone ⟦<FileStore<FileFrom<S>> as Store>⟧ (FindsFiles (image_at S.Start)) (Gates node)
-            self.now.cluster.now (O.contents held.old) (O.contents held.new)) }
+        ensures { IfOk result (λ _. IsDone ⟦<FileStore<FileFrom<S>> as Store>⟧ (FindsFiles (image_at S.Start))
+            (Gates node) self.now.cluster.now (O.contents held.old) (O.contents held.new)) }
     {
         gates_store(
             self.alloc,
@@ -390,8 +390,8 @@ impl<'r, 'a> Site<'r, 'a> {
 
     /// Clears the failures of a user.
     fn unlock<S: Start>(&self, start: S, node: u8, user: &'a str) -> Result<(), Fault<'a>>
-        ensures { IfOk result (λ _. IsDone ⟦<FileStore<FileFrom<S>> as Store>⟧ (FindsFiles (image_at S.Start)) (Unlock node user.entry)
-            self.now.cluster.now None None) }
+        ensures { IfOk result (λ _. IsDone ⟦<FileStore<FileFrom<S>> as Store>⟧ (FindsFiles (image_at S.Start))
+            (Unlock node user.entry) self.now.cluster.now None None) }
     {
         let _store = unlock_store(
             self.alloc,
@@ -412,8 +412,8 @@ impl<'r, 'a> Site<'r, 'a> {
         held: &mut O,
     ) -> Result<(), Fault<'a>>
         requires { IsActionInRange action }
-        ensures { IfOk result (λ _. IsDone ⟦<FileStore<FileFrom<S>> as Store>⟧ (FindsFiles (image_at S.Start)) action.entry
-            self.now.cluster.now (O.contents held.old) (O.contents held.new)) }
+        ensures { IfOk result (λ _. IsDone ⟦<FileStore<FileFrom<S>> as Store>⟧ (FindsFiles (image_at S.Start))
+            action.entry self.now.cluster.now (O.contents held.old) (O.contents held.new)) }
     {
         match action {
             Action::Init {
