@@ -7,8 +7,9 @@ use Rattle.sqlite.specs.Tree.{Trees}
 use Rattle.sqlite_value.specs.Order.{value_cmp}
 use Rattle.floor_store.specs.Examples.{free_row}
 use Rattle.floor_store.specs.Records.{PassRecord, RowRecord}
-use Rattle.floor_sql.specs.Broken.{small_content, tables_at, token_content, token_db, version_row}
-use Rattle.floor_sql.specs.Stored.{HasRow, Holds, HoldsFloor, HoldsFloors, HoldsRow, HoldsRows, drift_columns, drift_row, drift_values, floor_row, pass_rows, self_columns, self_row, version_values}
+use Rattle.floor_sql.specs.Broken.{small_content, tables_at, token_content, token_db}
+use Rattle.floor_sql.specs.declared.schema.Format.TheVariants.{Numbered}
+use Rattle.floor_sql.specs.Stored.{HasRow, Holds, HoldsFloor, HoldsFloors, HoldsRow, HoldsRows, drift_columns, drift_row, drift_values, floor_row, pass_rows, self_columns, self_row, version_values, version_row}
 use Rattle.floor_sql.proofs.PassLemmas.{length_rows}
 
 -- the row of `self` has its columns
@@ -52,7 +53,7 @@ unfolding value_cmp lib.Ieee.is_nan lib.Ieee.lt
 token_floor = record { found = floor_row 0 (free_row 9); place = refl; shows = refl }
 
 -- the tables of one token hold its row
-unfoldable pub token_holds : Holds token_db.trees (token_content (free_row 9)) []
+unfoldable pub token_holds : Holds Numbered token_db.trees (token_content (free_row 9)) []
 unfolding value_cmp lib.Ieee.is_nan lib.Ieee.lt
 token_holds = record {
   rows = one_row token_db.trees (free_row 9)
@@ -64,7 +65,7 @@ token_holds = record {
 }
 
 -- the tables without a token hold the content that they are made of
-pub none_holds : (boot : ℕ) → Holds (tables_at boot []) (small_content boot) []
+pub none_holds : (boot : ℕ) → Holds Numbered (tables_at boot []) (small_content boot) []
 unfolding value_cmp lib.Ieee.is_nan lib.Ieee.lt
 none_holds boot = record {
   rows = λ token row e. absurd cc;

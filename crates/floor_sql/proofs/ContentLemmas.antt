@@ -9,8 +9,9 @@ use Rattle.sqlite.specs.Tree.{Trees, has_rowid, without_rowid}
 use Rattle.sqlite.specs.Effect.{Database}
 use Rattle.floor_store.specs.Records.{ProposalRecord, RowRecord, PassRecord, SpanRecord}
 use Rattle.floor_store.specs.Content.{Content, with_row, with_next_boot}
-use Rattle.floor_sql.specs.Schema.{floor_schema}
-use Rattle.floor_sql.specs.Stored.{HasRow, Holds, HoldsSelf, HoldsRow, HoldsRows, HoldsPasses, IsAppended, PutsRow, Puts, Raises, floor_columns, floor_values, row_values, grant_values, drift_columns, drift_values, self_columns, version_values, self_row, pass_columns, pass_row, pass_rows}
+use Rattle.floor_sql.specs.Schema.{schema_of, version_of}
+use Rattle.floor_sql.specs.declared.schema.Format.{Format}
+use Rattle.floor_sql.specs.Stored.{HasRow, Holds, HoldsSelf, HoldsRow, HoldsRows, HoldsPasses, HoldsVersion, IsAppended, PutsRow, Puts, Raises, floor_columns, floor_values, row_values, grant_values, drift_columns, drift_values, self_columns, version_values, version_row, pass_columns, pass_row, pass_rows}
 use Rattle.floor_sql.proofs.HoldLemmas.{rows_put, same_grant}
 use Rattle.floor_sql.proofs.RowLemmas.{find-put_row}
 use Rattle.floor_sql.proofs.PassLemmas.{passes_appended, last_appended, same_items, same_passes}
@@ -38,10 +39,11 @@ one_shown rows key columns a b one two =
     let found : one.found ≡ two.found = cc in
     sym one.shows ∙ ap columns found ∙ two.shows
 
-one_self : (trees : Trees) (m n a b p q : ℕ) → HoldsSelf trees m a p → HoldsSelf trees n b q → (m ≡ n) × (a ≡ b) × (p ≡ q)
-one_self trees m n a b p q one two =
-    let same : version_values 2 m a p ≡ version_values 2 n b q = one_shown (trees 0) 1 self_columns _ _ one two in
-    (cc, cc, cc)
+one_self : (f g : Format) (trees : Trees) (m n a b p q : ℕ) → HoldsSelf f trees m a p → HoldsSelf g trees n b q
+    → (version_of f ≡ version_of g) × (m ≡ n) × (a ≡ b) × (p ≡ q)
+one_self f g trees m n a b p q one two =
+    let same : version_values (version_of f) m a p ≡ version_values (version_of g) n b q = one_shown (trees 0) 1 self_columns _ _ one two in
+    (cc, cc, cc, cc)
 
 one_row : (trees : Trees) (token : ℕ) (r s : RowRecord) → HoldsRow trees token r → HoldsRow trees token s → r ≡ s
 one_row trees token r s one two =
@@ -51,11 +53,11 @@ one_row trees token r s one two =
     same_row r s values (cc)
 
 -- tables hold one content
-pub one_content : (trees : Trees) (a b : Content) (xs ys : List PassRecord) → Holds trees a xs → Holds trees b ys → a ≡ b
-one_content trees a b xs ys one two =
-    let self = one_self trees one.node two.node (length a.rows) (length b.rows) a.boot b.boot one.self two.self in
-    let boot : a.boot ≡ b.boot = self.2 in
-    let rows : a.rows ≡ b.rows = same_items a.rows b.rows self.1 (λ i r s at_a at_b. one_row trees i r s (one.rows i r at_a) (two.rows i s at_b)) in
+pub one_content : (f g : Format) (trees : Trees) (a b : Content) (xs ys : List PassRecord) → Holds f trees a xs → Holds g trees b ys → a ≡ b
+one_content f g trees a b xs ys one two =
+    let self = one_self f g trees one.node two.node (length a.rows) (length b.rows) a.boot b.boot one.self two.self in
+    let boot : a.boot ≡ b.boot = self.3 in
+    let rows : a.rows ≡ b.rows = same_items a.rows b.rows self.2 (λ i r s at_a at_b. one_row trees i r s (one.rows i r at_a) (two.rows i s at_b)) in
     let last : a.last ≡ b.last = one.last ∙ ap (last_or None) (same_passes trees xs ys one.pass two.pass) ∙ sym two.last in
     λ i. record { rows = rows i; boot = boot i; last = last i }
 
@@ -64,17 +66,17 @@ length_set [] i v = refl
 length_set (x ∷ xs) zero v = refl
 length_set (x ∷ xs) (suc i) v = ap suc (length_set xs i v)
 
--- the effect of the change on tables that hold the content `c` and `count` passes
+-- the effect of the change on tables of a format that hold the content `c` and `count` passes
 abbrev pub Alters : (Database → Database → Type 0) → Content → ℕ → Content → List PassRecord → Type 0
-Alters IsChange c count after more = (old new : Database) (passes : List PassRecord) → old.schema ≡ floor_schema → Holds old.trees c passes → length passes ≡ count → IsChange old new
-    → (new.schema ≡ floor_schema) × Holds new.trees after (passes ++ more)
+Alters IsChange c count after more = (format : Format) (old new : Database) (passes : List PassRecord) → old.schema ≡ schema_of format → Holds format old.trees c passes → length passes ≡ count → IsChange old new
+    → (new.schema ≡ schema_of format) × Holds format new.trees after (passes ++ more)
 
 -- a row stays if its table stays
 pub row_stays : (old new : List Row) (key : ℕ) (columns : Row → Row) (values : Row) → new ≡ old → HasRow old key columns values → HasRow new key columns values
 row_stays old new key columns values same it = subst (λ rows. HasRow rows key columns values) (sym same) it
 
-pub self_stays : (old new : Trees) (node tokens boot : ℕ) → new 0 ≡ old 0 → HoldsSelf old node tokens boot → HoldsSelf new node tokens boot
-self_stays old new node tokens boot same it = row_stays (old 0) (new 0) 1 self_columns (version_values 2 node tokens boot) same it
+pub self_stays : (format : Format) (old new : Trees) (node tokens boot : ℕ) → new 0 ≡ old 0 → HoldsSelf format old node tokens boot → HoldsSelf format new node tokens boot
+self_stays format old new node tokens boot same it = row_stays (old 0) (new 0) 1 self_columns (version_values (version_of format) node tokens boot) same it
 
 pub rows_stay : (old new : Trees) (rows : List RowRecord) → new 1 ≡ old 1 → new 3 ≡ old 3 → HoldsRows old rows → HoldsRows new rows
 rows_stay old new rows floors drifts held token row got =
@@ -87,51 +89,54 @@ rows_stay old new rows floors drifts held token row got =
 pub passes_stay : (old new : Trees) (passes : List PassRecord) → new 2 ≡ old 2 → HoldsPasses old passes → HoldsPasses new passes
 passes_stay old new passes same held = subst (λ rows. IsPermutation (pass_rows 1 passes) (map pass_columns rows)) (sym same) held
 
-row_put : (token : ℕ) (row : RowRecord) (c : Content) (old new : Database) (passes : List PassRecord) → Holds old.trees c passes
-    → PutsRow token row old new → Holds new.trees (with_row c token row None) passes
-row_put token row c old new passes it change = record {
+row_put : (format : Format) (token : ℕ) (row : RowRecord) (c : Content) (old new : Database) (passes : List PassRecord) → Holds format old.trees c passes
+    → PutsRow token row old new → Holds format new.trees (with_row c token row None) passes
+row_put format token row c old new passes it change = record {
   rows = rows_put old new token row c.rows change it.rows;
   node = it.node;
-  self = subst (λ n. HoldsSelf new.trees it.node n c.boot) (sym (length_set c.rows token row))
-      (self_stays old.trees new.trees it.node (length c.rows) c.boot (change.2.others 0 (λ (e : 0 ≡ 3). omega arith) ∙ change.1.others 0 (λ (e : 0 ≡ 1). omega arith)) it.self);
+  self = subst (λ n. HoldsSelf format new.trees it.node n c.boot) (sym (length_set c.rows token row))
+      (self_stays format old.trees new.trees it.node (length c.rows) c.boot (change.2.others 0 (λ (e : 0 ≡ 3). omega arith) ∙ change.1.others 0 (λ (e : 0 ≡ 1). omega arith)) it.self);
   pass = passes_stay old.trees new.trees passes (change.2.others 2 (λ (e : 2 ≡ 3). omega arith) ∙ change.1.others 2 (λ (e : 2 ≡ 1). omega arith)) it.pass;
   last = it.last;
 }
 
-pass_put : (number : ℕ) (p : PassRecord) (c : Content) (old new : Database) (passes : List PassRecord) → number ≡ length passes + 1
-    → Holds old.trees c passes → IsAppended (pass_row number p) old new → Holds new.trees (record c { last = Some p }) (passes ++ p ∷ [])
-pass_put number p c old new passes is it change = record {
+pass_put : (format : Format) (number : ℕ) (p : PassRecord) (c : Content) (old new : Database) (passes : List PassRecord) → number ≡ length passes + 1
+    → Holds format old.trees c passes → IsAppended (pass_row number p) old new → Holds format new.trees (record c { last = Some p }) (passes ++ p ∷ [])
+pass_put format number p c old new passes is it change = record {
   rows = rows_stay old.trees new.trees c.rows (change.others 1 (λ (e : 1 ≡ 2). omega arith)) (change.others 3 (λ (e : 3 ≡ 2). omega arith)) it.rows;
   node = it.node;
-  self = self_stays old.trees new.trees it.node (length c.rows) c.boot (change.others 0 (λ (e : 0 ≡ 2). omega arith)) it.self;
+  self = self_stays format old.trees new.trees it.node (length c.rows) c.boot (change.others 0 (λ (e : 0 ≡ 2). omega arith)) it.self;
   pass = passes_appended old new number passes p is it.pass change;
   last = sym (last_appended None passes p);
 }
 
 pub puts : (token : ℕ) (row : RowRecord) (count : ℕ) (pass : Option PassRecord) (c : Content) → Alters (Puts token row (count + 1) pass) c count (with_row c token row pass) (option_to_list pass)
-puts token row count None c old new passes schema it counted change =
-    (change.2.schema, subst (Holds new.trees (with_row c token row None)) (sym (append-nil passes)) (row_put token row c old new passes it change))
-puts token row count (Some p) c old new passes schema it counted change =
-    let first = row_put token row c old change.0 passes it change.1 in
-    (change.2.schema, pass_put (count + 1) p (with_row c token row None) change.0 new passes (ap (λ n. n + 1) (sym counted)) first change.2)
+puts token row count None c format old new passes schema it counted change =
+    (change.2.schema ∙ change.1.schema ∙ schema, subst (Holds format new.trees (with_row c token row None)) (sym (append-nil passes)) (row_put format token row c old new passes it change))
+puts token row count (Some p) c format old new passes schema it counted change =
+    let first = row_put format token row c old change.0 passes it change.1 in
+    let row_schema : change.0.schema ≡ schema_of format = change.1.2.schema ∙ change.1.1.schema ∙ schema in
+    (change.2.schema ∙ row_schema, pass_put format (count + 1) p (with_row c token row None) change.0 new passes (ap (λ n. n + 1) (sym counted)) first change.2)
 
 pub raises : (count : ℕ) (c : Content) → Alters (Raises (c.boot + 1)) c count (with_next_boot c) []
-raises count c old new passes schema it counted change =
-    let was = change.was in
-    let same = one_self old.trees was.node it.node was.tokens (length c.rows) was.boot c.boot was.held it.self in
-    let row = self_row was.node was.tokens (c.boot + 1) in
-    let held : HoldsSelf new.trees was.node was.tokens (c.boot + 1) =
+raises count c format old new passes schema it counted change =
+    let former = change.was.0 in
+    let was = change.was.1 in
+    let same = one_self former format old.trees was.node it.node was.tokens (length c.rows) was.boot c.boot was.held it.self in
+    let row = version_row (version_of former) was.node was.tokens (c.boot + 1) in
+    let former_held : HoldsSelf former new.trees was.node was.tokens (c.boot + 1) =
     record {
       found = row;
       place =
           ap (find (has_rowid (pos 1))) change.self ∙ find-put_row (pos 1) row refl (without_rowid (pos 1) (old.trees 0));
       shows = refl;
     } in
-    let now : Holds new.trees (with_next_boot c) passes = record {
+    let held : HoldsSelf format new.trees was.node was.tokens (c.boot + 1) = subst (λ v. HoldsVersion new.trees v was.node was.tokens (c.boot + 1)) same.0 former_held in
+    let now : Holds format new.trees (with_next_boot c) passes = record {
       rows = rows_stay old.trees new.trees c.rows (change.others 1 (λ (e : 1 ≡ 0). omega arith)) (change.others 3 (λ (e : 3 ≡ 0). omega arith)) it.rows;
       node = it.node;
-      self = subst₂ (λ m n. HoldsSelf new.trees m n (c.boot + 1)) same.0 same.1 held;
+      self = subst₂ (λ m n. HoldsSelf format new.trees m n (c.boot + 1)) same.1 same.2 held;
       pass = passes_stay old.trees new.trees passes (change.others 2 (λ (e : 2 ≡ 0). omega arith)) it.pass;
       last = it.last;
     } in
-    (change.schema, subst (Holds new.trees (with_next_boot c)) (sym (append-nil passes)) now)
+    (change.schema ∙ schema, subst (Holds format new.trees (with_next_boot c)) (sym (append-nil passes)) now)

@@ -21,6 +21,7 @@ use Rattle.floor_store.specs.Held.{RaisesBoot, Writes, Commits as CommitsAll}
 use Rattle.floor_sql.specs.Held.{SqlHeld, Mirrors, IsKept, IsStaged, HasAudit, Leaves, sql_held}
 use Rattle.floor_sql.specs.Staged.{MakesAll, MakesPuts, passes_in, with_boot, with_puts}
 use Rattle.floor_sql.specs.declared.put.Put.{Put}
+use Rattle.floor_sql.specs.declared.schema.Format.{Format}
 use Rattle.floor_sql.proofs.ContentLemmas.{Alters, one_content, raises}
 use Rattle.floor_sql.proofs.PassLemmas.{same_passes}
 
@@ -32,10 +33,10 @@ pub has_floor : (s : State) (c : Content) (count token : ℕ) → token < length
 has_floor s c count token low it =
     let d = opening_row 0 in
     let row = it.holds.rows token _ (slice_get-get_or c.rows token d low) in
-    record { schema = it.schema; floor = has_key (s.now.trees 1) token floor_columns _ row.floor (λ shows. cc); drift = has_key (s.now.trees 3) token drift_columns _ row.drift (λ shows. cc) }
+    record { schema = (it.format, it.schema); floor = has_key (s.now.trees 1) token floor_columns _ row.floor (λ shows. cc); drift = has_key (s.now.trees 3) token drift_columns _ row.drift (λ shows. cc) }
 
 pub has_self : (s : State) (c : Content) (count : ℕ) → Mirrors s c count → HasSelf s.now
-has_self s c count it = record { schema = it.schema; node = it.holds.node; tokens = length c.rows; boot = c.boot; held = it.holds.self }
+has_self s c count it = (it.format, record { schema = it.schema; node = it.holds.node; tokens = length c.rows; boot = c.boot; held = it.holds.self })
 
 -- that the boots are spent is no failure
 never : {P : Type 0} (e : StoreFault) → IsTrue (is_failure e) → e ≡ Spent → P
@@ -55,7 +56,7 @@ leaves_mirror g conn mirror count kept law c it =
     let is_open = kept.is_open refl it.clean in
     let was = kept.tables it.clean is_open in
     let trees : (state g conn).now.trees ≡ it.trees = ap (λ (d : Database). d.trees) was.settled ∙ sym (law it.trees is_open it.left) in
-    one_content it.trees c mirror it.passes was.passes it.holds (subst (λ (t : Trees). Holds t mirror was.passes) trees was.holds)
+    one_content it.format was.format it.trees c mirror it.passes was.passes it.holds (subst (λ (t : Trees). Holds was.format t mirror was.passes) trees was.holds)
 
 abbrev pub stored : {S : Type 0} → Held S → Content → List Put → ℕ → Option StoreFault → SqlHeld S
 stored conn mirror staged count fault = record { conn = conn; mirror = mirror; staged = staged; passes = count; fault = fault }
@@ -96,9 +97,10 @@ module _ {S : Type 0} (g : Ghosts S) (old new : Held S) (mirror : Content) (coun
         let was = mirrored clean now in
         let same : (state g new).now ≡ (state g old).now = (back now).now open_now ∙ sym was.settled in
         record {
+          format = was.format;
           schema = ap (λ (d : Database). d.schema) same ∙ was.schema;
           passes = was.passes;
-          holds = subst (λ (d : Database). Holds d.trees mirror was.passes) (sym same) was.holds;
+          holds = subst (λ (d : Database). Holds was.format d.trees mirror was.passes) (sym same) was.holds;
           counted = was.counted;
           settled = (back now).now open_now ∙ sym ((back now).committed open_now);
         };
@@ -116,8 +118,9 @@ module _ {S : Type 0} (g : Ghosts S) (old new : Held S) (mirror : Content) (coun
       tables = λ now open_now.
           let it = done now in
           let was = mirrored clean now in
-          let made = alters (state g old).now (state g new).now was.passes was.schema was.holds was.counted (subst (IsChange (state g old).now) (sym it.now) it.committed) in
+          let made = alters was.format (state g old).now (state g new).now was.passes was.schema was.holds was.counted (subst (IsChange (state g old).now) (sym it.now) it.committed) in
           record {
+            format = was.format;
             schema = made.0;
             passes = was.passes ++ more;
             holds = made.1;
@@ -130,13 +133,14 @@ module _ {S : Type 0} (g : Ghosts S) (old new : Held S) (mirror : Content) (coun
 
     -- a write that is done has made the audit list longer
     pub audit_changed : doubt (state g old).is_clean ≤ doubt (state g new).is_clean → HasCleanDisk (state g new)
-        → Commits IsChange (state g old) (state g new) → (passes : List PassRecord) → Holds (state g old).committed.trees mirror passes
-        → Holds (state g new).committed.trees after (passes ++ more)
-    audit_changed clean now it passes had =
+        → Commits IsChange (state g old) (state g new) → (format : Format) (passes : List PassRecord) → Holds format (state g old).committed.trees mirror passes
+        → (after_format : Format) × Holds after_format (state g new).committed.trees after (passes ++ more)
+    audit_changed clean now it format passes had =
         let was = mirrored clean now in
-        let held : Holds (state g old).now.trees mirror passes = subst (λ (d : Database). Holds d.trees mirror passes) (sym was.settled) had in
+        let held : Holds format (state g old).now.trees mirror passes = subst (λ (d : Database). Holds format d.trees mirror passes) (sym was.settled) had in
         let same : was.passes ≡ passes = same_passes (state g old).now.trees was.passes passes was.holds.pass held.pass in
-        (alters (state g old).now (state g new).committed passes was.schema held (ap length (sym same) ∙ was.counted) it.committed).1
+        let made = alters was.format (state g old).now (state g new).committed was.passes was.schema was.holds was.counted it.committed in
+        (was.format, subst (λ (l : List PassRecord). Holds was.format (state g new).committed.trees after (l ++ more)) same made.1)
 
     -- what a stop may leave could be left before, or is the new content
     pub left_changed : Survives (state g old) (state g new) (MayCommit IsChange (state g old)) → (c : Content) → Leaves g new c → Leaves g old c ⊎ (c ≡ after)
@@ -144,15 +148,15 @@ module _ {S : Type 0} (g : Ghosts S) (old new : Held S) (mirror : Content) (coun
         let was = mirrored s.clean it.clean in
         let before : HasCleanDisk (state g old) = let clean = s.clean in let now = it.clean in omega arith in
         elim (s.crash it.clean it.trees it.left) [
-          | inl earlier ↦ inl (record { clean = before; trees = it.trees; left = earlier; passes = it.passes; holds = it.holds })
+          | inl earlier ↦ inl (record { clean = before; trees = it.trees; left = earlier; format = it.format; passes = it.passes; holds = it.holds })
           | inr done ↦ inr (
-              let made = alters (state g old).now done.0 was.passes was.schema was.holds was.counted done.1 in
-              one_content it.trees c after it.passes (was.passes ++ more) it.holds (subst (λ (t : Trees). Holds t after (was.passes ++ more)) (sym done.2) made.1))
+              let made = alters was.format (state g old).now done.0 was.passes was.schema was.holds was.counted done.1 in
+              one_content it.format was.format it.trees c after it.passes (was.passes ++ more) it.holds (subst (λ (t : Trees). Holds was.format t after (was.passes ++ more)) (sym done.2) made.1))
         ]
 
 -- a change of tables that makes the puts
 makes_puts : (base : Content) (count : ℕ) (staged : List Put) → Alters (MakesPuts count staged) base count (with_puts base staged) (passes_in staged)
-makes_puts base count staged old new passes schema holds counted change = change base passes schema holds counted
+makes_puts base count staged format old new passes schema holds counted change = change format base passes schema holds counted
 
 boot_with_puts : (c : Content) (puts : List Put) → (with_puts c puts).boot ≡ c.boot
 boot_with_puts c [] = refl
@@ -161,16 +165,16 @@ boot_with_puts c (put ∷ puts) = boot_with_puts (with_row c put.token put.row p
 -- one that makes the puts and raises the boot
 pub makes_all : (base : Content) (count : ℕ) (staged : List Put) (boot : Option ℕ) → ForSome boot (λ b. b ≡ base.boot + 1)
     → Alters (MakesAll count staged boot) base count (with_boot boot (with_puts base staged)) (passes_in staged)
-makes_all base count staged None next old new passes schema holds counted change = change base passes schema holds counted
-makes_all base count staged (Some boot) next old new passes schema holds counted change =
+makes_all base count staged None next format old new passes schema holds counted change = change format base passes schema holds counted
+makes_all base count staged (Some boot) next format old new passes schema holds counted change =
     let c = with_puts base staged in
     let number : boot ≡ c.boot + 1 = next boot refl ∙ ap (λ (n : ℕ). n + 1) (sym (boot_with_puts base staged)) in
-    let first = makes_puts base count staged old change.0 passes schema holds counted change.1 in
+    let first = makes_puts base count staged format old change.0 passes schema holds counted change.1 in
     let all = passes ++ passes_in staged in
     let raised : Raises (c.boot + 1) change.0 new = subst (λ (n : ℕ). Raises n change.0 new) number change.2 in
-    let made = raises (length all) c change.0 new all first.0 first.1 refl raised in
+    let made = raises (length all) c format change.0 new all first.0 first.1 refl raised in
     let content : with_next_boot c ≡ with_boot (Some boot) c = ap (λ (n : ℕ). with_boot (Some n) c) (sym number) in
-    (made.0, subst₂ (λ (d : Content) (l : List PassRecord). Holds new.trees d l) content (append-nil all) made.1)
+    (made.0, subst₂ (λ (d : Content) (l : List PassRecord). Holds format new.trees d l) content (append-nil all) made.1)
 
 -- A write of all waiting puts, with the boot if it is Some.
 module _ {S : Type 0} (g : Ghosts S) (old new : Held S) (base mirror : Content) (staged : List Put) (count : ℕ) (boot : Option ℕ) (kept : IsKept g old base count None)
@@ -245,16 +249,17 @@ module _ {S : Type 0} (g : Ghosts S) (old new : Held S) (base mirror : Content) 
         let it = had.committed in
         let mirrored : Mirrors (state g old) base count = (let worse = s.clean in let before : HasCleanDisk (state g old) = omega arith in kept.tables before (kept.is_open refl before)) in
         let trees : (state g old).committed.trees ≡ (state g old).now.trees = ap (λ (d : Database). d.trees) (sym mirrored.settled) in
-        let same : it.base ≡ base = one_content (state g old).now.trees it.base base had.passes mirrored.passes (subst (λ (t : Trees). Holds t it.base had.passes) trees it.holds) mirrored.holds in
-        let held : Holds (state g old).committed.trees base had.passes = subst (λ (c : Content). Holds (state g old).committed.trees c had.passes) same it.holds in
+        let same : it.base ≡ base = one_content it.format mirrored.format (state g old).now.trees it.base base had.passes mirrored.passes (subst (λ (t : Trees). Holds it.format t it.base had.passes) trees it.holds) mirrored.holds in
+        let held : Holds it.format (state g old).committed.trees base had.passes = subst (λ (c : Content). Holds it.format (state g old).committed.trees c had.passes) same it.holds in
         let holds = audit_changed g old new base count kept (MakesAll count staged boot) (with_boot boot (with_puts base staged))
-        (passes_in staged) alters s.clean clean (done clean) had.passes held in
+        (passes_in staged) alters s.clean clean (done clean) it.format had.passes held in
         record {
           passes = had.passes ++ passes_in staged;
           committed = record {
             base = now;
             replayed = sym (ap (with_puts now) none);
-            holds = subst (λ (c : Content). Holds (state g new).committed.trees c (had.passes ++ passes_in staged)) (after_is ∙ sym made) holds;
+            format = holds.0;
+            holds = subst (λ (c : Content). Holds holds.0 (state g new).committed.trees c (had.passes ++ passes_in staged)) (after_is ∙ sym made) holds.1;
           };
           waiting = had.waiting ∙ sym (ap (λ (l : List Put). (had.passes ++ passes_in staged) ++ passes_in l) none ∙ append-nil (had.passes ++ passes_in staged));
         }

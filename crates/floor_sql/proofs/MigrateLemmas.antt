@@ -17,6 +17,7 @@ use Rattle.sqlite_rules.specs.Calls.{ids_of}
 use Rattle.sqlite_rules.proofs.ListLemmas.{has_found}
 use Rattle.floor_store.specs.Records.{RowRecord}
 use Rattle.floor_sql.specs.Schema.{self, undrifted_schema, floor_schema}
+use Rattle.floor_sql.specs.declared.schema.Format.TheVariants.{Numbered}
 use Rattle.floor_sql.specs.Stored.{HasRow, HasVersion, HoldsFloor, HoldsSelf, Commits, MayCommit, drift_columns, drift_values, self_columns, version_values, self_row}
 use Rattle.floor_sql.specs.Created.{AddsTable, AddsDrifts}
 use Rattle.floor_sql.specs.Migrate.{HasUndrifted, IsUndrifted, RaisesVersion, AddsVersion, Migrates}
@@ -42,7 +43,7 @@ version_raised old new it h =
     let boot : column was 5 ≡ Int (pos it.boot) = cc in
     let there = (has_found (has_rowid (pos 1)) (db 0) was it.held.place).0 in
     let w = runs_as update_version params old new floor_schema it.schema (Update 0 (plain_program version_query)) update_version_is update_version_plain 1 h in
-    let u = updated 0 self refl version_query _ params old new 1 it.schema w in
+    let u = updated Numbered 0 self refl version_query _ params old new 1 it.schema w in
     let one = only u.shown (sym u.counted) in
     let row : one.0 ≡ eval_all version_terms (params ∷ was ∷ []) =
     changed_row by_one version_terms params 0 db was one.0 refl there (picks_one params was keyed)
@@ -53,7 +54,7 @@ version_raised old new it h =
     let edit : edited db (edit_of db self (ids_of (out ∷ [])) Given 1 (out ∷ [])) ≡ put_row (self_row it.node it.tokens it.boot) (without_rowid (pos 1) (db 0)) =
     rw (cast_null, cast_int (pos 1), cast_int (pos 2), cast_int (pos it.node), cast_int (pos it.tokens), cast_int (pos it.boot)) in
     record {
-      schema = u.schema;
+      schema = u.schema ∙ it.schema;
       was = it;
       self = u.applies.rows ∙ ap (λ rows. edited db (edit_of db self (ids_of rows) Given 1 rows)) shown ∙ edit;
       others = λ tree apart. u.applies.others tree apart tt;
@@ -101,7 +102,7 @@ migrated old new node tokens it added =
     let own : was.node ≡ node = cc in
     let count : was.tokens ≡ length c.rows = let k : was.tokens ≡ tokens = cc in k ∙ sym held.of_tokens in
     let boot : was.boot ≡ c.boot = cc in
-    let self : HoldsSelf new.trees node (length c.rows) c.boot =
+    let self : HoldsSelf Numbered new.trees node (length c.rows) c.boot =
     subst (HasRow (new.trees 0) 1 self_columns) (λ i. version_values 2 (own i) (count i) (boot i)) added.self in
     record {
       content = c;

@@ -25,8 +25,9 @@ module _ {D E : Type 0} {g : Ghosts D} {h : Ghosts E} (store : SqlHeld (FileStor
         clean = it.clean;
         trees = (file_state it.conn).committed.trees;
         left = recovered;
+        format = it.format;
         passes = tables.passes;
-        holds = subst (λ (d : Database). Holds d.trees again.mirror tables.passes) it.fresh.clean tables.holds;
+        holds = subst (λ (d : Database). Holds it.format d.trees again.mirror tables.passes) it.fresh.clean tables.holds;
       }
 
   pub finds_what_is_left : FindsWhatIsLeft store again

@@ -6,7 +6,8 @@ use Rattle.sqlite.specs.Effect.{Database}
 use Rattle.sqlite.specs.Tree.{Trees}
 use Rattle.floor_store.specs.Content.{Content, opening_row, with_row}
 use Rattle.floor_store.specs.Records.{PassRecord}
-use Rattle.floor_sql.specs.Schema.{floor_schema}
+use Rattle.floor_sql.specs.Schema.{schema_of}
+use Rattle.floor_sql.specs.declared.schema.Format.{Format}
 use Rattle.floor_sql.specs.Staged.{CanPut, HasRows, LacksRow, MakesPuts, passes_in, with_puts}
 use Rattle.floor_sql.specs.Stored.{Holds, HasFloor, HasSelf, Puts, floor_columns, drift_columns}
 use Rattle.floor_sql.specs.declared.put.Put.{Put}
@@ -43,28 +44,28 @@ take_next : (xs : List Put) (i : ℕ) (x : Put) → slice_get xs i ≡ Some x �
 take_next xs i x is = let next : i + 1 ≡ suc i = omega arith in ap (λ (n : ℕ). take n xs) next ∙ take_suc xs i x is
 
 -- tables that hold a content have a row of each of its tokens
-pub has_floor_in : (db : Database) (c : Content) (passes : List PassRecord) (token : ℕ) → token < length c.rows → db.schema ≡ floor_schema → Holds db.trees c passes → HasFloor db token
-has_floor_in db c passes token low schema holds =
+pub has_floor_in : (format : Format) (db : Database) (c : Content) (passes : List PassRecord) (token : ℕ) → token < length c.rows → db.schema ≡ schema_of format → Holds format db.trees c passes → HasFloor db token
+has_floor_in format db c passes token low schema holds =
     let d = opening_row 0 in
     let row = holds.rows token _ (slice_get-get_or c.rows token d low) in
-    record { schema = schema; floor = has_key (db.trees 1) token floor_columns _ row.floor (λ shows. cc); drift = has_key (db.trees 3) token drift_columns _ row.drift (λ shows. cc) }
+    record { schema = (format, schema); floor = has_key (db.trees 1) token floor_columns _ row.floor (λ shows. cc); drift = has_key (db.trees 3) token drift_columns _ row.drift (λ shows. cc) }
 
 -- the next put
 pub next_put : (count : ℕ) (xs : List Put) (i : ℕ) (x : Put) (number : ℕ) (old mid new : Database)
     → slice_get xs i ≡ Some x → number ≡ count + length (passes_in (take i xs))
     → MakesPuts count (take i xs) old mid → Puts x.token x.row (number + 1) x.pass mid new → MakesPuts count (take (i + 1) xs) old new
-next_put count xs i x number old mid new is numbered made change c passes schema holds counted =
-    let before = made c passes schema holds counted in
+next_put count xs i x number old mid new is numbered made change format c passes schema holds counted =
+    let before = made format c passes schema holds counted in
     let long : length (passes ++ passes_in (take i xs)) ≡ number = length-append passes (passes_in (take i xs)) ∙ ap (λ (n : ℕ). n + length (passes_in (take i xs))) counted ∙ sym numbered in
-    let after = puts x.token x.row number x.pass (with_puts c (take i xs)) mid new (passes ++ passes_in (take i xs)) before.0 before.1 long change in
+    let after = puts x.token x.row number x.pass (with_puts c (take i xs)) format mid new (passes ++ passes_in (take i xs)) before.0 before.1 long change in
     let next = take_next xs i x is in
     let content : with_row (with_puts c (take i xs)) x.token x.row x.pass ≡ with_puts c (take (i + 1) xs) = sym (with_puts-append c (take i xs) x) ∙ ap (with_puts c) (sym next) in
     let all : (passes ++ passes_in (take i xs)) ++ option_to_list x.pass ≡ passes ++ passes_in (take (i + 1) xs) =
     append_assoc passes (passes_in (take i xs)) (option_to_list x.pass)
     ∙ ap (λ (l : List PassRecord). passes ++ l) (sym (passes_in-append (take i xs) x) ∙ ap passes_in (sym next)) in (
       after.0,
-      subst (λ (l : List PassRecord). Holds new.trees (with_puts c (take (i + 1) xs)) l) all
-          (subst (λ (d : Content). Holds new.trees d ((passes ++ passes_in (take i xs)) ++ option_to_list x.pass)) content after.1),
+      subst (λ (l : List PassRecord). Holds format new.trees (with_puts c (take (i + 1) xs)) l) all
+          (subst (λ (d : Content). Holds format new.trees d ((passes ++ passes_in (take i xs)) ++ option_to_list x.pass)) content after.1),
     )
 
 known_put : (xs : List Put) (x : Put) (n : ℕ) → ((i : ℕ) (p : Put) → slice_get xs i ≡ Some p → p.token < n) → x.token < n
@@ -105,6 +106,7 @@ audit_put g conn mirror after staged more_staged count fault put all pushed made
       committed = record {
         base = it.base;
         replayed = made ∙ ap (λ (c : Content). with_row c put.token put.row put.pass) it.replayed ∙ sym (with_puts-append it.base staged put) ∙ ap (with_puts it.base) (sym pushed);
+        format = it.format;
         holds = it.holds;
       };
       waiting = ap (λ (l : List PassRecord). l ++ option_to_list put.pass) had.waiting ∙ append_assoc had.passes (passes_in staged) (option_to_list put.pass)
@@ -120,9 +122,9 @@ passes_in-next xs i x is =
 -- tables of which puts are made have the row of `self`
 pub has_self_in : (count : ℕ) (puts : List Put) (old new : Database) → CanPut old count puts → MakesPuts count puts old new → HasSelf new
 has_self_in count puts old new can made =
-    let now = made can.content can.passes can.schema can.holds can.counted in
+    let now = made can.format can.content can.passes can.schema can.holds can.counted in
     let c = with_puts can.content puts in
-    record { schema = now.0; node = now.1.node; tokens = length c.rows; boot = c.boot; held = now.1.self }
+    (can.format, record { schema = now.0; node = now.1.node; tokens = length c.rows; boot = c.boot; held = now.1.self })
 
 -- if a row of a put is missing or doubled, a row that the write changes is
 pub lacks_row : (trees : Trees) (puts : List Put) (boot : Option ℕ) → ¬ HasRows trees puts → LacksRow trees puts boot

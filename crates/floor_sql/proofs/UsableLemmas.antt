@@ -20,7 +20,7 @@ use Rattle.sqlite.specs.Listing.{understood}
 use Rattle.sqlite.specs.Given.{IsPlain}
 use Rattle.sqlite.specs.State.{State, Shown, IsNotRun, IsNoStatement, FailsToQuery, FailsToShow, store_error}
 use Rattle.floor_store.specs.declared.fault.StoreFault.TheVariants.{Memory, Disk, Unusable}
-use Rattle.floor_sql.specs.Schema.{floor_schema, IsOfStore}
+use Rattle.floor_sql.specs.Schema.{IsOfStore, schema_of, IsOfFormat}
 use Rattle.floor_sql.specs.Stored.{HoldsVersion, self_columns, floor_columns, drift_columns, version_values}
 use Rattle.floor_sql.specs.Shown.{self_shown, floor_shown, drift_shown}
 use Rattle.floor_sql.specs.Refusals.{is_want_of_memory, is_of_schema, fault_of}
@@ -153,16 +153,16 @@ floor_shows old new rows token values has h it =
     let one = filter_same (picks by_param params) (has_rowid (pos token)) (by_param_picks (pos token) []) (db 1) ∙ it.only in
     (floor_columns it.found, only_shown by_param floor_read params 1 db rows it.found refl (read.answer Null) one, it.shows)
 
-pub drift_shows : (old new : State) (rows : List Row) (token : ℕ) (values : Row) → old.now.schema ≡ floor_schema → Shown select_drift (Int (pos token) ∷ []) old new rows
+pub drift_shows : (old new : State) (rows : List Row) (token : ℕ) (values : Row) → IsOfFormat old.now.schema → Shown select_drift (Int (pos token) ∷ []) old new rows
     → HasOnly (old.now.trees 3) token drift_columns values → (shown : Row) × (rows ≡ shown ∷ []) × (drift_shown shown ≡ values)
 drift_shows old new rows token values has h it =
     let db = old.now.trees in
     let params : Row = Int (pos token) ∷ [] in
-    let read = reads_as select_drift params old new floor_schema has _ select_drift_is.0 select_drift_plain select_drift_is.1 rows h in
+    let read = reads_as select_drift params old new (schema_of has.0) has.1 _ (select_drift_is has.0).0 (select_drift_plain has.0) (select_drift_is has.0).1 rows h in
     let one = filter_same (picks by_param params) (has_rowid (pos token)) (by_param_picks (pos token) []) (db 3) ∙ it.only in
     (drift_columns it.found, only_shown by_param drift_read params 3 db rows it.found refl (read.answer Null) one, it.shows)
 
-find_only : {X : Type 0} (p : X → Bool) (xs : List X) (found : X) → filter p xs ≡ found ∷ [] → find p xs ≡ Some found
+pub find_only : {X : Type 0} (p : X → Bool) (xs : List X) (found : X) → filter p xs ≡ found ∷ [] → find p xs ≡ Some found
 find_only p [] found is = absurd (cc)
 find_only p (x ∷ xs) found is = go (p x) is (find_only p xs found)
   where

@@ -11,8 +11,9 @@ use Rattle.floor_store.specs.Records.{PassRecord, RowRecord}
 use Rattle.floor_store.specs.declared.fault.StoreFault.{StoreFault}
 use Rattle.floor_sql.specs.declared.put.Put.{Put}
 use Rattle.floor_sql.specs.declared.read.Refusal.{Refusal}
-use Rattle.floor_sql.specs.Schema.{floor_schema, undrifted_schema}
-use Rattle.floor_sql.specs.Stored.{drift_row, floor_row, self_row}
+use Rattle.floor_sql.specs.Schema.{floor_schema, schema_of, undrifted_schema}
+use Rattle.floor_sql.specs.declared.schema.Format.TheVariants.{Named}
+use Rattle.floor_sql.specs.Stored.{drift_row, floor_row, self_row, version_row}
 
 -- ---- connections
 
@@ -80,17 +81,16 @@ tables_at boot passes = trees_of (self_row 1 0 boot ∷ []) [] passes []
 abbrev pub db_at : ℕ → List Row → Database
 db_at boot passes = record { schema = floor_schema; trees = tables_at boot passes }
 
+-- the tables of node 1 without a token at boot 4, of version 3
+abbrev pub named_db : Database
+named_db = record { schema = schema_of Named; trees = trees_of (version_row 3 1 0 4 ∷ []) [] [] [] }
+
 -- the tables of a store of version 2 with the given rows, and the tables of version 1
 abbrev pub db_of : List Row → List Row → List Row → List Row → Database
 db_of self floor pass drift = record { schema = floor_schema; trees = trees_of self floor pass drift }
 
 abbrev pub old_db_of : List Row → List Row → List Row → Database
 old_db_of self floor pass = record { schema = undrifted_schema; trees = trees_of self floor pass [] }
-
--- the row of `self`, of any version
-abbrev pub version_row : ℕ → ℕ → ℕ → ℕ → Row
-version_row version node tokens boot =
-    Int (pos 1) ∷ Null ∷ Int (pos version) ∷ Int (pos node) ∷ Int (pos tokens) ∷ Int (pos boot) ∷ []
 
 -- the tables of node 1 without a token, of version 1
 abbrev pub old_db_at : ℕ → List Row → Database

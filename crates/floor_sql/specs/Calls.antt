@@ -16,7 +16,9 @@ use Rattle.floor_sql.specs.Shown.{IsRead}
 use Rattle.floor_sql.specs.Stored.{Commits, MayCommit, node_in, rows_of, version_in}
 use Rattle.floor_sql.specs.Created.{Opens}
 use Rattle.floor_sql.specs.declared.put.Put.{Put}
-use Rattle.floor_sql.specs.Held.{SqlHeld, HasTables, HasSame, sql_held}
+use Rattle.floor_sql.specs.declared.schema.Format.{Format}
+use Rattle.floor_sql.specs.declared.schema.Format.TheVariants.{Numbered}
+use Rattle.floor_sql.specs.Held.{SqlHeld, HasTablesAs, HasSame, sql_held}
 
 module _ {S : Type 0} (g : Ghosts S) where
   -- a connection after reads alone: outside a transaction, with its old tables
@@ -48,12 +50,16 @@ module _ {S : Type 0} (g : Ghosts S) where
     pub survives :
         Survives (sql.state g old) (sql.state g store.conn) (MayCommit (Opens node boot floors) (sql.state g old))
 
-  -- the store of `node` with `tokens` tokens that the tables of a connection hold
-  pub record IsOpened (old : sql.Held S) (node tokens : ℕ) (store : SqlHeld S) : Type 0 where
+  -- the store of a format, of `node` with `tokens` tokens, that the tables of a connection hold
+  pub record IsOpenedAs (format : Format) (old : sql.Held S) (node tokens : ℕ) (store : SqlHeld S) : Type 0 where
     pub content : HasCleanDisk (sql.state g store.conn)
-        → HasTables (sql.state g old).now node tokens store.mirror store.passes
+        → HasTablesAs format (sql.state g old).now node tokens store.mirror store.passes
     pub sound : IsSound store
     pub kept : KeepsTables old store.conn
+
+  -- the store of version 2 that the tables of a connection hold
+  abbrev pub IsOpened : sql.Held S → ℕ → ℕ → SqlHeld S → Type 0
+  IsOpened old node tokens store = IsOpenedAs Numbered old node tokens store
 
   -- a read of the audit list: a store without a fault keeps its content and its tables
   pub record ReadsAudit {A : Type 0} (old new : SqlHeld S) (result : Result A StoreFault) : Type 0 where

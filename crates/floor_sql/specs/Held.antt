@@ -14,7 +14,9 @@ use Rattle.floor_store.specs.Records.{PassRecord}
 use Rattle.floor_store.specs.Content.{Content}
 use Rattle.floor_store.specs.Fault.{is_failure}
 use Rattle.floor_store.specs.Held.{Held}
-use Rattle.floor_sql.specs.Schema.{floor_schema}
+use Rattle.floor_sql.specs.Schema.{schema_of}
+use Rattle.floor_sql.specs.declared.schema.Format.{Format}
+use Rattle.floor_sql.specs.declared.schema.Format.TheVariants.{Numbered}
 use Rattle.floor_sql.specs.Staged.{passes_in, with_puts}
 use Rattle.floor_sql.specs.Stored.{Holds}
 use Rattle.floor_sql.specs.contracts.put.Put as put
@@ -41,9 +43,10 @@ held_code {S} store =
 
 -- outside a transaction the tables are of a store, with the content `c` and `count` passes
 pub record Mirrors (s : State) (c : Content) (count : ℕ) : Type 0 where
-  pub schema : s.now.schema ≡ floor_schema
+  pub format : Format
+  pub schema : s.now.schema ≡ schema_of format
   pub passes : List PassRecord
-  pub holds : Holds s.now.trees c passes
+  pub holds : Holds format s.now.trees c passes
   pub counted : length passes ≡ count
   pub settled : s.now ≡ s.committed
 
@@ -83,8 +86,9 @@ pub record Leaves {S : Type 0} (g : Ghosts S) (conn : sql.Held S) (c : Content) 
   pub clean : HasCleanDisk (sql.state g conn)
   pub trees : Trees
   pub left : (sql.state g conn).may_leave trees
+  pub format : Format
   pub passes : List PassRecord
-  pub holds : Holds trees c passes
+  pub holds : Holds format trees c passes
 
 -- the view of a store: its content is the mirror, and it is clean if the disk of its connection is clean
 abbrev pub sql_held : {S : Type 0} → Ghosts S → SqlHeld S → Held
@@ -96,14 +100,19 @@ sql_held g store = record {
   leaves = Leaves g store.conn;
 }
 
--- the tables of a database are of a store of `node` with `tokens` tokens, the content `c` and `count` passes
-pub record HasTables (db : Database) (node tokens : ℕ) (c : Content) (count : ℕ) : Type 0 where
-  pub schema : db.schema ≡ floor_schema
+-- The tables of a database are of a format, and of a store of `node` with `tokens` tokens, the content `c` and `count`
+-- passes.
+pub record HasTablesAs (format : Format) (db : Database) (node tokens : ℕ) (c : Content) (count : ℕ) : Type 0 where
+  pub schema : db.schema ≡ schema_of format
   pub passes : List PassRecord
-  pub holds : Holds db.trees c passes
+  pub holds : Holds format db.trees c passes
   pub of_node : holds.node ≡ node
   pub of_tokens : length c.rows ≡ tokens
   pub counted : length passes ≡ count
+
+-- the tables of a database are of version 2
+abbrev pub HasTables : Database → ℕ → ℕ → Content → ℕ → Type 0
+HasTables db node tokens c count = HasTablesAs Numbered db node tokens c count
 
 -- while the connection is open, it has its old tables
 pub record HasSame (old new : State) : Type 0 where
@@ -114,7 +123,8 @@ pub record HasSame (old new : State) : Type 0 where
 pub record HasCommitted {S : Type 0} (g : Ghosts S) (store : SqlHeld S) (passes : List PassRecord) : Type 0 where
   pub base : Content
   pub replayed : store.mirror ≡ with_puts base store.staged
-  pub holds : Holds (sql.state g store.conn).committed.trees base passes
+  pub format : Format
+  pub holds : Holds format (sql.state g store.conn).committed.trees base passes
 
 -- all passes of a store, in order: the committed ones, followed by the passes that wait for their commit
 pub record HasAudit {S : Type 0} (g : Ghosts S) (store : SqlHeld S) (all : List PassRecord) : Type 0 where

@@ -12,6 +12,7 @@ use Rattle.floor_sql.specs.Schema as tables
 use Rattle.floor_sql.specs.Schema.{undrifted_schema, floor_schema}
 use Rattle.floor_sql.specs.Stored.{Holds, HoldsDrift, HoldsFloors, HoldsPasses, HoldsVersion, HasVersion, Commits, MayCommit, OthersStay, rows_of, self_row}
 use Rattle.floor_sql.specs.Usable.{IsNode, HasUsableVersion, HasUsableFloor, HasUsablePasses}
+use Rattle.floor_sql.specs.declared.schema.Format.TheVariants.{Numbered}
 
 -- ---- the tables of version 1
 
@@ -75,7 +76,7 @@ pub record Migrates (node tokens : ℕ) (old new : Database) : Type 0 where
   pub passes : List PassRecord
   pub was : HoldsUndrifted old node tokens content passes
   pub schema : new.schema ≡ floor_schema
-  pub holds : Holds new.trees content passes
+  pub holds : Holds Numbered new.trees content passes
   pub of_node : holds.node ≡ node
   pub floor : rows_of tables.floor new.trees ≡ rows_of tables.floor old.trees
   pub pass : rows_of tables.pass new.trees ≡ rows_of tables.pass old.trees

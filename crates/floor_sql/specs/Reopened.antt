@@ -9,7 +9,8 @@ use Rattle.sqlite.specs.Files.{file_state, over_files}
 use Rattle.sqlite.specs.Start.{FindsIn}
 use Rattle.sqlite.specs.State.{HasCleanDisk, Opens}
 use Rattle.floor_store.specs.Held.{IsSettled}
-use Rattle.floor_sql.specs.Calls.{IsOpened}
+use Rattle.floor_sql.specs.Calls.{IsOpenedAs}
+use Rattle.floor_sql.specs.declared.schema.Format.{Format}
 use Rattle.floor_sql.specs.Held.{SqlHeld, sql_held}
 
 module _ {D E : Type 0} {g : Ghosts D} {h : Ghosts E} where
@@ -29,7 +30,8 @@ module _ {D E : Type 0} {g : Ghosts D} {h : Ghosts E} where
     pub fresh : Opens (file_state conn)
     pub node : ℕ
     pub tokens : ℕ
-    pub opened : IsOpened over_files conn node tokens again
+    pub format : Format
+    pub opened : IsOpenedAs over_files format conn node tokens again
     pub honest : HasCleanDisk (file_state again.conn)
 
   -- the stop could leave the content that is found; of a settled store this is its content

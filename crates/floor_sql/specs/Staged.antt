@@ -6,7 +6,8 @@ use Rattle.sqlite.specs.Tree.{Trees}
 use Rattle.floor_store.specs.Content.{Content, with_row}
 use Rattle.floor_store.specs.Records.{PassRecord}
 use Rattle.floor_sql.specs.Schema as tables
-use Rattle.floor_sql.specs.Schema.{floor_schema}
+use Rattle.floor_sql.specs.Schema.{schema_of}
+use Rattle.floor_sql.specs.declared.schema.Format.{Format}
 use Rattle.floor_sql.specs.Stored.{HasOneRow, Holds, Raises, rows_of}
 use Rattle.floor_sql.specs.declared.put.Put.{Put}
 
@@ -29,13 +30,13 @@ with_boot (Some boot) c = record c { boot = boot }
 
 -- ---- tables
 
--- The tables hold a content and `count` passes before the puts. Afterwards they hold the content after the puts, and
--- the passes followed by the passes among the puts.
+-- The tables are of a format, and hold a content and `count` passes before the puts. Afterwards they are of the same
+-- format, and hold the content after the puts, and the passes followed by the passes among the puts.
 abbrev pub MakesPuts : ℕ → List Put → Database → Database → Type 0
 MakesPuts count puts old new =
-    (c : Content) (passes : List PassRecord) → old.schema ≡ floor_schema → Holds old.trees c passes
-    → length passes ≡ count
-    → (new.schema ≡ floor_schema) × Holds new.trees (with_puts c puts) (passes ++ passes_in puts)
+    (format : Format) (c : Content) (passes : List PassRecord) → old.schema ≡ schema_of format
+    → Holds format old.trees c passes → length passes ≡ count
+    → (new.schema ≡ schema_of format) × Holds format new.trees (with_puts c puts) (passes ++ passes_in puts)
 
 -- the puts are written, followed by the boot if it is Some
 abbrev pub MakesAll : ℕ → List Put → Option ℕ → Database → Database → Type 0
@@ -44,10 +45,11 @@ MakesAll count puts (Some boot) old new = (mid : Database) × MakesPuts count pu
 
 -- the tables are of a store with `count` passes, and have a row of each token of the puts
 pub record CanPut (db : Database) (count : ℕ) (puts : List Put) : Type 0 where
+  pub format : Format
   pub content : Content
   pub passes : List PassRecord
-  pub schema : db.schema ≡ floor_schema
-  pub holds : Holds db.trees content passes
+  pub schema : db.schema ≡ schema_of format
+  pub holds : Holds format db.trees content passes
   pub counted : length passes ≡ count
   pub tokens : (i : ℕ) (put : Put) → slice_get puts i ≡ Some put → put.token < length content.rows
 

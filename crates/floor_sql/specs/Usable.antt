@@ -10,7 +10,9 @@ use Rattle.otp_core.specs.Gate.{IsGate}
 use Rattle.floor_store.specs.Records.{ProposalRecord, RowRecord, PassRecord, SpanRecord, span_of}
 use Rattle.floor_store.specs.Range.{IsCount, IsProposal, IsSpan, IsPass}
 use Rattle.floor_sql.specs.Schema as tables
-use Rattle.floor_sql.specs.Schema.{floor_schema}
+use Rattle.floor_sql.specs.Schema.{floor_schema, schema_of, version_of}
+use Rattle.floor_sql.specs.declared.schema.Format.{Format}
+use Rattle.floor_sql.specs.declared.schema.Format.TheVariants.{Numbered}
 use Rattle.floor_sql.specs.Stored.{HoldsPasses, node_in, rows_of, self_columns, version_in, version_values, floor_columns, floor_values, drift_columns, drift_values}
 
 -- ---- ranges
@@ -109,10 +111,14 @@ pub record HasUsablePasses (trees : Trees) : Type 0 where
   pub room : length passes ≤ 2 ^ 62
   pub holds : HoldsPasses trees passes
 
--- a store of `node` with `tokens` tokens
-pub record IsUsable (db : Database) (node tokens : ℕ) : Type 0 where
-  pub schema : db.schema ≡ floor_schema
+-- a store of a format, of `node` with `tokens` tokens
+pub record IsUsableAs (format : Format) (db : Database) (node tokens : ℕ) : Type 0 where
+  pub schema : db.schema ≡ schema_of format
   pub of_node : IsNode node
-  pub self : HasUsableVersion db.trees 2 node tokens
+  pub self : HasUsableVersion db.trees (version_of format) node tokens
   pub rows : (token : ℕ) → token < tokens → HasUsableRow db.trees token
   pub passes : HasUsablePasses db.trees
+
+-- a store of version 2, of `node` with `tokens` tokens
+abbrev pub IsUsable : Database → ℕ → ℕ → Type 0
+IsUsable db node tokens = IsUsableAs Numbered db node tokens

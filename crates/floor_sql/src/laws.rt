@@ -11,15 +11,16 @@ ghost use Rattle.sqlite_store.specs.declared.store.FileStore.{FileStore};
 ghost use Rattle.floor_store.specs.Examples.{free_row, new_pass, old_pass, proposal, two_rows};
 ghost use Rattle.floor_store.specs.Content.{Content, opening_content};
 ghost use Rattle.floor_store.specs.Records.{span_of};
-ghost use Rattle.floor_sql.specs.Broken.{IsOne, IsSecond, db_at, db_of, old_db_at, old_db_of, old_token_db, put_of, refused, showing, shut_state, small_content, small_db, small_state, tables_at, token_content, token_db, token_db_of, trees_of, version_row};
+ghost use Rattle.floor_sql.specs.Broken.{IsOne, IsSecond, db_at, db_of, old_db_at, old_db_of, named_db, old_token_db, put_of, refused, showing, shut_state, small_content, small_db, small_state, tables_at, token_content, token_db, token_db_of, trees_of};
 ghost use Rattle.floor_sql.specs.Created.{AreMade, IsForeign, Opens, first_schema, no_schema};
-ghost use Rattle.floor_sql.specs.Held.{HasAudit, HasCommitted, HasSame, HasTables, Leaves, Mirrors, MirrorsLast, SqlHeld, failures_of};
+ghost use Rattle.floor_sql.specs.Held.{HasAudit, HasCommitted, HasSame, HasTables, HasTablesAs, Leaves, Mirrors, MirrorsLast, SqlHeld, failures_of};
 ghost use Rattle.floor_sql.specs.Migrate.{HoldsUndrifted, IsMigrated, IsUsableUndrifted, Migrates};
-ghost use Rattle.floor_sql.specs.Schema.{floor_schema, undrifted_schema};
+ghost use Rattle.floor_sql.specs.Schema.{floor_schema, schema_of, undrifted_schema};
+ghost use Rattle.floor_sql.specs.declared.schema.Format.TheVariants.{Named, Numbered};
 ghost use Rattle.floor_sql.specs.Shown.{IsLeft, IsRead, ShowsNode};
 ghost use Rattle.floor_sql.specs.Staged.{CanPut, HasRows, MakesAll, MakesPuts, passes_in, with_boot, with_puts};
-ghost use Rattle.floor_sql.specs.Stored.{Commits, HasKey, HasOneRow, HasRow, Holds, HoldsRow, IsAppended, IsDrifted, IsUpdated, KeepsCommit, MayCommit, Raises, drift_columns, drift_row, drift_values, floor_row, pass_row, self_row};
-ghost use Rattle.floor_sql.specs.Usable.{HasOnly, HasUsableDrift, HasUsableFloor, HasUsableNode, HasUsablePasses, HasUsableRow, HasUsableSelf, HasUsableVersion, IsAudit, IsGrant, IsNode, IsOwn, IsRow, IsSpanOfFactors, IsUsable};
+ghost use Rattle.floor_sql.specs.Stored.{Commits, HasKey, HasOneRow, HasRow, Holds, HoldsRow, IsAppended, IsDrifted, IsUpdated, KeepsCommit, MayCommit, Raises, drift_columns, drift_row, drift_values, floor_row, pass_row, self_row, version_row};
+ghost use Rattle.floor_sql.specs.Usable.{HasOnly, HasUsableDrift, HasUsableFloor, HasUsableNode, HasUsablePasses, HasUsableRow, HasUsableSelf, HasUsableVersion, IsAudit, IsGrant, IsNode, IsOwn, IsRow, IsSpanOfFactors, IsUsable, IsUsableAs};
 ghost use Rattle.floor_sql.specs.Steps.{Changes, ReadsOnly, ReadsTables, StepsInside, Transacts};
 ghost use Rattle.floor_sql.specs.Calls.{HandsBack, IsMade, IsOfNode, IsOpened, IsSound, KeepsTables, ReadsAudit, Stages};
 ghost use Rattle.floor_sql.specs.declared.put.Put.{Put};
@@ -87,17 +88,21 @@ pub fn connections_can_be_broken()
     ensures holds_row_drift { HoldsRow (trees_of [] (floor_row 0 (free_row 9) ∷ []) [] []) 0 (free_row 9) → ⊥ }
 
     // Tables without a token.
-    ensures holds { Holds (tables_at 4 []) (small_content 4) [] }
-    ensures holds_rows { Holds (trees_of (self_row 1 1 0 ∷ []) [] [] []) (opening_content (9 ∷ [])) [] → ⊥ }
-    ensures holds_self { Holds (tables_at 5 []) (small_content 4) [] → ⊥ }
-    ensures holds_pass { Holds (tables_at 4 (pass_row 1 old_pass ∷ [])) (small_content 4) [] → ⊥ }
-    ensures holds_last { Holds (tables_at 4 []) (record (small_content 4) { last = Some old_pass }) [] → ⊥ }
+    ensures holds { Holds Numbered (tables_at 4 []) (small_content 4) [] }
+    ensures holds_rows { Holds Numbered (trees_of (self_row 1 1 0 ∷ []) [] [] []) (opening_content (9 ∷ [])) [] → ⊥ }
+    ensures holds_self { Holds Numbered (tables_at 5 []) (small_content 4) [] → ⊥ }
+    ensures holds_pass { Holds Numbered (tables_at 4 (pass_row 1 old_pass ∷ [])) (small_content 4) [] → ⊥ }
+    ensures holds_last { Holds Numbered (tables_at 4 []) (record (small_content 4) { last = Some old_pass }) [] → ⊥ }
     ensures tables { HasTables (db_at 4 []) 1 0 (small_content 4) 0 }
     ensures tables_schema { HasTables (record (db_at 4 []) { schema = undrifted_schema }) 1 0 (small_content 4) 0 → ⊥ }
     ensures tables_holds { HasTables (db_at 5 []) 1 0 (small_content 4) 0 → ⊥ }
     ensures tables_node { HasTables (db_at 4 []) 2 0 (small_content 4) 0 → ⊥ }
     ensures tables_tokens { HasTables (db_at 4 []) 1 1 (small_content 4) 0 → ⊥ }
     ensures tables_count { HasTables (db_at 4 []) 1 0 (small_content 4) 1 → ⊥ }
+    ensures named { HasTablesAs Named named_db 1 0 (small_content 4) 0 }
+    ensures named_schema { HasTablesAs Named (record named_db { schema = floor_schema }) 1 0 (small_content 4) 0 → ⊥ }
+    ensures named_version { Holds Named (tables_at 4 []) (small_content 4) [] → ⊥ }
+    ensures numbered_version { Holds Numbered named_db.trees (small_content 4) [] → ⊥ }
     ensures opens { (old : Database) → Opens 1 0 [] old (db_at 0 []) }
     ensures opens_schema { (old : Database) → Opens 1 0 [] old (record (db_at 0 []) { schema = no_schema }) → ⊥ }
     ensures opens_holds { (old : Database) → Opens 1 0 [] old (db_at 1 []) → ⊥ }
@@ -327,6 +332,8 @@ pub fn tables_can_be_broken()
     ensures usable_of_node { IsUsable (db_of (self_row 10 0 4 ∷ []) [] [] []) 10 0 → ⊥ }
     ensures usable_self { (boot : ℕ) → IsUsable (db_at boot []) 2 0 → ⊥ }
     ensures usable_rows { (boot : ℕ) → IsUsable (db_of (self_row 1 1 boot ∷ []) [] [] []) 1 1 → ⊥ }
+    ensures usable_named { IsUsableAs Named named_db 1 0 }
+    ensures usable_version { (boot : ℕ) → IsUsableAs Named (record (db_at boot []) { schema = schema_of Named }) 1 0 → ⊥ }
     ensures usable_passes { (boot : ℕ) → IsUsable (db_at boot (pass_row 2 old_pass ∷ [])) 1 0 → ⊥ }
     ensures old_usable { IsUsableUndrifted old_token_db 1 1 }
     ensures old_usable_schema { IsUsableUndrifted (record (old_db_at 4 []) { schema = floor_schema }) 1 0 → ⊥ }

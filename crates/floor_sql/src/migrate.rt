@@ -13,8 +13,8 @@ ghost use Rattle.floor_sql.specs.Migrate.{HasUndrifted, IsUndrifted, IsUsableUnd
 
 use crate::create::{create_drift, insert_drifts};
 use crate::read::{Refusal, count_passes, read_floor, read_self};
-use crate::run::change_one;
 use crate::schema::is_undrifted_schema;
+use crate::statement::change_one;
 use crate::texts::UPDATE_VERSION;
 use floor_store::StoreFault;
 use otp_core::Drift;

@@ -9,7 +9,7 @@ use crate::migrate::migrate_tables;
 use crate::mirror::Mirror;
 use crate::put::{MAX_STAGED, Put, pass_count};
 use crate::read::{Refusal, list_passes, read_own_node};
-use crate::schema::{has_own_table, is_floor_schema, is_no_schema};
+use crate::schema::{Format, has_own_table, is_floor_schema, is_no_schema};
 use crate::tables::{read_node, read_tables};
 use crate::write::write_all;
 use arrayvec::ArrayVec;
@@ -68,8 +68,8 @@ impl<S: Alter> SqlStore<S> {
     ghost use Rattle.floor_sql.specs.Stored.{MayCommit};
     ghost use Rattle.floor_sql.specs.Held.{MirrorsLast, HasAudit, HasCommitted, sql_held};
     ghost use Rattle.floor_sql.specs.Staged.{LacksRow, with_boot};
-    ghost use Rattle.floor_sql.specs.Usable.{HasUsableNode, HasUsablePasses, IsNode, IsUsable};
-    ghost use Rattle.floor_sql.specs.Calls.{HandsBack, IsMade, IsOfNode, IsOpened, KeepsTables, ReadsAudit};
+    ghost use Rattle.floor_sql.specs.Usable.{HasUsableNode, HasUsablePasses, IsNode, IsUsable, IsUsableAs};
+    ghost use Rattle.floor_sql.specs.Calls.{HandsBack, IsMade, IsOfNode, IsOpened, IsOpenedAs, KeepsTables, ReadsAudit};
 
     /// Creates the store of `node` with the given floors, at boot 0, in a database without a table.
     ///
@@ -160,7 +160,7 @@ impl<S: Alter> SqlStore<S> {
     /// - Returns `Memory` or `Disk` if the allocator or the database fails.
     pub fn open(
         alloc: Global,
-        mut conn: Connection<S>,
+        conn: Connection<S>,
         node: u8,
         tokens: u32,
     ) -> Result<Self, (Connection<S>, StoreFault)>
@@ -172,9 +172,28 @@ impl<S: Alter> SqlStore<S> {
         ensures failure { IfErr result (λ e. IsTrue (is_failure e.1)) }
         ensures refused { IfErr result (λ e. HandsBack S.Store conn e.0 (λ _. ⊥)) }
     {
+        SqlStore::open_as(alloc, conn, Format::Numbered, node, tokens)
+    }
+
+    /// Opens a store as `open` does, from tables of the given format.
+    pub fn open_as(
+        alloc: Global,
+        mut conn: Connection<S>,
+        format: Format,
+        node: u8,
+        tokens: u32,
+    ) -> Result<Self, (Connection<S>, StoreFault)>
+        requires idle { conn.in_transaction ≡ false }
+        requires tokens { tokens ≤ 10000 }
+        ensures content { IfOk result (IsOpenedAs S.Store format conn node tokens) }
+        ensures unusable { IfErr result (λ e. e.1 ≡ StoreFault.Unusable → HasCleanDisk (state S.Store e.0)
+            → ¬ IsUsableAs format (state S.Store conn).now node tokens) }
+        ensures failure { IfErr result (λ e. IsTrue (is_failure e.1)) }
+        ensures refused { IfErr result (λ e. HandsBack S.Store conn e.0 (λ _. ⊥)) }
+    {
         // For the proof: outside a transaction the connection shows the last commit.
         let _ = conn.is_autocommit();
-        let (mirror, passes) = match read_tables(alloc, &mut conn, node, tokens) {
+        let (mirror, passes) = match read_tables(alloc, &mut conn, format, node, tokens) {
             Ok(read) => read,
             Err(Refusal(fault)) => return Err((conn, fault)),
         };

@@ -16,7 +16,9 @@ use Rattle.floor_sql.specs.Broken.{tables_at}
 use Rattle.floor_sql.specs.Calls.{IsMade, IsOpened, IsSound}
 use Rattle.floor_sql.specs.Held.{SqlHeld}
 use Rattle.floor_sql.specs.Migrate.{IsMigrated}
+use Rattle.floor_sql.specs.Schema.{version_of}
 use Rattle.floor_sql.specs.Stored.{Holds}
+use Rattle.floor_sql.specs.declared.schema.Format.{Format}
 use Rattle.floor_sql.proofs.BrokenLemmas.{count_of_none, own_row_is}
 use Rattle.datagram_port.specs.Port.{PortEvent}
 use Rattle.oath_node.specs.Hosted.{Hosted}
@@ -88,10 +90,10 @@ fallen_migrated node tokens = record {
 }
 
 -- what the tables of no token hold has none, at their boot
-pub none_held : (boot : ℕ) (content : Content) (passes : List PassRecord) (h : Holds (tables_at boot []) content passes)
+pub none_held : {format : Format} (boot : ℕ) (content : Content) (passes : List PassRecord) (h : Holds format (tables_at boot []) content passes)
     → (h.node ≡ 1) × (length content.rows ≡ 0) × (content.boot ≡ boot) × (length passes ≡ 0)
-none_held boot content passes h =
-    let is = own_row_is 2 1 0 boot 2 h.node (length content.rows) content.boot h.self in
+none_held {format} boot content passes h =
+    let is = own_row_is 2 1 0 boot (version_of format) h.node (length content.rows) content.boot h.self in
     (sym is.1, sym is.2, sym is.3, count_of_none passes h.pass)
 
 -- so a store that is opened over them is of node 1 and has no token, at their boot

@@ -2,6 +2,7 @@ use Rattle.std.proofs.Common.{◌≡◌, ℕ, subst, arith}
 use Rattle.sqlite.specs.Held.{state}
 use Rattle.sqlite.specs.State.{HasCleanDisk}
 use Rattle.floor_sql.specs.Created.{AddsDrifts}
+use Rattle.floor_sql.specs.declared.schema.Format.TheVariants.{Numbered}
 use Rattle.floor_sql.proofs.CreateLemmas.{drifts_none, next_drifts}
 use Rattle.floor_sql.proofs.StepLemmas.{begins, changes, goes_on, refuses, steps_then}
 use Rattle.floor_sql.proofs.create.insert_drifts.Goals as goal
@@ -16,7 +17,7 @@ pub insert_drift-requires-clause-inside : goal.insert_drift-requires-clause-insi
 insert_drift-requires-clause-inside g c = c.loop-token.invariant.steps.goes
 
 pub insert_drift-requires-clause-schema : goal.insert_drift-requires-clause-schema
-insert_drift-requires-clause-schema g c clean = (c.loop-token.invariant.added clean).schema
+insert_drift-requires-clause-schema g c clean = (Numbered, (c.loop-token.invariant.added clean).schema)
 
 pub loop-token-preserved : goal.loop-token-preserved
 loop-token-preserved g c =

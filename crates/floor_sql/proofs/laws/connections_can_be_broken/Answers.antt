@@ -12,7 +12,9 @@ use Rattle.floor_store.specs.Content.{opening_row}
 use Rattle.floor_store.specs.Examples.{free_row}
 use Rattle.floor_store.specs.Records.{PassRecord}
 use Rattle.floor_sql.specs.Broken.{small_content, small_db, tables_at, trees_of}
-use Rattle.floor_sql.specs.Stored.{Holds, drift_row, floor_row, pass_rows, self_row}
+use Rattle.floor_sql.specs.declared.schema.Format.TheVariants.{Numbered}
+use Rattle.floor_sql.specs.Stored.{Holds, drift_row, floor_row, pass_rows, self_row, version_row}
+use Rattle.floor_sql.proofs.BrokenLemmas.{own_row_is}
 use Rattle.floor_sql.proofs.laws.connections_can_be_broken.Goals as goal
 
 -- the number of rows distinguishes small databases
@@ -80,7 +82,7 @@ returns-clause-holds_row c = record {
 }
 
 -- the tables of no token hold what they are made of
-holds_at : (boot : ℕ) → Holds (tables_at boot []) (small_content boot) []
+holds_at : (boot : ℕ) → Holds Numbered (tables_at boot []) (small_content boot) []
 unfolding value_cmp lib.Ieee.is_nan lib.Ieee.lt
 holds_at boot = record {
   rows = λ token row e. absurd cc;
@@ -110,6 +112,29 @@ returns-clause-tables c = record {
   counted = refl;
 }
 
+pub returns-clause-named : goal.returns-clause-named
+unfolding value_cmp lib.Ieee.is_nan lib.Ieee.lt
+returns-clause-named c = record {
+  schema = refl;
+  passes = [];
+  holds = record {
+    rows = λ token row e. absurd cc;
+    node = 1;
+    self = record { found = version_row 3 1 0 4; place = refl; shows = refl };
+    pass = IsPermutation-refl [];
+    last = refl;
+  };
+  of_node = refl;
+  of_tokens = refl;
+  counted = refl;
+}
+
+pub returns-clause-named_version : goal.returns-clause-named_version
+returns-clause-named_version c h = let version = (own_row_is 2 1 0 4 3 h.node 0 4 h.self).0 in omega (arith, version)
+
+pub returns-clause-numbered_version : goal.returns-clause-numbered_version
+returns-clause-numbered_version c h = let version = (own_row_is 3 1 0 4 2 h.node 0 4 h.self).0 in omega (arith, version)
+
 -- there is one row for each pass
 pass_rows_are : (number : ℕ) (passes : List PassRecord) → length (pass_rows number passes) ≡ length passes
 pass_rows_are number [] = refl
@@ -136,13 +161,16 @@ pub returns-clause-raises : goal.returns-clause-raises
 unfolding value_cmp lib.Ieee.is_nan lib.Ieee.lt
 returns-clause-raises c = record {
   schema = refl;
-  was = record {
-    schema = refl;
-    node = 1;
-    tokens = 0;
-    boot = 4;
-    held = record { found = self_row 1 0 4; place = refl; shows = refl };
-  };
+  was = (
+    Numbered,
+    record {
+      schema = refl;
+      node = 1;
+      tokens = 0;
+      boot = 4;
+      held = record { found = self_row 1 0 4; place = refl; shows = refl };
+    },
+  );
   self = refl;
   others = others_stay (self_row 1 0 4 ∷ []) (self_row 1 0 5 ∷ []) [];
 }

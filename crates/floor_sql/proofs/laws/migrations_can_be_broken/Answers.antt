@@ -8,9 +8,10 @@ use Rattle.sqlite.specs.Tree.{Trees}
 use Rattle.floor_store.specs.Content.{Content}
 use Rattle.floor_store.specs.Examples.{free_row, new_pass, old_pass}
 use Rattle.floor_store.specs.Records.{PassRecord, RowRecord}
-use Rattle.floor_sql.specs.Broken.{old_db_at, old_db_of, old_token_db, tables_at, token_content, version_row}
+use Rattle.floor_sql.specs.Broken.{old_db_at, old_db_of, old_token_db, tables_at, token_content}
 use Rattle.floor_sql.specs.Migrate.{AreUndrifted, HoldsUndrifted}
-use Rattle.floor_sql.specs.Stored.{Holds, HoldsFloors, HoldsPasses, floor_row, pass_columns, pass_row}
+use Rattle.floor_sql.specs.declared.schema.Format.TheVariants.{Numbered}
+use Rattle.floor_sql.specs.Stored.{Holds, HoldsFloors, HoldsPasses, floor_row, pass_columns, pass_row, version_row}
 use Rattle.floor_sql.proofs.BrokenLemmas.{drift_row_is, one_floor, own_row_has, own_row_is, token_floor, token_holds}
 use Rattle.floor_sql.proofs.laws.migrations_can_be_broken.Goals as goal
 
@@ -83,7 +84,7 @@ was_boot : (now tokens : ℕ) (content : Content) (passes : List PassRecord) →
     → now ≡ content.boot
 was_boot now tokens content passes h = (own_row_is 1 1 0 now 1 1 tokens content.boot h.self).3
 
-is_boot : (now : ℕ) (content : Content) (passes : List PassRecord) → Holds (tables_at now []) content passes → now ≡ content.boot
+is_boot : (now : ℕ) (content : Content) (passes : List PassRecord) → Holds Numbered (tables_at now []) content passes → now ≡ content.boot
 is_boot now content passes h = (own_row_is 2 1 0 now 2 h.node (length content.rows) content.boot h.self).3
 
 pub returns-clause-migrates_holds : goal.returns-clause-migrates_holds

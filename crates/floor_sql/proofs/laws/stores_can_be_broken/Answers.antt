@@ -11,6 +11,10 @@ use Rattle.floor_store.specs.Records.{PassRecord, RowRecord}
 use Rattle.floor_sql.specs.Broken.{db_at, put_of, showing, small_content, tables_at, token_content, token_db, trees_of}
 use Rattle.floor_sql.specs.Held.{Mirrors}
 use Rattle.floor_sql.specs.Staged.{HasRowOnce, passes_in, with_puts}
+use Rattle.sqlite.specs.Schema.{Schema}
+use Rattle.floor_sql.specs.Schema.{schema_of, undrifted_schema, version_of}
+use Rattle.floor_sql.specs.declared.schema.Format.{Format}
+use Rattle.floor_sql.specs.declared.schema.Format.TheVariants.{Numbered, Named}
 use Rattle.floor_sql.specs.Stored.{HasOneRow, Holds, self_row}
 use Rattle.floor_sql.specs.declared.put.Put.{Put}
 use Rattle.floor_sql.proofs.BrokenLemmas.{count_of_none, none_holds, own_row_is, token_holds}
@@ -19,23 +23,31 @@ use Rattle.floor_sql.proofs.PassLemmas.{same_passes}
 use Rattle.floor_sql.proofs.laws.stores_can_be_broken.Goals as goal
 
 pub returns-clause-mirrors : goal.returns-clause-mirrors
-returns-clause-mirrors g c = record { schema = refl; passes = []; holds = none_holds 4; counted = refl; settled = refl }
+returns-clause-mirrors g c = record { format = Numbered; schema = refl; passes = []; holds = none_holds 4; counted = refl; settled = refl }
 
 -- the boot of tables without a token is the boot of the content that they hold
-boot_held : (now : ℕ) (content : Content) (passes : List PassRecord) → Holds (tables_at now []) content passes → now ≡ content.boot
-boot_held now content passes h = (own_row_is 2 1 0 now 2 h.node (length content.rows) content.boot h.self).3
+boot_held : (format : Format) (now : ℕ) (content : Content) (passes : List PassRecord) → Holds format (tables_at now []) content passes → now ≡ content.boot
+boot_held format now content passes h = (own_row_is 2 1 0 now (version_of format) h.node (length content.rows) content.boot h.self).3
 
 -- and they hold no pass
-count_held : (now : ℕ) (content : Content) (passes : List PassRecord) → Holds (tables_at now []) content passes → length passes ≡ 0
-count_held now content passes h = count_of_none passes h.pass
+count_held : (format : Format) (now : ℕ) (content : Content) (passes : List PassRecord) → Holds format (tables_at now []) content passes → length passes ≡ 0
+count_held format now content passes h = count_of_none passes h.pass
+
+-- the tables of version 1 are of no format
+of_no_format : (format : Format) → undrifted_schema ≡ schema_of format → ⊥
+of_no_format Numbered e = let tables : 3 ≡ 4 = ap (λ (schema : Schema). length schema.tables) e in omega (arith, tables)
+of_no_format Named e = let tables : 3 ≡ 6 = ap (λ (schema : Schema). length schema.tables) e in omega (arith, tables)
+
+pub returns-clause-mirrors_schema : goal.returns-clause-mirrors_schema
+returns-clause-mirrors_schema g c h = of_no_format h.format h.schema
 
 pub returns-clause-mirrors_holds : goal.returns-clause-mirrors_holds
 returns-clause-mirrors_holds g c = λ boot h.
-    let e = boot_held (boot + 1) (small_content boot) h.passes h.holds in omega (arith, e)
+    let e = boot_held h.format (boot + 1) (small_content boot) h.passes h.holds in omega (arith, e)
 
 pub returns-clause-mirrors_count : goal.returns-clause-mirrors_count
 returns-clause-mirrors_count g c = λ boot h.
-    let none = count_held boot (small_content boot) h.passes h.holds in
+    let none = count_held h.format boot (small_content boot) h.passes h.holds in
     let counted : length h.passes ≡ 1 = h.counted in
     omega (arith, none, counted)
 
@@ -50,16 +62,16 @@ pub returns-clause-last : goal.returns-clause-last
 returns-clause-last g c = λ next. record {
   base = token_content (free_row 9);
   replayed = refl;
-  tables = record { schema = refl; passes = []; holds = token_holds; counted = refl; settled = refl };
+  tables = record { format = Numbered; schema = refl; passes = []; holds = token_holds; counted = refl; settled = refl };
 }
 
 -- the same of tables that mirror a content
 boot_mirrored : (now count : ℕ) (content : Content) → Mirrors (showing (db_at now []) (db_at now [])) content count → now ≡ content.boot
-boot_mirrored now count content h = boot_held now content h.passes h.holds
+boot_mirrored now count content h = boot_held h.format now content h.passes h.holds
 
 count_mirrored : (now count : ℕ) (content : Content) → Mirrors (showing (db_at now []) (db_at now [])) content count → count ≡ 0
 count_mirrored now count content h =
-    let none = count_held now content h.passes h.holds in
+    let none = count_held h.format now content h.passes h.holds in
     let counted : length h.passes ≡ count = h.counted in
     omega (arith, none, counted)
 
@@ -78,7 +90,7 @@ returns-clause-last_tables g c = λ boot h. let e = count_mirrored boot 1 h.base
 pub returns-clause-committed : goal.returns-clause-committed
 returns-clause-committed g c = λ store was boot h.
     let trees = (state g.S.Store store.conn).committed.trees in
-    let base = one_content trees was.base h.base [] [] was.holds h.holds in
+    let base = one_content was.format h.format trees was.base h.base [] [] was.holds h.holds in
     let mirror = was.replayed ∙ ap (λ (content : Content). with_puts content store.staged) base ∙ sym h.replayed in
     let same : store.mirror.boot ≡ 5 = ap (λ (content : Content). content.boot) mirror in
     omega (arith, boot, same)
@@ -138,6 +150,7 @@ in_tokens put is (suc place) other e = absurd cc
 
 pub returns-clause-can_put : goal.returns-clause-can_put
 returns-clause-can_put g c = record {
+  format = Numbered;
   content = token_content (free_row 9);
   passes = [];
   schema = refl;
@@ -147,15 +160,18 @@ returns-clause-can_put g c = record {
 }
 
 -- tables without a row hold nothing
-none_held : (content : Content) (passes : List PassRecord) → Holds (trees_of [] [] [] []) content passes → ⊥
-none_held content passes h = let place = h.self.place in absurd cc
+none_held : (format : Format) (content : Content) (passes : List PassRecord) → Holds format (trees_of [] [] [] []) content passes → ⊥
+none_held format content passes h = let place = h.self.place in absurd cc
+
+pub returns-clause-can_put_schema : goal.returns-clause-can_put_schema
+returns-clause-can_put_schema g c h = of_no_format h.format h.schema
 
 pub returns-clause-can_put_holds : goal.returns-clause-can_put_holds
-returns-clause-can_put_holds g c = λ count h. none_held h.content h.passes h.holds
+returns-clause-can_put_holds g c = λ count h. none_held h.format h.content h.passes h.holds
 
 pub returns-clause-can_put_count : goal.returns-clause-can_put_count
 returns-clause-can_put_count g c = λ boot h.
-    let none = count_held boot h.content h.passes h.holds in
+    let none = count_held h.format boot h.content h.passes h.holds in
     let counted : length h.passes ≡ 1 = h.counted in
     omega (arith, none, counted)
 
@@ -166,6 +182,6 @@ first_low rows low = low 0 (put_of 0 (free_row 10) None) refl
 
 pub returns-clause-can_put_token : goal.returns-clause-can_put_token
 returns-clause-can_put_token g c = λ boot h.
-    let tokens = (own_row_is 2 1 0 boot 2 h.holds.node (length h.content.rows) h.content.boot h.holds.self).2 in
+    let tokens = (own_row_is 2 1 0 boot (version_of h.format) h.holds.node (length h.content.rows) h.content.boot h.holds.self).2 in
     let low = first_low h.content.rows h.tokens in
     omega (arith, tokens, low)

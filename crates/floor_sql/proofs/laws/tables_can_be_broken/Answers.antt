@@ -14,8 +14,8 @@ use Rattle.otp_core.specs.Range.{IsDrift}
 use Rattle.floor_store.specs.Range.{IsCount}
 use Rattle.floor_store.specs.Examples.{free_row, old_pass}
 use Rattle.floor_store.specs.Records.{PassRecord, RowRecord}
-use Rattle.floor_sql.specs.Broken.{old_db_at, old_db_of, old_token_db, tables_at, token_db, trees_of, version_row}
-use Rattle.floor_sql.specs.Stored.{drift_columns, drift_row, drift_values, floor_columns, floor_row, floor_values, node_in, pass_columns, pass_row, pass_rows, pass_values, self_columns, self_row, version_in, version_values}
+use Rattle.floor_sql.specs.Broken.{old_db_at, old_db_of, old_token_db, tables_at, token_db, trees_of, named_db}
+use Rattle.floor_sql.specs.Stored.{drift_columns, drift_row, drift_values, floor_columns, floor_row, floor_values, node_in, pass_columns, pass_row, pass_rows, pass_values, self_columns, self_row, version_in, version_values, version_row}
 use Rattle.floor_sql.specs.Usable.{HasOnly, HasUsableVersion, IsNode, HasUsableFloor, HasUsableDrift, HasUsablePasses, HasUsableRow, AreAudit, IsAudit, IsRow}
 use Rattle.floor_sql.proofs.PassLemmas.{length_rows, same_passes}
 use Rattle.floor_sql.proofs.laws.tables_can_be_broken.Goals as goal
@@ -299,6 +299,21 @@ returns-clause-usable_rows c = λ boot h.
     let rows : (token : ℕ) → token < 1 → HasUsableRow (trees_of (self_row 1 1 boot ∷ []) [] [] []) token = h.rows in
     let only = (rows 0 (omega arith)).floor.only.only in
     absurd cc
+
+pub returns-clause-usable_named : goal.returns-clause-usable_named
+returns-clause-usable_named c = record {
+  schema = refl;
+  of_node = record { first = omega arith; last = omega arith };
+  self = record { boot = 4; range = omega arith; only = self_has 3 1 0 4 };
+  rows = λ token low. absurd (omega (arith, low));
+  passes = no_passes named_db.trees refl;
+}
+
+pub returns-clause-usable_version : goal.returns-clause-usable_version
+returns-clause-usable_version c = λ boot h.
+    let self : HasUsableVersion (tables_at boot []) 3 1 0 = h.self in
+    let e = (self_is 2 1 0 boot 3 1 0 self.boot self.only).0 in
+    omega (arith, e)
 
 pub returns-clause-usable_passes : goal.returns-clause-usable_passes
 returns-clause-usable_passes c = λ boot h.

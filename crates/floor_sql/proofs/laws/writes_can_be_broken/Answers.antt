@@ -9,8 +9,9 @@ use Rattle.sqlite_value.specs.Order.{value_cmp}
 use Rattle.floor_store.specs.Examples.{free_row}
 use Rattle.floor_sql.specs.Broken.{db_at, small_content, tables_at, token_content, token_db, token_db_of, trees_of}
 use Rattle.floor_sql.specs.Schema as tables
-use Rattle.floor_sql.specs.Schema.{floor_schema, undrifted_schema}
-use Rattle.floor_sql.specs.Stored.{HasRow, Holds, OthersStay, IsDrifted, IsUpdated, PutsRow, drift_row, floor_columns, floor_row, floor_values, self_row}
+use Rattle.floor_sql.specs.Schema.{floor_schema, undrifted_schema, version_of}
+use Rattle.floor_sql.specs.declared.schema.Format.TheVariants.{Numbered}
+use Rattle.floor_sql.specs.Stored.{HasRow, Holds, OthersStay, IsDrifted, IsUpdated, PutsRow, drift_row, floor_columns, floor_row, floor_values, self_row, version_row}
 use Rattle.floor_sql.proofs.BrokenLemmas.{none_holds, own_row_has, own_row_is, token_holds}
 use Rattle.floor_sql.proofs.ContentLemmas.{puts}
 use Rattle.floor_sql.proofs.RowLemmas.{find-put_row}
@@ -83,15 +84,15 @@ pub returns-clause-drifted_others : goal.returns-clause-drifted_others
 returns-clause-drifted_others c = λ steps h. no_floor_stays steps h.others
 
 pub returns-clause-made : goal.returns-clause-made
-returns-clause-made c = λ content passes schema held counted.
+returns-clause-made c = λ format content passes schema held counted.
     let change : PutsRow 0 (free_row 10) token_db (token_db_of (free_row 10) (pos 0)) =
     (token_db_of (free_row 10) (pos 0), is_updated, is_drifted 10 (pos 0)) in
-    puts 0 (free_row 10) 0 None content token_db (token_db_of (free_row 10) (pos 0)) passes schema held counted change
+    puts 0 (free_row 10) 0 None content format token_db (token_db_of (free_row 10) (pos 0)) passes schema held counted change
 
 pub returns-clause-made_schema : goal.returns-clause-made_schema
 returns-clause-made_schema c = λ boot h.
-    let made : (undrifted_schema ≡ floor_schema) × Holds (tables_at boot []) (small_content boot) [] =
-    h (small_content boot) [] refl (none_holds boot) refl in
+    let made : (undrifted_schema ≡ floor_schema) × Holds Numbered (tables_at boot []) (small_content boot) [] =
+    h Numbered (small_content boot) [] refl (none_holds boot) refl in
     let schema = made.0 in
     let tables : 3 ≡ 4 = ap (λ (schema : Schema). length schema.tables) schema in
     omega (arith, tables)
@@ -107,14 +108,14 @@ next_is next other h =
 
 pub returns-clause-made_content : goal.returns-clause-made_content
 returns-clause-made_content c = λ next h.
-    let held : Holds token_db.trees (token_content (free_row (next + 10))) [] =
-    (h (token_content (free_row 9)) [] refl token_holds refl).1 in
+    let held : Holds Numbered token_db.trees (token_content (free_row (next + 10))) [] =
+    (h Numbered (token_content (free_row 9)) [] refl token_holds refl).1 in
     let same = next_is 9 (next + 10) (held.rows 0 (free_row (next + 10)) refl).floor in
     omega (arith, same)
 
 pub returns-clause-made_pass : goal.returns-clause-made_pass
 returns-clause-made_pass c h =
-    let lengths : 1 ≡ 0 = length_permutation _ _ (h (small_content 4) [] refl (none_holds 4) refl).1.pass in
+    let lengths : 1 ≡ 0 = length_permutation _ _ (h Numbered (small_content 4) [] refl (none_holds 4) refl).1.pass in
     omega (arith, lengths)
 
 -- the rows of `self` are no other table's
@@ -126,10 +127,10 @@ pub returns-clause-raised : goal.returns-clause-raised
 unfolding value_cmp lib.Ieee.is_nan lib.Ieee.lt
 returns-clause-raised c = (
   db_at 4 [],
-  λ content passes schema held counted. (schema, subst (Holds (db_at 4 []).trees content) (sym (append-nil passes)) held),
+  λ format content passes schema held counted. (schema, subst (Holds format (db_at 4 []).trees content) (sym (append-nil passes)) held),
   record {
     schema = refl;
-    was = record { schema = refl; node = 1; tokens = 0; boot = 4; held = own_row_has 2 1 0 4 };
+    was = (Numbered, record { schema = refl; node = 1; tokens = 0; boot = 4; held = own_row_has 2 1 0 4 });
     self = refl;
     others = but_self (self_row 1 0 4 ∷ []) (self_row 1 0 5 ∷ []);
   },
@@ -138,7 +139,7 @@ returns-clause-raised c = (
 pub returns-clause-not_raised : goal.returns-clause-not_raised
 unfolding value_cmp lib.Ieee.is_nan lib.Ieee.lt
 returns-clause-not_raised c = λ boot h.
-    let row = self_row h.2.was.node h.2.was.tokens (boot + 1) in
+    let row = version_row (version_of h.2.was.0) h.2.was.1.node h.2.was.1.tokens (boot + 1) in
     let found : Some (self_row 1 0 boot) ≡ Some row =
     ap (find (has_rowid (pos 1))) h.2.self ∙ find-put_row (pos 1) row refl (without_rowid (pos 1) (h.0.trees 0)) in
     let e : boot ≡ boot + 1 = cc in
@@ -146,6 +147,6 @@ returns-clause-not_raised c = λ boot h.
 
 pub returns-clause-raised_unasked : goal.returns-clause-raised_unasked
 returns-clause-raised_unasked c h =
-    let held = (h (small_content 4) [] refl (none_holds 4) refl).1 in
+    let held = (h Numbered (small_content 4) [] refl (none_holds 4) refl).1 in
     let boot = (own_row_is 2 1 0 5 2 held.node 0 4 held.self).3 in
     omega (arith, boot)

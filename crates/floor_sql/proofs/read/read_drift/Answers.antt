@@ -14,7 +14,9 @@ use Rattle.floor_sql.proofs.read.read_drift.Goals as goal
 use Rattle.floor_sql.proofs.read.read_drift.Goals.{in_default-via-then-as_slice-lt1, in_default-via-else-as_slice-lt1+else-this-lt2}
 
 pub ask-requires : goal.ask-requires
-ask-requires g c clean = subst (λ s. IsPlain (understood s select_drift)) (sym (c.requires clean)) select_drift_plain
+ask-requires g c clean =
+    let has = c.requires clean in
+    subst (λ s. IsPlain (understood s select_drift)) (sym has.1) (select_drift_plain has.0)
 
 pub returns-in-Some : goal.returns-in-Some
 returns-in-Some g c = reads c.in_ok-rows.ensures.reads (λ clean.

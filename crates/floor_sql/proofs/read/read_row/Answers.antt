@@ -10,7 +10,8 @@ use Rattle.floor_sql.proofs.read.read_row.Goals as goal
 pub read_floor-requires : goal.read_floor-requires
 read_floor-requires g c clean =
     let early : HasCleanDisk (state g.S.Store c.args.conn.now) = omega (arith, c.read_drift.ensures.only.crash.clean) in
-    inr (ap (λ (d : Database). d.schema) (c.in_ok-drift.ensures.only.read clean).now ∙ c.requires early)
+    let has = c.requires early in
+    inr (has.0, ap (λ (d : Database). d.schema) (c.in_ok-drift.ensures.only.read clean).now ∙ has.1)
 
 pub returns-in_err-drift : goal.returns-in_err-drift
 returns-in_err-drift g c = fails c.from_residual.ensures.1 c.in_err-drift.ensures.only

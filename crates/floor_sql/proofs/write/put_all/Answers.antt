@@ -21,12 +21,12 @@ put-requires-clause-there g c clean =
     let item = c.each-item.result in
     let before : HasCleanDisk old = omega (arith, kept.steps.crash.clean) in
     let can : CanPut old.now c.args.count puts = c.requires.there before in
-    let made = kept.made clean can.content can.passes can.schema can.holds can.counted in
+    let made = kept.made clean can.format can.content can.passes can.schema can.holds can.counted in
     let inside : i < length puts = omega arith in
     let at : slice_get puts i ≡ Some item = slice_get-get_or puts i item inside ∙ ap Some (sym c.each-item.is) in
     let low = can.tokens i item at in
     let still : item.token < length (with_puts can.content (take i puts)).rows = omega (arith, low, length_with_puts can.content (take i puts)) in
-    has_floor_in mid.now (with_puts can.content (take i puts)) (can.passes ++ passes_in (take i puts)) item.token still made.0 made.1
+    has_floor_in can.format mid.now (with_puts can.content (take i puts)) (can.passes ++ passes_in (take i puts)) item.token still made.0 made.1
 
 pub put-requires-clause-inside : goal.put-requires-clause-inside
 put-requires-clause-inside g c = c.loop-each.invariant.steps.goes

@@ -23,4 +23,4 @@ pub returns-in_err-change_one : goal.returns-in_err-change_one
 returns-in_err-change_one g c =
     refuses c.from_residual.ensures.1 c.in_err-change_one.ensures.steps (λ clean is.
     let there = c.requires.there (omega (arith, c.change_one.ensures.steps.crash.clean)) in
-    boot_unusable _ _ _ there.schema _ (c.in_err-change_one.ensures.cause clean) is)
+    boot_unusable _ _ _ (there.0, there.1.schema) _ (c.in_err-change_one.ensures.cause clean) is)

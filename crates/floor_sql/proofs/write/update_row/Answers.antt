@@ -1,4 +1,4 @@
-use Rattle.std.proofs.Common.{◌≡◌, List, sym, subst, arith}
+use Rattle.std.proofs.Common.{◌≡◌, List, sym, subst, ◌∙◌, arith}
 use Rattle.sqlite.specs.Order.{Row}
 use Rattle.sqlite.specs.Held.{state}
 use Rattle.sqlite.specs.State.{HasCleanDisk}
@@ -10,7 +10,9 @@ pub update_drift-requires-clause-inside : goal.update_drift-requires-clause-insi
 update_drift-requires-clause-inside g c = c.in_ok-update_floor.ensures.steps.goes
 
 pub update_drift-requires-clause-schema : goal.update_drift-requires-clause-schema
-update_drift-requires-clause-schema g c clean = (c.in_ok-update_floor.ensures.made clean).schema
+update_drift-requires-clause-schema g c clean =
+    let there = c.requires.there (omega (arith, c.update_floor.ensures.steps.crash.clean)) in
+    (there.schema.0, (c.in_ok-update_floor.ensures.made clean).schema ∙ there.schema.1)
 
 pub update_drift-requires-clause-there : goal.update_drift-requires-clause-there
 update_drift-requires-clause-there g c clean =

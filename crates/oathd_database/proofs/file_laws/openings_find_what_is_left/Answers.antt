@@ -1,4 +1,5 @@
 use Rattle.std.proofs.Common.{arith}
+use Rattle.floor_sql.specs.declared.schema.Format.TheVariants.{Numbered}
 use Rattle.oathd_database.proofs.file_laws.openings_find_what_is_left.Goals as goal
 
 pub returns : goal.returns
@@ -14,6 +15,7 @@ returns g c store left given tokens again stop opened clean =
       fresh = found.0.0;
       node = opened.node;
       tokens = tokens;
+      format = Numbered;
       opened = opened.opened;
       honest = clean;
     })

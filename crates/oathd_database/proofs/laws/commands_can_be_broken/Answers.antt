@@ -11,8 +11,10 @@ use Rattle.floor_store.specs.Content.{Content}
 use Rattle.floor_store.specs.Records.{PassRecord}
 use Rattle.floor_sql.specs.Broken.{small_content, tables_at}
 use Rattle.floor_sql.specs.Held.{sql_held}
-use Rattle.floor_sql.specs.Schema.{floor_schema, undrifted_schema}
+use Rattle.floor_sql.specs.Schema.{floor_schema, undrifted_schema, version_of}
 use Rattle.floor_sql.specs.Stored.{Holds}
+use Rattle.floor_sql.specs.declared.schema.Format.{Format}
+use Rattle.floor_sql.specs.declared.schema.Format.TheVariants.{Numbered}
 use Rattle.floor_sql.proofs.BrokenLemmas.{none_holds, own_row_is}
 use Rattle.floors_file.specs.Writing.{head_text, floors_text}
 use Rattle.oath_node.specs.declared.turns.Served.{Served}
@@ -95,7 +97,7 @@ returns-clause-kept_tables c h =
 pub returns-clause-audit : goal.returns-clause-audit
 returns-clause-audit c = record {
   passes = [];
-  committed = record { base = small_content 4; replayed = refl; holds = none_holds 4 };
+  committed = record { base = small_content 4; replayed = refl; format = Numbered; holds = none_holds 4 };
   written = refl;
 }
 
@@ -152,11 +154,11 @@ returns-clause-audited_tokens c users of_one h =
     omega (arith, is, one)
 
 -- of the two disks the one of node 1 has no pass
-first_disk : (disk : ℕ) (content : Content) (passes : List PassRecord) (h : Holds (two_tables disk) content passes) → h.node ≡ 1
+first_disk : {format : Format} (disk : ℕ) (content : Content) (passes : List PassRecord) (h : Holds format (two_tables disk) content passes) → h.node ≡ 1
     → two_tables disk ≡ tables_at 4 []
-first_disk zero content passes h is = refl
-first_disk (suc disk) content passes h is =
-    let other : 2 ≡ h.node = (own_row_is 2 2 0 4 2 h.node (length content.rows) content.boot h.self).1 in
+first_disk {format} zero content passes h is = refl
+first_disk {format} (suc disk) content passes h is =
+    let other : 2 ≡ h.node = (own_row_is 2 2 0 4 (version_of format) h.node (length content.rows) content.boot h.self).1 in
     absurd (omega (arith, other, is))
 
 pub returns-clause-audited_kept : goal.returns-clause-audited_kept
@@ -168,10 +170,10 @@ returns-clause-audited_kept c h =
     let same = (h.kept.tables (clean_is two_tables h.store.conn)).committed refl in
     let trees : two_tables h.store.conn.store ≡ tables_at 4 [] = ap (λ (db : Database). db.trees) (same ∙ read) ∙ first in
     let writes = h.written (clean_is two_tables h.store.conn) in
-    let holds = subst (λ (t : Trees). Holds t writes.committed.base writes.passes) trees writes.committed.holds in
+    let holds = subst (λ (t : Trees). Holds writes.committed.format t writes.committed.base writes.passes) trees writes.committed.holds in
     let none = (none_held 4 _ writes.passes holds).3 in
     let e = nothing_written (λ disk. 4) (record h.store { mirror = writes.committed.base; staged = [] }) _
-    (record { passes = writes.passes; committed = record { base = writes.committed.base; replayed = refl; holds = holds }; written = writes.written }) in
+    (record { passes = writes.passes; committed = record { base = writes.committed.base; replayed = refl; format = writes.committed.format; holds = holds }; written = writes.written }) in
     absurd cc
 
 pub returns-clause-audited_written : goal.returns-clause-audited_written
@@ -210,7 +212,7 @@ returns-clause-served_in_boot c address h =
     let found : h.found.mirror.boot ≡ 4 = (opened_over (λ disk. 4) h.opened.conn h.opened.node (length h.import.book) h.found h.opened.opened).2 in
     let now = ap (λ (content : Content). content.boot) (h.in_boot.raises.writes.makes.ok clean) in
     let left = h.in_boot.raises.writes.settled clean (small_content 4)
-    (record { clean = clean; trees = tables_at 4 []; left = refl; passes = []; holds = none_holds 4 }) in
+    (record { clean = clean; trees = tables_at 4 []; left = refl; format = Numbered; passes = []; holds = none_holds 4 }) in
     let boot = ap (λ (content : Content). content.boot) left in
     omega (arith, found, now, boot)
 

@@ -17,6 +17,7 @@ write_all-requires-clause-there g c clean =
     let none : was.fault ≡ None = rw (← c.self.view_is) at c.requires.works in
     let mirrors = it.kept.tables clean (it.kept.is_open none clean) in
     record {
+      format = mirrors.format;
       content = it.base;
       passes = mirrors.passes;
       schema = mirrors.schema;

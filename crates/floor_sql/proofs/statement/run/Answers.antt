@@ -5,7 +5,7 @@ use Rattle.sqlite.specs.State.{ExecutesInside}
 use Rattle.floor_sql.specs.declared.read.Refusal.{Refusal}
 use Rattle.floor_sql.specs.Refusals.{IsFaultOf}
 use Rattle.floor_sql.proofs.ListLemmas.{if_err}
-use Rattle.floor_sql.proofs.run.run.Goals as goal
+use Rattle.floor_sql.proofs.statement.run.Goals as goal
 
 pub returns-in_err-count-clause-cause : goal.returns-in_err-count-clause-cause
 returns-in_err-count-clause-cause g c clean =

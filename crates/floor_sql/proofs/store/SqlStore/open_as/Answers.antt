@@ -1,7 +1,7 @@
 use Rattle.std.proofs.Common.{◌≡◌, [], None, refl, rules}
 use Rattle.floor_sql.specs.Held.{IsKept}
 use Rattle.floor_sql.proofs.KeepLemmas.{idle_invariant, leaves_mirror}
-use Rattle.floor_sql.proofs.store.SqlStore.open.Goals as goal
+use Rattle.floor_sql.proofs.store.SqlStore.open_as.Goals as goal
 
 pub returns-clause-content : goal.returns-clause-content
 returns-clause-content g c =
