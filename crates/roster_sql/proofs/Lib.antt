@@ -1,0 +1,4 @@
+pub mod TextLemmas
+pub mod MakingLemmas
+pub mod NamesLemmas
+pub mod ReadingLemmas
