@@ -9,7 +9,7 @@ use Rattle.floor_store.specs.Examples.{free_row}
 use Rattle.floor_store.specs.Records.{PassRecord, RowRecord}
 use Rattle.floor_sql.specs.Broken.{small_content, tables_at, token_content, token_db}
 use Rattle.floor_sql.specs.declared.schema.Format.TheVariants.{Numbered}
-use Rattle.floor_sql.specs.Stored.{HasRow, Holds, HoldsFloor, HoldsFloors, HoldsRow, HoldsRows, drift_columns, drift_row, drift_values, floor_row, pass_rows, self_columns, self_row, version_values, version_row}
+use Rattle.floor_sql.specs.Stored.{HasOneRow, HasRow, Holds, HoldsFloor, HoldsFloors, HoldsRow, HoldsRows, drift_columns, drift_row, drift_values, floor_row, pass_rows, self_columns, self_row, version_values, version_row}
 use Rattle.floor_sql.proofs.PassLemmas.{length_rows}
 
 -- the row of `self` has its columns
@@ -17,6 +17,11 @@ pub own_row_has : (version node tokens boot : ℕ)
     → HasRow (version_row version node tokens boot ∷ []) 1 self_columns (version_values version node tokens boot)
 unfolding value_cmp lib.Ieee.is_nan lib.Ieee.lt
 own_row_has version node tokens boot = record { found = version_row version node tokens boot; place = refl; shows = refl }
+
+-- and stands there once
+pub own_row_once : (version node tokens boot : ℕ) → HasOneRow (version_row version node tokens boot ∷ []) 1
+unfolding value_cmp lib.Ieee.is_nan lib.Ieee.lt
+own_row_once version node tokens boot = record { found = version_row version node tokens boot; only = refl }
 
 -- and no others
 pub own_row_is : (version node tokens boot v n t b : ℕ)

@@ -1,6 +1,5 @@
 -- Small tables and connections, each of which breaks one field of a promise. No contract cites them.
 use Rattle.std.specs.Prelude.{◌≡◌, ℕ, ℤ, zero, suc, pos, true, false, List, [], ◌∷◌, replicate, Option, None}
-use Rattle.sqlite.specs.declared.types.Value.TheVariants.{Int, Null}
 use Rattle.sqlite.specs.Effect.{Database}
 use Rattle.sqlite.specs.Order.{Row}
 use Rattle.sqlite.specs.State.{State}

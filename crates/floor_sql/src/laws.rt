@@ -107,6 +107,8 @@ pub fn connections_can_be_broken()
     ensures opens_schema { (old : Database) → Opens 1 0 [] old (record (db_at 0 []) { schema = no_schema }) → ⊥ }
     ensures opens_holds { (old : Database) → Opens 1 0 [] old (db_at 1 []) → ⊥ }
     ensures opens_node { (old : Database) → Opens 2 0 [] old (db_at 0 []) → ⊥ }
+    ensures opens_one { (old : Database) → Opens 1 0 [] old
+        (db_of (self_row 1 0 0 ∷ self_row 1 0 0 ∷ []) [] [] []) → ⊥ }
     ensures raises { Raises 5 (db_at 4 []) (db_at 5 []) }
     ensures raises_schema { Raises 5 (db_at 4 []) (record (db_at 5 []) { schema = undrifted_schema }) → ⊥ }
     ensures raises_self { Raises 5 (db_at 4 []) (db_at 6 []) → ⊥ }

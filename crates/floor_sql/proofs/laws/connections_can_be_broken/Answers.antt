@@ -14,7 +14,7 @@ use Rattle.floor_store.specs.Records.{PassRecord}
 use Rattle.floor_sql.specs.Broken.{small_content, small_db, tables_at, trees_of}
 use Rattle.floor_sql.specs.declared.schema.Format.TheVariants.{Numbered}
 use Rattle.floor_sql.specs.Stored.{Holds, drift_row, floor_row, pass_rows, self_row, version_row}
-use Rattle.floor_sql.proofs.BrokenLemmas.{own_row_is}
+use Rattle.floor_sql.proofs.BrokenLemmas.{own_row_is, own_row_once}
 use Rattle.floor_sql.proofs.laws.connections_can_be_broken.Goals as goal
 
 -- the number of rows distinguishes small databases
@@ -149,7 +149,13 @@ returns-clause-tables_count c h =
 
 pub returns-clause-opens : goal.returns-clause-opens
 unfolding holds_at
-returns-clause-opens c = λ old. record { schema = refl; holds = holds_at 0; of_node = refl }
+returns-clause-opens c = λ old. record { schema = refl; holds = holds_at 0; of_node = refl; one_self = own_row_once 2 1 0 0 }
+
+pub returns-clause-opens_one : goal.returns-clause-opens_one
+unfolding value_cmp lib.Ieee.is_nan lib.Ieee.lt
+returns-clause-opens_one c = λ old h.
+    let lengths : 2 ≡ 1 = ap (length {A = Row}) h.one_self.only in
+    omega (arith, lengths)
 
 -- the rows of `self` are no other table's
 others_stay : (was now passes : List Row) (tree : ℕ) → tree ≢ 0
