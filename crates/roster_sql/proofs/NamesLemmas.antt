@@ -2,14 +2,12 @@
 use Rattle.std.proofs.Common.{◌≡◌, ℕ, pos, List, [], length, refl, subst, ◌∙◌, arith}
 use Rattle.sqlite.specs.Tree.{put_row, without_rowid}
 use Rattle.sqlite.specs.Effect.{Database}
-use Rattle.sqlite.specs.State.{State, HasCleanDisk, Survives}
-use Rattle.sqlite.proofs.StateLemmas.{survives_then}
 use Rattle.floor_sql.specs.Schema.{floor_schema, schema_of}
-use Rattle.floor_sql.specs.Stored.{Commits, HasRow, HasVersion, MayCommit, self_columns, version_row, version_values}
-use Rattle.floor_sql.specs.declared.schema.Format.TheVariants.{Named}
+use Rattle.floor_sql.specs.Stored.{HasRow, HasVersion, self_columns, version_row, version_values}
+use Rattle.floor_sql.specs.declared.schema.Format.TheVariants.{Named, Numbered}
 use Rattle.floor_sql.proofs.ContentLemmas.{one_shown, passes_stay, row_stays, rows_stay}
 use Rattle.floor_sql.proofs.HoldLemmas.{put_in}
-use Rattle.roster_sql.specs.Made.{AddsBond, AddsEntries, HoldsNumbered, MakesBond, MakesRoster, Names, NamesNode, RaisesVersion}
+use Rattle.roster_sql.specs.Made.{AddsBond, AddsEntries, IsStoreOf, MakesBond, MakesRoster, Names, NamesNode, RaisesVersion}
 use Rattle.roster_sql.specs.Roster.{BondRecord, HoldsRoster, bond_columns, bond_row, bond_values, entry_columns, entry_values}
 use Rattle.roster_sql.specs.declared.entry.Entry.{Entry}
 use Rattle.roster_sql.proofs.MakingLemmas.{no_entries}
@@ -68,20 +66,5 @@ module _ (s0 s1 s2 s3 s4 s5 : Database) (entries : List Entry) (own : BondRecord
         refl,
       )
 
--- ---- in one transaction, after the tables were looked at
-
-pub commits_named : (old mid new : State) (node : ℕ) (entries : List Entry) (own : BondRecord) → mid.now ≡ old.now → HoldsNumbered old.now node (length entries)
-    → Commits (Names entries own) mid new → Commits (NamesNode node entries own) old new
-commits_named old mid new node entries own same was done = record {
-  is_open = done.is_open;
-  committed = record { was = was; named = subst (λ db. Names entries own db new.committed) same done.committed };
-  now = done.now;
-}
-
-pub named_survives : (old mid new : State) (node : ℕ) (entries : List Entry) (own : BondRecord) → (HasCleanDisk mid → mid.now ≡ old.now)
-    → (HasCleanDisk mid → HoldsNumbered old.now node (length entries)) → Survives old mid (λ _. ⊥)
-    → Survives mid new (MayCommit (Names entries own) mid) → Survives old new (MayCommit (NamesNode node entries own) old)
-named_survives old mid new node entries own same was one two = survives_then old mid new _ _ (MayCommit (NamesNode node entries own) old) (λ _ db none. absurd none)
-    (λ clean db may.
-    let early : HasCleanDisk mid = omega (arith, two.clean) in
-    (may.0, record { was = was early; named = subst (λ (d : Database). Names entries own d may.0) (same early) may.1 }, may.2)) one two
+pub of_node : (node : ℕ) (entries : List Entry) (own : BondRecord) (old new : Database) → IsStoreOf Numbered old node (length entries) → Names entries own old new → NamesNode node entries own old new
+of_node node entries own old new was named = record { was = was; named = named }

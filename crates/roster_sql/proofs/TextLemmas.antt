@@ -13,7 +13,7 @@ use Rattle.floor_sql.specs.Schema.{roster, bond, floor_schema, schema_of}
 use Rattle.floor_sql.specs.declared.schema.Format.TheVariants.{Named}
 use Rattle.floor_sql.proofs.TextLemmas.{by_one, changed_query, plain_program, query_over}
 use Rattle.roster_sql.specs.Made.{roster_schema}
-use Rattle.roster_sql.specs.Text.{create_roster, create_bond, insert_entry, insert_bond, update_version, select_entry, select_bond}
+use Rattle.roster_sql.specs.Text.{create_roster, create_bond, insert_entry, insert_bond, update_tokens, update_version, select_entry, select_bond}
 
 -- ---- the tables are made
 
@@ -74,6 +74,20 @@ update_version_is = refl
 pub update_version_plain : IsPlain (understood (schema_of Named) update_version)
 unfolding understood everything
 update_version_plain = (refl, refl)
+
+abbrev pub tokens_terms : List Term
+tokens_terms = col 1 0 ∷ col 1 0 ∷ lit Null ∷ col 1 2 ∷ col 1 3 ∷ col 0 0 ∷ col 1 5 ∷ []
+
+abbrev pub tokens_query : Query
+tokens_query = query_over 0 by_one tokens_terms
+
+pub update_tokens_is : command_of (understood (schema_of Named) update_tokens) ≡ Update 0 (plain_program tokens_query)
+unfolding understood everything
+update_tokens_is = refl
+
+pub update_tokens_plain : IsPlain (understood (schema_of Named) update_tokens)
+unfolding understood everything
+update_tokens_plain = (refl, refl)
 
 -- ---- the queries
 

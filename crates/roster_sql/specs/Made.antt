@@ -6,9 +6,10 @@ use Rattle.sqlite.specs.Tree.{Trees, put_row, without_rowid}
 use Rattle.floor_store.specs.Content.{Content}
 use Rattle.floor_store.specs.Records.{PassRecord}
 use Rattle.floor_sql.specs.Schema as tables
-use Rattle.floor_sql.specs.Schema.{bond, drift, floor, floor_schema, pass, roster, schema_of, self}
-use Rattle.floor_sql.specs.Stored.{HasVersion, Holds, HoldsVersion, OthersStay, rows_of, version_row}
-use Rattle.floor_sql.specs.Usable.{HasUsableVersion, IsNode}
+use Rattle.floor_sql.specs.Schema.{bond, drift, floor, pass, roster, schema_of, self, version_of}
+use Rattle.floor_sql.specs.Stored.{HasVersion, Holds, HoldsSelf, OthersStay, rows_of, version_row}
+use Rattle.floor_sql.specs.Usable.{HasUsableSelf, HasUsableVersion, IsNode}
+use Rattle.floor_sql.specs.declared.schema.Format.{Format}
 use Rattle.floor_sql.specs.declared.schema.Format.TheVariants.{Numbered, Named}
 use Rattle.roster_sql.specs.Roster.{BondRecord, HoldsNamed, HoldsRoster, bond_row, entry_row}
 use Rattle.roster_sql.specs.declared.entry.Entry.{Entry}
@@ -78,19 +79,24 @@ Names entries own old new =
     → length entries ≡ length c.rows
     → (now : HoldsNamed new c passes entries own) × (now.holds.node ≡ was.node)
 
--- the tables are of a store of version 2, of `node` with `tokens` tokens
-pub record HoldsNumbered (db : Database) (node tokens : ℕ) : Type 0 where
-  pub schema : db.schema ≡ floor_schema
+-- the tables are of a store of a format, of `node` with `tokens` tokens
+pub record IsStoreOf (format : Format) (db : Database) (node tokens : ℕ) : Type 0 where
+  pub schema : db.schema ≡ schema_of format
   pub boot : ℕ
-  pub self : HoldsVersion db.trees 2 node tokens boot
+  pub self : HoldsSelf format db.trees node tokens boot
 
--- the tables that get names: of a store of version 2, of `node` with `tokens` tokens, and a boot in range
-pub record IsUsableNumbered (db : Database) (node tokens : ℕ) : Type 0 where
-  pub schema : db.schema ≡ floor_schema
+-- the tables of a store of a format, of `node` with `tokens` tokens, and a boot in range
+pub record IsUsableStoreOf (format : Format) (db : Database) (node tokens : ℕ) : Type 0 where
+  pub schema : db.schema ≡ schema_of format
   pub of_node : IsNode node
-  pub self : HasUsableVersion db.trees 2 node tokens
+  pub self : HasUsableVersion db.trees (version_of format) node tokens
+
+-- the tables of a store of version 3, of a node and a number of tokens in range
+pub record HasUsableNamed (db : Database) : Type 0 where
+  pub schema : db.schema ≡ schema_of Named
+  pub self : HasUsableSelf db.trees 3
 
 -- a store of version 2, of `node` with a token for each entry, gets names and a bond
 pub record NamesNode (node : ℕ) (entries : List Entry) (own : BondRecord) (old new : Database) : Type 0 where
-  pub was : HoldsNumbered old node (length entries)
+  pub was : IsStoreOf Numbered old node (length entries)
   pub named : Names entries own old new

@@ -5,32 +5,17 @@ ghost use Rattle.sqlite.specs.Held.{state};
 ghost use Rattle.sqlite.specs.State.{HasCleanDisk};
 ghost use Rattle.floor_sql.specs.Schema as tables;
 ghost use Rattle.floor_sql.specs.Shown.{IsLeft};
-ghost use Rattle.floor_sql.specs.Steps.{ReadsTables, Transacts};
+ghost use Rattle.floor_sql.specs.Steps.{Transacts};
 ghost use Rattle.floor_sql.specs.Stored.{HasOneRow, HasVersion, KeepsCommit, rows_of};
 ghost use Rattle.floor_sql.specs.Schema.{floor_schema};
-ghost use Rattle.roster_sql.specs.Made.{HoldsNumbered, IsUsableNumbered, Names, NamesNode};
+ghost use Rattle.floor_sql.specs.declared.schema.Format.TheVariants.{Numbered};
+ghost use Rattle.roster_sql.specs.Made.{IsUsableStoreOf, Names, NamesNode};
 
+use crate::checking::check_tables;
 use crate::entry::{Bond, Entry};
 use crate::making::add_names;
-use floor_sql::{Format, Refusal, is_of_format, read_self};
-use floor_store::StoreFault;
+use floor_sql::{Format, Refusal};
 use sqlite::{Alter, Connection};
-
-/// Checks that the tables are of a store of version 2, of `node` with `tokens` tokens.
-fn check_tables<S: Alter>(conn: &mut Connection<S>, node: u8, tokens: u32) -> Result<(), Refusal>
-    requires { tokens ≤ 10000 }
-    ensures { ReadsTables S.Store conn.old conn.new (λ db _. HoldsNumbered db node tokens)
-        (λ db. IsUsableNumbered db node tokens) result }
-{
-    if !is_of_format(conn.schema(), Format::Numbered) {
-        return Err(Refusal(StoreFault::Unusable));
-    }
-    let (own, count, _boot) = read_self(conn, 2)?;
-    if own != node || count != tokens {
-        return Err(Refusal(StoreFault::Unusable));
-    }
-    Ok(())
-}
 
 /// Gives the tables of version 2 names in one transaction.
 fn write_names<S: Alter>(
@@ -73,9 +58,9 @@ pub fn name_tables<S: Alter>(
     requires idle { conn.old.in_transaction ≡ false }
     requires numbers { length entries.now ≤ 10000 }
     ensures { Transacts S.Store (λ e. e.0) conn.old conn.new (NamesNode node entries.now own.now) IsLeft
-        (λ db. ¬ IsUsableNumbered db node (length entries.now)) result }
+        (λ db. ¬ IsUsableStoreOf Numbered db node (length entries.now)) result }
 {
-    check_tables(conn, node, entries.len() as u32)?;
+    check_tables(conn, Format::Numbered, node, entries.len() as u32)?;
     write_names(conn, entries, own)?;
     Ok(())
 }

@@ -17,6 +17,8 @@ pub const INSERT_BOND: &str = "INSERT INTO bond (id, names, life, members) VALUE
 
 pub const UPDATE_VERSION: &str = "UPDATE self SET version = 3 WHERE id = 1";
 
+pub const UPDATE_TOKENS: &str = "UPDATE self SET tokens = ?1 WHERE id = 1";
+
 // Statements that read the tables.
 
 pub const SELECT_ENTRY: &str = "SELECT token, name, seed FROM roster WHERE token = ?1";

@@ -1,7 +1,9 @@
 use floor_sql::{Format, SqlStore, is_of_format};
-use floor_store::{FloorStore, StoreFault};
+use floor_store::{FloorStore, Row, StoreFault};
 use otp_core::Next;
-use roster_sql::{Bond, Entry, NAME_LEN, name_tables, read_bond, read_roster};
+use roster_sql::{
+    Bond, Entry, NAME_LEN, enrol, make_named, name_tables, node_of_named, read_bond, read_roster,
+};
 use sqlite::{Connection, MemStore};
 use std::alloc::Global;
 
@@ -101,4 +103,177 @@ fn a_store_gets_names(rt: HostRuntime) {
     assert!(rt; opened(rt.alloc(), &own, Format::Named) == Ok(2));
     assert!(rt; opened(rt.alloc(), &own, Format::Numbered) == Err(StoreFault::Unusable));
     assert!(rt; Bond::new(&[0; 65], b"life", 5).is_none());
+}
+
+/// Creates a store of version 3 of node 3 in memory, at boot 7.
+fn made_named(
+    alloc: Global,
+    floors: &[Next],
+    entries: &[Entry],
+    own: &Bond,
+) -> Result<Connection<MemStore>, StoreFault> {
+    let Ok(mut conn) = Connection::open_in_memory(alloc) else {
+        return Err(StoreFault::Memory);
+    };
+    makes(&mut conn, floors, entries, own)?;
+    Ok(conn)
+}
+
+/// Creates a store of version 3 of node 3 over a connection, at boot 7.
+fn makes(
+    conn: &mut Connection<MemStore>,
+    floors: &[Next],
+    entries: &[Entry],
+    own: &Bond,
+) -> Result<(), StoreFault> {
+    if !conn.is_autocommit() || floors.len() > 100 || entries.len() != floors.len() {
+        return Err(StoreFault::Spent);
+    }
+    match make_named(conn, 3, 7, floors, entries, own) {
+        Ok(()) => Ok(()),
+        Err(refusal) => Err(refusal.0),
+    }
+}
+
+/// Enrols tokens in the store of `node` that has the given number of tokens.
+fn enrols(
+    conn: &mut Connection<MemStore>,
+    node: u8,
+    tokens: u32,
+    floors: &[Next],
+    entries: &[Entry],
+) -> Result<(), StoreFault> {
+    if !conn.is_autocommit()
+        || tokens > 100
+        || floors.len() > 100
+        || entries.len() != floors.len()
+    {
+        return Err(StoreFault::Spent);
+    }
+    match enrol(conn, node, tokens, floors, entries) {
+        Ok(()) => Ok(()),
+        Err(refusal) => Err(refusal.0),
+    }
+}
+
+/// Returns whether the store is of node 3, has the given entries, and is bound to the cluster of the tests.
+fn names(alloc: Global, conn: &mut Connection<MemStore>, entries: &[Entry]) -> bool {
+    let Ok((node, tokens)) = node_of_named(conn) else {
+        return false;
+    };
+    node == 3
+        && tokens as usize == entries.len()
+        && lists(alloc, conn, entries)
+        && is_bound(conn, b"names", b"life", 5)
+}
+
+/// Opens the store of node 3 of version 3 that a connection holds.
+fn opened_named(
+    alloc: Global,
+    conn: Connection<MemStore>,
+    tokens: u32,
+) -> Result<SqlStore<MemStore>, StoreFault> {
+    if !conn.is_autocommit() || tokens > 10_000 {
+        return Err(StoreFault::Spent);
+    }
+    match SqlStore::open_as(alloc, conn, Format::Named, 3, tokens) {
+        Ok(store) => Ok(store),
+        Err((_conn, fault)) => Err(fault),
+    }
+}
+
+/// Returns whether the store has the opening row with the given floor of a token.
+fn has_floor(store: &SqlStore<MemStore>, token: u32, floor: Next) -> bool {
+    token < store.tokens() && store.row(token) == Ok(Row::opening(floor))
+}
+
+/// Returns four floors.
+fn four_floors() -> Option<[Next; 4]> {
+    Some([Next::new(9)?, Next::new(5)?, Next::new(6)?, Next::new(7)?])
+}
+
+/// Returns four entries.
+fn four_entries() -> [Entry; 4] {
+    [entry(1, 2), entry(3, 4), entry(5, 6), entry(7, 8)]
+}
+
+/// Returns whether a store of one token has all four after two enrolments.
+fn grows(alloc: Global, floors: &[Next; 4], own: &Bond) -> Result<bool, StoreFault> {
+    let entries = four_entries();
+    let mut conn = made_named(alloc, &floors[..1], &entries[..1], own)?;
+    let made = names(alloc, &mut conn, &entries[..1]);
+    enrols(&mut conn, 3, 1, &floors[1..3], &entries[1..3])?;
+    let more = names(alloc, &mut conn, &entries[..3]);
+    enrols(&mut conn, 3, 3, &floors[3..], &entries[3..])?;
+    let all = names(alloc, &mut conn, &entries);
+    Ok(made && more && all && is_grown(alloc, conn, floors)?)
+}
+
+/// Returns whether the store has four tokens with the given floors, at boot 7.
+fn is_grown(
+    alloc: Global,
+    conn: Connection<MemStore>,
+    floors: &[Next; 4],
+) -> Result<bool, StoreFault> {
+    let store = opened_named(alloc, conn, 4)?;
+    Ok(
+        store.boot() == Ok(7)
+            && has_floor(&store, 0, floors[0])
+            && has_floor(&store, 1, floors[1])
+            && has_floor(&store, 2, floors[2])
+            && has_floor(&store, 3, floors[3]),
+    )
+}
+
+/// Returns whether an enrolment is refused for another node and for another number of tokens, and changes nothing.
+fn refuses(alloc: Global, floors: &[Next; 4], own: &Bond) -> Result<bool, StoreFault> {
+    let entries = four_entries();
+    let mut conn = made_named(alloc, &floors[..1], &entries[..1], own)?;
+    let other = enrols(&mut conn, 4, 1, &floors[1..], &entries[1..]) == Err(StoreFault::Unusable);
+    let more = enrols(&mut conn, 3, 2, &floors[1..], &entries[1..]) == Err(StoreFault::Unusable);
+    let again = makes(&mut conn, &floors[..1], &entries[..1], own) == Err(StoreFault::AlreadyThere);
+    Ok(other && more && again && names(alloc, &mut conn, &entries[..1]))
+}
+
+/// Returns whether a transaction that stops at its second token leaves the store as it was.
+fn stops(alloc: Global, floors: &[Next; 4], own: &Bond) -> Result<bool, StoreFault> {
+    let entries = four_entries();
+    let mut conn = made_named(alloc, &floors[..1], &entries[..1], own)?;
+    // The second new token has a row of `drift` already.
+    if !runs(&mut conn, "INSERT INTO drift (token, steps) VALUES (2, 0)") {
+        return Ok(false);
+    }
+    let stopped = enrols(&mut conn, 3, 1, &floors[1..], &entries[1..]) == Err(StoreFault::Disk);
+    let kept = names(alloc, &mut conn, &entries[..1]);
+    enrols(&mut conn, 3, 1, &floors[1..2], &entries[1..2])?;
+    Ok(stopped && kept && names(alloc, &mut conn, &entries[..2]))
+}
+
+/// Returns whether a statement runs.
+fn runs(conn: &mut Connection<MemStore>, sql: &str) -> bool {
+    conn.execute(sql, &[]).is_ok()
+}
+
+/// Returns whether a database with a table of another name takes no store.
+fn is_foreign(alloc: Global, floors: &[Next; 4], own: &Bond) -> Result<bool, StoreFault> {
+    let Ok(mut conn) = Connection::open_in_memory(alloc) else {
+        return Err(StoreFault::Memory);
+    };
+    if !runs(&mut conn, "CREATE TABLE note (id INTEGER PRIMARY KEY)") {
+        return Ok(false);
+    }
+    let entries = four_entries();
+    Ok(makes(&mut conn, floors, &entries, own) == Err(StoreFault::Unusable))
+}
+
+#[test]
+fn a_store_enrols_tokens(rt: HostRuntime) {
+    let (Some(own), Some(floors)) = (Bond::new(b"names", b"life", 5), four_floors()) else {
+        assert!(rt; false, "range");
+        return;
+    };
+    assert!(rt; grows(rt.alloc(), &floors, &own) == Ok(true));
+    assert!(rt; refuses(rt.alloc(), &floors, &own) == Ok(true));
+    assert!(rt; stops(rt.alloc(), &floors, &own) == Ok(true));
+    assert!(rt; is_foreign(rt.alloc(), &floors, &own) == Ok(true));
 }
