@@ -38,7 +38,8 @@ two_rows = entry_row 0 (entry_of 1 2) ∷ entry_row 1 (entry_of 3 4) ∷ []
 abbrev pub store_of : Row → List Row → List Row → List Row → BondRecord → Database
 store_of self floor drift roster own = record {
   schema = schema_of Named;
-  trees = λ tree. if tree == 4 then roster else (if tree == 5 then bond_row own ∷ [] else trees_of (self ∷ []) floor [] drift tree);
+  trees = λ tree. if tree == 4 then roster else
+      (if tree == 5 then bond_row own ∷ [] else trees_of (self ∷ []) floor [] drift tree);
 }
 
 -- the row of `self` of node 1 at boot 4, with the given number of tokens
