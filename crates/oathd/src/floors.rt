@@ -4,6 +4,7 @@ ghost use Rattle.std.specs.Prelude.{◌≡◌, length, IfOk};
 
 use crate::fault::Fault;
 use floors_file::{FileFault, FilesFault, FloorsFault, MAX_FLOORS_LEN};
+use oathd_causes::{FloorsAdvice, file_advice, floors_advice};
 use oathd_database::GatherFault;
 use oathd_tasks::file_text;
 use program_edge::ProgramFault;
@@ -36,6 +37,18 @@ impl ProgramFault for PathFault<'_> {
 
     fn status(self) -> u8 {
         1
+    }
+}
+
+impl PathFault<'_> {
+    /// Returns what to do about it.
+    pub(crate) fn advice(self) -> FloorsAdvice {
+        match self {
+            PathFault::TooLong(_) | PathFault::Line(_, _) => FloorsAdvice::TakeAgain,
+            PathFault::NoUser(_, line) => file_advice(FileFault::NoUser(line)),
+            PathFault::File(_, fault) => file_advice(fault),
+            PathFault::Files(fault) => floors_advice(fault),
+        }
     }
 }
 

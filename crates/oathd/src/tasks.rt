@@ -26,7 +26,8 @@ fn cause_of<'a>(
         Fault::Database(fault) | Fault::Unlock(UnlockFault::Command(fault)) => {
             database_cause(alloc, rt, names, text, fault)
         }
-        Fault::Floors(_) | Fault::Unlock(UnlockFault::NoUser(_)) => None,
+        Fault::Floors(fault) => Some(Cause::Floors(fault.advice())),
+        Fault::Unlock(UnlockFault::NoUser(_)) => None,
     }
 }
 

@@ -1,2 +1,3 @@
 pub mod Causes
+pub mod Floors
 pub mod Named

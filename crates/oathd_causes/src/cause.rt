@@ -3,6 +3,7 @@
 use crate::address::{AddressCause, address_cause, address_in};
 use crate::database::{Expected, store_cause};
 use crate::file::{FileCause, file_cause};
+use crate::floors::FloorsAdvice;
 use crate::key::{KeyCause, key_cause};
 use crate::named::StoreCause;
 use crate::names::Names;
@@ -16,7 +17,7 @@ use std::fs;
 use std::net::SocketAddrV4;
 use thiserror::Error;
 
-/// The path or the address of a fault, and what was found there afterwards.
+/// The path or the address of a fault, and what was found there afterwards, or what to do.
 #[derive(Clone, Copy, Debug, PartialEq, Eq, Error)]
 pub enum Cause<'a> {
     #[error("{0}")]
@@ -33,6 +34,9 @@ pub enum Cause<'a> {
     Address(SocketAddrV4),
     #[error("{0}: {1}")]
     Socket(SocketAddrV4, SocketCause),
+    /// What to do about floors files, whose paths the fault names.
+    #[error("{0}")]
+    Floors(FloorsAdvice),
 }
 
 /// Returns the number of rows of the users file at `path`, or None if it cannot be read.

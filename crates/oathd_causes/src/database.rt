@@ -1,9 +1,11 @@
 //! Looks at the path of a database for the cause of a fault.
 //!
-//! Looking opens the database as the command did, which locks the file meanwhile, and writes no row.
+//! Looking opens the database as the command did, which locks the file meanwhile, and writes no row. A file beside it is
+//! written and removed, to see whether the disk has room.
 
 use crate::file::{FileCause, file_cause_of};
 use crate::named::{Named, StoreCause, named_cause};
+use crate::space::space_cause;
 use floor_store::StoreFault;
 use sqlite::{Connection, Error, ErrorCode, Row};
 use std::fs::{self, OpenOptions};
@@ -50,10 +52,14 @@ fn open_cause(rt: &HostRuntime, path: &str, is_new: bool) -> Option<StoreCause> 
         Some(cause) => return Some(StoreCause::File(cause)),
         None => {}
     }
-    match Connection::open(rt, path) {
-        Err(Error::SqliteFailure(ErrorCode::DatabaseBusy)) => Some(StoreCause::Held),
-        Err(_) if !is_database(rt, path) => Some(StoreCause::NoDatabase),
-        _ => None,
+    let opened = Connection::open(rt, path);
+    if let Err(Error::SqliteFailure(ErrorCode::DatabaseBusy)) = opened {
+        return Some(StoreCause::Held);
+    }
+    match space_cause(rt, path) {
+        Some(cause) => Some(StoreCause::File(cause)),
+        None if opened.is_err() && !is_database(rt, path) => Some(StoreCause::NoDatabase),
+        None => None,
     }
 }
 

@@ -6,7 +6,7 @@ use std::io::{ErrorKind, Read};
 use std::rt::Files;
 use thiserror::Error;
 
-/// The reason why a file cannot be read.
+/// The reason why a file cannot be read or written.
 #[derive(Clone, Copy, Debug, PartialEq, Eq, Error)]
 pub enum FileCause {
     #[error("no such file")]
@@ -17,6 +17,8 @@ pub enum FileCause {
     Denied,
     #[error("its disk takes no writes")]
     ReadOnly,
+    #[error("its disk is full")]
+    Full,
 }
 
 /// Returns the reason for a kind of error, or None for other kinds.
@@ -28,6 +30,7 @@ pub fn file_cause_of(kind: ErrorKind) -> Option<FileCause>
         ErrorKind::IsADirectory => Some(FileCause::Folder),
         ErrorKind::PermissionDenied => Some(FileCause::Denied),
         ErrorKind::ReadOnlyFilesystem => Some(FileCause::ReadOnly),
+        ErrorKind::StorageFull | ErrorKind::QuotaExceeded => Some(FileCause::Full),
         _ => None,
     }
 }

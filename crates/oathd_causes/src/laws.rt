@@ -1,10 +1,14 @@
 ghost use Rattle.std.specs.Prelude.{◌≡◌, ◌∷◌, [], map, codes, Some, None};
-ghost use Rattle.std.specs.declared.io.ErrorKind.TheVariants.{AddrInUse, AddrNotAvailable, IsADirectory, NotADirectory, NotFound, PermissionDenied, ReadOnlyFilesystem, TimedOut};
+ghost use Rattle.std.specs.declared.io.ErrorKind.TheVariants.{AddrInUse, AddrNotAvailable, IsADirectory, NotADirectory, NotFound, PermissionDenied, QuotaExceeded, ReadOnlyFilesystem, StorageFull, TimedOut};
 ghost use Rattle.secret_text.specs.declared.fault.SecretFault.{SecretFault};
 ghost use Rattle.oathd_causes.specs.Causes.{address_cause, file_cause_of, key_cause, socket_cause_of};
+ghost use Rattle.floors_file.specs.declared.gathered.FileFault.{FileFault};
+ghost use Rattle.floors_file.specs.declared.gathered.FilesFault.{FilesFault};
+ghost use Rattle.oathd_causes.specs.Floors.{file_advice, floors_advice};
 ghost use Rattle.oathd_causes.specs.Named.{named_cause};
 ghost use Rattle.oathd_causes.specs.declared.address.AddressCause.{AddressCause};
 ghost use Rattle.oathd_causes.specs.declared.file.FileCause.{FileCause};
+ghost use Rattle.oathd_causes.specs.declared.floors.FloorsAdvice.{FloorsAdvice};
 ghost use Rattle.oathd_causes.specs.declared.key.KeyCause.{KeyCause};
 ghost use Rattle.oathd_causes.specs.declared.named.StoreCause.{StoreCause};
 ghost use Rattle.oathd_causes.specs.declared.socket.SocketCause.{SocketCause};
@@ -12,8 +16,9 @@ ghost use Rattle.oathd_causes.specs.declared.socket.SocketCause.{SocketCause};
 /// Worked cases. The cause of each error.
 pub fn causes_are_worked()
     ensures files { map file_cause_of (NotFound ∷ NotADirectory ∷ IsADirectory ∷ PermissionDenied ∷ ReadOnlyFilesystem
-        ∷ TimedOut ∷ []) ≡ Some FileCause.Missing ∷ Some FileCause.Missing ∷ Some FileCause.Folder
-        ∷ Some FileCause.Denied ∷ Some FileCause.ReadOnly ∷ None ∷ [] }
+        ∷ StorageFull ∷ QuotaExceeded ∷ TimedOut ∷ []) ≡ Some FileCause.Missing ∷ Some FileCause.Missing
+        ∷ Some FileCause.Folder ∷ Some FileCause.Denied ∷ Some FileCause.ReadOnly ∷ Some FileCause.Full
+        ∷ Some FileCause.Full ∷ None ∷ [] }
     ensures sockets { map socket_cause_of (AddrInUse ∷ AddrNotAvailable ∷ PermissionDenied ∷ NotFound ∷ [])
         ≡ Some SocketCause.InUse ∷ Some SocketCause.Elsewhere ∷ Some SocketCause.Denied ∷ None ∷ [] }
     ensures keys { map key_cause (SecretFault.BadCharacter 4 ∷ SecretFault.BadLength ∷ SecretFault.TooLong
@@ -36,4 +41,15 @@ pub fn store_causes_are_worked()
         ≡ Some (StoreCause.OtherNode 1 2) }
     ensures rows { named_cause (record { version = 2; node = 1; tokens = 51 }) (Some 1) (Some 50)
         ≡ Some (StoreCause.OtherRows 51 50) }
+{}
+
+/// Worked cases. What to do about each fault of floors files.
+pub fn advice_is_worked()
+    ensures files { map file_advice (FileFault.IsLost ∷ FileFault.SameNode ∷ FileFault.Members ∷ FileFault.Older
+        ∷ FileFault.Boot ∷ FileFault.NoFloor 1 ∷ FileFault.NoUser 2 ∷ []) ≡ FloorsAdvice.LeaveOut
+        ∷ FloorsAdvice.LeaveOneOut ∷ FloorsAdvice.TakeWithSameMembers ∷ FloorsAdvice.TakeLater
+        ∷ FloorsAdvice.SetTheClock ∷ FloorsAdvice.UseItsUsersFile ∷ FloorsAdvice.UseItsUsersFile ∷ [] }
+    ensures together { map floors_advice (FilesFault.File 2 FileFault.IsLost ∷ FilesFault.NotLost ∷ FilesFault.Missing 3
+        ∷ FilesFault.Surplus ∷ FilesFault.TooManyLost ∷ []) ≡ FloorsAdvice.LeaveOut ∷ FloorsAdvice.NameItself
+        ∷ FloorsAdvice.TakeFile 3 ∷ FloorsAdvice.NameEachOnce ∷ FloorsAdvice.MakeAllAnew ∷ [] }
 {}
