@@ -23,25 +23,31 @@ pub enum Received {
     Fault,
 }
 
-/// A port of datagrams. If it keeps a record of its calls, each call appends its entry.
+/// A port of datagrams. If it keeps a record of its calls, each call appends its entry. No call changes its setup.
 pub trait Port {
-    ghost use Rattle.std.specs.Prelude.{◌≢◌, ◌∷◌, [], List, Option, Some, None, IfSome};
+    ghost use Rattle.std.specs.Prelude.{◌≡◌, ◌≢◌, ◌∷◌, [], List, Option, Some, None, IfSome};
     ghost use Rattle.datagram_port.specs.Port.{Grows, IsWithin, PortEvent, Offered, entries_of_poll, event_of_receive};
+    ghost use Rattle.datagram_port.specs.Setup.{Setup};
     ghost use Rattle.datagram_port.specs.declared.port.Received.TheVariants.{Quiet as QuietReceive};
 
     // The received and offered datagrams, in order. None: the port keeps no record, or could not keep it.
     ghost events: { Self → Option (List PortEvent) } = { λ _. None };
 
+    // The members and the clients that it takes, as long as it is used. None: the port tells nothing of them.
+    ghost setup: { Self → Option Setup } = { λ _. None };
+
     /// Waits for a datagram for a limited time, and writes its first bytes to the buffer.
     fn receive(&mut self, buffer: &mut [u8; 512]) -> Received
         ensures within { IsWithin result }
-        ensures event { Grows (events self.old) (events self.new) (event_of_receive result buffer.new ∷ []) };
+        ensures event { Grows (events self.old) (events self.new) (event_of_receive result buffer.new ∷ []) }
+        ensures stays { setup self.new ≡ setup self.old };
 
     /// Returns a queued datagram or a fault, or None if nothing is queued. Does not wait, and never returns `Quiet`.
     fn poll(&mut self, buffer: &mut [u8; 512]) -> Option<Received>
         ensures within { IfSome result IsWithin }
         ensures waits { result ≢ Some QuietReceive }
         ensures event { Grows (events self.old) (events self.new) (entries_of_poll result buffer.new) }
+        ensures stays { setup self.new ≡ setup self.old }
     {
         let _nothing = buffer;
         None
@@ -49,5 +55,6 @@ pub trait Port {
 
     /// Offers a datagram to the port, and returns whether the port took it. A datagram that it didn't take is lost.
     fn send(&mut self, to: Sender, bytes: &[u8]) -> bool
-        ensures { Grows (events self.old) (events self.new) (Offered to bytes.now ∷ []) };
+        ensures event { Grows (events self.old) (events self.new) (Offered to bytes.now ∷ []) }
+        ensures stays { setup self.new ≡ setup self.old };
 }

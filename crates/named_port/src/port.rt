@@ -57,7 +57,8 @@ fn translate(
 
 /// Translates an offer of the node, and offers it to the port below. Returns false if it has no translation.
 fn offer<P: Port>(port: &mut P, translator: &Translator<'_>, to: Sender, bytes: &[u8]) -> bool
-    ensures { Grows (P.events port.old) (P.events port.new) (offered translator.now to bytes.now) }
+    ensures offers { Grows (P.events port.old) (P.events port.new) (offered translator.now to bytes.now) }
+    ensures stays { P.setup port.new ≡ P.setup port.old }
 {
     match to {
         Sender::Peer(_) => match translator.named(bytes) {
@@ -116,11 +117,14 @@ impl<P: Port + Drop> Port for NamedPort<'_, P> {
 
     ghost events = { λ port. Some (handed_events (at_start port.translator) port.calls.events) };
 
+    ghost setup = { λ port. P.setup port.port };
+
     fn receive(&mut self, buffer: &mut [u8; 512]) -> Received
         ensures within { IsWithin result }
         ensures event { Grows (Some (handed_events (at_start self.old.translator) self.old.calls.events))
             (Some (handed_events (at_start self.new.translator) self.new.calls.events))
             (event_of_receive result buffer.new ∷ []) }
+        ensures stays { P.setup self.new.port ≡ P.setup self.old.port }
         ensures receives { Receives (P.events self.old.port) (P.events self.new.port) self.old.translator
             self.new.translator (event_of_receive result buffer.new) }
     {
@@ -135,6 +139,7 @@ impl<P: Port + Drop> Port for NamedPort<'_, P> {
         ensures event { Grows (Some (handed_events (at_start self.old.translator) self.old.calls.events))
             (Some (handed_events (at_start self.new.translator) self.new.calls.events))
             (entries_of_poll result buffer.new) }
+        ensures stays { P.setup self.new.port ≡ P.setup self.old.port }
         ensures polls { Polls (P.events self.old.port) (P.events self.new.port) self.old.translator
             self.new.translator (option_map (λ received. event_of_receive received buffer.new) result) }
     {
@@ -149,6 +154,7 @@ impl<P: Port + Drop> Port for NamedPort<'_, P> {
         ensures event { Grows (Some (handed_events (at_start self.old.translator) self.old.calls.events))
             (Some (handed_events (at_start self.new.translator) self.new.calls.events))
             (Offered to bytes.now ∷ []) }
+        ensures stays { P.setup self.new.port ≡ P.setup self.old.port }
         ensures offers { Grows (P.events self.old.port) (P.events self.new.port)
             (offered self.old.translator to bytes.now) }
         ensures same { self.new.translator ≡ self.old.translator }

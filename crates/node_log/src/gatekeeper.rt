@@ -21,7 +21,8 @@ pub trait Gatekeeper: Port {
     fn take_unopened(&mut self) -> Unopened
         ensures numbers { result ≡ unopened self.old }
         ensures zero { unopened self.new ≡ nothing }
-        ensures events { Self.events self.new ≡ Self.events self.old };
+        ensures events { Self.events self.new ≡ Self.events self.old }
+        ensures stays { Self.setup self.new ≡ Self.setup self.old };
 }
 
 impl Gatekeeper for ListPort<'_> {

@@ -56,6 +56,7 @@ impl<P: Gatekeeper + Drop, W: Write + Drop> LogPort<P, W> {
     /// Writes the line of the datagrams that the port below didn't open in a minute, if the minute is over.
     fn tell_unopened(&mut self)
         ensures event { P.events self.new.port ≡ P.events self.old.port }
+        ensures stays { P.setup self.new.port ≡ P.setup self.old.port }
         ensures asked { self.new.log.asked ≡ self.old.log.asked }
         ensures members { self.new.log.members.items ≡ self.old.log.members.items }
         ensures minute { self.new.log.minute ≡ minute_at_receive self.old.log.minute }
@@ -116,11 +117,14 @@ fn note_offer<W: Write + Drop>(log: &mut Log<W>, to: Sender, bytes: &[u8])
 impl<P: Gatekeeper + Drop, W: Write + Drop> Port for LogPort<P, W> {
     ghost events = { λ logged. P.events logged.port };
 
+    ghost setup = { λ logged. P.setup logged.port };
+
     #[tactic(auto, using(crate::proofs::LogLemmas::remembers_more, crate::proofs::LogLemmas::tells_both, crate::proofs::LogLemmas::tells_more))]
     fn receive(&mut self, buffer: &mut [u8; 512]) -> Received
         ensures within { IsWithin result }
         ensures event { Grows (P.events self.old.port) (P.events self.new.port)
             (event_of_receive result buffer.new ∷ []) }
+        ensures stays { P.setup self.new.port ≡ P.setup self.old.port }
         ensures told { Tells self.old.log.is_over self.new.log.is_over (W.contents self.old.log.writer)
             (W.contents self.new.log.writer) (minute_text self.old.log.minute (P.unopened self.old.port)
             ++ told_of (event_of_receive result buffer.new) self.old.log.asked self.old.log.members.items
@@ -140,6 +144,7 @@ impl<P: Gatekeeper + Drop, W: Write + Drop> Port for LogPort<P, W> {
         ensures within { IfSome result IsWithin }
         ensures waits { result ≢ Some QuietReceive }
         ensures event { Grows (P.events self.old.port) (P.events self.new.port) (entries_of_poll result buffer.new) }
+        ensures stays { P.setup self.new.port ≡ P.setup self.old.port }
         ensures told { IfSome result (λ received. Tells self.old.log.is_over self.new.log.is_over
             (W.contents self.old.log.writer) (W.contents self.new.log.writer)
             (told_of (event_of_receive received buffer.new) self.old.log.asked self.old.log.members.items
@@ -155,6 +160,7 @@ impl<P: Gatekeeper + Drop, W: Write + Drop> Port for LogPort<P, W> {
     #[tactic(auto, using(crate::proofs::LogLemmas::remembers_more))]
     fn send(&mut self, to: Sender, bytes: &[u8]) -> bool
         ensures event { Grows (P.events self.old.port) (P.events self.new.port) (Offered to bytes.now ∷ []) }
+        ensures stays { P.setup self.new.port ≡ P.setup self.old.port }
         ensures told { Tells self.old.log.is_over self.new.log.is_over (W.contents self.old.log.writer)
             (W.contents self.new.log.writer)
             (told_of (Offered to bytes.now) self.old.log.asked self.old.log.members.items self.old.log.bad_lines) }

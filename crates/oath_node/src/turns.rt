@@ -47,6 +47,7 @@ pub fn offer<P: Port>(port: &mut P, outputs: &Outputs<'_>) -> u64
     ensures offers { Grows (P.events port.old) (P.events port.new) (map offer_of outputs.now.items) }
     ensures replies { reply_count outputs.now.items < 2 ^ 64 → result ≡ reply_count outputs.now.items }
     ensures few { result ≤ reply_count outputs.now.items }
+    ensures stays { P.setup port.new ≡ P.setup port.old }
 {
     let mut replies = 0u64;
     for item in outputs.items() {
@@ -173,9 +174,10 @@ fn gather<'b, S: FloorStore, P: Port, C: Clock>(
     requires some { 0 < turns }
     requires few { (tally.old.received + turns < 2 ^ 54) × (tally.old.faults < 16) }
     requires empty { outbox.old.items ≡ [] }
-    ensures { GathersBatch S.held (scene P.events node.old port.old tally.old)
+    ensures gathers { GathersBatch S.held (scene P.events node.old port.old tally.old)
         (scene P.events node.new port.new tally.new) (C.moments clock.old) (C.moments clock.new)
         (items_in outbox.new.items) turns result }
+    ensures stays { P.setup port.new ≡ P.setup port.old }
 {
     let mut buffer = [0; MAX_DATAGRAM_LEN];
     let first = port.receive(&mut buffer);
@@ -216,6 +218,7 @@ fn offer_waiting<S: FloorStore, P: Port>(
     ensures offers { Grows (P.events port.old) (P.events port.new) (map offer_of (items_in waiting.now)) }
     ensures replies { reply_count (items_in waiting.now) < 2 ^ 64 → result ≡ reply_count (items_in waiting.now) }
     ensures few { result ≤ reply_count (items_in waiting.now) }
+    ensures stays { P.setup port.new ≡ P.setup port.old }
 {
     let mut replies = 0u64;
     for outputs in waiting {
@@ -235,8 +238,9 @@ fn settle<'b, S: FloorStore, P: Port>(
     tally: &mut Tally,
     end: BatchEnd,
 ) -> Result<(), NodeFault>
-    ensures { SettlesBatch S.held (scene P.events node.old port.old tally.old)
+    ensures settles { SettlesBatch S.held (scene P.events node.old port.old tally.old)
         (scene P.events node.new port.new tally.new) (ticks_of end) (items_in outbox.now.items) result }
+    ensures stays { P.setup port.new ≡ P.setup port.old }
 {
     let last = take_tick(node, scratch, end)?;
     node.commit()?;
@@ -262,8 +266,9 @@ fn take_batch<'b, S: FloorStore, P: Port, C: Clock>(
 ) -> Result<u64, ServeFault>
     requires some { 0 < turns }
     requires few { (tally.old.received + turns < 2 ^ 54) × (tally.old.faults < 16) }
-    ensures { TakesBatch S.held (scene P.events node.old port.old tally.old)
+    ensures takes { TakesBatch S.held (scene P.events node.old port.old tally.old)
         (scene P.events node.new port.new tally.new) (C.moments clock.old) (C.moments clock.new) turns result }
+    ensures stays { P.setup port.new ≡ P.setup port.old }
 {
     outbox.clear();
     let batch = gather(node, port, clock, outbox, tally, turns)?;
@@ -299,6 +304,7 @@ pub fn run_turns<'b, S: FloorStore, P: Port, C: Clock>(
     // a failure of the clock leaves the node unchanged, over any store
     ensures clock { result ≡ Err ServeFault.Clock
         → EndsByClock S.held node.old node.new (P.events port.old) (C.moments clock.old) turns }
+    ensures stays { P.setup port.new ≡ P.setup port.old }
 {
     let mut scratch = Scratch::new();
     let mut outbox = Outbox::new();

@@ -21,6 +21,7 @@ use Rattle.floor_sql.specs.Stored.{Holds}
 use Rattle.floor_sql.specs.declared.schema.Format.{Format}
 use Rattle.floor_sql.proofs.BrokenLemmas.{count_of_none, own_row_is}
 use Rattle.datagram_port.specs.Port.{PortEvent}
+use Rattle.datagram_port.specs.Setup.{Setup}
 use Rattle.oath_node.specs.Hosted.{Hosted}
 use Rattle.oath_node.specs.TurnServing.{EndsSo, Serves}
 use Rattle.oath_node.specs.Turns.{AreBatches, Receipt, receipts_in}
@@ -156,8 +157,8 @@ nothing_ended held old new events served (Ok other) is h clean =
     (same ∙ ends.2, sym (same_Some [] events ends.0.entries))
 nothing_ended held old new events served (Err fault) is h clean = absurd cc
 
-pub nothing_served : {S : Type 0} (held : S → Held) (old new : Hosted S) (served : Served)
-    → (h : IsServed held old new 0 (Ok served)) → (held new.store).is_clean
+pub nothing_served : {S : Type 0} {setup : Setup} (held : S → Held) (old new : Hosted S) (served : Served)
+    → (h : IsServed held old new setup 0 (Ok served)) → (held new.store).is_clean
     → (served ≡ so_much 0 0) × (h.events ≡ [])
 nothing_served held old new served h clean = nothing_ended held old new h.events served h.end h.ends h.serves clean
 

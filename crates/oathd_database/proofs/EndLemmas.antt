@@ -18,6 +18,7 @@ use Rattle.oathd_database.specs.Commands.{EndsOutput, EndsServing, HasAudited, H
 use Rattle.oathd_database.specs.Fault.{IsOpenFault, IsOutputFault}
 use Rattle.oathd_database.specs.Front.{IsFrontFault}
 use Rattle.oathd_database.specs.NodeKey.{tag_key}
+use Rattle.oathd_database.specs.Setup.{setup_for}
 use Rattle.oathd_database.specs.Tables.{KeepsTables, WritesAudit}
 use Rattle.oathd_database.specs.Text.{export_text}
 use Rattle.oathd_database.specs.Users.{IsImported}
@@ -135,7 +136,7 @@ module _ {S : Type 0} (g : Ghosts S) (finds : sql.Held S → Type 0) (serving : 
     (opened : HasOpened g finds (Some serving.place.me) (length book) found) (in_boot : IsOpened (sql_held g) found first) (of_book : first.book ≡ book)
     (of_limits : first.limits ≡ serving.settings) (of_key : first.key ≡ tag_key serving.key book) (of_place : first.voter.place ≡ serving.place) where
   -- the node was served, to whichever end
-  served_so : (result : Result Served Fault) → IsServed (sql_held g) first last serving.turns result → IfSome a (HasServed g finds serving result)
+  served_so : (result : Result Served Fault) → IsServed (sql_held g) first last (setup_for serving.place.me serving.members.items serving.lines) serving.turns result → IfSome a (HasServed g finds serving result)
   served_so result is =
       IfSome_then a imported (λ text i. record {
         import = record { book = book; floors = floors; imported = i };
@@ -152,13 +153,13 @@ module _ {S : Type 0} (g : Ghosts S) (finds : sql.Held S → Type 0) (serving : 
       })
 
   -- a node is served
-  pub has_served : (result : Result Served Fault) → IsServed (sql_held g) first last serving.turns result
+  pub has_served : (result : Result Served Fault) → IsServed (sql_held g) first last (setup_for serving.place.me serving.members.items serving.lines) serving.turns result
       → IfOk result (λ served. IfSome a (HasServed g finds serving (Ok served)))
   has_served (Ok served) is = served_so (Ok served) is
   has_served (Err fault) is = tt
 
   -- a fault ends the turns
-  pub ends_served : (result : Result Served Fault) → IsServed (sql_held g) first last serving.turns result
+  pub ends_served : (result : Result Served Fault) → IsServed (sql_held g) first last (setup_for serving.place.me serving.members.items serving.lines) serving.turns result
       → IfErr result (λ fault. IfSome a (EndsServing g finds serving fault))
   ends_served (Ok served) is = tt
   ends_served (Err fault) is = IfSome_then a (served_so (Err fault) is) (λ text has. inr has)

@@ -9,6 +9,7 @@ mod LevelLemmas
 mod GateLemmas
 mod UnlockLemmas
 mod ReachLemmas
+mod ServedLemmas
 mod KeyLemmas
 mod BootLemmas
 mod AnewLemmas

@@ -17,9 +17,12 @@ use Rattle.oath_node.specs.TurnServing.{Serves}
 use Rattle.oath_node.specs.declared.serve_fault.ServeFault.{ServeFault}
 use Rattle.oath_node.specs.declared.turns.Served.{Served}
 use Rattle.datagram_port.specs.Port.{PortEvent}
+use Rattle.datagram_port.specs.Setup.{Setup}
 use Rattle.floor_store.specs.Held.{Held}
+use Rattle.udp_port.specs.Calls.{SocketCalls}
 use Rattle.oathd_database.specs.Fault.{serve_end}
 use Rattle.oathd_database.specs.NodeKey.{tag_key}
+use Rattle.oathd_database.specs.Setup.{AreEventsOf, setup_for}
 use Rattle.oathd_database.specs.Tables.{KeepsTables, WritesAudit}
 use Rattle.oathd_database.specs.Text.{export_text}
 use Rattle.oathd_database.specs.Users.{IsImported, IsUnread, drifted_floors}
@@ -29,12 +32,15 @@ use Rattle.oathd_database.specs.declared.serving.Serving.{Serving}
 
 -- ---- Serving
 
--- A node was served for some turns over a port that kept a record and had received and offered nothing. The run ended
--- with `result`.
-pub record IsServed {S : Type 0} (held : S → Held) (old new : Hosted S) (turns : ℕ) (result : Result Served Fault)
-    : Type 0 where
+-- A node was served for some turns over a port with the setup, which kept a record and had received and offered
+-- nothing. The run ended with `result`.
+pub record IsServed {S : Type 0} (held : S → Held) (old new : Hosted S) (setup : Setup) (turns : ℕ)
+    (result : Result Served Fault) : Type 0 where
   -- the port's record at the end
   pub events : List PortEvent
+  -- the calls of its socket, as the port noted them
+  pub calls : SocketCalls
+  pub of_setup : AreEventsOf setup calls events
   pub end : Result Served ServeFault
   pub serves : Serves held old new (Some []) (Some events) None None turns end
   pub ends : result ≡ serve_end end
@@ -108,7 +114,10 @@ module _ {S : Type 0} (g : Ghosts S) (finds : sql.Held S → Type 0) where
     pub of_key : first.key ≡ tag_key serving.key import.book
     pub of_place : first.voter.place ≡ serving.place
     pub last : Hosted (SqlHeld S)
-    pub served_is : IsServed (sql_held g) first last serving.turns result
+    -- the port is at the members of `serving`, and takes its lines
+    pub served_is :
+        let setup = setup_for serving.place.me serving.members.items serving.lines in
+        IsServed (sql_held g) first last setup serving.turns result
 
 -- ---- The faults
 

@@ -14,6 +14,8 @@ pub mod Lost
 pub mod NodeKey
 pub mod Reach
 pub mod Serving
+pub mod Setup
+pub mod SetupExamples
 pub mod Tables
 pub mod Text
 pub mod Unlock

@@ -2,7 +2,7 @@
 //!
 //! Floor: the first free factor of a token at a node.
 
-ghost use Rattle.std.specs.Prelude.{◌≡◌, ◌≤◌, ℕ, ◌+◌, List, [], ◌∷◌, ◌++◌, None, Ok, Some, codes, length, map, slice_index, true};
+ghost use Rattle.std.specs.Prelude.{◌≡◌, ◌≤◌, ℕ, ◌+◌, List, [], ◌∷◌, ◌++◌, None, Ok, Some, codes, false, length, map, slice_index, true};
 ghost use Rattle.std.specs.declared.fs.attrs.Metadata.{Metadata};
 ghost use Rattle.std.specs.declared.net.socket_addr.SocketAddrV4.{SocketAddrV4};
 ghost use Rattle.otp_core.specs.Gate.{clear_gate};
@@ -19,6 +19,7 @@ ghost use Rattle.floor_store.specs.Records.{RowRecord};
 ghost use Rattle.floor_store.specs.declared.fault.StoreFault.TheVariants.{Disk, Spent, Unusable};
 ghost use Rattle.floor_sql.specs.Broken.{put_of, tables_at};
 ghost use Rattle.floor_sql.specs.Schema.{floor_schema, undrifted_schema};
+ghost use Rattle.udp_port.specs.Calls.{events_of_calls};
 ghost use Rattle.vote_core.specs.Cases.{alone, own_floors};
 ghost use Rattle.vote_core.specs.Safety.{MayOpen};
 ghost use Rattle.vote_core.specs.Schedule.{Event, Opening, acceptances, all_most, cluster_before, first_opening};
@@ -329,6 +330,9 @@ pub fn commands_can_be_broken()
         → (h : HasServed booting shows_any (serving_for address) (Ok (so_much 0 0)) []) → h.first.voter.place.n ≡ 1 }
     ensures served_record { (address : SocketAddrV4)
         → (h : HasServed booting shows_any (serving_for address) (Ok (so_much 0 0)) []) → h.served_is.events ≡ [] }
+    ensures served_members { (address : SocketAddrV4)
+        → (h : HasServed booting shows_any (serving_for address) (Ok (so_much 0 0)) [])
+        → h.served_is.events ≡ events_of_calls true false (address ∷ []) h.served_is.calls }
     ensures served_serves { (address : SocketAddrV4)
         → HasServed booting shows_any (serving_for address) (Ok (so_much 1 0)) [] → ⊥ }
     // A fault ends the command before its first turn, or in a turn.

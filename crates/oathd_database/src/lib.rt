@@ -23,6 +23,7 @@ mod node_key;
 mod rows;
 mod serve;
 mod serving;
+mod setup_laws;
 mod unlock;
 mod users;
 
@@ -49,5 +50,6 @@ pub use migrate::migrate_store;
 pub use node_key::{NodeKey, node_keys_tell};
 pub use serve::{open_node, serve_node, serve_store};
 pub use serving::Serving;
+pub use setup_laws::{setups_are_worked, setups_can_be_broken};
 pub use unlock::{UnlockFault, open_gate, unlock_store};
 pub use users::{Users, read_users};

@@ -1,12 +1,13 @@
 //! The command `serve`: runs a node over a store and a socket.
 
-ghost use Rattle.std.specs.Prelude.{◌≡◌, ◌<◌, ◌^◌, [], None, length, Result, Ok, IfErr, IfOk, IfSome};
+ghost use Rattle.std.specs.Prelude.{◌≡◌, ◌<◌, ◌^◌, [], None, false, true, length, Result, Ok, IfErr, IfOk, IfSome};
 ghost use Rattle.oath_node.specs.TurnServing.{Serves};
 ghost use Rattle.oath_node.specs.declared.serve_fault.ServeFault.{ServeFault};
 ghost use Rattle.oath_node.specs.declared.turns.Served.{Served};
 ghost use Rattle.oath_node.specs.Calls.{IsOpened};
 ghost use Rattle.oathd_database.specs.Commands.{EndsServing, HasServed, IsServed};
 ghost use Rattle.oathd_database.specs.Fault.{IsOpenFault, serve_end};
+ghost use Rattle.oathd_database.specs.Setup.{setup_behind};
 
 use crate::database::{Database, open_store};
 use crate::fault::Fault;
@@ -77,6 +78,7 @@ pub fn serve_node<S: FloorStore, P: Port, C: Clock>(
     ensures turns { (end : Result Served ServeFault)
         × Serves S.held node.old node.new (P.events port.old) (P.events port.new)
         (C.moments clock.old) (C.moments clock.new) turns end × (result ≡ serve_end end) }
+    ensures stays { P.setup port.new ≡ P.setup port.old }
 {
     match run_turns(node, port, clock, turns) {
         Ok(served) => Ok(served),
@@ -130,7 +132,7 @@ fn serve_logged<S: FloorStore, P: Gatekeeper + Drop, N: TimeSource, W: Write>(
     requires fresh { IfSome (P.events port) (λ entries. entries ≡ []) }
     ensures turns { (end : Result Served ServeFault) × (last : P)
         × Serves S.held node.old node.new (P.events port) (P.events last) None None turns end
-        × (result ≡ serve_end end) }
+        × (P.setup last ≡ P.setup port) × (result ≡ serve_end end) }
 {
     let _written = write_start(writer, log.start);
     let mut clock = SystemClock::new(outside);
@@ -140,7 +142,7 @@ fn serve_logged<S: FloorStore, P: Gatekeeper + Drop, N: TimeSource, W: Write>(
     Ok(served)
 }
 
-/// Serves a node over a port, as [`serve_node`] does, with a log if there is one.
+/// Serves a node over a port, as [`serve_node`] does, with a log if there is one. Without a log it writes nothing.
 fn serve_port<S: FloorStore, P: Gatekeeper + Drop, N: TimeSource, W: Write>(
     node: &mut Node<'_, S>,
     port: P,
@@ -153,7 +155,8 @@ fn serve_port<S: FloorStore, P: Gatekeeper + Drop, N: TimeSource, W: Write>(
     requires fresh { IfSome (P.events port) (λ entries. entries ≡ []) }
     ensures turns { (end : Result Served ServeFault) × (last : P)
         × Serves S.held node.old node.new (P.events port) (P.events last) None None turns end
-        × (result ≡ serve_end end) }
+        × (P.setup last ≡ P.setup port) × (result ≡ serve_end end) }
+    ensures unlogged { log ≡ None → writer.new ≡ writer.old }
 {
     match log {
         Some(log) => serve_logged(node, port, outside, turns, log, writer),
@@ -166,7 +169,7 @@ fn serve_port<S: FloorStore, P: Gatekeeper + Drop, N: TimeSource, W: Write>(
 }
 
 /// Serves a node over a socket, as [`serve_node`] does, for the clients that `front` lets through, with a log if there
-/// is one.
+/// is one. Without a log it writes nothing.
 fn serve_front<S: FloorStore, N: TimeSource, W: Write>(
     node: &mut Node<'_, S>,
     port: UdpPort<&N>,
@@ -178,7 +181,9 @@ fn serve_front<S: FloorStore, N: TimeSource, W: Write>(
 ) -> Result<Served, Fault>
     requires turns { turns < 2 ^ 54 }
     requires calls { port.calls.made ≡ [] }
-    ensures turns { IsServed S.held node.old node.new turns result }
+    requires plain { (port.skips_answers ≡ true) × (port.takes_loopback_alone ≡ false) }
+    ensures turns { IsServed S.held node.old node.new (setup_behind port.entry.members.items front) turns result }
+    ensures unlogged { log ≡ None → writer.new ≡ writer.old }
 {
     match front {
         Front::Anybody => serve_port(node, port, outside, turns, log, writer),
@@ -212,7 +217,9 @@ fn start_of(
 }
 
 /// Returns the log of a node, or None if `is_logged` is false.
-fn log_of(is_logged: bool, start: Start, place: Place) -> Option<ServeLog> {
+fn log_of(is_logged: bool, start: Start, place: Place) -> Option<ServeLog>
+    ensures { is_logged ≡ false → result ≡ None }
+{
     if !is_logged {
         return None;
     }
@@ -226,7 +233,8 @@ fn log_of(is_logged: bool, start: Start, place: Place) -> Option<ServeLog> {
 ///
 /// The store has the tokens of the users file. A turn is one receive of at most 200 milliseconds. A datagram from a
 /// member's address is that member's; a datagram from any other address is a client's. `serving` says which lines of
-/// clients the node takes. With a log, its lines go to the writer; a failed write ends the log, but not the node.
+/// clients the node takes. With a log, its lines go to the writer. A failed write ends the log, but not the node.
+/// Without a log nothing is written.
 ///
 /// # Errors
 /// - Returns the errors of [`open_store`].
@@ -246,6 +254,7 @@ pub fn serve_store<R: Read + Drop, S: Alter + Drop, D: Database<S>, N: Net + Tim
         (HasServed S.Store D.finds serving.entry (Ok served))) }
     ensures fault { IfErr result (λ fault. IfSome (R.remaining users)
         (EndsServing S.Store D.finds serving.entry fault)) }
+    ensures unlogged { serving.entry.is_logged ≡ false → writer.new ≡ writer.old }
 {
     let Serving {
         settings,

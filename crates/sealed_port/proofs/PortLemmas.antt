@@ -135,7 +135,8 @@ passed_is gate now Quiet before e = absurd cc
 passed_is gate now Faulted before e = absurd cc
 passed_is gate now (Offered to bytes) before e = absurd cc
 
-all_and_one : {X : Type 0} (P : X → Type 0) (xs : List X) (x : X) → AllByRecursion P xs → P x → AllByRecursion P (xs ++ x ∷ [])
+-- a property of all and of one more
+pub all_and_one : {X : Type 0} (P : X → Type 0) (xs : List X) (x : X) → AllByRecursion P xs → P x → AllByRecursion P (xs ++ x ∷ [])
 all_and_one P [] x h k = (k, tt)
 all_and_one P (y ∷ xs) x h k = (h.0, all_and_one P xs x h.1 k)
 

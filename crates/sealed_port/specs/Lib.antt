@@ -5,4 +5,5 @@ pub mod Examples
 pub mod Gate
 pub mod Port
 pub mod Runs
+pub mod Setup
 pub mod World

@@ -31,6 +31,6 @@ pub use laws::{
 pub use port::SealedPort;
 pub use worked::{
     asked_lines_are_worked, events_are_worked, failures_are_worked, lives_can_be_broken,
-    numbers_are_worked, premises_can_be_met, promises_can_be_broken, rulings_are_worked,
-    sealed_answers_are_worked,
+    numbers_are_worked, premises_can_be_met, promises_can_be_broken, records_can_be_broken,
+    rulings_are_worked, sealed_answers_are_worked, setups_are_worked,
 };

@@ -7,6 +7,7 @@ ghost use Rattle.datagram_port.specs.declared.port.Received.TheVariants.{Quiet};
 ghost use Rattle.datagram_port.specs.declared.port.Sender.TheVariants.{Client};
 ghost use Rattle.sealed_port.specs.Causes.{counted, nothing};
 ghost use Rattle.sealed_port.specs.Gate.{cause_of, gate_with, opened};
+ghost use Rattle.sealed_port.specs.Setup.{AreHeard, gate_setup, sealed_setup};
 ghost use Rattle.sealed_port.specs.Port.{Polls, Receives, TakesIn, gate_offered, handed_line, node_number, offered, sealed_from};
 
 use crate::cause::Unopened;
@@ -24,7 +25,7 @@ const MAX_PASSED_OVER: u64 = u64::MAX;
 const MAX_POLLED_OVER: u8 = 64;
 
 /// A node's port over another one, with a gate between them. It keeps a record of the events that it handed in and of
-/// the node's offers.
+/// the node's offers. Each datagram of the record was handed in by the gate.
 #[derive(Drop)]
 pub struct SealedPort<P: Port + Drop, C: Clock + Drop> {
     /// The port below. Tests read what it was offered.
@@ -33,6 +34,7 @@ pub struct SealedPort<P: Port + Drop, C: Clock + Drop> {
     gate: Gate,
     unopened: Unopened,
     calls: Record,
+    ghost heard: { ∥ IfSome (P.events port) (λ below. AreHeard (gate_setup gate) below calls.events) ∥₁ },
 }
 
 /// Copies an opened line to the beginning of the buffer, and returns the result of the receive.
@@ -99,6 +101,7 @@ impl<P: Port + Drop, C: Clock + Drop> SealedPort<P, C> {
 
     /// Opens a datagram from a client that must not speak plainly. Returns the result of the receive, or None if the
     /// gate doesn't open it.
+    #[tactic(auto, using(crate::proofs::SetupLemmas::line_stays))]
     fn open(&mut self, address: u64, len: usize, buffer: &mut [u8; 512]) -> Option<Received>
         requires { len ≤ 512 }
         ensures within { IfSome result IsWithin }
@@ -110,6 +113,7 @@ impl<P: Port + Drop, C: Clock + Drop> SealedPort<P, C> {
             × (self.new.gate ≡ gate_with self.old.gate now address (opened self.old.gate now (take len buffer.old)))
             × (self.new.unopened
             ≡ counted self.old.unopened (cause_of self.old.gate now (take len buffer.old))) }
+        ensures stays { gate_setup self.new.gate ≡ gate_setup self.old.gate }
     {
         let now = self.clock.moment();
         let datagram = *buffer;
@@ -132,6 +136,7 @@ impl<P: Port + Drop, C: Clock + Drop> SealedPort<P, C> {
         ensures takes { TakesIn (C.moments self.old.clock) (C.moments self.new.clock) self.old.gate self.new.gate
             self.old.unopened self.new.unopened (event_of_receive received buffer.old)
             (option_map (λ handed. event_of_receive handed buffer.new) result) }
+        ensures stays { gate_setup self.new.gate ≡ gate_setup self.old.gate }
     {
         let Some((address, len)) = sealed_from(&self.gate, received) else {
             return Some(received);
@@ -146,6 +151,8 @@ impl<P: Port + Drop, C: Clock + Drop> SealedPort<P, C> {
         ensures receives { Receives (P.events self.old.port) (P.events self.new.port) (C.moments self.old.clock)
             (C.moments self.new.clock) self.old.gate self.new.gate self.old.unopened self.new.unopened
             (event_of_receive result buffer.new) }
+        ensures stays { (gate_setup self.new.gate ≡ gate_setup self.old.gate)
+            × (P.setup self.new.port ≡ P.setup self.old.port) }
     {
         for _ in 0..MAX_PASSED_OVER {
             let received = self.port.receive(buffer);
@@ -165,6 +172,8 @@ impl<P: Port + Drop, C: Clock + Drop> SealedPort<P, C> {
         ensures polls { Polls (P.events self.old.port) (P.events self.new.port) (C.moments self.old.clock)
             (C.moments self.new.clock) self.old.gate self.new.gate self.old.unopened self.new.unopened
             (option_map (λ received. event_of_receive received buffer.new) result) }
+        ensures stays { (gate_setup self.new.gate ≡ gate_setup self.old.gate)
+            × (P.setup self.new.port ≡ P.setup self.old.port) }
     {
         for _ in 0..MAX_POLLED_OVER {
             let Some(received) = self.port.poll(buffer) else {
@@ -181,8 +190,10 @@ impl<P: Port + Drop, C: Clock + Drop> SealedPort<P, C> {
     /// Seals an offer of the node to a client, if the client doesn't speak plainly, and offers it to the port below.
     fn offer(&mut self, to: Sender, bytes: &[u8]) -> bool
         ensures offers { Grows (P.events self.old.port) (P.events self.new.port) (offered self.old.gate to bytes.now) }
-        ensures gate { self.new
-            ≡ record self.old { port = self.new.port; gate = gate_offered self.old.gate to bytes.now } }
+        ensures gate { self.new.gate ≡ gate_offered self.old.gate to bytes.now }
+        ensures same { (self.new.clock ≡ self.old.clock) × (self.new.unopened ≡ self.old.unopened)
+            × (self.new.calls ≡ self.old.calls) }
+        ensures stays { P.setup self.new.port ≡ P.setup self.old.port }
     {
         let Sender::Client(number) = to else {
             return self.port.send(to, bytes);
@@ -204,13 +215,18 @@ impl<P: Port + Drop, C: Clock + Drop> SealedPort<P, C> {
 
 impl<P: Port + Drop, C: Clock + Drop> Port for SealedPort<P, C> {
     ghost use Rattle.std.specs.Prelude.{Some};
+    ghost use Rattle.sealed_port.specs.Setup.{sealed_setup};
 
     ghost events = { λ port. Some port.calls.events };
+
+    ghost setup = { λ port. sealed_setup port.gate (P.setup port.port) };
 
     fn receive(&mut self, buffer: &mut [u8; 512]) -> Received
         ensures within { IsWithin result }
         ensures event { Grows (Some self.old.calls.events) (Some self.new.calls.events)
             (event_of_receive result buffer.new ∷ []) }
+        ensures stays { sealed_setup self.new.gate (P.setup self.new.port)
+            ≡ sealed_setup self.old.gate (P.setup self.old.port) }
         ensures receives { Receives (P.events self.old.port) (P.events self.new.port) (C.moments self.old.clock)
             (C.moments self.new.clock) self.old.gate self.new.gate self.old.unopened self.new.unopened
             (event_of_receive result buffer.new) }
@@ -225,6 +241,8 @@ impl<P: Port + Drop, C: Clock + Drop> Port for SealedPort<P, C> {
         ensures waits { result ≢ Some Quiet }
         ensures event { Grows (Some self.old.calls.events) (Some self.new.calls.events)
             (entries_of_poll result buffer.new) }
+        ensures stays { sealed_setup self.new.gate (P.setup self.new.port)
+            ≡ sealed_setup self.old.gate (P.setup self.old.port) }
         ensures polls { Polls (P.events self.old.port) (P.events self.new.port) (C.moments self.old.clock)
             (C.moments self.new.clock) self.old.gate self.new.gate self.old.unopened self.new.unopened
             (option_map (λ received. event_of_receive received buffer.new) result) }
@@ -241,6 +259,8 @@ impl<P: Port + Drop, C: Clock + Drop> Port for SealedPort<P, C> {
     fn send(&mut self, to: Sender, bytes: &[u8]) -> bool
         ensures event { Grows (Some self.old.calls.events) (Some self.new.calls.events)
             (Offered to bytes.now ∷ []) }
+        ensures stays { sealed_setup self.new.gate (P.setup self.new.port)
+            ≡ sealed_setup self.old.gate (P.setup self.old.port) }
         ensures offers { Grows (P.events self.old.port) (P.events self.new.port) (offered self.old.gate to bytes.now) }
         ensures gate { self.new.gate ≡ gate_offered self.old.gate to bytes.now }
         ensures same { (self.new.clock ≡ self.old.clock) × (self.new.unopened ≡ self.old.unopened) }

@@ -9,6 +9,7 @@ ghost use Rattle.sealed_wire.specs.Sealed.{sealed_at};
 ghost use Rattle.sealed_port.specs.World.{GatesAnswer};
 ghost use Rattle.sealed_wire.specs.declared.head.Kind.TheVariants.{Answer, Line, Report, Request};
 ghost use Rattle.datagram_port.specs.Port.{Faulted, Offered, Quiet, Received};
+ghost use Rattle.datagram_port.specs.Setup.{Setup};
 ghost use Rattle.datagram_port.specs.declared.port.Received.TheVariants.{Datagram, Fault, Quiet as QuietReceive};
 ghost use Rattle.datagram_port.specs.declared.port.Sender.TheVariants.{Client, Peer};
 ghost use Rattle.replay_window.specs.declared.refusal.Refusal.TheVariants.{Again as OldMoment, Early as EarlyMoment, Late as LateMoment};
@@ -17,6 +18,7 @@ ghost use Rattle.sealed_port.specs.Failures.{failed_after, failures_after, failu
 ghost use Rattle.sealed_port.specs.Causes.{cause_by, counted, nothing};
 ghost use Rattle.sealed_port.specs.Examples.{asked_at, asked_line, check_line, client_at, failed_at, failures_in, first_gate, gate_at, later_gate, life_at, no_limit, opened_line, passed_at, plain_address, answer_making, line_making, two_makings, window_at, zeros};
 ghost use Rattle.sealed_port.specs.Gate.{admits, answered, cause_of, failures_told, gate_answered, gate_with, is_line, is_plain, opened, refusal_in, ruling, with_moment};
+ghost use Rattle.sealed_port.specs.Setup.{AreHeard, gate_setup, sealed_setup};
 ghost use Rattle.sealed_port.specs.Port.{ArePassedOver, Opens, PassesOver, counted_after, counted_over, gate_after, gate_offered, handed_in, offered, sealed_from, told_for};
 ghost use Rattle.sealed_port.specs.Runs.{Answers, AreGatesInOrder, Comes, IsAmong, WasTold, gate_run, is_same, opened_in};
 ghost use Rattle.sealed_port.specs.declared.cause.Cause.TheVariants.{Again, Early, Form, Late, Limited, Tag};
@@ -230,4 +232,38 @@ pub fn premises_can_be_met()
     ensures unforged { IsUnforged zeros two_makings (making_tag zeros line_making) sealed_answer }
     ensures read { sealed_at zeros (making_tag zeros line_making) sealed_answer
         ≡ Some (answer_making.head, answer_making.text) }
+{}
+
+/// Worked cases. What stays of a gate, and of a port with the gate.
+pub fn setups_are_worked()
+    ensures gate { gate_setup (record later_gate {
+      clients = client_at 7 (window_at 0 []) ∷ client_at 258
+          (record (window_at 5 (1000000 ∷ [])) { ahead = 60 }) ∷ [];
+      failures = failures_in 3 (failed_at 7 1 ∷ []);
+    })
+        ≡ record {
+          node = 2;
+          clients = record { number = 7; key = zeros; ahead = 2 }
+              ∷ record { number = 258; key = zeros; ahead = 60 } ∷ [];
+          plain = 2130706433 ∷ [];
+          most = Some 2;
+        } }
+    ensures opening { gate_setup later_gate ≡ gate_setup first_gate }
+    ensures port { (below : Setup)
+        → sealed_setup first_gate (Some below) ≡ Some (record below { gate = Some (gate_setup first_gate) }) }
+    ensures none { sealed_setup first_gate None ≡ None }
+{}
+
+/// Counterexamples: the record of a gate's port. Each of its datagrams was handed in for one of the port below.
+pub fn records_can_be_broken()
+    ensures heard { AreHeard (gate_setup later_gate) (Received (Peer 3) [] ∷ Received (Client 7) sealed_line ∷ [])
+        (Quiet ∷ Received (Client 281474976710914) check_line ∷ Offered (Peer 3) [] ∷ Faulted ∷ []) }
+    ensures nothing_below { AreHeard (gate_setup first_gate) [] (Received (Peer 3) [] ∷ []) → ⊥ }
+    ensures second_of_nothing { AreHeard (gate_setup first_gate) [] (Quiet ∷ Received (Peer 3) [] ∷ []) → ⊥ }
+    ensures another_member { AreHeard (gate_setup first_gate) (Received (Peer 3) [] ∷ []) (Received (Peer 2) [] ∷ [])
+        → ⊥ }
+    ensures plain_line { AreHeard (gate_setup first_gate) (Received (Client 7) [] ∷ []) (Received (Client 7) [] ∷ [])
+        → ⊥ }
+    ensures of_a_plain_address { AreHeard (gate_setup first_gate) (Received (Client plain_address) [] ∷ [])
+        (Received (Client plain_address) [] ∷ []) }
 {}

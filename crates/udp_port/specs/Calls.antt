@@ -9,6 +9,10 @@ use Rattle.udp_port.specs.declared.calls.Call.{Call}
 use Rattle.udp_port.specs.declared.calls.Call.TheVariants.{Hear, Turn, GivenUp, Stuck, Send}
 use Rattle.udp_port.specs.Receipt.{receipt_of}
 
+-- the calls of a socket in order, each with the bytes of its buffer
+abbrev pub SocketCalls : Type 0
+SocketCalls = List (Call × List ℕ)
+
 -- the result of a poll: None if the socket had no datagram
 abbrev pub polled_of : Option Received → Option Received
 polled_of None = None

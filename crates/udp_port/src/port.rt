@@ -1,10 +1,11 @@
 //! A port over a UDP socket.
 
-ghost use Rattle.std.specs.Prelude.{◌≡◌, ◌≤◌, ◌-◌, ◌^◌, ◌++◌, ◌∷◌, [], true, false, length, IfSome, IsTrue};
+ghost use Rattle.std.specs.Prelude.{◌≡◌, ◌≤◌, ◌-◌, ◌^◌, ◌++◌, ◌∷◌, [], Some, true, false, length, IfSome, IsTrue};
 ghost use Rattle.datagram_port.specs.Port.{IsWithin, entries_of_poll, event_of_receive};
 ghost use Rattle.datagram_port.specs.declared.port.Received.TheVariants.{Fault, Quiet as QuietReceive};
 ghost use Rattle.udp_port.specs.Calls.{IsOneCall, Perseveres, events_of_calls};
 ghost use Rattle.udp_port.specs.Receipt.{IsHeard, failure_of, is_answer, is_barred, is_loopback, is_passed_over, receipt_of};
+ghost use Rattle.udp_port.specs.Setup.{setup_of};
 ghost use Rattle.udp_port.specs.declared.calls.Call.TheVariants.{GivenUp, Hear, Send, Stuck, Turn};
 
 use crate::address::{address_of, sender_of};
@@ -295,6 +296,8 @@ impl<R: TimeSource + Drop> UdpPort<R> {
             self.new.calls.made
             ≡ events_of_calls self.old.skips_answers self.old.takes_loopback_alone self.old.members.items
             self.old.calls.made ++ entries_of_poll result buffer.new }
+        ensures stays { setup_of self.new.skips_answers self.new.takes_loopback_alone self.new.members.items
+            ≡ setup_of self.old.skips_answers self.old.takes_loopback_alone self.old.members.items }
     {
         if self.pace.begin(millis_of(&self.clock)) {
             return Some(self.note_turn());
@@ -314,9 +317,12 @@ impl<R: TimeSource + Drop> UdpPort<R> {
 impl<R: TimeSource + Drop> Port for UdpPort<R> {
     ghost use Rattle.std.specs.Prelude.{Some};
     ghost use Rattle.udp_port.specs.Calls.{events_of_calls};
+    ghost use Rattle.udp_port.specs.Setup.{setup_of};
 
     ghost events = { λ port. Some (events_of_calls port.skips_answers port.takes_loopback_alone port.members.items
         port.calls.made) };
+
+    ghost setup = { λ port. Some (setup_of port.skips_answers port.takes_loopback_alone port.members.items) };
 
     #[tactic(auto, using(crate::proofs::CallsLemmas::no_calls, crate::proofs::CallsLemmas::calls_more, crate::proofs::CallsLemmas::goes_on, crate::proofs::CallsLemmas::gives_up))]
     fn receive(&mut self, buffer: &mut [u8; 512]) -> Received
@@ -325,6 +331,8 @@ impl<R: TimeSource + Drop> Port for UdpPort<R> {
             self.new.calls.made
             ≡ events_of_calls self.old.skips_answers self.old.takes_loopback_alone self.old.members.items
             self.old.calls.made ++ event_of_receive result buffer.new ∷ [] }
+        ensures stays { Some (setup_of self.new.skips_answers self.new.takes_loopback_alone self.new.members.items)
+            ≡ Some (setup_of self.old.skips_answers self.old.takes_loopback_alone self.old.members.items) }
         ensures perseveres { Perseveres self.old.most_passed_over self.old.calls.made self.new.calls.made }
     {
         for _ in 0..self.most_passed_over {

@@ -1,4 +1,4 @@
-use Rattle.std.proofs.Common.{◌+◌, List, [], ◌∷◌, ◌++◌, arith, refl, sym, ap, subst}
+use Rattle.std.proofs.Common.{◌+◌, List, [], ◌∷◌, ◌++◌, arith, refl, sym, ap, subst, ◌∙◌}
 use Rattle.std.specs.Prelude.{Result, Ok}
 use Rattle.oath_node.specs.declared.fault.NodeFault.{NodeFault}
 use Rattle.oath_node.specs.declared.item.Item.{Item}
@@ -9,8 +9,8 @@ use Rattle.oath_node.proofs.BatchLemmas.{gathers_failed, gathers_few, gathers_mo
 use Rattle.oath_node.proofs.GrowLemmas.{err_is}
 use Rattle.oath_node.proofs.turns.gather.Goals as goal
 
-pub returns-in_err-end : goal.returns-in_err-end
-returns-in_err-end g c =
+pub returns-in_err-end-clause-gathers : goal.returns-in_err-end-clause-gathers
+returns-in_err-end-clause-gathers g c =
     let held = g.S.FloorStore.held in
     let start = scene g.P.Port.events c.args.node.now c.args.port.now c.args.tally.now in
     let new = scene g.P.Port.events c.take_received.new.node c.receive-first.new.self c.take_received.new.tally in
@@ -37,9 +37,11 @@ loop-outbox-init g c =
     let waited = c.args.outbox.now.items in
     let waits = c.take_received.new.outbox.items in
     let none : Gathers held start start [] asked asked (items_in waited) =
-    subst (λ (items : List Item). Gathers held start start [] asked asked items) (sym (ap items_in c.requires.empty)) (gathers_none held start asked) in
-    gathers_next held start start new [] (event_of_receive c.receive-first.result c.receive-first.new.buffer) asked asked told waited waits
-    c.args.turns 1 c.in_ok-end.end none c.receive-first.ensures.event c.in_ok-end.ensures (omega arith) (omega (arith, c.requires.some))
+    subst (λ (items : List Item). Gathers held start start [] asked asked items) (sym (ap items_in c.requires.empty)) (gathers_none held start asked) in (
+      gathers_next held start start new [] (event_of_receive c.receive-first.result c.receive-first.new.buffer) asked asked told waited waits
+          c.args.turns 1 c.in_ok-end.end none c.receive-first.ensures.event c.in_ok-end.ensures (omega arith) (omega (arith, c.requires.some)),
+      c.receive-first.ensures.stays,
+    )
 
 pub take_received-requires-in-loop-outbox-clause-few :
     goal.take_received-requires-in-loop-outbox-clause-few
@@ -47,11 +49,11 @@ take_received-requires-in-loop-outbox-clause-few g c =
     gathers_few g.S.FloorStore.held (scene g.P.Port.events c.args.node.now c.args.port.now c.args.tally.now)
     (scene g.P.Port.events c.loop-outbox.node c.loop-outbox.port c.loop-outbox.tally) (g.C.Clock.moments c.args.clock.now)
     (g.C.Clock.moments c.loop-outbox.clock) (items_in c.loop-outbox.outbox.items) c.args.turns
-    (record { turns = c.loop-outbox.taken; end = c.loop-outbox.end }) c.loop-outbox.invariant (c.is_more.ensures.0 c.loop-outbox-test.true)
+    (record { turns = c.loop-outbox.taken; end = c.loop-outbox.end }) c.loop-outbox.invariant.0 (c.is_more.ensures.0 c.loop-outbox-test.true)
     c.if-taken-turns.true c.requires.few.0
 
-pub returns-in_err-end-2 : goal.returns-in_err-end-2
-returns-in_err-end-2 g c =
+pub returns-in_err-end-2-clause-gathers : goal.returns-in_err-end-2-clause-gathers
+returns-in_err-end-2-clause-gathers g c =
     let held = g.S.FloorStore.held in
     let start = scene g.P.Port.events c.args.node.now c.args.port.now c.args.tally.now in
     let now = scene g.P.Port.events c.loop-outbox.node c.loop-outbox.port c.loop-outbox.tally in
@@ -63,7 +65,7 @@ returns-in_err-end-2 g c =
     let waits = c.take_received-in-loop-outbox.new.outbox.items in
     let turns = c.args.turns in
     let gathered : Gathered = record { turns = c.loop-outbox.taken; end = c.loop-outbox.end } in
-    let so_far : GathersBatch held start now asked told (items_in waited) turns (Ok gathered) = c.loop-outbox.invariant in
+    let so_far : GathersBatch held start now asked told (items_in waited) turns (Ok gathered) = c.loop-outbox.invariant.0 in
     let batch = so_far.before ++ so_far.last ∷ [] in
     let more = gathers_more held start now asked told (items_in waited) turns gathered so_far (c.is_more.ensures.0 c.loop-outbox-test.true) in
     let fault = c.in_err-end-2.field-0.0 in
@@ -87,18 +89,20 @@ loop-outbox-preserved g c =
     let waits = c.take_received-in-loop-outbox.new.outbox.items in
     let turns = c.args.turns in
     let gathered : Gathered = record { turns = c.loop-outbox.taken; end = c.loop-outbox.end } in
-    let so_far : GathersBatch held start now asked told (items_in waited) turns (Ok gathered) = c.loop-outbox.invariant in
+    let so_far : GathersBatch held start now asked told (items_in waited) turns (Ok gathered) = c.loop-outbox.invariant.0 in
     let batch = so_far.before ++ so_far.last ∷ [] in
     let more = gathers_more held start now asked told (items_in waited) turns gathered so_far (c.is_more.ensures.0 c.loop-outbox-test.true) in
-    let count = so_far.count in
-    gathers_next held start now new batch (event_of_receive c.in-Some.next c.poll.new.buffer) asked told said waited waits turns
-    (c.loop-outbox.taken + 1) c.in_ok-end-2.end more c.in-Some.ensures.event c.in_ok-end-2.ensures
-    (omega (arith, one_more so_far.before so_far.last, count)) (omega (arith, c.if-taken-turns.true))
+    let count = so_far.count in (
+      gathers_next held start now new batch (event_of_receive c.in-Some.next c.poll.new.buffer) asked told said waited waits turns
+          (c.loop-outbox.taken + 1) c.in_ok-end-2.end more c.in-Some.ensures.event c.in_ok-end-2.ensures
+          (omega (arith, one_more so_far.before so_far.last, count)) (omega (arith, c.if-taken-turns.true)),
+      c.poll.ensures.stays ∙ c.loop-outbox.invariant.1,
+    )
 
-pub returns-in_default : goal.returns-in_default
-returns-in_default g c =
+pub returns-in_default-clause-gathers : goal.returns-in_default-clause-gathers
+returns-in_default-clause-gathers g c =
     gathers_still g.S.FloorStore.held (scene g.P.Port.events c.args.node.now c.args.port.now c.args.tally.now)
     (scene g.P.Port.events c.loop-outbox.node c.loop-outbox.port c.loop-outbox.tally)
     (scene g.P.Port.events c.loop-outbox.node c.poll.new.self c.loop-outbox.tally) (g.C.Clock.moments c.args.clock.now)
     (g.C.Clock.moments c.loop-outbox.clock) (items_in c.loop-outbox.outbox.items) c.args.turns
-    (record { turns = c.loop-outbox.taken; end = c.loop-outbox.end }) c.loop-outbox.invariant refl refl c.in_default.ensures.event
+    (record { turns = c.loop-outbox.taken; end = c.loop-outbox.end }) c.loop-outbox.invariant.0 refl refl c.in_default.ensures.event

@@ -8,7 +8,7 @@ use Rattle.oath_node.proofs.GrowLemmas.{grows_refl, offered_datagram, offered_mo
 use Rattle.oath_node.proofs.turns.offer.Goals as goal
 
 pub loop-item-init : goal.loop-item-init
-loop-item-init g c = (grows_refl (g.P.Port.events c.args.port.now), omega arith, λ small. refl, cc)
+loop-item-init g c = (grows_refl (g.P.Port.events c.args.port.now), omega arith, λ small. refl, cc, refl)
 
 pub loop-item-preserved-in-Datagram : goal.loop-item-preserved-in-Datagram
 loop-item-preserved-in-Datagram g c =
@@ -19,11 +19,12 @@ loop-item-preserved-in-Datagram g c =
     omega (arith, reply_count-append c.loop-item.yielded (item ∷ []), none) in
     let offered =
     offered_datagram (g.P.Port.events c.loop-item.port) (g.P.Port.events c.send-taken.new.self) item c.in-Datagram.to
-    c.in-Datagram.bytes c.as_slice.result.now c.in-Datagram.is c.as_slice.ensures.value c.send-taken.ensures in (
+    c.in-Datagram.bytes c.as_slice.result.now c.in-Datagram.is c.as_slice.ensures.value c.send-taken.ensures.event in (
       offered_more _ _ _ c.loop-item.yielded item h.0 offered,
       omega (arith, same, h.1),
       λ small. h.2 (omega (arith, small, same)) ∙ sym same,
       append_assoc c.loop-item.yielded (item ∷ []) c.next.new.self ∙ ap (λ (xs : List Item). c.loop-item.yielded ++ xs) (sym c.in-Some.ensures.steps) ∙ h.3,
+      c.send-taken.ensures.stays ∙ h.4,
     )
 
 pub loop-item-preserved : goal.loop-item-preserved
@@ -36,11 +37,12 @@ loop-item-preserved g c =
     let sum = c.saturating_add-replies.ensures in
     let offered =
     offered_reply (g.P.Port.events c.loop-item.port) (g.P.Port.events c.send-taken-in-Reply.new.self) item c.in-Reply.client
-    c.in-Reply.bytes c.as_slice-in-Reply.result.now c.in-Reply.is c.as_slice-in-Reply.ensures.value c.send-taken-in-Reply.ensures in (
+    c.in-Reply.bytes c.as_slice-in-Reply.result.now c.in-Reply.is c.as_slice-in-Reply.ensures.value c.send-taken-in-Reply.ensures.event in (
       offered_more _ _ _ c.loop-item.yielded item h.0 offered,
       omega (arith, sum, more, h.1),
       λ small. let before : c.loop-item.replies ≡ reply_count c.loop-item.yielded = h.2 (omega (arith, small, more)) in omega (arith, sum, more, small, before),
       append_assoc c.loop-item.yielded (item ∷ []) c.next.new.self ∙ ap (λ (xs : List Item). c.loop-item.yielded ++ xs) (sym c.in-Some.ensures.steps) ∙ h.3,
+      c.send-taken-in-Reply.ensures.stays ∙ h.4,
     )
 
 pub returns-clause-offers : goal.returns-clause-offers

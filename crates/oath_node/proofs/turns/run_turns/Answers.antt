@@ -1,4 +1,4 @@
-use Rattle.std.proofs.Common.{ℕ, ◌+◌, length, arith, sym, subst}
+use Rattle.std.proofs.Common.{ℕ, ◌+◌, length, arith, refl, sym, subst, ◌∙◌}
 use Rattle.std.specs.Prelude.{Result}
 use Rattle.oath_node.specs.TurnServing.{Serves}
 use Rattle.oath_node.specs.TurnSteps.{scene}
@@ -19,6 +19,7 @@ loop-left-init g c =
       omega arith,
       subst (λ (t : Tally). IsSoFar held c.args.node.now first asked 0 (scene g.P.Port.events c.args.node.now c.args.port.now t) asked)
           (sym (zero_tally c.default-tally.result zeros.0 zeros.1.0 zeros.1.1)) (so_far_start held c.args.node.now first asked),
+      refl,
     )
 
 pub take_batch-requires-clause-few : goal.take_batch-requires-clause-few
@@ -41,7 +42,7 @@ returns-in_err-left-clause-serves g c =
     subst (λ (r : Result Served ServeFault). Serves held c.args.node.now new.node first new.entries asked told c.args.turns r)
     (sym (err_is c.from_residual.result fault c.from_residual.ensures.1))
     (serves_less held c.args.node.now first asked h.0 c.loop-left.left c.args.turns now new (g.C.Clock.moments c.loop-left.clock) told
-    fault c.requires.few h.1 h.2 c.in_err-left.ensures)
+    fault c.requires.few h.1 h.2 c.in_err-left.ensures.takes)
 
 pub returns-in_err-left-clause-clock : goal.returns-in_err-left-clause-clock
 returns-in_err-left-clause-clock g c =
@@ -52,12 +53,12 @@ returns-in_err-left-clause-clock g c =
     (scene g.P.Port.events c.loop-left.node c.loop-left.port c.loop-left.tally)
     (scene g.P.Port.events c.take_batch.new.node c.take_batch.new.port c.take_batch.new.tally)
     (g.C.Clock.moments c.loop-left.clock) (g.C.Clock.moments c.take_batch.new.clock) fault c.requires.few h.1
-    h.2 c.in_err-left.ensures c.from_residual.result (err_is c.from_residual.result fault c.from_residual.ensures.1)
+    h.2 c.in_err-left.ensures.takes c.from_residual.result (err_is c.from_residual.result fault c.from_residual.ensures.1)
 
 pub loop-left-preserved : goal.loop-left-preserved
 loop-left-preserved g c =
     let h = c.loop-left.invariant in
-    let b = c.in_ok-left.ensures in
+    let b = c.in_ok-left.ensures.takes in
     let taken = b.count in (
       h.0 + length b.batch,
       omega (arith, h.1, taken, b.most),
@@ -65,4 +66,5 @@ loop-left-preserved g c =
           (scene g.P.Port.events c.loop-left.node c.loop-left.port c.loop-left.tally)
           (scene g.P.Port.events c.take_batch.new.node c.take_batch.new.port c.take_batch.new.tally) b.batch (g.C.Clock.moments c.loop-left.clock)
           (g.C.Clock.moments c.take_batch.new.clock) c.in_ok-left.field-0 h.2 b.is_batch b.steps,
+      c.take_batch.ensures.stays ∙ h.3,
     )

@@ -7,8 +7,8 @@ use Rattle.oath_node.proofs.GrowLemmas.{AreOffered, err_is}
 use Rattle.oath_node.proofs.BatchLemmas.{settles_no_tick, settles_not, settles_ok}
 use Rattle.oath_node.proofs.turns.settle.Goals as goal
 
-pub returns-in_err-last : goal.returns-in_err-last
-returns-in_err-last g c =
+pub returns-in_err-last-clause-settles : goal.returns-in_err-last-clause-settles
+returns-in_err-last-clause-settles g c =
     let held = g.S.FloorStore.held in
     let fault = c.in_err-last.field-0.0 in
     let waits = items_in c.args.outbox.now.items in
@@ -18,8 +18,8 @@ returns-in_err-last g c =
     (settles_no_tick held c.args.node.now c.take_tick.new.node (g.P.Port.events c.args.port.now) c.args.tally.now (ticks_of c.args.end) waits fault
     c.in_err-last.ensures)
 
-pub returns-in_err-commit : goal.returns-in_err-commit
-returns-in_err-commit g c =
+pub returns-in_err-commit-clause-settles : goal.returns-in_err-commit-clause-settles
+returns-in_err-commit-clause-settles g c =
     let held = g.S.FloorStore.held in
     let fault = c.in_err-commit.field-0.0 in
     let waits = items_in c.args.outbox.now.items in
@@ -29,8 +29,8 @@ returns-in_err-commit g c =
     (settles_not held c.args.node.now c.take_tick.new.node c.commit.new.self (g.P.Port.events c.args.port.now) c.args.tally.now
     (ticks_of c.args.end) waits c.in_ok-last.last fault c.in_ok-last.ensures c.in_err-commit.ensures)
 
-pub returns : goal.returns
-returns g c =
+pub returns-clause-settles : goal.returns-clause-settles
+returns-clause-settles g c =
     let e0 = g.P.Port.events c.args.port.now in
     let e1 = g.P.Port.events c.offer_waiting-replies.new.port in
     let waiting = c.args.outbox.now.items in

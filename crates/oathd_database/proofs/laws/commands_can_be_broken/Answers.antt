@@ -226,6 +226,9 @@ pub returns-clause-served_record : goal.returns-clause-served_record
 returns-clause-served_record c address h =
     (nothing_served (sql_held booting) h.first h.last (so_much 0 0) h.served_is (clean_is (λ disk. tables_at (4 + disk) []) h.last.store.conn)).1
 
+pub returns-clause-served_members : goal.returns-clause-served_members
+returns-clause-served_members c address h = h.served_is.of_setup
+
 pub returns-clause-opened_found : goal.returns-clause-opened_found
 returns-clause-opened_found c h = h.found (clean_is (λ disk. tables_at 4 []) h.conn)
 

@@ -9,8 +9,8 @@ use Rattle.oathd_database.proofs.serve.serve_node.Goals as goal
 abbrev failed : Fault → Result Served Fault
 failed fault = Err fault
 
-pub returns-in-Ok : goal.returns-in-Ok
-returns-in-Ok g c = record { turns = (c.run_turns.result, c.run_turns.ensures.serves, sym (ap serve_end c.in-Ok.is)) }
+pub returns-in-Ok-clause-turns : goal.returns-in-Ok-clause-turns
+returns-in-Ok-clause-turns g c = (c.run_turns.result, c.run_turns.ensures.serves, sym (ap serve_end c.in-Ok.is))
 
-pub returns-in-Err : goal.returns-in-Err
-returns-in-Err g c = record { turns = (c.run_turns.result, c.run_turns.ensures.serves, ap failed c.from.ensures ∙ sym (ap serve_end c.in-Err.is)) }
+pub returns-in-Err-clause-turns : goal.returns-in-Err-clause-turns
+returns-in-Err-clause-turns g c = (c.run_turns.result, c.run_turns.ensures.serves, ap failed c.from.ensures ∙ sym (ap serve_end c.in-Err.is))

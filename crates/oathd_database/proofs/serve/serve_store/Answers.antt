@@ -1,9 +1,29 @@
-use Rattle.std.proofs.Common.{IfSome, Some, length, subst, ◌∙◌}
+use Rattle.std.proofs.Common.{◌≡◌, ℕ, IfSome, Some, length, ap, subst, ◌∙◌}
+use Rattle.std.specs.Prelude.{Result}
+use Rattle.std.specs.Global.{Vec}
+use Rattle.std.specs.declared.net.socket_addr.SocketAddrV4.{SocketAddrV4}
+use Rattle.floor_store.specs.Held.{Held}
+use Rattle.oath_node.specs.Hosted.{Hosted}
+use Rattle.oath_node.specs.declared.turns.Served.{Served}
 use Rattle.oathd_database.specs.declared.fault.Fault.{Fault}
-use Rattle.oathd_database.specs.Commands.{EndsServing, HasOpened}
+use Rattle.oathd_database.specs.Commands.{EndsServing, HasOpened, IsServed}
+use Rattle.oathd_database.specs.Front.{IsFrontOf}
+use Rattle.oathd_database.specs.Setup.{setup_behind, setup_for}
+use Rattle.oathd_database.specs.declared.gate.ClientLines.{ClientLines}
+use Rattle.oathd_database.specs.declared.gate.Front.{Front}
 use Rattle.oathd_database.proofs.FaultLemmas.{err_is}
 use Rattle.oathd_database.proofs.EndLemmas.{ends_front, ends_memory, ends_opening, ends_served, ends_socket, has_served, not_served}
+use Rattle.oathd_database.proofs.ServedLemmas.{served_over, setup_is}
 use Rattle.oathd_database.proofs.serve.serve_store.Goals as goal
+
+-- the port of the front that was made is the port for the members and the lines
+over : {S : Type 0} {held : S → Held} {old new : Hosted S} {turns me number : ℕ} {result : Result Served Fault} {made members : Vec SocketAddrV4} (given : ClientLines) (front : Front)
+    → made ≡ members → IsFrontOf me given front → me ≡ number → IsServed held old new (setup_behind made.items front) turns result
+    → IsServed held old new (setup_for number members.items given) turns result
+over {me = me} {number = number} {made = made} {members = members} given front same is who served =
+    served_over (setup_behind made.items front) (setup_for number members.items given)
+    (ap (λ (all : Vec SocketAddrV4). setup_behind all.items front) same
+    ∙ setup_is number members.items given front (subst (λ (n : ℕ). IsFrontOf n given front) who is)) served
 
 pub returns-clause-served : goal.returns-clause-served
 returns-clause-served g c =
@@ -17,7 +37,7 @@ returns-clause-served g c =
     has_served g.S.Store g.D.Database.finds serving (g.R.Read.remaining c.args.users) book c.in_ok-users.users.floors.items found node last
     c.in_ok-users.ensures.users opened c.in_ok-node.ensures.opened c.in_ok-node.ensures.book c.in_ok-node.ensures.limits
     (c.in_ok-node.ensures.key ∙ c.in_ok-key.ensures.key)
-    c.in_ok-node.ensures.place result c.serve_front.ensures.turns
+    c.in_ok-node.ensures.place result (over serving.lines c.in_ok-front.front c.new-port.ensures.members c.in_ok-front.ensures.front c.me-3.ensures.value c.serve_front.ensures.turns)
 
 pub returns-clause-fault : goal.returns-clause-fault
 returns-clause-fault g c =
@@ -31,7 +51,7 @@ returns-clause-fault g c =
     ends_served g.S.Store g.D.Database.finds serving (g.R.Read.remaining c.args.users) book c.in_ok-users.users.floors.items found node last
     c.in_ok-users.ensures.users opened c.in_ok-node.ensures.opened c.in_ok-node.ensures.book c.in_ok-node.ensures.limits
     (c.in_ok-node.ensures.key ∙ c.in_ok-key.ensures.key)
-    c.in_ok-node.ensures.place result c.serve_front.ensures.turns
+    c.in_ok-node.ensures.place result (over serving.lines c.in_ok-front.front c.new-port.ensures.members c.in_ok-front.ensures.front c.me-3.ensures.value c.serve_front.ensures.turns)
 
 pub returns-in_err-key-clause-fault : goal.returns-in_err-key-clause-fault
 returns-in_err-key-clause-fault g c =

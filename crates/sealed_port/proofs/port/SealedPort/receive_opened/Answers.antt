@@ -1,7 +1,8 @@
 -- An event is passed over, or handed in after all that was passed over.
-use Rattle.std.proofs.Common.{◌∷◌, [], ◌∙◌, sym, subst, inl}
+use Rattle.std.proofs.Common.{◌∷◌, [], ◌∙◌, ap, sym, subst, inl}
 use Rattle.datagram_port.specs.Port.{Grows, event_of_receive}
 use Rattle.sealed_port.proofs.PortLemmas.{one_handed, one_passed}
+use Rattle.sealed_port.proofs.SetupLemmas.{heard_below}
 use Rattle.sealed_port.proofs.port.SealedPort.receive_opened.Goals as goal
 
 pub returns-in-Some-clause-receives : goal.returns-in-Some-clause-receives
@@ -18,4 +19,11 @@ loop-preserved g c = (
       (subst (λ port. Grows (g.P.Port.events c.loop.self.port) (g.P.Port.events port) (event_of_receive c.receive-received.result c.receive-received.new.buffer ∷ []))
       (sym c.in-None.ensures.same.0) c.receive-received.ensures.event)
       c.in-None.ensures.takes,
+  c.in-None.ensures.stays ∙ c.loop.invariant.2,
+  ap g.P.Port.setup c.in-None.ensures.same.0 ∙ c.receive-received.ensures.stays ∙ c.loop.invariant.3,
 )
+
+pub invariant_of-self : goal.invariant_of-self
+invariant_of-self g c = record {
+  heard = heard_below c.loop.self.gate (g.P.Port.events c.loop.self.port) (g.P.Port.events c.receive-received.new.self) _ c.loop.self.calls.events c.receive-received.ensures.event c.loop.self.heard;
+}

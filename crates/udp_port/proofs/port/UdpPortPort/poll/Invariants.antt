@@ -1,11 +1,14 @@
 use Rattle.std.proofs.Common.{◌≡◌, false}
 use Rattle.udp_port.specs.Calls.{events_of_calls}
+use Rattle.udp_port.specs.Setup.{setup_of}
 use Rattle.udp_port.proofs.port.UdpPortPort.poll.Given as goal
 
--- the socket doesn't wait, and nothing that the port passed over is an event
+-- the socket doesn't wait, the setup stays, and nothing that the port passed over is an event
 abbrev pub invariant-loop : goal.invariant-loop
 invariant-loop g l = record {
   waits : l.self.waits ≡ false;
   events : events_of_calls l.self.skips_answers l.self.takes_loopback_alone l.self.members.items l.self.calls.made
       ≡ events_of_calls l.fn.self.skips_answers l.fn.self.takes_loopback_alone l.fn.self.members.items l.fn.self.calls.made;
+  stays : setup_of l.self.skips_answers l.self.takes_loopback_alone l.self.members.items
+      ≡ setup_of l.fn.self.skips_answers l.fn.self.takes_loopback_alone l.fn.self.members.items;
 }
