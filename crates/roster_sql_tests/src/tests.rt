@@ -4,7 +4,7 @@ use otp_core::Next;
 use roster_sql::{
     Bond, Entry, NAME_LEN, enrol, make_named, name_tables, node_of_named, read_bond, read_roster,
 };
-use sqlite::{Connection, MemStore};
+use sqlite::{Alter, Connection, MemStore};
 use std::alloc::Global;
 
 /// Creates a store of version 2 of node 3 in memory, with two tokens, and returns its connection.
@@ -46,7 +46,7 @@ fn named(
 }
 
 /// Returns whether the store lists exactly the given entries.
-fn lists(alloc: Global, conn: &mut Connection<MemStore>, entries: &[Entry]) -> bool {
+fn lists<S: Alter>(alloc: Global, conn: &mut Connection<S>, entries: &[Entry]) -> bool {
     if !is_of_format(conn.schema(), Format::Named) || entries.len() > 10_000 {
         return false;
     }
@@ -57,7 +57,7 @@ fn lists(alloc: Global, conn: &mut Connection<MemStore>, entries: &[Entry]) -> b
 }
 
 /// Returns whether the store is bound to a cluster with these words and so many members.
-fn is_bound(conn: &mut Connection<MemStore>, names: &[u8], life: &[u8], members: u8) -> bool {
+fn is_bound<S: Alter>(conn: &mut Connection<S>, names: &[u8], life: &[u8], members: u8) -> bool {
     if !is_of_format(conn.schema(), Format::Named) {
         return false;
     }
@@ -120,8 +120,8 @@ fn made_named(
 }
 
 /// Creates a store of version 3 of node 3 over a connection, at boot 7.
-fn makes(
-    conn: &mut Connection<MemStore>,
+pub(crate) fn makes<S: Alter>(
+    conn: &mut Connection<S>,
     floors: &[Next],
     entries: &[Entry],
     own: &Bond,
@@ -136,8 +136,8 @@ fn makes(
 }
 
 /// Enrols tokens in the store of `node` that has the given number of tokens.
-fn enrols(
-    conn: &mut Connection<MemStore>,
+pub(crate) fn enrols<S: Alter>(
+    conn: &mut Connection<S>,
     node: u8,
     tokens: u32,
     floors: &[Next],
@@ -157,7 +157,7 @@ fn enrols(
 }
 
 /// Returns whether the store is of node 3, has the given entries, and is bound to the cluster of the tests.
-fn names(alloc: Global, conn: &mut Connection<MemStore>, entries: &[Entry]) -> bool {
+pub(crate) fn names<S: Alter>(alloc: Global, conn: &mut Connection<S>, entries: &[Entry]) -> bool {
     let Ok((node, tokens)) = node_of_named(conn) else {
         return false;
     };
@@ -188,23 +188,29 @@ fn has_floor(store: &SqlStore<MemStore>, token: u32, floor: Next) -> bool {
 }
 
 /// Returns four floors.
-fn four_floors() -> Option<[Next; 4]> {
+pub(crate) fn four_floors() -> Option<[Next; 4]> {
     Some([Next::new(9)?, Next::new(5)?, Next::new(6)?, Next::new(7)?])
 }
 
 /// Returns four entries.
-fn four_entries() -> [Entry; 4] {
+pub(crate) fn four_entries() -> [Entry; 4] {
     [entry(1, 2), entry(3, 4), entry(5, 6), entry(7, 8)]
 }
 
 /// Returns whether a store of one token has all four after two enrolments.
 fn grows(alloc: Global, floors: &[Next; 4], own: &Bond) -> Result<bool, StoreFault> {
     let entries = four_entries();
-    let mut conn = made_named(alloc, &floors[..1], &entries[..1], own)?;
-    let made = names(alloc, &mut conn, &entries[..1]);
-    enrols(&mut conn, 3, 1, &floors[1..3], &entries[1..3])?;
-    let more = names(alloc, &mut conn, &entries[..3]);
-    enrols(&mut conn, 3, 3, &floors[3..], &entries[3..])?;
+    let mut conn = made_named(alloc, &[floors[0]], &[entries[0]], own)?;
+    let made = names(alloc, &mut conn, &[entries[0]]);
+    enrols(
+        &mut conn,
+        3,
+        1,
+        &[floors[1], floors[2]],
+        &[entries[1], entries[2]],
+    )?;
+    let more = names(alloc, &mut conn, &[entries[0], entries[1], entries[2]]);
+    enrols(&mut conn, 3, 3, &[floors[3]], &[entries[3]])?;
     let all = names(alloc, &mut conn, &entries);
     Ok(made && more && all && is_grown(alloc, conn, floors)?)
 }
@@ -228,25 +234,26 @@ fn is_grown(
 /// Returns whether an enrolment is refused for another node and for another number of tokens, and changes nothing.
 fn refuses(alloc: Global, floors: &[Next; 4], own: &Bond) -> Result<bool, StoreFault> {
     let entries = four_entries();
-    let mut conn = made_named(alloc, &floors[..1], &entries[..1], own)?;
-    let other = enrols(&mut conn, 4, 1, &floors[1..], &entries[1..]) == Err(StoreFault::Unusable);
-    let more = enrols(&mut conn, 3, 2, &floors[1..], &entries[1..]) == Err(StoreFault::Unusable);
-    let again = makes(&mut conn, &floors[..1], &entries[..1], own) == Err(StoreFault::AlreadyThere);
-    Ok(other && more && again && names(alloc, &mut conn, &entries[..1]))
+    let mut conn = made_named(alloc, &[floors[0]], &[entries[0]], own)?;
+    let other = enrols(&mut conn, 4, 1, &[floors[1]], &[entries[1]]) == Err(StoreFault::Unusable);
+    let more = enrols(&mut conn, 3, 2, &[floors[1]], &[entries[1]]) == Err(StoreFault::Unusable);
+    let again = makes(&mut conn, &[floors[0]], &[entries[0]], own) == Err(StoreFault::AlreadyThere);
+    Ok(other && more && again && names(alloc, &mut conn, &[entries[0]]))
 }
 
 /// Returns whether a transaction that stops at its second token leaves the store as it was.
 fn stops(alloc: Global, floors: &[Next; 4], own: &Bond) -> Result<bool, StoreFault> {
     let entries = four_entries();
-    let mut conn = made_named(alloc, &floors[..1], &entries[..1], own)?;
+    let mut conn = made_named(alloc, &[floors[0]], &[entries[0]], own)?;
     // The second new token has a row of `drift` already.
     if !runs(&mut conn, "INSERT INTO drift (token, steps) VALUES (2, 0)") {
         return Ok(false);
     }
-    let stopped = enrols(&mut conn, 3, 1, &floors[1..], &entries[1..]) == Err(StoreFault::Disk);
-    let kept = names(alloc, &mut conn, &entries[..1]);
-    enrols(&mut conn, 3, 1, &floors[1..2], &entries[1..2])?;
-    Ok(stopped && kept && names(alloc, &mut conn, &entries[..2]))
+    let new = [entries[1], entries[2]];
+    let stopped = enrols(&mut conn, 3, 1, &[floors[1], floors[2]], &new) == Err(StoreFault::Disk);
+    let kept = names(alloc, &mut conn, &[entries[0]]);
+    enrols(&mut conn, 3, 1, &[floors[1]], &[entries[1]])?;
+    Ok(stopped && kept && names(alloc, &mut conn, &[entries[0], entries[1]]))
 }
 
 /// Returns whether a statement runs.
