@@ -47,7 +47,7 @@ pub record SetsTokens (tokens : ℕ) (old new : Database) : Type 0 where
 abbrev pub with_floors : List ℕ → Content → Content
 with_floors floors c = record c { rows = c.rows ++ map opening_row floors }
 
--- A store of version 3 with `tokens` tokens has further ones, behind the others. They have opening rows with the given
+-- A store of version 3 with `tokens` tokens has further ones, after the others. They have opening rows with the given
 -- floors, and the given entries. The content, the passes, the entries, the bond and the node are the old ones.
 abbrev pub Appends : ℕ → List ℕ → List Entry → Database → Database → Type 0
 Appends tokens floors entries old new =
@@ -57,7 +57,7 @@ Appends tokens floors entries old new =
     × (now.holds.node ≡ was.holds.node)
 
 -- The tables are of a store of version 3, of `node` with `tokens` tokens. Whatever it holds, it holds the same
--- afterwards, with opening rows of the given floors and the given entries behind it.
+-- afterwards, followed by opening rows with the given floors and by the given entries.
 pub record Enrols (node tokens : ℕ) (floors : List ℕ) (entries : List Entry) (old new : Database) : Type 0 where
   pub was : IsStoreOf Named old node tokens
   pub same : (c : Content) (passes : List PassRecord) (former : List Entry) (own : BondRecord)

@@ -117,7 +117,7 @@ fn write_tokens<S: Alter>(
 /// Enrols further tokens in a store of version 3, in one transaction.
 ///
 /// The store is of `node` and has `tokens` tokens. Each new token has the floor and the entry at its place in the two
-/// lists, and gets a number behind the others. The connection must be outside a transaction.
+/// lists, and gets a number after the others. The connection must be outside a transaction.
 ///
 /// # Errors
 /// - Returns `Unusable` if the tables are not of version 3, of another node, or of another number of tokens.

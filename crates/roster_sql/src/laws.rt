@@ -33,7 +33,7 @@ pub fn openings_can_be_broken()
     ensures another_bond { (old : Database) → OpensNamed 1 4 (9 ∷ []) (entry_of 1 2 ∷ []) other_bond old one_token → ⊥ }
 {}
 
-/// Counterexamples: two tokens that are enrolled behind one have their own floors and entries, and the rest stays.
+/// Counterexamples: two tokens that are enrolled after one have their own floors and entries, and the rest stays.
 pub fn enrolments_can_be_broken()
     ensures two { EnrolsTwo 1 1 three_tokens }
     ensures another_node { EnrolsTwo 2 1 three_tokens → ⊥ }
