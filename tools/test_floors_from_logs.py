@@ -187,7 +187,8 @@ class RealNode(Case):
     def serve(self, life, users):
         """Makes a database and serves it until the test ends it."""
         self.put("cluster", "member 1 127.0.0.1:%d\nkey-file key\nlife %s\n" % (self.port, life))
-        subprocess.run([OATHD, "init", life + ".db", users, "--node", "1", "--cluster", "cluster"], cwd=self.folder, check=True)
+        subprocess.run([OATHD, "init", life + ".db", users, "--node", "1", "--cluster", "cluster"], cwd=self.folder, check=True,
+                       stdout=subprocess.DEVNULL)
         with open(self.folder / ("log." + life), "wb") as log:
             node = subprocess.Popen([OATHD, "serve", life + ".db", users, "--node", "1", "--cluster", "cluster", "--turns", "1500", "--log"],
                                     cwd=self.folder, stdout=log)

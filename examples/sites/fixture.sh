@@ -188,7 +188,8 @@ make_cluster() {
             for user in probe{1..3}; do echo "HOTP/T30 $user watchword $secret"; done
         } > "$work/users"
         for node in 1 2 3; do
-            "$oathd" init "$work/node$node.db" "$work/users" --node $node --cluster "$work/cluster" --moment 0
+            "$oathd" init "$work/node$node.db" "$work/users" --node $node --cluster "$work/cluster" --moment 0 \
+                > "$work/made$node"
         done
     )
     front_key=7:$work/front.key ask_key=8:$work/ask.key

@@ -1,19 +1,28 @@
 -- What the commands over a database have done.
-use Rattle.std.proofs.Common.{◌≡◌, ◌∙◌, ap, sym, ℕ, List, Option, None, Some, length}
+use Rattle.std.proofs.Common.{◌≡◌, ◌∙◌, ap, sym, subst, ℕ, List, Option, None, Some, length}
 use Rattle.std.specs.Borrow.{Bor}
+use Rattle.std.specs.Prelude.{Ok}
 use Rattle.std.specs.Option.{option_map}
+use Rattle.std.specs.Io.KnownBytes.{Appends}
+use Rattle.std.proofs.lemmas.List.{length-map}
 use Rattle.sqlite.specs.Store.{Ghosts}
 use Rattle.sqlite.specs.Held as sql
+use Rattle.sqlite.specs.State.{HasCleanDisk}
 use Rattle.otp_core.specs.Limits.{Limits, default_limits}
 use Rattle.otp_core.specs.Range.{IsMoment}
 use Rattle.floor_sql.specs.Held.{SqlHeld}
+use Rattle.vote_core.specs.NodeSet.{PlaceRecord}
+use Rattle.cluster_file.specs.Address.{address_value}
+use Rattle.cluster_file.specs.ClusterFile.{cluster_of, cluster_value}
+use Rattle.cluster_file.specs.declared.cluster.Cluster.{Cluster}
 use Rattle.oathd_words.specs.declared.former_words.FormerWords.{FormerWords}
 use Rattle.oathd_database.specs.Commands.{HasMade}
 use Rattle.oathd_database.specs.Floors.{HasToldFloors}
 use Rattle.oathd_database.specs.Level.{HasLevelled}
 use Rattle.oathd_database.specs.Lost.{HasRemade}
+use Rattle.oathd_database.specs.Made.{HasMadeMember, store_line}
 use Rattle.oathd_database.specs.declared.lost.LostNode.{LostNode}
-use Rattle.oathd.specs.Done.{AreFloorsTold, IsCreated, IsLevelled, IsLostNodeOf, IsMomentOf, IsReplaced}
+use Rattle.oathd.specs.Done.{AreFloorsTold, IsCreated, IsLevelled, IsLostNodeOf, IsMemberCreated, IsMemberReplaced, IsMomentOf, IsReplaced, place_in}
 
 module _ {V : Type 0} (items : V → List ℕ) (taken : Option (Bor (List ℕ))) (given : Option V) where
   -- the nodes that are named
@@ -39,9 +48,9 @@ module _ {S : Type 0} (g : Ghosts S) (finds : sql.Held S → Type 0) (node : ℕ
   -- a store is replaced
   pub replaced : (settings : Limits) (given : Option ℕ) (former : FormerWords) (moment : ℕ) (lost : LostNode) (texts : List (List ℕ)) (store : SqlHeld S)
       → IsMomentOf given moment → IsLostNodeOf node former lost → length texts ≡ length former.floors.items
-      → HasRemade g finds settings moment 16777216 lost texts store users → IsReplaced g finds node settings given former
+      → HasRemade g finds settings moment 16777216 lost texts store users → IsReplaced g finds node settings given former store
   replaced settings given former moment lost texts store at of_lost each h =
-      record { moment = moment; of_moment = at; users = users; lost = lost; of_lost = of_lost; texts = texts; each = each; store = store; made = h }
+      record { moment = moment; of_moment = at; users = users; lost = lost; of_lost = of_lost; texts = texts; each = each; made = h }
 
   -- floors are raised
   pub levelled : (count : ℕ) (texts : List (List ℕ)) (store : SqlHeld S) → length texts ≡ count
@@ -52,3 +61,40 @@ module _ {S : Type 0} (g : Ghosts S) (finds : sql.Held S → Type 0) (node : ℕ
   pub floors_told : (members moment : ℕ) (old new : Option (List ℕ)) → IsMoment moment
       → HasToldFloors g finds default_limits 16777216 node members moment old new users → AreFloorsTold g finds node members old new
   floors_told members moment old new at h = record { moment = moment; is_moment = at; users = users; told = h }
+
+-- the place of a node among the members of a cluster file
+place_is : (cluster : Cluster) (node : ℕ) (place : PlaceRecord) → place ≡ record { me = node; n = length cluster.members.items }
+    → place ≡ place_in (cluster_value cluster) node
+place_is cluster node place at =
+    let of_count : ℕ → PlaceRecord = λ n. record { me = node; n = n } in
+    at ∙ ap of_count (sym (length-map cluster.members.items address_value))
+
+module _ {S : Type 0} (g : Ghosts S) (finds : sql.Held S → Type 0) (node : ℕ) (given : Option ℕ) (text : List ℕ) (old new : Option (List ℕ))
+    (cluster : Cluster) (place : PlaceRecord) (of_text : cluster_of text ≡ Ok (cluster_value cluster))
+    (at_place : place ≡ record { me = node; n = length cluster.members.items }) (store : SqlHeld S) where
+  -- a member's store is created
+  pub member_created : (moment : ℕ) (users : List ℕ) → IsMomentOf given moment
+      → HasMadeMember g finds cluster.settings moment 16777216 place store old new users → IsMemberCreated g finds node given text old new
+  member_created moment users at h = record {
+    cluster = cluster_value cluster;
+    of_text = of_text;
+    moment = moment;
+    of_moment = at;
+    users = users;
+    store = store;
+    made = subst (λ (p : PlaceRecord). HasMadeMember g finds cluster.settings moment 16777216 p store old new users)
+        (place_is cluster node place at_place) h;
+  }
+
+  -- a member's store is replaced
+  pub member_replaced : (former : FormerWords) → IsReplaced g finds node cluster.settings given former store
+      → (HasCleanDisk (sql.state g store.conn) → Appends old new (store_line place store.mirror))
+      → IsMemberReplaced g finds node given former text old new
+  member_replaced former h written = record {
+    cluster = cluster_value cluster;
+    of_text = of_text;
+    store = store;
+    replaced = h;
+    written = subst (λ (p : PlaceRecord). HasCleanDisk (sql.state g store.conn) → Appends old new (store_line p store.mirror))
+        (place_is cluster node place at_place) written;
+  }

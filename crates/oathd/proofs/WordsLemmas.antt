@@ -8,6 +8,7 @@ use Rattle.std.specs.Global.{Vec}
 use Rattle.sqlite.specs.Store.{Ghosts}
 use Rattle.sqlite.specs.Held as sql
 use Rattle.otp_core.specs.Limits.{Limits}
+use Rattle.floor_sql.specs.Held.{SqlHeld}
 use Rattle.vote_core.specs.NodeSet.{PlaceRecord}
 use Rattle.cluster_file.specs.Address.{address_value}
 use Rattle.cluster_file.specs.ClusterFile.{cluster_of, cluster_value}
@@ -23,9 +24,9 @@ use Rattle.oathd_words.specs.declared.store_words.ClientWords.TheVariants as cli
 use Rattle.oathd_words.specs.declared.store_words.ClusterWords.{ClusterWords}
 use Rattle.oathd_words.specs.declared.store_words.ClusterWords.TheVariants.{Given, Named}
 use Rattle.oathd_words.specs.declared.store_words.ImportWords.{ImportWords}
+use Rattle.oathd_words.specs.declared.store_words.ImportWords.TheVariants as imports
 use Rattle.oathd_database.specs.declared.serving.Serving.{Serving}
-use Rattle.oathd.specs.Cluster.{IsImportOf}
-use Rattle.oathd.specs.Done.{IsCountOf, IsCreated, IsDone, IsReplaced}
+use Rattle.oathd.specs.Done.{IsCountOf, IsCreated, IsDone, IsMemberCreated, IsMemberReplaced, IsReplaced}
 use Rattle.oathd_tasks.specs.Check.{IsKeyIn}
 use Rattle.oathd_database.specs.Serving.{IsOfMember}
 use Rattle.oathd_database.specs.declared.gate.ClientLines.{ClientLines}
@@ -100,15 +101,33 @@ module _ {S : Type 0} (g : Ghosts S) (finds : sql.Held S → Type 0) where
   named_ends cluster node path turns is_logged clients text result is h =
       subst (λ words. ServeEndsSo g finds (IsAskedFor words turns is_logged clients text) result) (sym is) h
 
-  module _ (node : ℕ) (import : ImportWords) (moment : Option ℕ) (settings : Limits) (text : List ℕ) (old new : Option (List ℕ)) where
-    -- the store of the named node is created, with the settings of the named import
-    pub init_done : (result : Result Unit Fault) → IsImportOf import text settings → IfOk result (λ _. IsCreated g finds node settings moment)
-        → IfOk result (λ _. IsDone g finds (Init node import moment) text old new)
-    init_done (Ok done) is h = (settings, is, h)
-    init_done (Err fault) is h = tt
+  module _ (node : ℕ) (import : ImportWords) (moment : Option ℕ) (text : List ℕ) (old new : Option (List ℕ)) where
+    with_output : (settings : Limits) (r : Result Unit Fault) → new ≡ old → IfOk r (λ _. IsCreated g finds node settings moment)
+        → IfOk r (λ _. IsCreated g finds node settings moment × (new ≡ old))
+    with_output settings (Ok done) same h = (h, same)
+    with_output settings (Err fault) same h = tt
 
-    -- the store of the named node is replaced, with the settings of the named import
-    pub remake_done : (former : FormerWords) (result : Result Unit Fault) → IsImportOf import text settings
-        → IfOk result (λ _. IsReplaced g finds node settings moment former) → IfOk result (λ _. IsDone g finds (Remake node import moment former) text old new)
-    remake_done former (Ok done) is h = (settings, is, h)
-    remake_done former (Err fault) is h = tt
+    -- the store of the named node is created, with the settings that the words give
+    pub init_given : (result : Result Unit Fault) (settings : Limits) → import ≡ imports.Given settings → new ≡ old → IfOk result (λ _. IsCreated g finds node settings moment)
+        → IfOk result (λ _. IsDone g finds (Init node import moment) text old new)
+    init_given result settings is same h =
+        subst (λ (words : ImportWords). IfOk result (λ _. IsDone g finds (Init node words moment) text old new)) (sym is)
+        (with_output settings result same h)
+
+    -- or with those of the cluster file that they name
+    pub init_named : (result : Result Unit Fault) (path : Bor (List ℕ)) → import ≡ imports.Named path → IfOk result (λ _. IsMemberCreated g finds node moment text old new)
+        → IfOk result (λ _. IsDone g finds (Init node import moment) text old new)
+    init_named result path is h =
+        subst (λ (words : ImportWords). IfOk result (λ _. IsDone g finds (Init node words moment) text old new)) (sym is) h
+
+    -- the same of a replacement
+    pub remake_given : (former : FormerWords) (settings : Limits) (store : SqlHeld S) → import ≡ imports.Given settings → new ≡ old
+        → IsReplaced g finds node settings moment former store → IsDone g finds (Remake node import moment former) text old new
+    remake_given former settings store is same h =
+        subst (λ (words : ImportWords). IsDone g finds (Remake node words moment former) text old new) (sym is) (store, h, same)
+
+    pub remake_named : (result : Result Unit Fault) (former : FormerWords) (path : Bor (List ℕ)) → import ≡ imports.Named path
+        → IfOk result (λ _. IsMemberReplaced g finds node moment former text old new)
+        → IfOk result (λ _. IsDone g finds (Remake node import moment former) text old new)
+    remake_named result former path is h =
+        subst (λ (words : ImportWords). IfOk result (λ _. IsDone g finds (Remake node words moment former) text old new)) (sym is) h

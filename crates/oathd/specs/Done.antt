@@ -3,25 +3,29 @@
 -- Floor: the first free factor of a token at a node.
 use Rattle.std.specs.Prelude.{◌≡◌, ℕ, List, length, Option, None, Some, Ok}
 use Rattle.std.specs.Option.{option_map}
+use Rattle.std.specs.Io.KnownBytes.{Appends}
 use Rattle.sqlite.specs.Store.{Ghosts}
 use Rattle.sqlite.specs.Held as sql
+use Rattle.sqlite.specs.State.{HasCleanDisk}
 use Rattle.otp_core.specs.Limits.{Limits, default_limits}
 use Rattle.otp_core.specs.Range.{IsMoment}
 use Rattle.floor_sql.specs.Held.{SqlHeld}
+use Rattle.vote_core.specs.NodeSet.{PlaceRecord}
 use Rattle.cluster_file.specs.ClusterFile.{ClusterRecord, cluster_of}
 use Rattle.oathd_words.specs.declared.former_words.CountWords.{CountWords}
 use Rattle.oathd_words.specs.declared.former_words.CountWords.TheVariants as counts
 use Rattle.oathd_words.specs.declared.former_words.FormerWords.{FormerWords}
 use Rattle.oathd_words.specs.declared.store_words.Action.{Action}
 use Rattle.oathd_words.specs.declared.store_words.Action.TheVariants.{Init, Remake, Serve, Export, Audit, Migrate, Floors, Level, Gates, Unlock}
+use Rattle.oathd_words.specs.declared.store_words.ImportWords.TheVariants.{Given, Named}
 use Rattle.oathd_database.specs.Commands.{HasAudited, HasExported, HasMade, HasMigrated}
 use Rattle.oathd_database.specs.Floors.{HasToldFloors}
 use Rattle.oathd_database.specs.Gates.{HasToldGates}
 use Rattle.oathd_database.specs.Level.{HasLevelled}
 use Rattle.oathd_database.specs.Lost.{HasRemade}
+use Rattle.oathd_database.specs.Made.{HasMadeMember, store_line}
 use Rattle.oathd_database.specs.Unlock.{Unlocks}
 use Rattle.oathd_database.specs.declared.lost.LostNode.{LostNode}
-use Rattle.oathd.specs.Cluster.{IsImportOf}
 use Rattle.oathd.specs.Serve.{IsAskedFor, IsServedAsAsked}
 
 -- the given moment, or any without one
@@ -34,6 +38,10 @@ abbrev pub IsCountOf : CountWords → List ℕ → ℕ → Type 0
 IsCountOf (counts.Given count) text members = members ≡ count
 IsCountOf (counts.Named path) text members =
     (cluster : ClusterRecord) × (cluster_of text ≡ Ok cluster) × (members ≡ length cluster.members)
+
+-- the place of a node among the members of a cluster
+abbrev pub place_in : ClusterRecord → ℕ → PlaceRecord
+place_in cluster node = record { me = node; n = length cluster.members }
 
 -- the node whose store is replaced, with the lost nodes and the moment that the words give
 pub record IsLostNodeOf (node : ℕ) (former : FormerWords) (lost : LostNode) : Type 0 where
@@ -51,8 +59,20 @@ module _ {S : Type 0} (g : Ghosts S) (finds : sql.Held S → Type 0) where
     pub store : SqlHeld S
     pub made : HasMade g finds settings moment 16777216 node store users
 
+  -- The store of a member is created, as an import with the settings of its cluster file, and the member's text is
+  -- written.
+  pub record IsMemberCreated (node : ℕ) (given : Option ℕ) (text : List ℕ) (old new : Option (List ℕ)) : Type 0 where
+    pub cluster : ClusterRecord
+    pub of_text : cluster_of text ≡ Ok cluster
+    pub moment : ℕ
+    pub of_moment : IsMomentOf given moment
+    pub users : List ℕ
+    pub store : SqlHeld S
+    pub made : HasMadeMember g finds cluster.settings moment 16777216 (place_in cluster node) store old new users
+
   -- The node's store is replaced from the texts of floors files, one for each path.
-  pub record IsReplaced (node : ℕ) (settings : Limits) (given : Option ℕ) (former : FormerWords) : Type 0 where
+  pub record IsReplaced (node : ℕ) (settings : Limits) (given : Option ℕ) (former : FormerWords)
+      (store : SqlHeld S) : Type 0 where
     pub moment : ℕ
     pub of_moment : IsMomentOf given moment
     pub users : List ℕ
@@ -60,8 +80,17 @@ module _ {S : Type 0} (g : Ghosts S) (finds : sql.Held S → Type 0) where
     pub of_lost : IsLostNodeOf node former lost
     pub texts : List (List ℕ)
     pub each : length texts ≡ length former.floors.items
-    pub store : SqlHeld S
     pub made : HasRemade g finds settings moment 16777216 lost texts store users
+
+  -- The store of a member is replaced with the settings of its cluster file, and the line of the new store is written.
+  pub record IsMemberReplaced (node : ℕ) (given : Option ℕ) (former : FormerWords) (text : List ℕ)
+      (old new : Option (List ℕ)) : Type 0 where
+    pub cluster : ClusterRecord
+    pub of_text : cluster_of text ≡ Ok cluster
+    pub store : SqlHeld S
+    pub replaced : IsReplaced node cluster.settings given former store
+    pub written : HasCleanDisk (sql.state g store.conn)
+        → Appends old new (store_line (place_in cluster node) store.mirror)
 
   -- The floors of the node's store are raised by the texts of `count` floors files.
   pub record IsLevelled (node count : ℕ) : Type 0 where
@@ -79,12 +108,13 @@ module _ {S : Type 0} (g : Ghosts S) (finds : sql.Held S → Type 0) where
     pub told : HasToldFloors g finds default_limits 16777216 node members moment old new users
 
   -- The action is done, with the text of the cluster file that its words name. The records of the output before and
-  -- after it are `old` and `new`.
+  -- after it are `old` and `new`. A store that is created without a cluster file prints nothing.
   abbrev pub IsDone : Action → List ℕ → Option (List ℕ) → Option (List ℕ) → Type 0
-  IsDone (Init node import moment) text old new =
-      (settings : Limits) × IsImportOf import text settings × IsCreated node settings moment
-  IsDone (Remake node import moment former) text old new =
-      (settings : Limits) × IsImportOf import text settings × IsReplaced node settings moment former
+  IsDone (Init node (Given settings) moment) text old new = IsCreated node settings moment × (new ≡ old)
+  IsDone (Init node (Named path) moment) text old new = IsMemberCreated node moment text old new
+  IsDone (Remake node (Given settings) moment former) text old new =
+      (store : SqlHeld S) × IsReplaced node settings moment former store × (new ≡ old)
+  IsDone (Remake node (Named path) moment former) text old new = IsMemberReplaced node moment former text old new
   IsDone (Serve cluster turns is_logged clients) text old new =
       IsServedAsAsked g finds (IsAskedFor cluster turns is_logged clients text)
   IsDone Export text old new = (users : List ℕ) × HasExported g finds default_limits 0 16777216 old new users

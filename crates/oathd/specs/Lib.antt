@@ -1,4 +1,3 @@
-pub mod Cluster
 pub mod Done
 pub mod Fault
 pub mod Serve

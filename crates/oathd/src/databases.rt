@@ -8,9 +8,8 @@ ghost use Rattle.oathd_database.specs.File.{FindsFiles};
 ghost use Rattle.oathd_database.specs.Gate.{IsSaid};
 ghost use Rattle.oathd_database.specs.declared.fault.Fault.TheVariants as database;
 ghost use Rattle.oathd_words.specs.StoreWords.{IsActionInRange, IsClusterInRange};
-ghost use Rattle.oathd_words.specs.declared.store_words.Action.TheVariants.{Audit, Export, Floors, Gates, Level, Migrate, Unlock};
-ghost use Rattle.oathd.specs.Cluster.{IsImportOf};
-ghost use Rattle.oathd.specs.Done.{IsCountOf, IsCreated, IsDone, IsMomentOf, IsReplaced};
+ghost use Rattle.oathd_words.specs.declared.store_words.Action.TheVariants.{Audit, Export, Floors, Gates, Init, Level, Migrate, Remake, Unlock};
+ghost use Rattle.oathd.specs.Done.{IsCountOf, IsCreated, IsDone, IsMemberCreated, IsMemberReplaced, IsMomentOf, IsReplaced};
 ghost use Rattle.oathd.specs.Serve.{AreLinesOf, IsAskedFor, IsMemberOf, IsOfTask, IsRunOf, ServeEndsSo};
 ghost use Rattle.oathd.specs.Users.{IsOfUsers};
 
@@ -19,10 +18,11 @@ use crate::floors::{floors_texts, with_paths};
 use crate::users::{checked_users_text, users_text};
 use cluster_file::Cluster;
 use datagram_port::Clock;
+use floor_sql::SqlStore;
 use oathd_database::{
     ClientLines, DatabaseFile, LostNode, NodeKey, Serving, audit_store, export_store, floors_store,
-    gates_store, init_lost_store, init_store, level_store, migrate_store, serve_store,
-    unlock_store,
+    gates_store, init_lost_store, init_member_store, init_store, level_store, migrate_store,
+    serve_store, unlock_store, write_store,
 };
 use oathd_tasks::{clients_at, cluster_in, cluster_key, member_place, read_key};
 use oathd_words::{Action, ClientWords, ClusterWords, CountWords, FormerWords, ImportWords};
@@ -42,27 +42,6 @@ fn present_moment<'a, T: TimeSource>(source: &T) -> Result<u64, Fault<'a>>
     match SystemClock::new(source).moment() {
         Some(moment) if moment < MOMENTS_END => Ok(moment),
         _ => Err(Fault::Database(oathd_database::Fault::NoClock)),
-    }
-}
-
-/// Returns the settings of a node's import, from the words or from the text of the cluster file. The file must have the
-/// node as a member.
-fn import_settings<'a>(
-    alloc: Global,
-    import: ImportWords<'a>,
-    node: u8,
-    text: &'a [u8],
-) -> Result<Settings, Fault<'a>>
-    requires { 1 ≤ node }
-    ensures given { IfOk result (λ settings. IsImportOf import.entry text.now settings) }
-{
-    match import {
-        ImportWords::Given(settings) => Ok(settings),
-        ImportWords::Named(_) => {
-            let cluster = cluster_in(alloc, text)?;
-            member_place(&cluster, node)?;
-            Ok(cluster.settings)
-        }
     }
 }
 
@@ -149,7 +128,7 @@ impl<'r, 'a> Site<'r, 'a> {
     }
 
     /// Creates the node's store, as an import with `settings`.
-    fn init<S: Start>(
+    fn init_given<S: Start>(
         &self,
         start: S,
         node: u8,
@@ -168,18 +147,63 @@ impl<'r, 'a> Site<'r, 'a> {
         Ok(())
     }
 
+    /// Creates the store of a member of the cluster that the text of the cluster file describes, and prints what was
+    /// made.
+    fn init_member<S: Start, O: Write>(
+        &self,
+        start: S,
+        node: u8,
+        moment: Option<u64>,
+        held: &mut O,
+    ) -> Result<(), Fault<'a>>
+        requires node { IsNode node }
+        requires moment { IfSome moment IsMoment }
+        ensures { IfOk result (λ _. IsMemberCreated ⟦<FileStore<FileFrom<S>> as Store>⟧ (FindsFiles (image_at S.Start))
+            node moment self.now.cluster.now (O.contents held.old) (O.contents held.new)) }
+    {
+        let cluster = cluster_in(self.alloc, self.cluster)?;
+        let place = member_place(&cluster, node)?;
+        let moment = moment_of(self.rt, moment)?;
+        let (alloc, settings) = (self.alloc, cluster.settings);
+        let users = self.users(settings, moment)?;
+        let database = DatabaseFile::found_or_made(self.rt, self.database, start);
+        let _store = init_member_store(alloc, users, settings, moment, place, database, held)?;
+        Ok(())
+    }
+
+    /// Creates the node's store, as an import with the settings that the words give. Prints what was made if the words
+    /// name a cluster file.
+    fn init<S: Start, O: Write>(
+        &self,
+        start: S,
+        node: u8,
+        import: ImportWords<'a>,
+        moment: Option<u64>,
+        held: &mut O,
+    ) -> Result<(), Fault<'a>>
+        requires node { IsNode node }
+        requires moment { IfSome moment IsMoment }
+        ensures { IfOk result (λ _. IsDone ⟦<FileStore<FileFrom<S>> as Store>⟧ (FindsFiles (image_at S.Start))
+            (Init node import.entry moment) self.now.cluster.now (O.contents held.old) (O.contents held.new)) }
+    {
+        match import {
+            ImportWords::Given(settings) => self.init_given(start, node, settings, moment),
+            ImportWords::Named(_) => self.init_member(start, node, moment, held),
+        }
+    }
+
     /// Creates a replacement store for a node from the floors files of former stores, as an import with `settings`.
-    fn remake<S: Start>(
+    fn remake_store<S: Start>(
         &self,
         start: S,
         node: u8,
         settings: Settings,
         moment: Option<u64>,
         former: FormerWords<'a>,
-    ) -> Result<(), Fault<'a>>
+    ) -> Result<SqlStore<FileStore<FileFrom<S>>>, Fault<'a>>
         requires node { IsNode node }
         requires moment { IfSome moment IsMoment }
-        ensures { IfOk result (λ _. IsReplaced ⟦<FileStore<FileFrom<S>> as Store>⟧ (FindsFiles (image_at S.Start)) node
+        ensures { IfOk result (IsReplaced ⟦<FileStore<FileFrom<S>> as Store>⟧ (FindsFiles (image_at S.Start)) node
             settings moment former.entry) }
     {
         let moment = moment_of(self.rt, moment)?;
@@ -205,8 +229,56 @@ impl<'r, 'a> Site<'r, 'a> {
             &texts,
             database,
         ) {
-            Ok(_store) => Ok(()),
+            Ok(store) => Ok(store),
             Err(fault) => Err(with_paths(&former.floors, fault)),
+        }
+    }
+
+    /// Creates a replacement store, as [`Site::remake_store`] does, for a member of the cluster that the text of the
+    /// cluster file describes, and prints what was made.
+    fn remake_member<S: Start, O: Write>(
+        &self,
+        start: S,
+        node: u8,
+        moment: Option<u64>,
+        former: FormerWords<'a>,
+        held: &mut O,
+    ) -> Result<(), Fault<'a>>
+        requires node { IsNode node }
+        requires moment { IfSome moment IsMoment }
+        ensures { IfOk result (λ _. IsMemberReplaced ⟦<FileStore<FileFrom<S>> as Store>⟧ (FindsFiles (image_at S.Start))
+            node moment former.entry self.now.cluster.now (O.contents held.old) (O.contents held.new)) }
+    {
+        let cluster = cluster_in(self.alloc, self.cluster)?;
+        let place = member_place(&cluster, node)?;
+        let store = self.remake_store(start, node, cluster.settings, moment, former)?;
+        write_store(place, &store, held)?;
+        Ok(())
+    }
+
+    /// Creates a replacement store with the settings that the words give. Prints what was made if the words name a
+    /// cluster file.
+    fn remake<S: Start, O: Write>(
+        &self,
+        start: S,
+        node: u8,
+        import: ImportWords<'a>,
+        moment: Option<u64>,
+        former: FormerWords<'a>,
+        held: &mut O,
+    ) -> Result<(), Fault<'a>>
+        requires node { IsNode node }
+        requires moment { IfSome moment IsMoment }
+        ensures { IfOk result (λ _. IsDone ⟦<FileStore<FileFrom<S>> as Store>⟧ (FindsFiles (image_at S.Start))
+            (Remake node import.entry moment former.entry) self.now.cluster.now (O.contents held.old)
+            (O.contents held.new)) }
+    {
+        match import {
+            ImportWords::Given(settings) => {
+                let _store = self.remake_store(start, node, settings, moment, former)?;
+                Ok(())
+            }
+            ImportWords::Named(_) => self.remake_member(start, node, moment, former, held),
         }
     }
 
@@ -420,19 +492,13 @@ impl<'r, 'a> Site<'r, 'a> {
                 node,
                 import,
                 moment,
-            } => {
-                let settings = import_settings(self.alloc, import, node, self.cluster)?;
-                self.init(start, node, settings, moment)
-            }
+            } => self.init(start, node, import, moment, held),
             Action::Remake {
                 node,
                 import,
                 moment,
                 former,
-            } => {
-                let settings = import_settings(self.alloc, import, node, self.cluster)?;
-                self.remake(start, node, settings, moment, former)
-            }
+            } => self.remake(start, node, import, moment, former, held),
             Action::Serve {
                 cluster,
                 turns,

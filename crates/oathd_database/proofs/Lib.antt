@@ -4,6 +4,8 @@ mod TextLemmas
 mod UsersLemmas
 mod FloorsLemmas
 mod LostLemmas
+mod MadeLemmas
+mod ReadyLemmas
 mod DriftLemmas
 mod LevelLemmas
 mod GateLemmas

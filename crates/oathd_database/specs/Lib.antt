@@ -11,6 +11,7 @@ pub mod Gates
 pub mod Gather
 pub mod Level
 pub mod Lost
+pub mod Made
 pub mod NodeKey
 pub mod Reach
 pub mod Serving

@@ -1,7 +1,7 @@
 //! The commands of `oathd` over a users file and a database, from the first to the last step.
 //!
 //! Each has a file with its name and a function `.._store` over any [`Database`]. A program passes a [`DatabaseFile`].
-//! For [`init_store`] and [`init_lost_store`] the file may be missing or empty.
+//! For [`init_store`], [`init_member_store`] and [`init_lost_store`] the file may be missing or empty.
 #![tactic(auto)]
 
 mod audit;
@@ -18,6 +18,7 @@ mod init;
 mod laws;
 mod level;
 mod lost;
+mod made;
 mod migrate;
 mod node_key;
 mod rows;
@@ -46,6 +47,7 @@ pub use laws::{
 };
 pub use level::{level_rows, level_store};
 pub use lost::{LostNode, init_lost_store};
+pub use made::{init_member_store, made_is_worked, time_tokens_are_ready, write_made, write_store};
 pub use migrate::migrate_store;
 pub use node_key::{NodeKey, node_keys_tell};
 pub use serve::{open_node, serve_node, serve_store};

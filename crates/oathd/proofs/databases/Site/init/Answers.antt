@@ -1,6 +1,12 @@
-use Rattle.oathd.proofs.DoneLemmas.{created}
+use Rattle.std.proofs.Common.{refl}
+use Rattle.oathd.proofs.WordsLemmas.{init_given, init_named}
 use Rattle.oathd.proofs.databases.Site.init.Goals as goal
 
-pub returns : goal.returns
-returns g c =
-    created _ _ c.args.node _ c.args.settings c.args.moment c.in_ok-moment.moment c.in_ok-_store._store c.in_ok-moment.ensures.moment c.in_ok-_store.ensures.made
+pub returns-in-Given : goal.returns-in-Given
+returns-in-Given g c =
+    init_given _ _ c.args.node c.args.import c.args.moment c.args.self.now.cluster.now _ _ c.init_given.result c.in-Given.settings c.in-Given.is refl
+    c.init_given.ensures
+
+pub returns-in-Named : goal.returns-in-Named
+returns-in-Named g c =
+    init_named _ _ c.args.node c.args.import c.args.moment c.args.self.now.cluster.now _ _ c.init_member.result _ c.in-Named.is c.init_member.ensures

@@ -1,6 +1,5 @@
-use Rattle.std.proofs.Common.{None}
 use Rattle.oathd.specs.Serve.{IsAskedFor}
-use Rattle.oathd.proofs.WordsLemmas.{done_so, init_done, remake_done, served_well}
+use Rattle.oathd.proofs.WordsLemmas.{done_so, served_well}
 use Rattle.oathd.proofs.databases.Site.perform.Goals as goal
 
 pub returns-in-Export : goal.returns-in-Export
@@ -29,14 +28,8 @@ returns-in-Serve g c =
     done_so _ _ c.args.action _ c.args.self.now.cluster.now _ _ c.serve.result c.in-Serve.is
     (served_well _ _ (IsAskedFor c.in-Serve.cluster c.in-Serve.turns c.in-Serve.is_logged c.in-Serve.clients c.args.self.now.cluster.now) c.serve.result c.serve.ensures)
 
-pub returns-in_ok-settings-in-Init : goal.returns-in_ok-settings-in-Init
-returns-in_ok-settings-in-Init g c =
-    done_so _ _ c.args.action _ c.args.self.now.cluster.now _ _ c.init.result c.in-Init.is
-    (init_done _ _ c.in-Init.node c.in-Init.import c.in-Init.moment c.in_ok-settings-in-Init.settings c.args.self.now.cluster.now None None c.init.result
-    c.in_ok-settings-in-Init.ensures.given c.init.ensures)
+pub returns-in-Init : goal.returns-in-Init
+returns-in-Init g c = done_so _ _ c.args.action _ c.args.self.now.cluster.now _ _ c.init.result c.in-Init.is c.init.ensures
 
-pub returns-in_ok-settings-in-Remake : goal.returns-in_ok-settings-in-Remake
-returns-in_ok-settings-in-Remake g c =
-    done_so _ _ c.args.action _ c.args.self.now.cluster.now _ _ c.remake.result c.in-Remake.is
-    (remake_done _ _ c.in-Remake.node c.in-Remake.import c.in-Remake.moment c.in_ok-settings-in-Remake.settings c.args.self.now.cluster.now None None
-    c.in-Remake.former c.remake.result c.in_ok-settings-in-Remake.ensures.given c.remake.ensures)
+pub returns-in-Remake : goal.returns-in-Remake
+returns-in-Remake g c = done_so _ _ c.args.action _ c.args.self.now.cluster.now _ _ c.remake.result c.in-Remake.is c.remake.ensures
