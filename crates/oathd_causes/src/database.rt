@@ -1,7 +1,7 @@
 //! Looks at the path of a database for the cause of a fault.
 //!
-//! Looking opens the database as the command did, which locks the file meanwhile, and writes no row. A file beside it is
-//! written and removed, to see whether the disk has room.
+//! Looking opens the database as the command did, which locks the file meanwhile, and writes no row. A file beside it
+//! is written and removed, to see whether the disk has room.
 
 use crate::file::{FileCause, file_cause_of};
 use crate::named::{Named, StoreCause, named_cause};
