@@ -12,10 +12,10 @@ use Rattle.floors_file.specs.Writing.{AreFloors, AreRows, floors_text, head_text
 use Rattle.floors_file.proofs.RoundLemmas.{Ranges, ranges_of}
 
 -- a number of so few digits
-few_digits : (k n : ℕ) → 0 < k → k ≤ 19 → n < 10 ^ k → n < 2 ^ 64 → length (decimal n) ≤ k
+pub few_digits : (k n : ℕ) → 0 < k → k ≤ 19 → n < 10 ^ k → n < 2 ^ 64 → length (decimal n) ≤ k
 few_digits k n some few less fits = length-decimal-le k n some less fits
 
-word_short : (w : List ℕ) → is_word w ≡ true → length w ≤ 64
+pub word_short : (w : List ℕ) → is_word w ≡ true → length w ≤ 64
 word_short w h =
     leb-true (length w) 64 (and_parts (nat_le 1 (length w)) (nat_le (length w) 64)
     (and_parts (nat_le 1 (length w) && nat_le (length w) 64) (list_all is_visible w) h).0).1

@@ -32,7 +32,7 @@ IsVisible text = list_all is_visible text ≡ true
 abbrev is_space : ℕ → Bool
 is_space byte = byte == 32
 
-and_both : (x y : Bool) → x ≡ true → y ≡ true → (x && y) ≡ true
+pub and_both : (x y : Bool) → x ≡ true → y ≡ true → (x && y) ≡ true
 and_both x y h k = rw (h, k) refl
 
 no_space : (b : ℕ) → is_visible b ≡ true → not (is_space b) ≡ true
@@ -107,13 +107,13 @@ more_plain n text many is =
       plain = ap (λ l. has_leading_zero (l ++ (48 + n % 10) ∷ [])) is.parts ∙ more_digits is.first is.others (48 + n % 10) not_zero;
     }
 
-own_digits : IsNumeralModel (λ ds. list_all is_ascii_digit ds ≡ true) (digits_value 10)
+pub own_digits : IsNumeralModel (λ ds. list_all is_ascii_digit ds ≡ true) (digits_value 10)
 own_digits = numerals_by_value (λ ds. list_all is_ascii_digit ds ≡ true) (search rules)
 
 lt_true : (a b : ℕ) → a < b → nat_lt a b ≡ true
 lt_true a b h = grind arith
 
-lt_false : (a b : ℕ) → b ≤ a → nat_lt a b ≡ false
+pub lt_false : (a b : ℕ) → b ≤ a → nat_lt a b ≡ false
 lt_false a b h = grind arith
 
 le_false : (a b : ℕ) → b < a → nat_le a b ≡ false
@@ -158,10 +158,10 @@ record InRange (line : HeadLine) : Type 0 where
   moment : line.head.moment < 2 ^ 64
   tokens : line.tokens < 2 ^ 64
 
-le_from_test : (a b : ℕ) → nat_le a b ≡ true → a ≤ b
+pub le_from_test : (a b : ℕ) → nat_le a b ≡ true → a ≤ b
 le_from_test a b h = grind arith
 
-lt_from_test : (a b : ℕ) → nat_lt a b ≡ true → a < b
+pub lt_from_test : (a b : ℕ) → nat_lt a b ≡ true → a < b
 lt_from_test a b h = grind arith
 
 -- the ranges of a first line
@@ -238,7 +238,7 @@ head_back line is =
 
 -- ---- the rows
 
-word_visible : (w : List ℕ) → is_word w ≡ true → IsVisible w
+pub word_visible : (w : List ℕ) → is_word w ≡ true → IsVisible w
 word_visible w h = (and_parts (nat_le 1 (length w) && nat_le (length w) 64) (list_all is_visible w) h).1
 
 row_is : (row : FloorRecord) (rest : List ℕ) → row_text row ++ rest ≡ join_with_byte 32 (row.user ∷ decimal row.next ∷ []) ++ 10 ∷ rest

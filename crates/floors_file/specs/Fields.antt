@@ -27,6 +27,17 @@ abbrev pub next_field : List (List ℕ) → Result (List ℕ × List (List ℕ))
 next_field [] = Err MissingField
 next_field (field ∷ fields) = Ok (field, fields)
 
+-- a value, if no field follows it
+abbrev pub with_none : {A : Type 0} → A → List (List ℕ) → Result A LineFault
+with_none value [] = Ok value
+with_none value (field ∷ fields) = Err SurplusField
+
+-- the last field
+abbrev pub last_field : List (List ℕ) → Result (List ℕ) LineFault
+last_field fields = do
+  field ← next_field fields
+  with_none field.0 field.1
+
 -- whether a number has a leading zero
 abbrev pub has_leading_zero : List ℕ → Bool
 has_leading_zero [] = false
@@ -60,11 +71,6 @@ number_field fields = do
   field ← next_field fields
   with_fields (plain_number field.0) field.1
 
--- the number, if no field follows it
-abbrev pub with_none : ℕ → List (List ℕ) → Result ℕ LineFault
-with_none number [] = Ok number
-with_none number (field ∷ fields) = Err SurplusField
-
 -- the number of the last field
 abbrev pub last_number : List (List ℕ) → Result ℕ LineFault
 last_number fields = do
@@ -76,6 +82,11 @@ abbrev pub field_value :
     Result (Bor (List ℕ) × Option (Bor (List ℕ))) LineFault → Result (List ℕ × List (List ℕ)) LineFault
 field_value (Ok field) = Ok (field.0.now, fields_left field.1)
 field_value (Err fault) = Err fault
+
+-- the value of the last field, or the fault
+abbrev pub word_value : Result (Bor (List ℕ)) LineFault → Result (List ℕ) LineFault
+word_value (Ok field) = Ok field.now
+word_value (Err fault) = Err fault
 
 -- the value of a number with the rest after it, or the fault
 abbrev pub number_value : Result (ℕ × Option (Bor (List ℕ))) LineFault → Result (ℕ × List (List ℕ)) LineFault

@@ -4,3 +4,10 @@ pub mod Reading
 pub mod Writing
 pub mod Gathered
 pub mod Examples
+pub mod Named
+pub mod NamedRows
+pub mod Sealed
+pub mod NamedReading
+pub mod NamedWriting
+pub mod NamedGathered
+pub mod NamedExamples

@@ -16,7 +16,7 @@ pub enum LineFault {
     /// The first line doesn't begin with the word `floors`.
     #[error("NotFloors")]
     NotFloors,
-    /// The version of the first line is not 1.
+    /// The version of the first line is not the reader's.
     #[error("Version")]
     Version,
     /// The line has too few fields.
@@ -34,7 +34,7 @@ pub enum LineFault {
     /// The user is not a name of 1 to 64 bytes without blanks.
     #[error("UserName")]
     UserName,
-    /// An earlier line has the same user.
+    /// An earlier line has the same user, or the same name.
     #[error("Twice")]
     Twice,
     /// The file ends before the last row that its first line announces.
@@ -46,6 +46,21 @@ pub enum LineFault {
     /// No LF ends the line.
     #[error("NoEnd")]
     NoEnd,
+    /// The last line is not the MAC of the bytes before it under the cluster's key.
+    #[error("BadMac")]
+    BadMac,
+    /// The names word is not a word of 12 to 64 bytes without blanks.
+    #[error("NamesWord")]
+    NamesWord,
+    /// The name is not 32 lower case hexadecimal digits.
+    #[error("Name")]
+    Name,
+    /// The member is the file's node, or not above the member of the line before.
+    #[error("Heard")]
+    Heard,
+    /// The life is not a word of 1 to 64 bytes without blanks.
+    #[error("Life")]
+    Life,
     /// The allocator refused the memory for a row.
     #[error("out of memory")]
     Memory,

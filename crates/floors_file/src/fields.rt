@@ -1,7 +1,7 @@
 ghost use Rattle.std.specs.Prelude.{◌≡◌};
 ghost use Rattle.std.specs.Char.{is_ascii_digit};
 ghost use Rattle.std.specs.List.{list_all};
-ghost use Rattle.floors_file.specs.Fields.{field_value, fields_left, has_leading_zero, is_digits, last_number, next_field, number_field, number_value, plain_number};
+ghost use Rattle.floors_file.specs.Fields.{field_value, fields_left, has_leading_zero, is_digits, last_field, last_number, next_field, number_field, number_value, plain_number, word_value};
 
 use crate::fault::LineFault;
 use field_text::{cut_at, read_number};
@@ -16,6 +16,17 @@ pub(crate) fn next_field(rest: Option<&[u8]>) -> Result<(&[u8], Option<&[u8]>), 
     match cut_at(rest, b' ') {
         Some((field, rest)) => Ok((field, Some(rest))),
         None => Ok((rest, None)),
+    }
+}
+
+/// Returns the last field.
+pub(crate) fn last_field(rest: Option<&[u8]>) -> Result<&[u8], LineFault>
+    ensures { word_value result ≡ last_field (fields_left rest.entry) }
+{
+    let (field, rest) = next_field(rest)?;
+    match rest {
+        None => Ok(field),
+        Some(_) => Err(LineFault::SurplusField),
     }
 }
 

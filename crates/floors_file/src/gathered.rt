@@ -46,6 +46,9 @@ pub enum FileFault {
     /// The user of the file's line with the number, from 1, is not in the users file.
     #[error("line {0}: NoUser")]
     NoUser(usize),
+    /// The file's names word, life or number of members differs from the first file's.
+    #[error("Cluster")]
+    Cluster,
 }
 
 /// The reason why floors files are insufficient to create a store.
@@ -69,7 +72,7 @@ pub enum FilesFault {
 }
 
 /// Returns whether `node` is one of `nodes`.
-fn is_among(node: u8, nodes: &[u8]) -> bool
+pub(crate) fn is_among(node: u8, nodes: &[u8]) -> bool
     ensures { result ≡ is_among node nodes.now }
 {
     nodes.iter().any(|other| *other == node)
@@ -292,7 +295,7 @@ fn first_missing(lost: &[u8], files: &[Floors<'_>], members: u8) -> Option<Files
 }
 
 /// Returns whether each majority of `members` members has one of `count` nodes.
-fn is_enough(members: u8, count: usize) -> bool
+pub(crate) fn is_enough(members: u8, count: usize) -> bool
     ensures { result ≡ is_enough members count }
 {
     let members = usize::from(members);
@@ -302,7 +305,7 @@ fn is_enough(members: u8, count: usize) -> bool
 /// Returns the fault of the numbers of lost nodes and files, or None.
 ///
 /// Together they must be the members, and fewer than a majority may be lost.
-fn count_fault(members: u8, lost: usize, count: usize) -> Option<FilesFault>
+pub(crate) fn count_fault(members: u8, lost: usize, count: usize) -> Option<FilesFault>
     ensures { result ≡ count_fault members lost count }
 {
     let members_len = usize::from(members);

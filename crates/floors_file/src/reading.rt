@@ -16,12 +16,12 @@ use std::alloc::Global;
 /// The numbers of the first line.
 #[derive(Clone, Copy)]
 pub(crate) struct HeadLine {
-    head: Head,
-    tokens: u64,
+    pub(crate) head: Head,
+    pub(crate) tokens: u64,
 }
 
 /// Returns a first line of the given numbers.
-fn ranged(
+pub(crate) fn ranged(
     node: u64,
     members: u64,
     boot: u64,
@@ -184,7 +184,7 @@ fn read_rows(alloc: Global, tokens: u64, text: &[u8]) -> Result<Vec<Floor<'_>>, 
 }
 
 /// Returns a fault at the first line.
-fn at_first(kind: LineFault) -> FloorsFault
+pub(crate) fn at_first(kind: LineFault) -> FloorsFault
     ensures { result ≡ record { line = 1; kind = kind } }
 {
     FloorsFault { line: 1, kind }

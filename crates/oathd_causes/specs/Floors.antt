@@ -13,6 +13,7 @@ file_advice file.SameNode = advice.LeaveOneOut
 file_advice file.Members = advice.TakeWithSameMembers
 file_advice file.Older = advice.TakeLater
 file_advice file.Boot = advice.SetTheClock
+file_advice file.Cluster = advice.TakeOfOneCluster
 file_advice (file.NoFloor token) = advice.UseItsUsersFile
 file_advice (file.NoUser line) = advice.UseItsUsersFile
 

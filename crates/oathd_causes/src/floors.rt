@@ -26,6 +26,8 @@ pub enum FloorsAdvice {
     LeaveOneOut,
     #[error("take all files with the same number of members")]
     TakeWithSameMembers,
+    #[error("take all files of one cluster")]
+    TakeOfOneCluster,
     #[error("it was read before --since: take it again by oathd floors")]
     TakeLater,
     #[error("its boot is not below the new one: set the clock of this machine")]
@@ -44,6 +46,7 @@ pub fn file_advice(fault: FileFault) -> FloorsAdvice
         FileFault::Members => FloorsAdvice::TakeWithSameMembers,
         FileFault::Older => FloorsAdvice::TakeLater,
         FileFault::Boot => FloorsAdvice::SetTheClock,
+        FileFault::Cluster => FloorsAdvice::TakeOfOneCluster,
         FileFault::NoFloor(_) | FileFault::NoUser(_) => FloorsAdvice::UseItsUsersFile,
     }
 }

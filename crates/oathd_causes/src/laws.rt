@@ -46,9 +46,10 @@ pub fn store_causes_are_worked()
 /// Worked cases. What to do about each fault of floors files.
 pub fn advice_is_worked()
     ensures files { map file_advice (FileFault.IsLost ∷ FileFault.SameNode ∷ FileFault.Members ∷ FileFault.Older
-        ∷ FileFault.Boot ∷ FileFault.NoFloor 1 ∷ FileFault.NoUser 2 ∷ []) ≡ FloorsAdvice.LeaveOut
+        ∷ FileFault.Boot ∷ FileFault.Cluster ∷ FileFault.NoFloor 1 ∷ FileFault.NoUser 2 ∷ []) ≡ FloorsAdvice.LeaveOut
         ∷ FloorsAdvice.LeaveOneOut ∷ FloorsAdvice.TakeWithSameMembers ∷ FloorsAdvice.TakeLater
-        ∷ FloorsAdvice.SetTheClock ∷ FloorsAdvice.UseItsUsersFile ∷ FloorsAdvice.UseItsUsersFile ∷ [] }
+        ∷ FloorsAdvice.SetTheClock ∷ FloorsAdvice.TakeOfOneCluster ∷ FloorsAdvice.UseItsUsersFile
+        ∷ FloorsAdvice.UseItsUsersFile ∷ [] }
     ensures together { map floors_advice (FilesFault.File 2 FileFault.IsLost ∷ FilesFault.NotLost ∷ FilesFault.Missing 3
         ∷ FilesFault.Surplus ∷ FilesFault.TooManyLost ∷ []) ≡ FloorsAdvice.LeaveOut ∷ FloorsAdvice.NameItself
         ∷ FloorsAdvice.TakeFile 3 ∷ FloorsAdvice.NameEachOnce ∷ FloorsAdvice.MakeAllAnew ∷ [] }

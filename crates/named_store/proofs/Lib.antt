@@ -1,0 +1,6 @@
+pub mod IndexLemmas
+pub mod SeatingLemmas
+pub mod FloorLemmas
+pub mod RefusedLemmas
+pub mod GrownLemmas
+pub mod OpenLemmas

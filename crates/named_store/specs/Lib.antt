@@ -1,0 +1,4 @@
+pub mod Seating
+pub mod Floors
+pub mod Opened
+pub mod Examples

@@ -1,0 +1,154 @@
+use floor_sql::SqlStore;
+use floor_store::{FloorStore, Row, StoreFault};
+use named_store::{NamedFault, open_named};
+use otp_core::Next;
+use roster_sql::{Bond, Entry, NAME_LEN, make_named};
+use seated_store::SeatedStore;
+use sqlite::{Connection, MemStore};
+use std::alloc::Global;
+
+/// A store that was opened by names.
+type Opened = SeatedStore<SqlStore<MemStore>>;
+
+/// Returns an entry of one byte for its name and one for its seed.
+fn entry(name: u8, seed: u8) -> Entry {
+    Entry {
+        name: [name; NAME_LEN],
+        seed: [seed; NAME_LEN],
+    }
+}
+
+/// Creates a store of version 3 of node 3 in memory, at boot 7, with three tokens.
+fn made(alloc: Global, floors: &[Next; 5], own: &Bond) -> Result<Connection<MemStore>, NamedFault> {
+    let Ok(mut conn) = Connection::open_in_memory(alloc) else {
+        return Err(NamedFault::Store(StoreFault::Memory));
+    };
+    if !conn.is_autocommit() {
+        return Err(NamedFault::Full);
+    }
+    let entries = [entry(1, 1), entry(3, 4), entry(5, 1)];
+    match make_named(&mut conn, 3, 7, &floors[..3], &entries, own) {
+        Ok(()) => Ok(conn),
+        Err(refusal) => Err(NamedFault::Store(refusal.0)),
+    }
+}
+
+/// Opens the store of node 3 that a connection holds.
+fn opens(
+    alloc: Global,
+    conn: Connection<MemStore>,
+    names: &[Entry],
+    floors: &[Next],
+    own: &Bond,
+) -> Result<Opened, NamedFault> {
+    if !conn.is_autocommit() || names.len() > 100 || floors.len() != names.len() {
+        return Err(NamedFault::Full);
+    }
+    match open_named(alloc, conn, 3, names, floors, own) {
+        Ok(store) => Ok(store),
+        Err((_conn, fault)) => Err(fault),
+    }
+}
+
+/// Returns the fault of an opening.
+fn fault_of(opened: Result<Opened, NamedFault>) -> Option<NamedFault> {
+    match opened {
+        Ok(_store) => None,
+        Err(fault) => Some(fault),
+    }
+}
+
+/// Returns whether the rows of a store are opening rows with the given floors, at boot 7.
+fn shows(store: &Opened, floors: &[Next]) -> bool {
+    if store.boot() != Ok(7) || store.tokens() as usize != floors.len() {
+        return false;
+    }
+    for token in 0..floors.len() {
+        if token >= store.tokens() as usize {
+            return false;
+        }
+        if store.row(token as u32) != Ok(Row::opening(floors[token])) {
+            return false;
+        }
+    }
+    true
+}
+
+/// Returns the connection of a store, and the number of its rows.
+fn closed(store: Opened) -> (Connection<MemStore>, u32) {
+    let inner = store.into_inner();
+    let rows = inner.tokens();
+    (inner.close(), rows)
+}
+
+/// Returns five floors.
+fn five_floors() -> Option<[Next; 5]> {
+    Some([
+        Next::new(20)?,
+        Next::new(30)?,
+        Next::new(40)?,
+        Next::new(5)?,
+        Next::new(50)?,
+    ])
+}
+
+/// Returns whether the same tokens are seen in another order, and no row is new.
+fn other_order(alloc: Global, floors: &[Next; 5], own: &Bond) -> Result<bool, NamedFault> {
+    let names = [entry(5, 1), entry(1, 9), entry(3, 4)];
+    let store = opens(alloc, made(alloc, floors, own)?, &names, &floors[..3], own)?;
+    let order = shows(&store, &[floors[2], floors[0], floors[1]]);
+    let (_conn, rows) = closed(store);
+    Ok(order && rows == 3)
+}
+
+/// Returns whether a new token goes on where a row with its seed was, and the row of a retired one stays.
+fn one_retired(alloc: Global, floors: &[Next; 5], own: &Bond) -> Result<bool, NamedFault> {
+    let names = [entry(8, 1), entry(3, 4), entry(9, 2)];
+    let own_floors = [floors[3], floors[3], floors[4]];
+    let store = opens(alloc, made(alloc, floors, own)?, &names, &own_floors, own)?;
+    let new = shows(&store, &[floors[2], floors[1], floors[4]]);
+    let (conn, rows) = closed(store);
+    // The next start finds the rows.
+    let store = opens(alloc, conn, &names, &own_floors, own)?;
+    let again = shows(&store, &[floors[2], floors[1], floors[4]]);
+    let (_conn, same) = closed(store);
+    Ok(new && rows == 5 && again && same == 5)
+}
+
+/// Returns whether a store is refused to another cluster, and to tokens with one name.
+fn refused(
+    alloc: Global,
+    floors: &[Next; 5],
+    own: &Bond,
+    other: &Bond,
+) -> Result<bool, NamedFault> {
+    let names = [entry(1, 1), entry(5, 1)];
+    let another = opens(
+        alloc,
+        made(alloc, floors, own)?,
+        &names,
+        &floors[..2],
+        other,
+    );
+    let twice = [entry(9, 1), entry(9, 2)];
+    let same = opens(alloc, made(alloc, floors, own)?, &twice, &floors[..2], own);
+    Ok(
+        fault_of(another) == Some(NamedFault::AnotherCluster)
+            && fault_of(same) == Some(NamedFault::Store(StoreFault::Unusable)),
+    )
+}
+
+#[test]
+fn a_store_is_opened_by_names(rt: HostRuntime) {
+    let (Some(own), Some(floors)) = (Bond::new(b"names", b"life", 5), five_floors()) else {
+        assert!(rt; false, "range");
+        return;
+    };
+    let Some(other) = Bond::new(b"names", b"another life", 5) else {
+        assert!(rt; false, "range");
+        return;
+    };
+    assert!(rt; other_order(rt.alloc(), &floors, &own) == Ok(true));
+    assert!(rt; one_retired(rt.alloc(), &floors, &own) == Ok(true));
+    assert!(rt; refused(rt.alloc(), &floors, &own, &other) == Ok(true));
+}
