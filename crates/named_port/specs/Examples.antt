@@ -7,7 +7,7 @@ use Rattle.named_wire.specs.declared.head.Kind.{Kind}
 use Rattle.named_wire.specs.declared.head.Kind.TheVariants.{Floor}
 use Rattle.vote_wire.specs.Examples.{ask_body, ask_tag, eight_bytes}
 use Rattle.named_port.specs.Translator.{TranslatorRecord, new_translator}
-use Rattle.named_port.specs.declared.translator.Older.{Older}
+use Rattle.node_log.specs.declared.gatekeeper.Older.{Older}
 
 -- a key of 32 zeros
 abbrev pub zeros : List ℕ

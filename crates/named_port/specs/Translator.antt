@@ -6,7 +6,7 @@ use Rattle.datagram_port.specs.declared.port.Sender.TheVariants.{Client, Peer}
 use Rattle.named_wire.specs.Datagram.{datagram_at}
 use Rattle.named_wire.specs.declared.head.Head.{Head}
 use Rattle.named_port.specs.Wire.{named_at, numbered_of}
-use Rattle.named_port.specs.declared.translator.Older.{Older}
+use Rattle.node_log.specs.declared.gatekeeper.Older.{Older}
 
 -- A translator of a node: its key, the names of its book, its number and boot, the greatest boot of each member that it
 -- heard, from member 0 to 9, and the last dropped datagram of an older boot.

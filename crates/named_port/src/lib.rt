@@ -3,10 +3,11 @@
 //! A [`NamedPort`] is a node's port over another one. A node and its port speak in numbered datagrams, of version 2,
 //! under the cluster's key. Members speak in named datagrams, of version 3, under the same key. The port translates one
 //! datagram into one. It hands a member's datagram without a translation to the node as one without bytes, which the
-//! node drops. So it drops a datagram whose head has an older boot than its member was heard in ([`Older`]). Clients'
-//! datagrams pass unchanged.
+//! node drops. So it drops a datagram whose head has an older boot than its member was heard in ([`Older`](node_log::Older)).
+//! Clients' datagrams pass unchanged.
 #![tactic(auto)]
 
+mod gatekeeper;
 mod laws;
 mod names;
 mod port;
@@ -23,7 +24,6 @@ pub use laws::{
 };
 pub use names::Names;
 pub use port::NamedPort;
-pub use translator::Older;
 pub use wire::{MAX_NUMBERED_LEN, named, numbered};
 pub use worked::{
     boots_are_worked, calls_are_worked, calls_can_be_broken, events_are_worked,

@@ -10,8 +10,9 @@ ghost use Rattle.named_port.specs.Translator.{after_event, handed_in, new_transl
 
 use crate::names::Names;
 use crate::record::Record;
-use crate::translator::{Older, Translator};
+use crate::translator::Translator;
 use datagram_port::{Port, Received, Sender};
+use node_log::Older;
 use vote_wire::ClusterKey;
 
 /// A node's port over another one. It translates members' datagrams, and passes on those of clients unchanged. It keeps

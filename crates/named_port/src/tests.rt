@@ -3,9 +3,10 @@
 ghost use Rattle.std.specs.Prelude.{◌≤◌, IfOk};
 ghost use Rattle.datagram_port.specs.Port.{IsWithin};
 
-use crate::{NamedPort, Names, Older};
+use crate::{NamedPort, Names};
 use datagram_port::{Coming, ListPort, Port, PortEntry, Received, Sender};
 use floor_store::{Proposal, Span};
+use node_log::Older;
 use otp_core::{Factor, MAX_TOKENS, Settings};
 use std::alloc::Global;
 use std::test::Fail;

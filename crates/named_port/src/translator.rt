@@ -9,20 +9,12 @@ use crate::names::Names;
 use crate::wire::{MAX_NUMBERED_LEN, named, numbered};
 use arrayvec::ArrayVec;
 use named_wire::{Head, MAX_DATAGRAM_LEN, read_datagram};
+use node_log::Older;
 use std::marker::Model;
 use vote_wire::ClusterKey;
 
 /// The number of places for the boots of members: member 0, which there is not, to member 9.
 const PLACES: usize = 10;
-
-/// A dropped datagram of an older boot than its member was heard in.
-#[derive(Clone, Copy, Debug, PartialEq, Eq)]
-pub struct Older {
-    /// The member.
-    pub member: u8,
-    /// The boot of the datagram.
-    pub boot: u64,
-}
 
 /// The translation of a node's datagrams to the other members, and of theirs to the node.
 #[derive(Drop)]

@@ -19,10 +19,11 @@ asked_after Faulted asked = asked
 asked_after (Offered (Client client) bytes) asked = without (place_of client bytes asked) asked
 asked_after (Offered (Peer number) bytes) asked = asked
 
--- the members after an entry of a port's record
+-- The members after an entry of a port's record. A datagram without bytes is none that a member offers.
 abbrev pub members_after : PortEvent → List Member → List Member
 members_after (Received (Client client) bytes) members = members
-members_after (Received (Peer number) bytes) members = map (after_datagram number) members
+members_after (Received (Peer number) []) members = members
+members_after (Received (Peer number) (byte ∷ bytes)) members = map (after_datagram number) members
 members_after Quiet members = map after_quiet members
 members_after Faulted members = members
 members_after (Offered to bytes) members = members
@@ -31,7 +32,8 @@ members_after (Offered to bytes) members = members
 -- Of the answers `NO - BADLINE` of a second, those after the tenth have one line together.
 abbrev pub told_of : PortEvent → List AskedLine → List Member → BadLines → List ℕ
 told_of (Received (Client client) bytes) asked members bad_lines = []
-told_of (Received (Peer number) bytes) asked members bad_lines = heard_texts number members
+told_of (Received (Peer number) []) asked members bad_lines = []
+told_of (Received (Peer number) (byte ∷ bytes)) asked members bad_lines = heard_texts number members
 told_of Quiet asked members bad_lines = silent_texts members ++ more_text bad_lines
 told_of Faulted asked members bad_lines = []
 told_of (Offered (Client client) bytes) asked members bad_lines =

@@ -1,8 +1,9 @@
--- The minutes of a log: after each one it says which datagrams were not opened.
-use Rattle.std.specs.Prelude.{ℕ, ◌+◌, ◌==◌, ◌&&◌, nat_lt, not, Bool, if◌then◌else◌, List, [], ◌++◌, codes}
+-- The minutes of a log: after each one it says which datagrams were not opened, and which one had an older boot.
+use Rattle.std.specs.Prelude.{ℕ, ◌+◌, ◌==◌, ◌&&◌, nat_lt, not, Bool, if◌then◌else◌, List, [], ◌++◌, Option, Some, None, codes}
 use Rattle.std.specs.Fmt.{decimal}
 use Rattle.datagram_port.specs.Port.{PortEvent, Received, Quiet, Faulted, Offered}
 use Rattle.sealed_port.specs.declared.cause.Unopened.{Unopened}
+use Rattle.node_log.specs.declared.gatekeeper.Older.{Older}
 use Rattle.node_log.specs.declared.minute.Minute.{Minute}
 
 -- the minute before any quiet turn
@@ -46,6 +47,16 @@ unfoldable pub unopened_line : Unopened → List ℕ
 unopened_line unopened =
     if has_none unopened then [] else codes "unopened" ++ causes_text unopened ++ codes "\n"
 
--- the text at the beginning of a receive: the line of a minute that is over
-abbrev pub minute_text : Minute → Unopened → List ℕ
-minute_text minute unopened = if is_over minute then unopened_line unopened else []
+-- the line of the last datagram that was dropped because of its boot, or nothing if there is none
+unfoldable pub older_line : Option Older → List ℕ
+older_line None = []
+older_line (Some older) =
+    codes "older member=" ++ decimal older.member ++ codes " boot=" ++ decimal older.boot ++ codes "\n"
+
+-- the lines of the datagrams that a port passed over
+abbrev pub passed_over_text : Unopened → Option Older → List ℕ
+passed_over_text unopened older = unopened_line unopened ++ older_line older
+
+-- the text at the beginning of a receive: the lines of a minute that is over
+abbrev pub minute_text : Minute → Unopened → Option Older → List ℕ
+minute_text minute unopened older = if is_over minute then passed_over_text unopened older else []

@@ -4,6 +4,7 @@ use Rattle.std.specs.Char.{is_ascii_graphic}
 use Rattle.std.specs.Fmt.{decimal}
 use Rattle.std.specs.List.{flat_map, starts_with}
 use Rattle.hex.specs.Hex.{encode_lower}
+use Rattle.node_log.specs.declared.text.Roster.{Roster}
 use Rattle.node_log.specs.declared.text.Start.{Start}
 
 -- a byte that the log shows unchanged: a visible ASCII character except a quotation mark and a backslash
@@ -66,6 +67,20 @@ unfoldable pub start_line : Start → List ℕ
 start_line start =
     codes "start" ++ place_text start ++ at_text start.address ++ counts_text start ++ print_text start.fingerprint
     ++ codes "\n"
+
+-- the numbers of a store's rows: all, those that a start enrolled, and those that no token has
+unfoldable pub rows_text : Roster → List ℕ
+rows_text roster =
+    valued (codes " rows=") roster.rows ++ valued (codes " enrolled=") roster.enrolled
+    ++ valued (codes " retired=") roster.retired
+
+-- the print of a users file's rows
+unfoldable pub book_text : List ℕ → List ℕ
+book_text book = codes " book=" ++ book
+
+-- the line of a store's rows
+unfoldable pub roster_line : Roster → List ℕ
+roster_line roster = codes "roster" ++ rows_text roster ++ book_text roster.book ++ codes "\n"
 
 -- the line of a node that ends serving: the number of datagrams that it received, and of replies that it offered
 unfoldable pub end_line : ℕ → ℕ → List ℕ

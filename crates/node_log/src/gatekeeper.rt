@@ -1,6 +1,6 @@
-//! The trait of a port that counts the datagrams which it doesn't open.
+//! The trait of a port that tells which datagrams it passed over.
 
-ghost use Rattle.std.specs.Prelude.{◌≡◌};
+ghost use Rattle.std.specs.Prelude.{◌≡◌, None};
 ghost use Rattle.sealed_port.specs.Causes.{nothing};
 
 use datagram_port::{Clock, ListPort, Port};
@@ -8,19 +8,41 @@ use sealed_port::{SealedPort, Unopened};
 use std::time::Clock as TimeSource;
 use udp_port::UdpPort;
 
+/// A member's datagram that was dropped, since the member was heard in a greater boot.
+#[derive(Clone, Copy, Debug, PartialEq, Eq)]
+pub struct Older {
+    /// The member.
+    pub member: u8,
+    /// The boot of the datagram.
+    pub boot: u64,
+}
+
 /// A port that may pass over datagrams, and counts them.
 pub trait Gatekeeper: Port {
-    ghost use Rattle.std.specs.Prelude.{◌≡◌};
+    ghost use Rattle.std.specs.Prelude.{◌≡◌, Option, None};
+    ghost use Rattle.node_log.specs.declared.gatekeeper.Older.{Older as OlderDatagram};
     ghost use Rattle.sealed_port.specs.Causes.{nothing};
     ghost use Rattle.sealed_port.specs.declared.cause.Unopened.{Unopened as UnopenedCounts};
 
     // The numbers of datagrams that it didn't open since they were last taken. By default the port opens everything.
     ghost unopened: { Self → UnopenedCounts } = { λ _. nothing };
 
+    // The last datagram of an older boot since it was last taken. By default the port drops none.
+    ghost older: { Self → Option OlderDatagram } = { λ _. None };
+
     /// Returns the numbers of datagrams that the port didn't open since the last call, and sets them to zero.
     fn take_unopened(&mut self) -> Unopened
         ensures numbers { result ≡ unopened self.old }
         ensures zero { unopened self.new ≡ nothing }
+        ensures older { older self.new ≡ older self.old }
+        ensures events { Self.events self.new ≡ Self.events self.old }
+        ensures stays { Self.setup self.new ≡ Self.setup self.old };
+
+    /// Returns the last datagram since the last call that the port dropped because of its boot, or None.
+    fn take_older(&mut self) -> Option<Older>
+        ensures last { result ≡ older self.old }
+        ensures none { older self.new ≡ None }
+        ensures unopened { unopened self.new ≡ unopened self.old }
         ensures events { Self.events self.new ≡ Self.events self.old }
         ensures stays { Self.setup self.new ≡ Self.setup self.old };
 }
@@ -29,11 +51,19 @@ impl Gatekeeper for ListPort<'_> {
     fn take_unopened(&mut self) -> Unopened {
         Unopened::new()
     }
+
+    fn take_older(&mut self) -> Option<Older> {
+        None
+    }
 }
 
 impl<R: TimeSource + Drop> Gatekeeper for UdpPort<R> {
     fn take_unopened(&mut self) -> Unopened {
         Unopened::new()
+    }
+
+    fn take_older(&mut self) -> Option<Older> {
+        None
     }
 }
 
@@ -42,5 +72,9 @@ impl<P: Port + Drop, C: Clock + Drop> Gatekeeper for SealedPort<P, C> {
 
     fn take_unopened(&mut self) -> Unopened {
         SealedPort::take_unopened(self)
+    }
+
+    fn take_older(&mut self) -> Option<Older> {
+        None
     }
 }

@@ -6,9 +6,9 @@ ghost use Rattle.node_log.specs.Asked.{AskedLine, nonce_of, place_of, user_at, w
 ghost use Rattle.node_log.specs.Examples.{ann, bob, member, minute, second, two_lines};
 ghost use Rattle.sealed_port.specs.Causes.{nothing};
 ghost use Rattle.node_log.specs.BadLines.{bad_lines_after, new_second};
-ghost use Rattle.node_log.specs.Minute.{minute_after, minute_at_receive, minute_text, new_minute, unopened_line};
+ghost use Rattle.node_log.specs.Minute.{minute_after, minute_at_receive, minute_text, new_minute, older_line, unopened_line};
 ghost use Rattle.node_log.specs.Log.{Remembers, Tells, asked_after, asked_after_all, members_after, told_of};
-ghost use Rattle.node_log.specs.Text.{answered_line, client_text, end_line, shown_user, start_line};
+ghost use Rattle.node_log.specs.Text.{answered_line, client_text, end_line, roster_line, shown_user, start_line};
 
 /// Worked cases. The lines of a log, byte by byte.
 ///
@@ -35,6 +35,8 @@ pub fn texts_are_worked()
       tokens = 2;
       fingerprint = codes "b1061f3a2d61dfbd";
     }) ≡ codes "start node=1 of=3 at=127.0.0.1:1 boot=7 tokens=2 fingerprint=b1061f3a2d61dfbd\n" }
+    ensures roster { roster_line (record { rows = 10; enrolled = 2; retired = 3; book = codes "4a7512ffe7c9b201" })
+        ≡ codes "roster rows=10 enrolled=2 retired=3 book=4a7512ffe7c9b201\n" }
     ensures end { end_line 12 8 ≡ codes "end received=12 replied=8\n" }
 {}
 
@@ -67,11 +69,13 @@ pub fn records_are_worked()
         ≡ answered_line 7 (Some (codes "ann")) (codes "OK k1 0") }
     ensures once { asked_after (Offered (Client 7) (codes "OK k1 0")) two_lines ≡ bob ∷ [] }
     ensures sent { told_of (Offered (Peer 2) (codes "OK k1 0")) two_lines (member 2 false 0 ∷ []) new_second ≡ [] }
-    ensures heard { told_of (Received (Peer 2) []) [] (member 2 false 9 ∷ member 3 false 9 ∷ [])
+    ensures heard { told_of (Received (Peer 2) (79 ∷ [])) [] (member 2 false 9 ∷ member 3 false 9 ∷ [])
         new_second ≡ codes "heard member=2\n" }
-    ensures known { told_of (Received (Peer 2) []) [] (member 2 true 9 ∷ []) new_second ≡ [] }
-    ensures now_heard { members_after (Received (Peer 2) []) (member 2 false 9 ∷ member 3 false 9 ∷ [])
+    ensures known { told_of (Received (Peer 2) (79 ∷ [])) [] (member 2 true 9 ∷ []) new_second ≡ [] }
+    ensures now_heard { members_after (Received (Peer 2) (79 ∷ [])) (member 2 false 9 ∷ member 3 false 9 ∷ [])
         ≡ member 2 true 0 ∷ member 3 false 9 ∷ [] }
+    ensures without_bytes { told_of (Received (Peer 2) []) [] (member 2 false 9 ∷ []) new_second ≡ [] }
+    ensures not_heard { members_after (Received (Peer 2) []) (member 2 false 9 ∷ []) ≡ member 2 false 9 ∷ [] }
     ensures silent { told_of Quiet [] (member 2 true 23 ∷ member 3 true 24 ∷ member 4 false 25 ∷ [])
         new_second ≡ codes "silent member=3\n" }
     ensures now_silent { members_after Quiet (member 2 true 23 ∷ member 3 true 24 ∷ member 4 false 25 ∷ [])
@@ -83,7 +87,7 @@ pub fn records_are_worked()
         ∷ Offered (Client 7) (codes "OK k1 0") ∷ []) [] ≡ bob ∷ [] }
 {}
 
-/// Worked cases. The line of the datagrams that were not opened, and the minutes of a log.
+/// Worked cases. The lines of the datagrams that a port passed over, and the minutes of a log.
 pub fn minutes_are_worked()
     ensures line { unopened_line (record { form = 1; tag = 12; early = 2; late = 3; again = 4; limited = 5 })
         ≡ codes "unopened form=1 tag=12 early=2 late=3 again=4 limited=5\n" }
@@ -91,8 +95,11 @@ pub fn minutes_are_worked()
         ∷ record nothing { early = 1 } ∷ record nothing { again = 10 } ∷ record nothing { limited = 1 } ∷ nothing ∷ [])
         ≡ codes "unopened tag=12 late=3\n" ∷ codes "unopened form=1\n" ∷ codes "unopened early=1\n"
         ∷ codes "unopened again=10\n" ∷ codes "unopened limited=1\n" ∷ [] ∷ [] }
-    ensures told { map (λ quiets. minute_text (minute quiets) (record nothing { tag = 1 })) (299 ∷ 300 ∷ [])
+    ensures told { map (λ quiets. minute_text (minute quiets) (record nothing { tag = 1 }) None) (299 ∷ 300 ∷ [])
         ≡ [] ∷ codes "unopened tag=1\n" ∷ [] }
+    ensures older { older_line (Some (record { member = 3; boot = 12 })) ≡ codes "older member=3 boot=12\n" }
+    ensures both { minute_text (minute 300) (record nothing { tag = 1 }) (Some (record { member = 2; boot = 7 }))
+        ≡ codes "unopened tag=1\nolder member=2 boot=7\n" }
     ensures begins { map (λ quiets. minute_at_receive (minute quiets)) (299 ∷ 300 ∷ []) ≡ minute 299 ∷ minute 0 ∷ [] }
     ensures quiet { map (λ quiets. minute_after Quiet (minute quiets)) (0 ∷ 299 ∷ 300 ∷ [])
         ≡ minute 1 ∷ minute 300 ∷ minute 300 ∷ [] }

@@ -3,7 +3,7 @@
 //! A [`LogPort`] is a node's port over another one. It remembers the client, the nonce and the user of each client's
 //! line. It writes the line of an answer after the node offered it. Nothing that it keeps or writes has room for a
 //! code, a password or a secret (`codes_are_not_told`). Once a minute it asks the port below, a [`Gatekeeper`], which
-//! datagrams it didn't open, and writes their numbers. If a write fails, the log ends and the node continues.
+//! datagrams it passed over, and writes their numbers. If a write fails, the log ends and the node continues.
 #![tactic(auto)]
 
 mod asked;
@@ -20,7 +20,7 @@ mod text;
 
 pub use asked::{Asked, AskedLines, MAX_ASKED};
 pub use bad_lines::BadLines;
-pub use gatekeeper::Gatekeeper;
+pub use gatekeeper::{Gatekeeper, Older};
 pub use laws::{
     bad_lines_are_worked, codes_are_not_told, lines_are_worked, logs_can_be_broken,
     minutes_are_worked, records_are_worked, texts_are_worked,
@@ -29,4 +29,4 @@ pub use log::{Log, MAX_OTHERS};
 pub use members::Member;
 pub use minute::Minute;
 pub use port::LogPort;
-pub use text::{Start, write_answered, write_end, write_start};
+pub use text::{Roster, Start, write_answered, write_end, write_roster, write_start};

@@ -1,19 +1,20 @@
 //! A log over a writer.
 
-ghost use Rattle.std.specs.Prelude.{◌≡◌, ◌++◌, [], false, OnOk};
+ghost use Rattle.std.specs.Prelude.{◌≡◌, ◌∷◌, ◌++◌, [], false, OnOk};
 ghost use Rattle.std.specs.Io.KnownBytes.{Appends};
 ghost use Rattle.datagram_port.specs.Port.{Offered, Quiet, Received};
 ghost use Rattle.datagram_port.specs.declared.port.Sender.TheVariants.{Client, Peer};
 ghost use Rattle.node_log.specs.BadLines.{bad_lines_after, more_text, new_second};
 ghost use Rattle.node_log.specs.Members.{silent_texts};
 ghost use Rattle.node_log.specs.Log.{Tells, asked_after, members_after, told_of};
-ghost use Rattle.node_log.specs.Minute.{is_over, minute_after, new_minute, unopened_line};
+ghost use Rattle.node_log.specs.Minute.{is_over, minute_after, new_minute, passed_over_text};
 ghost use Rattle.node_log.specs.Text.{end_line};
 
 use crate::asked::AskedLines;
 use crate::bad_lines::BadLines;
+use crate::gatekeeper::Older;
 use crate::members::{Member, hear, rest, write_heard, write_silent};
-use crate::minute::{Minute, write_unopened};
+use crate::minute::{Minute, write_passed_over};
 use crate::text::{write_answered, write_end};
 use arrayvec::ArrayVec;
 use sealed_port::Unopened;
@@ -107,11 +108,11 @@ impl<W: Write + Drop> Log<W> {
     pub fn heard(&mut self, number: u8)
         ensures asked { self.new.asked ≡ self.old.asked }
         ensures members { self.new.members.items
-            ≡ members_after (Received (Peer number) []) self.old.members.items }
+            ≡ members_after (Received (Peer number) (0 ∷ [])) self.old.members.items }
         ensures minute { self.new.minute ≡ self.old.minute }
         ensures bad_lines { self.new.bad_lines ≡ self.old.bad_lines }
         ensures told { Tells self.old.is_over self.new.is_over (W.contents self.old.writer) (W.contents self.new.writer)
-            (told_of (Received (Peer number) []) self.old.asked self.old.members.items self.old.bad_lines) }
+            (told_of (Received (Peer number) (0 ∷ [])) self.old.asked self.old.members.items self.old.bad_lines) }
     {
         if !self.is_over
             && write_heard(&mut self.writer, number, self.members.as_slice()).is_err()
@@ -141,24 +142,25 @@ impl<W: Write + Drop> Log<W> {
         self.bad_lines.rest();
     }
 
-    /// Returns whether a minute is over since the log began, or since [`unopened`](Log::unopened) was last called.
+    /// Returns whether a minute is over since the log began, or since [`passed_over`](Log::passed_over) was last called.
     pub fn is_minute_over(&self) -> bool
         ensures { result ≡ is_over self.now.minute }
     {
         self.minute.is_over()
     }
 
-    /// Writes the line of the datagrams that were not opened, if there are any, and begins another minute.
-    pub fn unopened(&mut self, unopened: Unopened)
+    /// Writes the line of the datagrams that were not opened, and that of one of an older boot, if there are any. Begins
+    /// another minute.
+    pub fn passed_over(&mut self, unopened: Unopened, older: Option<Older>)
         ensures asked { self.new.asked ≡ self.old.asked }
         ensures members { self.new.members.items ≡ self.old.members.items }
         ensures minute { self.new.minute ≡ new_minute }
         ensures bad_lines { self.new.bad_lines ≡ self.old.bad_lines }
         ensures told { Tells self.old.is_over self.new.is_over (W.contents self.old.writer) (W.contents self.new.writer)
-            (unopened_line unopened) }
+            (passed_over_text unopened older) }
     {
         self.minute = Minute::new();
-        if !self.is_over && write_unopened(&mut self.writer, &unopened).is_err() {
+        if !self.is_over && write_passed_over(&mut self.writer, &unopened, older).is_err() {
             self.is_over = true;
         }
     }

@@ -1,10 +1,12 @@
-//! The minutes of a log, and the line of the datagrams that were not opened in one.
+//! The minutes of a log, and the lines of the datagrams that a port passed over in one.
 
 ghost use Rattle.std.specs.Prelude.{◌≡◌, OnOk};
 ghost use Rattle.std.specs.Io.KnownBytes.{Appends};
 ghost use Rattle.datagram_port.specs.Port.{Quiet};
-ghost use Rattle.node_log.specs.Minute.{causes_text, has_none, is_over, minute_after, new_minute, numbered, unopened_line};
+ghost use Rattle.node_log.specs.Minute.{causes_text, has_none, is_over, minute_after, new_minute, numbered, older_line, passed_over_text, unopened_line};
 
+use crate::gatekeeper::Older;
+use crate::text::write_value;
 use sealed_port::Unopened;
 use std::io::{self, Write};
 
@@ -81,7 +83,7 @@ fn write_causes<W: Write>(writer: &mut W, unopened: &Unopened) -> io::Result<()>
 
 /// Writes the line of the datagrams that were not opened, or nothing if there are none.
 #[tactic(auto, unfolding(crate::specs::Minute::unopened_line))]
-pub(crate) fn write_unopened<W: Write>(writer: &mut W, unopened: &Unopened) -> io::Result<()>
+fn write_unopened<W: Write>(writer: &mut W, unopened: &Unopened) -> io::Result<()>
     ensures { OnOk result (Appends (W.contents writer.old) (W.contents writer.new) (unopened_line unopened.now)) }
 {
     if has_none(unopened) {
@@ -90,4 +92,31 @@ pub(crate) fn write_unopened<W: Write>(writer: &mut W, unopened: &Unopened) -> i
     writer.write_all(b"unopened")?;
     write_causes(writer, unopened)?;
     writer.write_all(b"\n")
+}
+
+/// Writes the line of the last datagram that was dropped because of its boot, or nothing if there is none.
+#[tactic(auto, unfolding(crate::specs::Minute::older_line))]
+fn write_older<W: Write>(writer: &mut W, older: Option<Older>) -> io::Result<()>
+    ensures { OnOk result (Appends (W.contents writer.old) (W.contents writer.new) (older_line older)) }
+{
+    let Some(older) = older else {
+        return Ok(());
+    };
+    writer.write_all(b"older member=")?;
+    write!(writer, "{}", older.member)?;
+    write_value(writer, b" boot=", older.boot)?;
+    writer.write_all(b"\n")
+}
+
+/// Writes the lines of the datagrams that a port passed over.
+pub(crate) fn write_passed_over<W: Write>(
+    writer: &mut W,
+    unopened: &Unopened,
+    older: Option<Older>,
+) -> io::Result<()>
+    ensures { OnOk result (Appends (W.contents writer.old) (W.contents writer.new)
+        (passed_over_text unopened.now older)) }
+{
+    write_unopened(writer, unopened)?;
+    write_older(writer, older)
 }

@@ -19,7 +19,7 @@ use std::io::Write;
 /// silent.
 ///
 /// It writes a line after the node offered the answer, and flushes the log before the next wait. Once a minute it
-/// writes how many datagrams the port below didn't open, if there are any.
+/// writes how many datagrams the port below didn't open, and the last one of an older boot, if there are any.
 #[derive(Drop)]
 pub struct LogPort<P: Gatekeeper + Drop, W: Write + Drop> {
     port: P,
@@ -53,8 +53,8 @@ impl<P: Gatekeeper + Drop, W: Write + Drop> LogPort<P, W> {
         self.log.end(received, replied);
     }
 
-    /// Writes the line of the datagrams that the port below didn't open in a minute, if the minute is over.
-    fn tell_unopened(&mut self)
+    /// Writes the lines of the datagrams that the port below passed over in a minute, if the minute is over.
+    fn tell_passed_over(&mut self)
         ensures event { P.events self.new.port ≡ P.events self.old.port }
         ensures stays { P.setup self.new.port ≡ P.setup self.old.port }
         ensures asked { self.new.log.asked ≡ self.old.log.asked }
@@ -62,11 +62,13 @@ impl<P: Gatekeeper + Drop, W: Write + Drop> LogPort<P, W> {
         ensures minute { self.new.log.minute ≡ minute_at_receive self.old.log.minute }
         ensures bad_lines { self.new.log.bad_lines ≡ self.old.log.bad_lines }
         ensures told { Tells self.old.log.is_over self.new.log.is_over (W.contents self.old.log.writer)
-            (W.contents self.new.log.writer) (minute_text self.old.log.minute (P.unopened self.old.port)) }
+            (W.contents self.new.log.writer)
+            (minute_text self.old.log.minute (P.unopened self.old.port) (P.older self.old.port)) }
     {
         if self.log.is_minute_over() {
             let unopened = self.port.take_unopened();
-            self.log.unopened(unopened);
+            let older = self.port.take_older();
+            self.log.passed_over(unopened, older);
         }
     }
 
@@ -92,7 +94,8 @@ fn note<W: Write + Drop>(log: &mut Log<W>, received: Received, buffer: &[u8; 512
     match received {
         Received::Datagram { sender, len } => match sender {
             Sender::Client(client) => log.received(client, &buffer[..len]),
-            Sender::Peer(number) => log.heard(number),
+            Sender::Peer(number) if 0 < len => log.heard(number),
+            Sender::Peer(_) => {}
         },
         Received::Quiet => log.quiet(),
         Received::Fault => {}
@@ -126,13 +129,14 @@ impl<P: Gatekeeper + Drop, W: Write + Drop> Port for LogPort<P, W> {
             (event_of_receive result buffer.new ∷ []) }
         ensures stays { P.setup self.new.port ≡ P.setup self.old.port }
         ensures told { Tells self.old.log.is_over self.new.log.is_over (W.contents self.old.log.writer)
-            (W.contents self.new.log.writer) (minute_text self.old.log.minute (P.unopened self.old.port)
+            (W.contents self.new.log.writer)
+            (minute_text self.old.log.minute (P.unopened self.old.port) (P.older self.old.port)
             ++ told_of (event_of_receive result buffer.new) self.old.log.asked self.old.log.members.items
             self.old.log.bad_lines) }
         ensures minute { self.new.log.minute
             ≡ minute_after (event_of_receive result buffer.new) (minute_at_receive self.old.log.minute) }
     {
-        self.tell_unopened();
+        self.tell_passed_over();
         self.log.flush();
         let received = self.port.receive(buffer);
         note(&mut self.log, received, buffer);

@@ -6,7 +6,7 @@ ghost use Rattle.std.specs.Fmt.{decimal};
 ghost use Rattle.std.specs.Io.KnownBytes.{Appends};
 ghost use Rattle.std.specs.List.{flat_map};
 ghost use Rattle.node_log.specs.Text.{address_text, answered_line, at_text, client_text, counts_text, end_line, event_of, is_plain};
-ghost use Rattle.node_log.specs.Text.{place_text, print_text, shown_byte, shown_user, start_line};
+ghost use Rattle.node_log.specs.Text.{book_text, place_text, print_text, roster_line, rows_text, shown_byte, shown_user, start_line};
 
 use std::io::{self, Write};
 
@@ -197,6 +197,49 @@ pub fn write_start<W: Write>(writer: &mut W, start: Start) -> io::Result<()>
     write_at(writer, start.address)?;
     write_counts(writer, start)?;
     write_print(writer, &start.fingerprint)?;
+    writer.write_all(b"\n")
+}
+
+/// The rows of a store that is opened for the tokens of a users file, by their names.
+#[derive(Clone, Copy, Debug, PartialEq, Eq)]
+pub struct Roster {
+    /// The number of the store's rows.
+    pub rows: u32,
+    /// The number of rows that the start enrolled.
+    pub enrolled: u32,
+    /// The number of rows that no token of the users file has.
+    pub retired: u32,
+    /// The print of the users file's rows: 16 hexadecimal digits.
+    pub book: [u8; 16],
+}
+
+/// Writes the numbers of rows.
+#[tactic(auto, unfolding(crate::specs::Text::rows_text))]
+fn write_rows<W: Write>(writer: &mut W, roster: Roster) -> io::Result<()>
+    ensures { OnOk result (Appends (W.contents writer.old) (W.contents writer.new) (rows_text roster)) }
+{
+    write_value(writer, b" rows=", u64::from(roster.rows))?;
+    write_value(writer, b" enrolled=", u64::from(roster.enrolled))?;
+    write_value(writer, b" retired=", u64::from(roster.retired))
+}
+
+/// Writes the print of rows.
+#[tactic(auto, unfolding(crate::specs::Text::book_text))]
+fn write_book<W: Write>(writer: &mut W, book: &[u8]) -> io::Result<()>
+    ensures { OnOk result (Appends (W.contents writer.old) (W.contents writer.new) (book_text book.now)) }
+{
+    writer.write_all(b" book=")?;
+    writer.write_all(book)
+}
+
+/// Writes the line of a store's rows.
+#[tactic(auto, unfolding(crate::specs::Text::roster_line))]
+pub fn write_roster<W: Write>(writer: &mut W, roster: Roster) -> io::Result<()>
+    ensures { OnOk result (Appends (W.contents writer.old) (W.contents writer.new) (roster_line roster)) }
+{
+    writer.write_all(b"roster")?;
+    write_rows(writer, roster)?;
+    write_book(writer, &roster.book)?;
     writer.write_all(b"\n")
 }
 

@@ -10,6 +10,7 @@ pub mod Gate
 pub mod Gates
 pub mod Gather
 pub mod Level
+pub mod Log
 pub mod Lost
 pub mod Made
 pub mod NodeKey

@@ -58,7 +58,7 @@ fn gate_from(alloc: Global, node: u8, clients: Clients, start: u64) -> Result<Ga
 
 /// What stands between a node's socket and its clients.
 #[derive(Drop)]
-pub(crate) enum Front {
+pub enum Front {
     /// Nothing.
     Anybody,
     /// A filter that passes lines from the addresses of this machine (127.0.0.0/8).
@@ -83,7 +83,7 @@ fn start_second<N: TimeSource>(outside: &N) -> Result<u64, Fault>
 /// # Errors
 /// - Returns `NoClock` if there is a clients file and the clock tells no time.
 /// - Returns `Memory` if the allocator refuses the memory for the clients.
-pub(crate) fn front_of<N: TimeSource>(
+pub fn front_of<N: TimeSource>(
     alloc: Global,
     node: u8,
     lines: ClientLines,

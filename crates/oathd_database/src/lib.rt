@@ -35,7 +35,7 @@ pub use fault::Fault;
 pub use file::DatabaseFile;
 pub use file_laws::openings_find_what_is_left;
 pub use floors::{floors_of, floors_store};
-pub use gate::ClientLines;
+pub use gate::{ClientLines, Front, front_of};
 pub use gates::{gates_store, write_gates};
 pub use gather::GatherFault;
 pub use init::init_store;
@@ -49,8 +49,10 @@ pub use level::{level_rows, level_store};
 pub use lost::{LostNode, init_lost_store};
 pub use made::{init_member_store, made_is_worked, time_tokens_are_ready, write_made, write_store};
 pub use migrate::migrate_store;
-pub use node_key::{NodeKey, node_keys_tell};
-pub use serve::{open_node, serve_node, serve_store};
+pub use node_key::{NodeKey, node_keys_tell, tag_key};
+pub use serve::{
+    ServeLog, log_of, open_node, serve_node, serve_port, serve_store, socket_at, start_of,
+};
 pub use serving::Serving;
 pub use setup_laws::{setups_are_worked, setups_can_be_broken};
 pub use unlock::{UnlockFault, open_gate, unlock_store};

@@ -21,7 +21,10 @@ pub enum NodeKey<'a> {
 }
 
 /// Returns the key under which a node with the tokens of `book` tags its datagrams.
-pub(crate) fn tag_key(alloc: Global, key: NodeKey<'_>, book: &Book) -> Result<ClusterKey, Fault>
+///
+/// # Errors
+/// Returns `Memory` if the allocator refuses the memory.
+pub fn tag_key(alloc: Global, key: NodeKey<'_>, book: &Book) -> Result<ClusterKey, Fault>
     ensures key { IfOk result (λ tagging. tagging ≡ tag_key key.entry book.now) }
     ensures fault { IfErr result (λ fault. fault ≡ Fault.Memory) }
 {

@@ -1,12 +1,14 @@
 //! The command `serve`: runs a node over a store and a socket.
 
-ghost use Rattle.std.specs.Prelude.{◌≡◌, ◌<◌, ◌^◌, [], None, false, true, length, Result, Ok, IfErr, IfOk, IfSome};
+ghost use Rattle.std.specs.Prelude.{◌≡◌, ◌<◌, ◌^◌, [], None, false, true, length, Result, Ok, IfErr, IfOk, IfSome, IsSome};
 ghost use Rattle.oath_node.specs.TurnServing.{Serves};
 ghost use Rattle.oath_node.specs.declared.serve_fault.ServeFault.{ServeFault};
 ghost use Rattle.oath_node.specs.declared.turns.Served.{Served};
 ghost use Rattle.oath_node.specs.Calls.{IsOpened};
 ghost use Rattle.oathd_database.specs.Commands.{EndsServing, HasServed, IsServed};
 ghost use Rattle.oathd_database.specs.Fault.{IsOpenFault, serve_end};
+ghost use Rattle.floor_store.specs.Range.{IsCount};
+ghost use Rattle.oathd_database.specs.Log.{start_at};
 ghost use Rattle.oathd_database.specs.Setup.{setup_behind};
 
 use crate::database::{Database, open_store};
@@ -87,7 +89,10 @@ pub fn serve_node<S: FloorStore, P: Port, C: Clock>(
 }
 
 /// Binds a socket to an address of this machine. Its receives wait at most 200 milliseconds.
-fn socket_at<N: Net>(net: &N, address: SocketAddrV4) -> Result<UdpSocket, Fault>
+///
+/// # Errors
+/// Returns `Socket` if the socket cannot be bound, or its waits cannot be limited.
+pub fn socket_at<N: Net>(net: &N, address: SocketAddrV4) -> Result<UdpSocket, Fault>
     ensures { IfErr result (λ fault. fault ≡ Fault.Socket) }
 {
     let Ok(socket) = UdpSocket::bind(net, SocketAddr::V4(address)) else {
@@ -101,11 +106,11 @@ fn socket_at<N: Net>(net: &N, address: SocketAddrV4) -> Result<UdpSocket, Fault>
 
 /// The log of a served node.
 #[derive(Drop)]
-struct ServeLog {
+pub struct ServeLog {
     /// The content of its first line.
-    start: Start,
+    pub start: Start,
     /// The other members of the node's cluster.
-    members: ArrayVec<Member, MAX_OTHERS>,
+    pub members: ArrayVec<Member, MAX_OTHERS>,
 }
 
 /// Returns the other members, whose silence the log reports.
@@ -143,7 +148,10 @@ fn serve_logged<S: FloorStore, P: Gatekeeper + Drop, N: TimeSource, W: Write>(
 }
 
 /// Serves a node over a port, as [`serve_node`] does, with a log if there is one. Without a log it writes nothing.
-fn serve_port<S: FloorStore, P: Gatekeeper + Drop, N: TimeSource, W: Write>(
+///
+/// # Errors
+/// Returns the errors of [`serve_node`].
+pub fn serve_port<S: FloorStore, P: Gatekeeper + Drop, N: TimeSource, W: Write>(
     node: &mut Node<'_, S>,
     port: P,
     outside: &N,
@@ -198,27 +206,31 @@ fn serve_front<S: FloorStore, N: TimeSource, W: Write>(
     }
 }
 
-/// Returns the content of a log's first line. Its boot is the one after the store's.
-fn start_of(
+/// Returns the content of the first line of the log of the node at `place`, whose store has the boot `boot`.
+pub fn start_of(
     place: Place,
     address: SocketAddrV4,
     boot: u64,
     book: &Book,
     key: &ClusterKey,
-) -> Start {
+) -> Start
+    requires { IsCount boot }
+    ensures { result ≡ start_at place address boot book.now key.now }
+{
     Start {
         node: place.me(),
         members: place.n(),
         address: client_number(address),
-        boot: boot.saturating_add(1),
+        boot: boot + 1,
         tokens: book.len(),
         fingerprint: fingerprint(key),
     }
 }
 
 /// Returns the log of a node, or None if `is_logged` is false.
-fn log_of(is_logged: bool, start: Start, place: Place) -> Option<ServeLog>
-    ensures { is_logged ≡ false → result ≡ None }
+pub fn log_of(is_logged: bool, start: Start, place: Place) -> Option<ServeLog>
+    ensures none { is_logged ≡ false → result ≡ None }
+    ensures start { is_logged ≡ true → IfSome result (λ log. log.start ≡ start) × IsSome result }
 {
     if !is_logged {
         return None;

@@ -2,7 +2,7 @@
 use Rattle.std.proofs.Common.{refl}
 use Rattle.std.specs.Fmt.{digits}
 use Rattle.hex.specs.Hex.{encode_with}
-use Rattle.node_log.specs.Text.{address_text, answered_line, at_text, client_text, counts_text, end_line, place_text, print_text, shown_byte, shown_user, start_line}
+use Rattle.node_log.specs.Text.{address_text, answered_line, at_text, client_text, counts_text, end_line, place_text, print_text, book_text, roster_line, rows_text, shown_byte, shown_user, start_line}
 use Rattle.node_log.proofs.laws.texts_are_worked.Goals as goal
 
 pub returns-clause-accepted : goal.returns-clause-accepted
@@ -36,6 +36,10 @@ returns-clause-nobody c = refl
 pub returns-clause-start : goal.returns-clause-start
 unfolding digits start_line end_line place_text at_text counts_text print_text address_text
 returns-clause-start c = refl
+
+pub returns-clause-roster : goal.returns-clause-roster
+unfolding digits roster_line rows_text book_text
+returns-clause-roster c = refl
 
 pub returns-clause-end : goal.returns-clause-end
 unfolding digits start_line end_line place_text at_text counts_text print_text address_text

@@ -1,0 +1,19 @@
+//! What a port by names tells a log of the datagrams that it passed over.
+
+use crate::port::NamedPort;
+use node_log::{Gatekeeper, Older};
+use sealed_port::Unopened;
+
+impl<P: Gatekeeper + Drop> Gatekeeper for NamedPort<'_, P> {
+    ghost unopened = { λ named. P.unopened named.port };
+
+    ghost older = { λ named. named.translator.older };
+
+    fn take_unopened(&mut self) -> Unopened {
+        self.port.take_unopened()
+    }
+
+    fn take_older(&mut self) -> Option<Older> {
+        NamedPort::take_older(self)
+    }
+}
