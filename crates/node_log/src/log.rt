@@ -142,15 +142,16 @@ impl<W: Write + Drop> Log<W> {
         self.bad_lines.rest();
     }
 
-    /// Returns whether a minute is over since the log began, or since [`passed_over`](Log::passed_over) was last called.
+    /// Returns whether a minute is over since the log began, or since the last call of
+    /// [`passed_over`](Log::passed_over).
     pub fn is_minute_over(&self) -> bool
         ensures { result ≡ is_over self.now.minute }
     {
         self.minute.is_over()
     }
 
-    /// Writes the line of the datagrams that were not opened, and that of one of an older boot, if there are any. Begins
-    /// another minute.
+    /// Writes the line of the datagrams that were not opened, and that of one of an older boot, if there are any.
+    /// Begins another minute.
     pub fn passed_over(&mut self, unopened: Unopened, older: Option<Older>)
         ensures asked { self.new.asked ≡ self.old.asked }
         ensures members { self.new.members.items ≡ self.old.members.items }

@@ -56,4 +56,4 @@ pub use serve::{
 pub use serving::Serving;
 pub use setup_laws::{setups_are_worked, setups_can_be_broken};
 pub use unlock::{UnlockFault, open_gate, unlock_store};
-pub use users::{Users, read_users};
+pub use users::{Users, drifted_floors, read_users};

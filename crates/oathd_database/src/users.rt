@@ -77,7 +77,7 @@ fn floor_at(floors: &[Next], place: usize) -> Next
 ///
 /// # Errors
 /// Fails only if the allocator refuses the memory.
-pub(crate) fn drifted_floors(
+pub fn drifted_floors(
     alloc: Global,
     users: &Users,
     drift: u64,
