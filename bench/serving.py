@@ -5,6 +5,7 @@ OATHD in the environment is the program, else ./oathd.
 import hashlib
 import os
 import random
+import re
 import resource
 import shutil
 import signal
@@ -92,6 +93,17 @@ class Limits:
                 processes.write(str(os.getpid()))
 
         return enter
+
+    def made(self):
+        """Returns how many writes the processes of all groups made until now."""
+        total = 0
+        for group in self.groups:
+            for file, number in (("blkio.throttle.io_serviced", r"Write (\d+)"), ("io.stat", r"wios=(\d+)")):
+                path = os.path.join(group, file)
+                if os.path.exists(path):
+                    with open(path) as text:
+                        total += sum(map(int, re.findall(number, text.read())))
+        return total
 
     def close(self):
         """Takes the groups away, whose processes have ended."""
