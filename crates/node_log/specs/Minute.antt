@@ -3,6 +3,7 @@ use Rattle.std.specs.Prelude.{ℕ, ◌+◌, ◌==◌, ◌&&◌, nat_lt, not, Boo
 use Rattle.std.specs.Fmt.{decimal}
 use Rattle.datagram_port.specs.Port.{PortEvent, Received, Quiet, Faulted, Offered}
 use Rattle.sealed_port.specs.declared.cause.Unopened.{Unopened}
+use Rattle.node_log.specs.Text.{valued}
 use Rattle.node_log.specs.declared.gatekeeper.Older.{Older}
 use Rattle.node_log.specs.declared.minute.Minute.{Minute}
 
@@ -51,7 +52,7 @@ unopened_line unopened =
 unfoldable pub older_line : Option Older → List ℕ
 older_line None = []
 older_line (Some older) =
-    codes "older member=" ++ decimal older.member ++ codes " boot=" ++ decimal older.boot ++ codes "\n"
+    valued (codes "older member=") older.member ++ valued (codes " boot=") older.boot ++ codes "\n"
 
 -- the lines of the datagrams that a port passed over
 abbrev pub passed_over_text : Unopened → Option Older → List ℕ

@@ -6,7 +6,7 @@ ghost use Rattle.datagram_port.specs.Port.{Quiet};
 ghost use Rattle.node_log.specs.Minute.{causes_text, has_none, is_over, minute_after, new_minute, numbered, older_line, passed_over_text, unopened_line};
 
 use crate::gatekeeper::Older;
-use crate::text::write_value;
+use crate::text::{write_small, write_value};
 use sealed_port::Unopened;
 use std::io::{self, Write};
 
@@ -102,8 +102,7 @@ fn write_older<W: Write>(writer: &mut W, older: Option<Older>) -> io::Result<()>
     let Some(older) = older else {
         return Ok(());
     };
-    writer.write_all(b"older member=")?;
-    write!(writer, "{}", older.member)?;
+    write_small(writer, b"older member=", older.member)?;
     write_value(writer, b" boot=", older.boot)?;
     writer.write_all(b"\n")
 }

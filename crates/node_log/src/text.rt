@@ -144,7 +144,7 @@ pub(crate) fn write_value<W: Write>(writer: &mut W, word: &[u8], number: u64) ->
 }
 
 /// Writes a word and a small number.
-fn write_small<W: Write>(writer: &mut W, word: &[u8], number: u8) -> io::Result<()>
+pub(crate) fn write_small<W: Write>(writer: &mut W, word: &[u8], number: u8) -> io::Result<()>
     ensures { OnOk result (Appends (W.contents writer.old) (W.contents writer.new) (word.now ++ decimal number)) }
 {
     writer.write_all(word)?;
