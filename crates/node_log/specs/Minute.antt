@@ -48,15 +48,18 @@ unfoldable pub unopened_line : Unopened → List ℕ
 unopened_line unopened =
     if has_none unopened then [] else codes "unopened" ++ causes_text unopened ++ codes "\n"
 
--- the line of the last datagram that was dropped because of its boot, or nothing if there is none
-unfoldable pub older_line : Option Older → List ℕ
-older_line None = []
-older_line (Some older) =
-    valued (codes "older member=") older.member ++ valued (codes " boot=") older.boot ++ codes "\n"
+-- the line of a datagram that was dropped because of its boot
+unfoldable pub older_line : Older → List ℕ
+older_line older = valued (codes "older member=") older.member ++ valued (codes " boot=") older.boot ++ codes "\n"
+
+-- the line of the last such datagram, or nothing if there is none
+abbrev pub older_text : Option Older → List ℕ
+older_text None = []
+older_text (Some older) = older_line older
 
 -- the lines of the datagrams that a port passed over
 abbrev pub passed_over_text : Unopened → Option Older → List ℕ
-passed_over_text unopened older = unopened_line unopened ++ older_line older
+passed_over_text unopened older = unopened_line unopened ++ older_text older
 
 -- the text at the beginning of a receive: the lines of a minute that is over
 abbrev pub minute_text : Minute → Unopened → Option Older → List ℕ

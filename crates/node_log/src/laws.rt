@@ -97,7 +97,7 @@ pub fn minutes_are_worked()
         ∷ codes "unopened again=10\n" ∷ codes "unopened limited=1\n" ∷ [] ∷ [] }
     ensures told { map (λ quiets. minute_text (minute quiets) (record nothing { tag = 1 }) None) (299 ∷ 300 ∷ [])
         ≡ [] ∷ codes "unopened tag=1\n" ∷ [] }
-    ensures older { older_line (Some (record { member = 3; boot = 12 })) ≡ codes "older member=3 boot=12\n" }
+    ensures older { older_line (record { member = 3; boot = 12 }) ≡ codes "older member=3 boot=12\n" }
     ensures both { minute_text (minute 300) (record nothing { tag = 1 }) (Some (record { member = 2; boot = 7 }))
         ≡ codes "unopened tag=1\nolder member=2 boot=7\n" }
     ensures begins { map (λ quiets. minute_at_receive (minute quiets)) (299 ∷ 300 ∷ []) ≡ minute 299 ∷ minute 0 ∷ [] }

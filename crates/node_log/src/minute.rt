@@ -3,7 +3,7 @@
 ghost use Rattle.std.specs.Prelude.{◌≡◌, OnOk};
 ghost use Rattle.std.specs.Io.KnownBytes.{Appends};
 ghost use Rattle.datagram_port.specs.Port.{Quiet};
-ghost use Rattle.node_log.specs.Minute.{causes_text, has_none, is_over, minute_after, new_minute, numbered, older_line, passed_over_text, unopened_line};
+ghost use Rattle.node_log.specs.Minute.{causes_text, has_none, is_over, minute_after, new_minute, numbered, older_line, older_text, passed_over_text, unopened_line};
 
 use crate::gatekeeper::Older;
 use crate::text::{write_small, write_value};
@@ -94,17 +94,24 @@ fn write_unopened<W: Write>(writer: &mut W, unopened: &Unopened) -> io::Result<(
     writer.write_all(b"\n")
 }
 
-/// Writes the line of the last datagram that was dropped because of its boot, or nothing if there is none.
+/// Writes the line of a datagram of an older boot.
 #[tactic(auto, unfolding(crate::specs::Minute::older_line))]
-fn write_older<W: Write>(writer: &mut W, older: Option<Older>) -> io::Result<()>
+fn write_older<W: Write>(writer: &mut W, older: Older) -> io::Result<()>
     ensures { OnOk result (Appends (W.contents writer.old) (W.contents writer.new) (older_line older)) }
 {
-    let Some(older) = older else {
-        return Ok(());
-    };
     write_small(writer, b"older member=", older.member)?;
     write_value(writer, b" boot=", older.boot)?;
     writer.write_all(b"\n")
+}
+
+/// Writes the line of a datagram of an older boot, or nothing if there is none.
+fn write_last_older<W: Write>(writer: &mut W, older: Option<Older>) -> io::Result<()>
+    ensures { OnOk result (Appends (W.contents writer.old) (W.contents writer.new) (older_text older)) }
+{
+    match older {
+        Some(older) => write_older(writer, older),
+        None => Ok(()),
+    }
 }
 
 /// Writes the lines of the datagrams that a port passed over.
@@ -117,5 +124,5 @@ pub(crate) fn write_passed_over<W: Write>(
         (passed_over_text unopened.now older)) }
 {
     write_unopened(writer, unopened)?;
-    write_older(writer, older)
+    write_last_older(writer, older)
 }
