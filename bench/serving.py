@@ -58,6 +58,13 @@ def ask(client, line):
     return hear(client, line)
 
 
+def lost_datagrams():
+    """How many datagrams the system has lost so far, since a receiver's buffer was full."""
+    with open("/proc/net/snmp") as counts:
+        names, values = [line.split() for line in counts if line.startswith("Udp:")]
+    return int(dict(zip(names, values))["RcvbufErrors"])
+
+
 class Limits:
     """Control groups in which each process makes so many writes a second to the disk of a folder at most, as root alone
     may have them. None is no limit."""
