@@ -77,11 +77,7 @@ fn floor_at(floors: &[Next], place: usize) -> Next
 ///
 /// # Errors
 /// Fails only if the allocator refuses the memory.
-pub fn drifted_floors(
-    alloc: Global,
-    users: &Users,
-    drift: u64,
-) -> Result<Vec<Next>, AllocError>
+pub fn drifted_floors(alloc: Global, users: &Users, drift: u64) -> Result<Vec<Next>, AllocError>
     requires { drift ≤ 10 }
     ensures floors { IfOk result (λ floors. floors.items
         ≡ drifted_floors drift users.now.book users.now.floors.items) }
