@@ -2,5 +2,6 @@ pub mod MemberLemmas
 pub mod NamesLemmas
 pub mod WireLemmas
 pub mod RunLemmas
+pub mod SetupLemmas
 pub mod SpellingLemmas
 pub mod CallLemmas

@@ -1,6 +1,7 @@
 -- Two nodes with their books, and their datagrams. The tags are by Python's hmac.
-use Rattle.std.specs.Prelude.{ℕ, List, [], ◌∷◌, ◌++◌, replicate, drop, Option, Some}
+use Rattle.std.specs.Prelude.{ℕ, true, false, List, [], ◌∷◌, ◌++◌, replicate, drop, Option, Some, None}
 use Rattle.datagram_port.specs.Port.{PortEvent, Received}
+use Rattle.datagram_port.specs.Setup.{Setup}
 use Rattle.datagram_port.specs.declared.port.Sender.TheVariants.{Peer}
 use Rattle.named_wire.specs.declared.head.Head.{Head}
 use Rattle.named_wire.specs.declared.head.Kind.{Kind}
@@ -105,3 +106,17 @@ from_3 bytes = Received (Peer 3) bytes
 -- the last dropped datagram
 abbrev pub older : ℕ → ℕ → Option Older
 older member boot = Some (record { member = member; boot = boot })
+
+-- the setup of a port without members, a gate and names
+abbrev pub bare_setup : Setup
+bare_setup = record {
+  members = [];
+  skips_answers = true;
+  takes_loopback_alone = false;
+  gate = None;
+  namings = [];
+}
+
+-- two short names
+abbrev pub short_names : List (List ℕ)
+short_names = (1 ∷ []) ∷ (2 ∷ []) ∷ []

@@ -27,5 +27,5 @@ pub use port::NamedPort;
 pub use wire::{MAX_NUMBERED_LEN, named, numbered};
 pub use worked::{
     boots_are_worked, calls_are_worked, calls_can_be_broken, events_are_worked,
-    receives_can_be_broken, translations_are_worked,
+    receives_can_be_broken, setups_are_worked, setups_can_be_broken, translations_are_worked,
 };

@@ -6,6 +6,7 @@ ghost use Rattle.datagram_port.specs.Port.{Grows, IsWithin, Offered, entries_of_
 ghost use Rattle.datagram_port.specs.declared.port.Received.TheVariants.{Quiet};
 ghost use Rattle.named_port.specs.Port.{Polls, Receives};
 ghost use Rattle.named_port.specs.Runs.{IsAfter, at_start, handed_events};
+ghost use Rattle.named_port.specs.Setup.{named_setup};
 ghost use Rattle.named_port.specs.Translator.{after_event, handed_in, new_translator, offered};
 
 use crate::names::Names;
@@ -115,17 +116,19 @@ impl<'k, P: Port + Drop> NamedPort<'k, P> {
 impl<P: Port + Drop> Port for NamedPort<'_, P> {
     ghost use Rattle.std.specs.Prelude.{Some};
     ghost use Rattle.named_port.specs.Runs.{at_start, handed_events};
+    ghost use Rattle.named_port.specs.Setup.{named_setup};
 
     ghost events = { λ port. Some (handed_events (at_start port.translator) port.calls.events) };
 
-    ghost setup = { λ port. P.setup port.port };
+    ghost setup = { λ port. named_setup port.translator (P.setup port.port) };
 
     fn receive(&mut self, buffer: &mut [u8; 512]) -> Received
         ensures within { IsWithin result }
         ensures event { Grows (Some (handed_events (at_start self.old.translator) self.old.calls.events))
             (Some (handed_events (at_start self.new.translator) self.new.calls.events))
             (event_of_receive result buffer.new ∷ []) }
-        ensures stays { P.setup self.new.port ≡ P.setup self.old.port }
+        ensures stays { named_setup self.new.translator (P.setup self.new.port)
+            ≡ named_setup self.old.translator (P.setup self.old.port) }
         ensures receives { Receives (P.events self.old.port) (P.events self.new.port) self.old.translator
             self.new.translator (event_of_receive result buffer.new) }
     {
@@ -140,7 +143,8 @@ impl<P: Port + Drop> Port for NamedPort<'_, P> {
         ensures event { Grows (Some (handed_events (at_start self.old.translator) self.old.calls.events))
             (Some (handed_events (at_start self.new.translator) self.new.calls.events))
             (entries_of_poll result buffer.new) }
-        ensures stays { P.setup self.new.port ≡ P.setup self.old.port }
+        ensures stays { named_setup self.new.translator (P.setup self.new.port)
+            ≡ named_setup self.old.translator (P.setup self.old.port) }
         ensures polls { Polls (P.events self.old.port) (P.events self.new.port) self.old.translator
             self.new.translator (option_map (λ received. event_of_receive received buffer.new) result) }
     {
@@ -155,7 +159,8 @@ impl<P: Port + Drop> Port for NamedPort<'_, P> {
         ensures event { Grows (Some (handed_events (at_start self.old.translator) self.old.calls.events))
             (Some (handed_events (at_start self.new.translator) self.new.calls.events))
             (Offered to bytes.now ∷ []) }
-        ensures stays { P.setup self.new.port ≡ P.setup self.old.port }
+        ensures stays { named_setup self.new.translator (P.setup self.new.port)
+            ≡ named_setup self.old.translator (P.setup self.old.port) }
         ensures offers { Grows (P.events self.old.port) (P.events self.new.port)
             (offered self.old.translator to bytes.now) }
         ensures same { self.new.translator ≡ self.old.translator }

@@ -4,11 +4,12 @@ ghost use Rattle.datagram_port.specs.declared.port.Sender.TheVariants.{Client, P
 ghost use Rattle.named_wire.specs.declared.head.Head.{Head};
 ghost use Rattle.named_wire.specs.declared.head.Kind.TheVariants.{Floor, Floors};
 ghost use Rattle.vote_wire.specs.Examples.{ask_body};
-ghost use Rattle.named_port.specs.Examples.{floor_6, floor_7, floor_from, floor_head, from_3, name_with, named_ask, names_of_1, names_of_2, node_1, node_2, node_2_after, numbered_ask, older, renumbered_ask, zeros};
+ghost use Rattle.named_port.specs.Examples.{bare_setup, floor_6, floor_7, floor_from, floor_head, from_3, name_with, named_ask, names_of_1, names_of_2, node_1, node_2, node_2_after, numbered_ask, older, renumbered_ask, short_names, zeros};
 ghost use Rattle.named_port.specs.Names.{number_of};
 ghost use Rattle.named_port.specs.Port.{Polls, Receives};
 ghost use Rattle.named_port.specs.Runs.{Has, IsAfter, after_events, at_start, below_events, boot_told, greatest_boot, handed_events};
-ghost use Rattle.named_port.specs.Translator.{after_event, after_read, between, handed_in, offered, translated};
+ghost use Rattle.named_port.specs.Setup.{named_setup};
+ghost use Rattle.named_port.specs.Translator.{after_event, after_read, between, handed_in, new_translator, offered, translated};
 ghost use Rattle.named_port.specs.Wire.{is_named, is_numbered, named_at, numbered_at, numbered_of};
 
 /// Worked cases. An Ask of node 1 with the number of its token, with the name, and with the number at node 2.
@@ -119,4 +120,39 @@ pub fn receives_can_be_broken()
     ensures polls_nothing { Polls (Some []) (Some []) node_2 node_2 None }
     ensures polls_nothing_and_receives { Polls (Some []) (Some (Quiet ∷ [])) node_2 node_2 None → ⊥ }
     ensures polls_nothing_and_hears { Polls (Some []) (Some []) node_2 (node_2_after 0 7) None → ⊥ }
+{}
+
+/// Worked cases. The setup of a port by names, over a port without names, over one with names, and over none.
+pub fn setups_are_worked()
+    ensures names { named_setup (new_translator (7 ∷ []) short_names 3 5) (Some bare_setup)
+        ≡ Some (record bare_setup {
+          namings = record { key = 7 ∷ []; names = (1 ∷ []) ∷ (2 ∷ []) ∷ []; me = 3; boot = 5 } ∷ [];
+        }) }
+    ensures over_names { named_setup (new_translator [] [] 4 6)
+        (named_setup (new_translator (7 ∷ []) short_names 3 5) (Some bare_setup))
+        ≡ Some (record bare_setup {
+          namings = record { key = []; names = []; me = 4; boot = 6 }
+              ∷ record { key = 7 ∷ []; names = short_names; me = 3; boot = 5 } ∷ [];
+        }) }
+    ensures over_none { named_setup (new_translator (7 ∷ []) short_names 3 5) None ≡ None }
+    ensures heard { named_setup (record (node_2_after 3 7) { older = older 3 6 }) (Some bare_setup)
+        ≡ named_setup node_2 (Some bare_setup) }
+{}
+
+/// Counterexamples: the setup of a port by names is another one for another key, other names, another node or boot.
+pub fn setups_can_be_broken()
+    ensures another_key { named_setup (new_translator (7 ∷ []) short_names 3 5) (Some bare_setup)
+        ≡ named_setup (new_translator (8 ∷ []) short_names 3 5) (Some bare_setup) → ⊥ }
+    ensures another_name { named_setup (new_translator (7 ∷ []) short_names 3 5) (Some bare_setup)
+        ≡ named_setup (new_translator (7 ∷ []) ((1 ∷ []) ∷ (3 ∷ []) ∷ []) 3 5) (Some bare_setup) → ⊥ }
+    ensures another_order { named_setup (new_translator (7 ∷ []) short_names 3 5) (Some bare_setup)
+        ≡ named_setup (new_translator (7 ∷ []) ((2 ∷ []) ∷ (1 ∷ []) ∷ []) 3 5) (Some bare_setup) → ⊥ }
+    ensures fewer_names { named_setup (new_translator (7 ∷ []) short_names 3 5) (Some bare_setup)
+        ≡ named_setup (new_translator (7 ∷ []) ((1 ∷ []) ∷ []) 3 5) (Some bare_setup) → ⊥ }
+    ensures another_node { named_setup (new_translator (7 ∷ []) short_names 3 5) (Some bare_setup)
+        ≡ named_setup (new_translator (7 ∷ []) short_names 4 5) (Some bare_setup) → ⊥ }
+    ensures another_boot { named_setup (new_translator (7 ∷ []) short_names 3 5) (Some bare_setup)
+        ≡ named_setup (new_translator (7 ∷ []) short_names 3 6) (Some bare_setup) → ⊥ }
+    ensures no_names { named_setup (new_translator (7 ∷ []) short_names 3 5) (Some bare_setup)
+        ≡ Some bare_setup → ⊥ }
 {}

@@ -1,5 +1,6 @@
 pub mod IndexLemmas
 pub mod SeatingLemmas
+pub mod EntryLemmas
 pub mod FloorLemmas
 pub mod RefusedLemmas
 pub mod GrownLemmas

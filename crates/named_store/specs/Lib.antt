@@ -1,4 +1,5 @@
 pub mod Seating
+pub mod Entries
 pub mod Floors
 pub mod Opened
 pub mod Examples

@@ -1,6 +1,11 @@
-ghost use Rattle.std.specs.Prelude.{◌≡◌, ◌≤◌, ◌+◌, ℕ, List, [], ◌∷◌, length, replicate, slice_get, Some};
+ghost use Rattle.std.specs.Prelude.{◌≡◌, ◌≤◌, ◌+◌, ℕ, List, [], ◌∷◌, codes, length, replicate, slice_get, Some};
 ghost use Rattle.roster_sql.specs.Examples.{entry_of};
 ghost use Rattle.roster_sql.specs.declared.entry.Entry.{Entry};
+ghost use Rattle.token_file.specs.Examples.{event_token, time_token};
+ghost use Rattle.token_file.specs.declared.token.Kind.{Kind};
+ghost use Rattle.token_names.specs.Names.{name_of};
+ghost use Rattle.token_names.specs.Seed.{seed_of};
+ghost use Rattle.named_store.specs.Entries.{entries_of, entry_under};
 ghost use Rattle.named_store.specs.Examples.{known, retired, two_new};
 ghost use Rattle.named_store.specs.Floors.{raised_floor, seeded_floors};
 ghost use Rattle.named_store.specs.Seating.{AreDistinct, AreNew, AreSeatsOf, has_name, name_at, new_entries, new_places};
@@ -21,6 +26,17 @@ pub fn seats_are_worked()
     ensures another_seed { AreNew retired (entry_of 1 7 ∷ []) [] [] }
     ensures distinct { AreDistinct two_new }
     ensures twice { AreDistinct (entry_of 8 1 ∷ entry_of 9 1 ∷ entry_of 9 2 ∷ []) → ⊥ }
+{}
+
+/// Worked cases: the entries of two tokens, in their order, and of one device with two users.
+pub fn entries_are_worked()
+    ensures entry { (salt : List ℕ) → entry_under salt (event_token (codes "u"))
+        ≡ record { name = name_of salt (event_token (codes "u")); seed = seed_of salt (event_token (codes "u")) } }
+    ensures in_order { (salt : List ℕ) → entries_of salt (event_token (codes "u") ∷ time_token Kind.Time30 ∷ [])
+        ≡ entry_under salt (event_token (codes "u")) ∷ entry_under salt (time_token Kind.Time30) ∷ [] }
+    ensures no_rows { (salt : List ℕ) → entries_of salt [] ≡ [] }
+    ensures one_device { (salt : List ℕ) →
+        (entry_under salt (event_token (codes "u"))).seed ≡ (entry_under salt (event_token (codes "v"))).seed }
 {}
 
 /// Worked cases: floors of new tokens.

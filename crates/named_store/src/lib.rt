@@ -6,9 +6,11 @@
 //! 2. A token without a row is enrolled. It gets a row behind the others.
 //! 3. A row without a token stays, and is not seen.
 //!
-//! [`open_named`] does all of this at a start, and returns the rows of the seats as a store.
+//! [`open_named`] does all of this at a start, and returns the rows of the seats as a store. [`entries_of`] computes the
+//! name and the seed of each token for it.
 #![tactic(auto)]
 
+mod entries;
 mod fault;
 mod floors;
 mod laws;
@@ -16,8 +18,9 @@ mod opening;
 mod reading;
 mod seats;
 
+pub use entries::entries_of;
 pub use fault::NamedFault;
 pub use floors::seeded_floors;
-pub use laws::{floors_are_kept, floors_are_worked, seats_are_worked};
+pub use laws::{entries_are_worked, floors_are_kept, floors_are_worked, seats_are_worked};
 pub use opening::open_named;
 pub use seats::{Seating, find_seats};

@@ -1,14 +1,32 @@
 use floor_sql::SqlStore;
 use floor_store::{FloorStore, Row, StoreFault};
-use named_store::{NamedFault, open_named};
-use otp_core::Next;
+use named_store::{NamedFault, entries_of, open_named};
+use otp_core::{Next, Settings};
 use roster_sql::{Bond, Entry, NAME_LEN, make_named};
 use seated_store::SeatedStore;
 use sqlite::{Connection, MemStore};
 use std::alloc::Global;
+use std::test::Fail;
+use token_file::{FromRead, read_book};
+use token_names::{Name, Salt};
 
 /// A store that was opened by names.
 type Opened = SeatedStore<SqlStore<MemStore>>;
+
+/// The rows of two tokens.
+const ROWS: &[u8] = b"HOTP silver pw 3132333435363738393031323334353637383930 7\nHOTP/T30/8/SHA256 ann - 00FF\n";
+
+/// The name and the seed of each token of [`ROWS`] under the salt `names-of-site-1`, as Python's hmac computes them.
+const ENTRIES: [[&str; 2]; 2] = [
+    [
+        "5cb0460e92720059b321966bf3ace45e",
+        "4b1d67ac07a043cad8bcc7ec0a00202b",
+    ],
+    [
+        "e2329dda198989c3be495e9bada26a6c",
+        "ed76c9713d62b9bfbbb5e80400be4737",
+    ],
+];
 
 /// Returns an entry of one byte for its name and one for its seed.
 fn entry(name: u8, seed: u8) -> Entry {
@@ -136,6 +154,27 @@ fn refused(
         fault_of(another) == Some(NamedFault::AnotherCluster)
             && fault_of(same) == Some(NamedFault::Store(StoreFault::Unusable)),
     )
+}
+
+/// Returns whether an entry has the name and the seed that are written in hexadecimal.
+fn is_written(entry: Entry, digits: [&str; 2]) -> bool {
+    let name = Name::new(entry.name).digits();
+    let seed = Name::new(entry.seed).digits();
+    name.as_slice() == digits[0].as_bytes() && seed.as_slice() == digits[1].as_bytes()
+}
+
+/// The entries of a book are in the order of its rows.
+#[test]
+fn entries_in_order(rt: HostRuntime) -> Result<(), Fail> {
+    let salt = Salt::new(b"names-of-site-1").ok_or_else(|| Fail::new("no salt"))?;
+    let settings = Settings::new(10, 1, 100).unwrap();
+    let (book, _) = read_book(rt.alloc(), &mut FromRead::new(ROWS), settings, 59)?;
+    let entries = entries_of(rt.alloc(), &salt, &book)?;
+    assert!(rt; entries.len() == ENTRIES.len());
+    for (entry, digits) in entries.iter().zip(ENTRIES) {
+        assert!(rt; is_written(*entry, digits));
+    }
+    Ok(())
 }
 
 #[test]

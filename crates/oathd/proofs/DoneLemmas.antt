@@ -62,6 +62,11 @@ module _ {S : Type 0} (g : Ghosts S) (finds : sql.Held S → Type 0) (node : ℕ
       → HasToldFloors g finds default_limits 16777216 node members moment old new users → AreFloorsTold g finds node members old new
   floors_told members moment old new at h = record { moment = moment; is_moment = at; users = users; told = h }
 
+-- floors are raised by the files at the same paths
+pub levelled_paths : {S : Type 0} {V : Type 0} (g : Ghosts S) (finds : sql.Held S → Type 0) (node : ℕ) (paths all : List V) → paths ≡ all
+    → IsLevelled g finds node (length paths) → IsLevelled g finds node (length all)
+levelled_paths g finds node paths all same h = subst (λ (count : ℕ). IsLevelled g finds node count) (ap length same) h
+
 -- the place of a node among the members of a cluster file
 place_is : (cluster : Cluster) (node : ℕ) (place : PlaceRecord) → place ≡ record { me = node; n = length cluster.members.items }
     → place ≡ place_in (cluster_value cluster) node

@@ -9,7 +9,7 @@ ghost use Rattle.oathd_database.specs.Gate.{IsSaid};
 ghost use Rattle.oathd_database.specs.declared.fault.Fault.TheVariants as database;
 ghost use Rattle.oathd_words.specs.StoreWords.{IsActionInRange, IsClusterInRange};
 ghost use Rattle.oathd_words.specs.declared.store_words.Action.TheVariants.{Audit, Export, Floors, Gates, Init, Level, Migrate, Remake, Unlock};
-ghost use Rattle.oathd.specs.Done.{IsCountOf, IsCreated, IsDone, IsMemberCreated, IsMemberReplaced, IsMomentOf, IsReplaced};
+ghost use Rattle.oathd.specs.Done.{IsCountOf, IsCreated, IsDone, IsLevelled, IsMemberCreated, IsMemberReplaced, IsMomentOf, IsReplaced};
 ghost use Rattle.oathd.specs.Serve.{AreLinesOf, IsAskedFor, IsMemberOf, IsOfTask, IsRunOf, ServeEndsSo};
 ghost use Rattle.oathd.specs.Users.{IsOfUsers};
 
@@ -22,7 +22,7 @@ use floor_sql::SqlStore;
 use oathd_database::{
     ClientLines, DatabaseFile, LostNode, NodeKey, Serving, audit_store, export_store, floors_store,
     gates_store, init_lost_store, init_member_store, init_store, level_store, migrate_store,
-    serve_store, unlock_store, write_store,
+    read_users, serve_store, unlock_store, write_store,
 };
 use oathd_tasks::{clients_at, cluster_in, cluster_key, member_place, read_key};
 use oathd_words::{Action, ClientWords, ClusterWords, CountWords, FormerWords, ImportWords};
@@ -431,17 +431,38 @@ impl<'r, 'a> Site<'r, 'a> {
         Ok(())
     }
 
+    /// Raises the floors of a node to the greatest in the floors files at `paths`, with the text of the users file.
+    fn level_by<S: Start>(
+        &self,
+        start: S,
+        node: u8,
+        users: &[u8],
+        paths: &[&'a str],
+    ) -> Result<(), Fault<'a>>
+        ensures { IfOk result (λ _. IsLevelled ⟦<FileStore<FileFrom<S>> as Store>⟧ (FindsFiles (image_at S.Start)) node
+            (length paths.now)) }
+    {
+        let texts = floors_texts(self.alloc, self.rt, paths)?;
+        match level_store(self.alloc, users, node, &texts, self.found(start)) {
+            Ok(_store) => Ok(()),
+            Err(fault) => Err(with_paths(paths, fault)),
+        }
+    }
+
     /// Raises the floors of a node (floor: the first free factor) to the greatest in floors files.
     fn level<S: Start>(&self, start: S, node: u8, floors: Vec<&'a str>) -> Result<(), Fault<'a>>
         ensures { IfOk result (λ _. IsDone ⟦<FileStore<FileFrom<S>> as Store>⟧ (FindsFiles (image_at S.Start))
             (Level node floors.entry) self.now.cluster.now None None) }
     {
         let (alloc, rt) = (self.alloc, self.rt);
-        let users = checked_users_text(alloc, rt, self.users, Settings::default(), 0)?;
-        let texts = floors_texts(alloc, rt, &floors)?;
-        match level_store(alloc, users.as_slice(), node, &texts, self.found(start)) {
-            Ok(_store) => Ok(()),
-            Err(fault) => Err(with_paths(&floors, fault)),
+        let users = users_text(alloc, rt, self.users, Settings::default(), 0)?;
+        match self.level_by(start, node, users.as_slice(), &floors) {
+            Ok(()) => Ok(()),
+            Err(fault) => {
+                // A fault of the users file comes first.
+                let _users = read_users(alloc, users.as_slice(), Settings::default(), 0)?;
+                Err(fault)
+            }
         }
     }
 

@@ -17,6 +17,7 @@ pub fn setups_are_worked()
       skips_answers = true;
       takes_loopback_alone = false;
       gate = None;
+      namings = [];
     } }
     ensures this_machine { setup_for 1 two_members ThisMachine
         ≡ record (setup_for 1 two_members Anybody) { takes_loopback_alone = true } }

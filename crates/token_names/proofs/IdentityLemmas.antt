@@ -40,6 +40,12 @@ field_is a b e field = ap field (same_some a b e)
 same_secret : (a b : List ℕ) → ◌≡◌ {A = Result (List ℕ) FromHexError} (Ok a) (Ok b) → a ≡ b
 same_secret a b e = search e
 
+-- a secret is known by its digits
+pub secret_is : (a b : Credential) → IsCredential a → IsCredential b → encode_lower a.secret ≡ encode_lower b.secret → a.secret ≡ b.secret
+secret_is a b h k e =
+    same_secret a.secret b.secret
+    (sym (decode_of-encode_lower a.secret h.bytes) ∙ ap decode_of e ∙ decode_of-encode_lower b.secret k.bytes)
+
 pub same_token : (a b : Credential) → IsCredential a → IsCredential b → identity_text a ≡ identity_text b → IsSameToken a b
 same_token a b h k e =
     let line = append_cancel_right (join_with_byte 9 (identity_fields a)) (join_with_byte 9 (identity_fields b)) (10 ∷ []) e in
@@ -55,5 +61,5 @@ same_token a b h k e =
       digits = field_is type_a type_b types (λ t. t.digits);
       hash = field_is type_a type_b types (λ t. t.hash);
       name = names;
-      secret = same_secret a.secret b.secret (sym (decode_of-encode_lower a.secret h.bytes) ∙ ap decode_of secrets ∙ decode_of-encode_lower b.secret k.bytes);
+      secret = secret_is a b h k secrets;
     }

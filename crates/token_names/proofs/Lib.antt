@@ -1,2 +1,3 @@
 pub mod IdentityLemmas
 pub mod NamesLemmas
+pub mod SeedLemmas

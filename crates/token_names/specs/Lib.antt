@@ -1,3 +1,4 @@
 pub mod Identity
 pub mod Names
+pub mod Seed
 pub mod Examples

@@ -14,7 +14,7 @@ use token_file::{Kind, Token};
 pub const MAX_IDENTITY_LEN: usize = 340;
 
 /// Returns the word of a kind.
-fn kind_text(kind: Kind) -> &'static [u8]
+pub(crate) fn kind_text(kind: Kind) -> &'static [u8]
     ensures text { result.now ≡ kind_word kind }
     ensures len { length result.now ≤ 8 }
 {
@@ -50,7 +50,7 @@ fn hash_text(hash: Hash) -> &'static [u8]
 }
 
 /// Appends `bytes`.
-fn push_all(out: &mut ArrayVec<u8, MAX_IDENTITY_LEN>, bytes: &[u8])
+pub(crate) fn push_all(out: &mut ArrayVec<u8, MAX_IDENTITY_LEN>, bytes: &[u8])
     requires { array_vec_len out.old + length bytes.now ≤ MAX_IDENTITY_LEN }
     ensures items { out.new.items ≡ out.old.items ++ bytes.now }
     ensures len { array_vec_len out.new ≡ array_vec_len out.old + length bytes.now }
@@ -59,7 +59,7 @@ fn push_all(out: &mut ArrayVec<u8, MAX_IDENTITY_LEN>, bytes: &[u8])
 }
 
 /// Appends a secret in lower case hexadecimal.
-fn push_secret(out: &mut ArrayVec<u8, MAX_IDENTITY_LEN>, secret: &Secret)
+pub(crate) fn push_secret(out: &mut ArrayVec<u8, MAX_IDENTITY_LEN>, secret: &Secret)
     requires { array_vec_len out.old + 256 ≤ MAX_IDENTITY_LEN }
     ensures items { out.new.items ≡ out.old.items ++ encode_lower secret.now }
     ensures len { array_vec_len out.new ≤ array_vec_len out.old + 256 }

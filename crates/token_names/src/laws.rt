@@ -6,9 +6,10 @@ ghost use Rattle.token_file.specs.Examples.{event_token, password, time_token, t
 ghost use Rattle.token_file.specs.Writing.{IsCredential};
 ghost use Rattle.token_file.specs.declared.token.Kind.{Kind};
 ghost use Rattle.token_file.specs.declared.token.Password.{Password};
-ghost use Rattle.token_names.specs.Examples.{name_of_event, two_bytes};
+ghost use Rattle.token_names.specs.Examples.{name_of_event, seed_of_event, seed_of_time, two_bytes};
 ghost use Rattle.token_names.specs.Identity.{IsSameToken, identity_text};
 ghost use Rattle.token_names.specs.Names.{AreDistinct, IsCollision, IsFaultOf, IsFirstRepeat, IsSalt, name_of as spec_name_of, names_of as spec_names_of, short_mac};
+ghost use Rattle.token_names.specs.Seed.{IsSameDevice, seed_of as spec_seed_of, seed_text};
 ghost use Rattle.token_names.specs.declared.fault.NamesFault.{NamesFault};
 
 /// Injective: tokens with equal identities have equal types, users and secrets.
@@ -28,6 +29,30 @@ pub fn names_tell()
 pub fn passwords_are_left_out()
     ensures { (salt : List ℕ) (credential : Credential) (password : Password) →
         spec_name_of salt (record credential { password = password }) ≡ spec_name_of salt credential }
+{}
+
+/// Injective: tokens with equal texts of their seeds have equal kinds and secrets.
+pub fn seed_texts_tell()
+    ensures { (a b : Credential) → IsCredential a → IsCredential b → seed_text a ≡ seed_text b → IsSameDevice a b }
+{}
+
+/// Different seeds: tokens of other kinds or secrets have different seeds, unless the texts of the seeds collide under
+/// the first 16 bytes of HMAC-SHA-256.
+pub fn seeds_tell()
+    ensures { (salt : List ℕ) (a b : Credential) → IsCredential a → IsCredential b → (IsSameDevice a b → ⊥) →
+        spec_seed_of salt a ≡ spec_seed_of salt b → IsCollision salt (seed_text a) (seed_text b) }
+{}
+
+/// Same seed: tokens of the same kind and secret have the same seed.
+pub fn devices_keep_their_seeds()
+    ensures { (salt : List ℕ) (a b : Credential) → IsSameDevice a b → spec_seed_of salt a ≡ spec_seed_of salt b }
+{}
+
+/// Separate: no text is an identity and the text of a seed. A name that is a seed is a collision.
+pub fn seeds_are_no_names()
+    ensures texts { (a b : Credential) → identity_text a ≡ seed_text b → ⊥ }
+    ensures names { (salt : List ℕ) (a b : Credential) → spec_name_of salt a ≡ spec_seed_of salt b →
+        IsCollision salt (identity_text a) (seed_text b) }
 {}
 
 /// Worked cases. The identity of each kind of token, and tokens that differ in one part.
@@ -62,6 +87,26 @@ pub fn names_are_worked()
     ensures in_order { (salt : List ℕ) → spec_names_of salt (event_token (codes "u") ∷ event_token (codes "v") ∷ [])
         ≡ spec_name_of salt (event_token (codes "u")) ∷ spec_name_of salt (event_token (codes "v")) ∷ [] }
     ensures no_rows { (salt : List ℕ) → spec_names_of salt [] ≡ [] }
+{}
+
+/// Worked cases. The text of a seed of each kind, the seeds of two kinds, and tokens that differ in one part.
+pub fn seeds_are_worked()
+    ensures event { seed_text (event_token (codes "u")) ≡ codes "seed" ++ 9 ∷ codes "HOTP/E" ++ 9 ∷ codes "31" }
+    ensures long_secret { seed_text (two_bytes (codes "ann") Kind.Time30 Digits.Eight Hash.Sha512)
+        ≡ codes "seed" ++ 9 ∷ codes "HOTP/T30" ++ 9 ∷ codes "00ff" }
+    ensures with_password { seed_text
+        (token_of (codes "u") (password (codes "pw")) Kind.Time60 Digits.Seven Hash.Sha256)
+        ≡ codes "seed" ++ 9 ∷ codes "HOTP/T60" ++ 9 ∷ codes "31" }
+    ensures seed { spec_seed_of (codes "names-of-site-1") (event_token (codes "u")) ≡ seed_of_event }
+    ensures seed_of_another_kind { spec_seed_of (codes "names-of-site-1") (time_token Kind.Time30) ≡ seed_of_time }
+    ensures seed_of_another_user { (salt : List ℕ) →
+        spec_seed_of salt (token_of (codes "v") (password (codes "pw")) Kind.Event Digits.Seven Hash.Sha1)
+        ≡ spec_seed_of salt (event_token (codes "u")) }
+    ensures same { IsSameDevice (time_token Kind.Time30)
+        (token_of (codes "v") (password (codes "pw")) Kind.Time30 Digits.Seven Hash.Sha256) }
+    ensures other_kind { IsSameDevice (time_token Kind.Time30) (time_token Kind.Time60) → ⊥ }
+    ensures other_secret { IsSameDevice (event_token (codes "u"))
+        (two_bytes (codes "u") Kind.Event Digits.Six Hash.Sha1) → ⊥ }
 {}
 
 /// Counterexamples: each promise of names, faults and collisions fails for a minimal one.

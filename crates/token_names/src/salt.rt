@@ -1,5 +1,5 @@
 ghost use Rattle.std.specs.Prelude.{◌≡◌, ◌↔◌, IsSome, IfSome};
-ghost use Rattle.token_names.specs.Names.{IsSalt, name_of as spec_name_of};
+ghost use Rattle.token_names.specs.Names.{IsSalt, name_of as spec_name_of, short_mac as spec_short_mac};
 
 use crate::identity::identity_of;
 use crate::name::{NAME_LEN, Name};
@@ -53,15 +53,22 @@ impl Salt {
     {
         &self.word
     }
+
+    /// Returns the first 16 bytes of the HMAC-SHA-256 of a text under the word (RFC 2104).
+    #[tactic(auto, unfolding(crate::specs::Names::short_mac))]
+    pub(crate) fn short_mac(&self, text: &[u8]) -> [u8; NAME_LEN]
+        ensures { result ≡ spec_short_mac self.now text.now }
+    {
+        let mac = self.keyed.mac(text);
+        let mut bytes = [0; NAME_LEN];
+        bytes.copy_from_slice(&mac.as_slice()[..NAME_LEN]);
+        bytes
+    }
 }
 
-/// Returns the name of a token: the first 16 bytes of the HMAC-SHA-256 of its identity under the salt (RFC 2104).
-#[tactic(auto, unfolding(crate::specs::Names::short_mac))]
+/// Returns the name of a token: the first 16 bytes of the HMAC-SHA-256 of its identity under the salt.
 pub fn name_of(salt: &Salt, token: &Token) -> Name
     ensures { result ≡ spec_name_of salt.now token.now }
 {
-    let mac = salt.keyed.mac(&identity_of(token));
-    let mut bytes = [0; NAME_LEN];
-    bytes.copy_from_slice(&mac.as_slice()[..NAME_LEN]);
-    Name::new(bytes)
+    Name::new(salt.short_mac(&identity_of(token)))
 }

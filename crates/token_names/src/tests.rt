@@ -1,12 +1,12 @@
-//! Names that Python's hmac computed, the names of a book, and what is printed.
+//! Names and seeds that Python's hmac computed, the names of a book, and what is printed.
 
-use crate::{Name, NamesFault, Salt, name_of, names_of};
+use crate::{Name, NamesFault, Salt, name_of, names_of, seed_of};
 use arrayvec::ArrayVec;
 use hmac_core::Hash;
 use otp_core::{Digits, Secret, Settings};
 use std::alloc::Global;
 use std::test::Fail;
-use token_file::{Book, FromRead, Kind, Password, Token, read_book};
+use token_file::{Book, FromRead, Kind, Password, Token, TokenId, read_book};
 
 /// The salt of all names here.
 const SALT: &[u8] = b"names-of-site-1";
@@ -20,6 +20,13 @@ const NAMES: [&str; 3] = [
     "5cb0460e92720059b321966bf3ace45e",
     "e2329dda198989c3be495e9bada26a6c",
     "a94a7035cb37132f9354055c54723721",
+];
+
+/// The seeds of the tokens of [`ROWS`], in hexadecimal.
+const SEEDS: [&str; 3] = [
+    "4b1d67ac07a043cad8bcc7ec0a00202b",
+    "ed76c9713d62b9bfbbb5e80400be4737",
+    "11acba361ed553d6e50a21b85927a086",
 ];
 
 /// Returns the salt of all names here.
@@ -73,6 +80,20 @@ fn names_in_order(rt: HostRuntime) -> Result<(), Fail> {
     assert!(rt; names.len() == NAMES.len());
     for (name, text) in names.iter().zip(NAMES) {
         assert!(rt; is_printed(rt.alloc(), *name, text)?);
+    }
+    Ok(())
+}
+
+/// The seeds of tokens are those that Python computes.
+#[test]
+fn seeds_of_a_book(rt: HostRuntime) -> Result<(), Fail> {
+    let salt = salt()?;
+    let book = book_of_rows(rt.alloc())?;
+    assert!(rt; book.len() == SEEDS.len());
+    for row in 0..book.len() as u32 {
+        let token = book.token(TokenId::new(row).unwrap());
+        let digits = Name::new(seed_of(&salt, token)).digits();
+        assert!(rt; digits.as_slice() == SEEDS[row as usize].as_bytes());
     }
     Ok(())
 }

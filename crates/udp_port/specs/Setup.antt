@@ -1,5 +1,5 @@
 -- What stays of a port over a socket.
-use Rattle.std.specs.Prelude.{Bool, List, None}
+use Rattle.std.specs.Prelude.{Bool, List, [], None}
 use Rattle.std.specs.declared.net.socket_addr.SocketAddrV4.{SocketAddrV4}
 use Rattle.datagram_port.specs.Setup.{Setup}
 
@@ -7,4 +7,4 @@ use Rattle.datagram_port.specs.Setup.{Setup}
 -- alone. Nothing stands between it and the node.
 abbrev pub setup_of : Bool → Bool → List SocketAddrV4 → Setup
 setup_of skips alone members =
-    record { members = members; skips_answers = skips; takes_loopback_alone = alone; gate = None }
+    record { members = members; skips_answers = skips; takes_loopback_alone = alone; gate = None; namings = [] }

@@ -2,6 +2,7 @@
 use Rattle.std.proofs.Common.{◌∷◌, [], ◌++◌, ap, ◌∙◌}
 use Rattle.datagram_port.specs.Port.{event_of_receive}
 use Rattle.named_port.proofs.CallLemmas.{after_nothing, after_receive, told_receive}
+use Rattle.named_port.proofs.SetupLemmas.{setup_after}
 use Rattle.named_port.proofs.port.NamedPortPort.poll.Goals as goal
 
 pub invariant_of-self : goal.invariant_of-self
@@ -25,3 +26,8 @@ returns-clause-event g c =
     told_receive (g.P.Port.events c.args.self.now.port) c.args.self.now.translator c.translate.new.translator c.args.self.now.calls.events c.note_receive.new.self.events
     (event_of_receive c.in-Some.received c.poll.new.buffer) (event_of_receive c.translate.result c.translate.new.buffer)
     c.args.self.now.after noted c.translate.ensures.after c.translate.ensures.handed
+
+pub returns-clause-stays : goal.returns-clause-stays
+returns-clause-stays g c =
+    setup_after c.args.self.now.translator c.translate.new.translator (event_of_receive c.in-Some.received c.poll.new.buffer)
+    (g.P.Port.setup c.args.self.now.port) (g.P.Port.setup c.poll.new.self) c.translate.ensures.after c.in-Some.ensures.stays

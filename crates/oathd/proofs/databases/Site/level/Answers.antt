@@ -1,10 +1,5 @@
-use Rattle.std.proofs.Common.{◌∙◌, ap, length, map}
-use Rattle.std.proofs.lemmas.List.{length-map}
-use Rattle.oathd.proofs.DoneLemmas.{levelled}
+use Rattle.oathd.proofs.DoneLemmas.{levelled_paths}
 use Rattle.oathd.proofs.databases.Site.level.Goals as goal
 
 pub returns-in-Ok : goal.returns-in-Ok
-returns-in-Ok g c =
-    let texts = c.deref-2.result.now in
-    levelled _ _ c.args.node _ _ (map (λ text. text.items) texts) c.in-Ok._store
-    (length-map texts _ ∙ ap length c.deref-2.ensures.value ∙ c.in_ok-texts.ensures ∙ ap length c.deref.ensures.value) c.in-Ok.ensures.levelled
+returns-in-Ok g c = levelled_paths _ _ c.args.node _ _ c.deref.ensures.value c.in-Ok.ensures
