@@ -1,7 +1,7 @@
 # bash completion for oathd(8)
 _oathd() {
     local cur prev words cword split command options= files=
-    local commands='lines sim cluster init serve export audit migrate floors level gates unlock check new-key secret version help'
+    local commands='lines sim cluster init serve export audit migrate floors level gates unlock roster check new-key secret version help'
     _init_completion -s || return
     if ((cword == 1)); then
         COMPREPLY=($(compgen -W "$commands --help --version" -- "$cur"))
@@ -19,12 +19,12 @@ _oathd() {
     case $command in
         lines | sim) options='--cluster --look-ahead --skew --range --drift --moment --key' ;;
         cluster) options='--cluster --look-ahead --skew --range --drift --moment --key' files=yes ;;
-        init) options='--node --cluster --skew --drift --moment --lost --anew --floors --since' files=yes ;;
+        init) options='--node --cluster --skew --drift --moment --lost --anew --floors --since --begins' files=yes ;;
         serve)
             options='--node --cluster --members --key --look-ahead --skew --range --drift --clients --plain-lines'
             options+=' --turns --forever --log' files=yes ;;
-        export) files=yes ;;
-        audit | migrate | gates | unlock) options='--node' files=yes ;;
+        export | audit | gates | unlock | roster) options='--node --cluster' files=yes ;;
+        migrate) options='--node' files=yes ;;
         floors) options='--node --members --cluster' files=yes ;;
         level) options='--node --floors' files=yes ;;
         check) options='--cluster' files=yes ;;

@@ -1,5 +1,5 @@
 # fish completion for oathd(8)
-set -l commands lines sim cluster init serve export audit migrate floors level gates unlock check new-key secret version help
+set -l commands lines sim cluster init serve export audit migrate floors level gates unlock roster check new-key secret version help
 complete -c oathd -f
 complete -c oathd -n __fish_use_subcommand -a lines -d 'Answer the lines of clients after a users file'
 complete -c oathd -n __fish_use_subcommand -a sim -d 'Run a script of events over the nodes of a cluster'
@@ -13,6 +13,7 @@ complete -c oathd -n __fish_use_subcommand -a floors -d 'Print the floors of a n
 complete -c oathd -n __fish_use_subcommand -a level -d 'Raise the floors of a node to those of other nodes'
 complete -c oathd -n __fish_use_subcommand -a gates -d 'Print the failures that a node counts'
 complete -c oathd -n __fish_use_subcommand -a unlock -d 'Forget the failures of a user at a node'
+complete -c oathd -n __fish_use_subcommand -a roster -d 'Print the rows of a store by names'
 complete -c oathd -n __fish_use_subcommand -a check -d 'Print what the members of a cluster share'
 complete -c oathd -n __fish_use_subcommand -a new-key -d 'Print a new key for a client of the nodes'
 complete -c oathd -n __fish_use_subcommand -a secret -d 'Print a secret in base32'
@@ -23,15 +24,15 @@ complete -c oathd -s h -l help -d 'Print help'
 complete -c oathd -n __fish_use_subcommand -s V -l version -d 'Print version'
 
 # The commands that have an option.
-set -l nodes '__fish_seen_subcommand_from init serve audit migrate floors level gates unlock'
+set -l nodes '__fish_seen_subcommand_from init serve export audit migrate floors level gates unlock roster'
 set -l serving '__fish_seen_subcommand_from serve'
 set -l made '__fish_seen_subcommand_from init'
-set -l agreed '__fish_seen_subcommand_from lines sim cluster init serve check floors'
+set -l agreed '__fish_seen_subcommand_from lines sim cluster init serve check floors export audit gates unlock roster'
 set -l answering '__fish_seen_subcommand_from lines sim cluster serve'
 set -l importing '__fish_seen_subcommand_from lines sim cluster init'
 set -l skewed '__fish_seen_subcommand_from lines sim cluster serve init'
 
-complete -c oathd -n '__fish_seen_subcommand_from cluster init serve export audit migrate floors level gates unlock check' -F
+complete -c oathd -n '__fish_seen_subcommand_from cluster init serve export audit migrate floors level gates unlock roster check' -F
 complete -c oathd -n $nodes -l node -x -a '1 2 3 4 5 6 7 8 9' -d 'Number of the node'
 complete -c oathd -n $agreed -l cluster -r -F -d 'Cluster file'
 complete -c oathd -n $serving -l members -x -d 'Addresses in order of their numbers'
@@ -40,6 +41,7 @@ complete -c oathd -n $made -l lost -x -d 'Numbers of all lost nodes'
 complete -c oathd -n $made -l anew -d 'All databases are replaced'
 complete -c oathd -n '__fish_seen_subcommand_from init level' -l floors -r -F -d 'Floors file of another node'
 complete -c oathd -n $made -l since -x -d 'When the last of the lost nodes was lost, in seconds since 1970'
+complete -c oathd -n $made -l begins -d 'The cluster never served, and has names'
 complete -c oathd -n $serving -l clients -r -F -d 'Clients file'
 complete -c oathd -n $serving -l plain-lines -d 'Take the lines of anybody'
 complete -c oathd -n $serving -l turns -x -d 'How many receives the node has'

@@ -4,6 +4,9 @@ use Rattle.std.specs.Prelude.{not, nat_eq, nat_le, option_map, take, slice_index
 use Rattle.std.specs.List.{AllByRecursion}
 use Rattle.std.proofs.lemmas.List.{length-map}
 use Rattle.std.proofs.lemmas.Option.{none-some}
+use Rattle.std.specs.Borrow.{Bor}
+use Rattle.std.specs.Option.{option_copied}
+use Rattle.std.proofs.lemmas.Bool.{and_parts}
 use Rattle.std.specs.Net.Grammar.{IsDotted}
 use Rattle.std.specs.Net.Reader.{Read, read_socket_v4, whole_value}
 use Rattle.std.proofs.NetLemmas.Sockets.{read_socket_v4_sound}
@@ -13,16 +16,17 @@ use Rattle.token_file.specs.Credential.{Credential}
 use Rattle.field_text.specs.Word.{is_word}
 use Rattle.token_file.specs.Fields.{fields_of, lines_of}
 use Rattle.token_file.specs.Writing.{IsCredential}
+use Rattle.token_names.specs.Names.{IsSalt}
 use Rattle.cluster_file.specs.declared.cluster.Cluster.{Cluster}
 use Rattle.cluster_file.specs.declared.fault.LineFault.{LineFault}
-use Rattle.cluster_file.specs.declared.fault.LineFault.TheVariants.{BadNumber, BadLife, MemberNumber, TooManyMembers, TwiceAddress, NoMember, TooLong}
+use Rattle.cluster_file.specs.declared.fault.LineFault.TheVariants.{BadNumber, BadLife, BadNames, MemberNumber, TooManyMembers, TwiceAddress, NoMember, NoNames, TooLong}
 use Rattle.cluster_file.specs.declared.word.Word.{Word}
-use Rattle.cluster_file.specs.declared.word.Word.TheVariants.{Member, LookAhead, Skew, Range, Drift, KeyFile, Key, Life}
+use Rattle.cluster_file.specs.declared.word.Word.TheVariants.{Member, LookAhead, Skew, Range, Drift, KeyFile, Key, Life, Names, NewTokens}
 use Rattle.cluster_file.specs.Address.{Address, IsAddress, address_of, address_value, address_with, is_among}
-use Rattle.cluster_file.specs.ClusterFile.{ClusterRecord, after_lines, at_line, cluster_of, cluster_value, cluster_with_key, cluster_with_life, finished, outcome_of, settings_of}
-use Rattle.cluster_file.specs.Fields.{◌>>=◌, life_of, number_up_to, one_field, setting_of, two_fields, unless_given, word_of}
-use Rattle.cluster_file.specs.Said.{Given, InFile, KeyPlace, Said, after_fields, after_named, after_word, bytes_of, is_number, is_remark, life_in, member_of, new_member, next_member, nothing_said, path_of}
-use Rattle.cluster_file.specs.Shared.{IsShared, shared_of}
+use Rattle.cluster_file.specs.ClusterFile.{ClusterRecord, after_lines, at_line, cluster_of, cluster_value, cluster_with_key, cluster_with_life, cluster_with_names, finished, lacks_names, outcome_of, settings_of}
+use Rattle.cluster_file.specs.Fields.{◌>>=◌, is_salt, life_of, number_up_to, one_field, salt_of, setting_of, two_fields, unless_given, word_of}
+use Rattle.cluster_file.specs.Said.{Given, InFile, KeyPlace, Said, after_fields, after_named, after_word, bytes_of, fresh_in, is_number, is_remark, life_in, member_of, names_in, new_member, next_member, nothing_said, path_of}
+use Rattle.cluster_file.specs.Shared.{IsShared, shared_book, shared_of}
 use Rattle.cluster_file.proofs.AddressLemmas.{left_over, socket_of}
 
 -- ---- steps that may fail
@@ -72,6 +76,21 @@ life_fits : (before : Option (List ℕ)) (fields : List (List ℕ)) (end : List 
 life_fits before fields end e =
     let s = steps (one_field fields) (λ text. unless_given before (life_of text)) end e in
     word_life s.middle end (new_said before (life_of s.middle) end s.after)
+
+salt_word : (text end : List ℕ) → salt_of text ≡ Ok end → IsSalt end
+salt_word text end e = by (is_salt text) refl e
+  where
+    by : (test : Bool) → is_salt text ≡ test → (if test then Ok text else Err BadNames) ≡ Ok end → IsSalt end
+    by true is e =
+        let same : text ≡ end = cc in
+        let parts = and_parts (nat_le 12 (length text)) (is_word text) is in
+        subst IsSalt same (le_from_test 12 (length text) parts.0, parts.1)
+    by false is e = absurd cc
+
+names_fit : (before : Option (List ℕ)) (fields : List (List ℕ)) (end : List ℕ) → names_in before fields ≡ Ok end → IsSalt end
+names_fit before fields end e =
+    let s = steps (one_field fields) (λ text. unless_given before (salt_of text)) end e in
+    salt_word s.middle end (new_said before (salt_of s.middle) end s.after)
 
 each_octet : (a b c d : ℕ) → (a < 256) × (b < 256) × (c < 256) × (d < 256) → (k : ℕ) → slice_index (a ∷ b ∷ c ∷ d ∷ []) k < 256
 each_octet a b c d fit zero = fit.0
@@ -141,6 +160,7 @@ pub record CanBeSaid (said : Said) : Type 0 where
   pub range : IfSome said.range (λ n. n ≤ 1000)
   pub drift : IfSome said.drift (λ n. n ≤ 10)
   pub life : IfSome said.life (λ life. is_word life ≡ true)
+  pub names : IfSome said.names IsSalt
 
 all_more : (members : List Address) (member : Address) → AllByRecursion IsAddress members → IsAddress member → AllByRecursion IsAddress (members ++ member ∷ [])
 all_more [] member h fits = (fits, tt)
@@ -159,6 +179,7 @@ word_keeps said Member fields end can e =
       range = can.range;
       drift = can.drift;
       life = can.life;
+      names = can.names;
     })
 word_keeps said LookAhead fields end can e =
     let s = steps (setting_of 100 said.look_ahead fields) (λ number. Ok (record said { look_ahead = Some number })) end e in
@@ -171,6 +192,7 @@ word_keeps said LookAhead fields end can e =
       range = can.range;
       drift = can.drift;
       life = can.life;
+      names = can.names;
     })
 word_keeps said Skew fields end can e =
     let s = steps (setting_of 10 said.skew fields) (λ number. Ok (record said { skew = Some number })) end e in
@@ -183,6 +205,7 @@ word_keeps said Skew fields end can e =
       range = can.range;
       drift = can.drift;
       life = can.life;
+      names = can.names;
     })
 word_keeps said Range fields end can e =
     let s = steps (setting_of 1000 said.range fields) (λ number. Ok (record said { range = Some number })) end e in
@@ -195,6 +218,7 @@ word_keeps said Range fields end can e =
       range = setting_fits 1000 said.range fields s.middle s.before;
       drift = can.drift;
       life = can.life;
+      names = can.names;
     })
 word_keeps said Drift fields end can e =
     let s = steps (setting_of 10 said.drift fields) (λ number. Ok (record said { drift = Some number })) end e in
@@ -207,6 +231,7 @@ word_keeps said Drift fields end can e =
       range = can.range;
       drift = setting_fits 10 said.drift fields s.middle s.before;
       life = can.life;
+      names = can.names;
     })
 word_keeps said KeyFile fields end can e =
     let s = steps (path_of said.key fields) (λ path. Ok (record said { key = Some (InFile path) })) end e in
@@ -219,6 +244,7 @@ word_keeps said KeyFile fields end can e =
       range = can.range;
       drift = can.drift;
       life = can.life;
+      names = can.names;
     })
 word_keeps said Key fields end can e =
     let s = steps (bytes_of said.key fields) (λ key. Ok (record said { key = Some (Given key) })) end e in
@@ -231,6 +257,7 @@ word_keeps said Key fields end can e =
       range = can.range;
       drift = can.drift;
       life = can.life;
+      names = can.names;
     })
 word_keeps said Life fields end can e =
     let s = steps (life_in said.life fields) (λ life. Ok (record said { life = Some life })) end e in
@@ -243,6 +270,33 @@ word_keeps said Life fields end can e =
       range = can.range;
       drift = can.drift;
       life = life_fits said.life fields s.middle s.before;
+      names = can.names;
+    })
+word_keeps said Names fields end can e =
+    let s = steps (names_in said.names fields) (λ salt. Ok (record said { names = Some salt })) end e in
+    let same : record said { names = Some s.middle } ≡ end = let k = s.after in cc in
+    subst CanBeSaid same (record {
+      few = can.few;
+      members = can.members;
+      look_ahead = can.look_ahead;
+      skew = can.skew;
+      range = can.range;
+      drift = can.drift;
+      life = can.life;
+      names = names_fit said.names fields s.middle s.before;
+    })
+word_keeps said NewTokens fields end can e =
+    let s = steps (fresh_in said.fresh fields) (λ given. Ok (record said { fresh = true })) end e in
+    let same : record said { fresh = true } ≡ end = let k = s.after in cc in
+    subst CanBeSaid same (record {
+      few = can.few;
+      members = can.members;
+      look_ahead = can.look_ahead;
+      skew = can.skew;
+      range = can.range;
+      drift = can.drift;
+      life = can.life;
+      names = can.names;
     })
 
 named_keeps : (said : Said) (word : Option Word) (fields : List (List ℕ)) (end : Said) → CanBeSaid said → after_named said word fields ≡ Ok end → CanBeSaid end
@@ -290,16 +344,41 @@ record HasParts (cluster : ClusterRecord) : Type 0 where
   first : 1 ≤ length cluster.members
   few : length cluster.members ≤ 9
   life : is_word cluster.life ≡ true
+  names : IfSome cluster.names IsSalt
   members : AllByRecursion IsAddress cluster.members
   settings : AreLimits cluster.settings
+
+with_names_fits : (said : Said) (key : KeyPlace) (life : List ℕ) (end : ClusterRecord) → CanBeSaid said → 1 ≤ length said.members
+    → is_word life ≡ true → cluster_with_names said key life ≡ Ok end → HasParts end
+with_names_fits said key life end can first h e = by (lacks_names said.fresh said.names) e
+  where
+    made : ClusterRecord
+    made = record {
+      members = said.members;
+      settings = settings_of said;
+      key = key;
+      life = life;
+      names = said.names;
+      fresh = said.fresh;
+    }
+
+    by : (test : Bool) → (if test then Err NoNames else Ok made) ≡ Ok end → HasParts end
+    by true e = absurd cc
+    by false e =
+        let same : made ≡ end = cc in
+        subst HasParts same (record {
+          first = first;
+          few = can.few;
+          life = h;
+          names = can.names;
+          members = can.members;
+          settings = settings_fit said can;
+        })
 
 with_life_fits : (said : Said) (key : KeyPlace) (life : Option (List ℕ)) (end : ClusterRecord) → CanBeSaid said → 1 ≤ length said.members
     → IfSome life (λ life. is_word life ≡ true) → cluster_with_life said key life ≡ Ok end → HasParts end
 with_life_fits said key None end can first h e = absurd cc
-with_life_fits said key (Some life) end can first h e =
-    let made : ClusterRecord = record { members = said.members; settings = settings_of said; key = key; life = life } in
-    let same : made ≡ end = cc in
-    subst HasParts same (record { first = first; few = can.few; life = h; members = can.members; settings = settings_fit said can })
+with_life_fits said key (Some life) end can first h e = with_names_fits said key life end can first h e
 
 with_key_fits : (said : Said) (key : Option KeyPlace) (end : ClusterRecord) → CanBeSaid said → 1 ≤ length said.members
     → cluster_with_key said key ≡ Ok end → HasParts end
@@ -325,15 +404,27 @@ outcome_fits limit text end e = by (nat_le (length text) limit) e
     by true e =
         let s = steps (after_lines 1 nothing_said (lines_of text)) (λ said. at_line (length (lines_of text)) (finished said)) end e in
         let can = lines_keep 1 nothing_said (lines_of text) s.middle
-        (record { few = omega arith; members = tt; look_ahead = tt; skew = tt; range = tt; drift = tt; life = tt }) s.before in
+        (record { few = omega arith; members = tt; look_ahead = tt; skew = tt; range = tt; drift = tt; life = tt; names = tt }) s.before in
         finished_fits s.middle end can (at_ok (length (lines_of text)) (finished s.middle) end s.after)
     by false e = absurd cc
+
+-- every token of a shared book is one of the book
+shared_are : (names : Option (List ℕ)) (book : List Credential) → AllByRecursion IsCredential book
+    → AllByRecursion IsCredential (shared_book names book)
+shared_are None book are = are
+shared_are (Some names) book are = tt
 
 pub cluster_shared : (text : List ℕ) (cluster : ClusterRecord) (book : List Credential) → cluster_of text ≡ Ok cluster
     → AllByRecursion IsCredential book → IsShared (shared_of cluster book)
 cluster_shared text cluster book e are =
     let parts = outcome_fits 65536 text cluster e in
-    record { life = parts.life; members = parts.members; settings = parts.settings; book = are }
+    record {
+      names = parts.names;
+      life = parts.life;
+      members = parts.members;
+      settings = parts.settings;
+      book = shared_are cluster.names book are;
+    }
 
 -- a cluster has one to nine members
 pub cluster_members : (text : List ℕ) (cluster : ClusterRecord) → cluster_of text ≡ Ok cluster
@@ -350,3 +441,13 @@ members_read text (Ok cluster) h =
     let counts = cluster_members text (cluster_value cluster) h in
     let same = length-map cluster.members.items address_value in
     (omega (arith, counts.0, same), omega (arith, counts.1, same))
+
+salted : (names : Option (Bor (List ℕ))) → IfSome (option_copied names) IsSalt → IfSome names (λ salt. IsSalt salt.now)
+salted None h = tt
+salted (Some salt) h = h
+
+-- the names of a cluster that was read are a salt
+pub names_read : {E : Type 0} (text : List ℕ) (read : Result Cluster E) → IfOk read (λ cluster. cluster_of text ≡ Ok (cluster_value cluster))
+    → IfOk read (λ cluster. IfSome cluster.names (λ salt. IsSalt salt.now))
+names_read text (Err fault) h = tt
+names_read text (Ok cluster) h = salted cluster.names (outcome_fits 65536 text (cluster_value cluster) h).names

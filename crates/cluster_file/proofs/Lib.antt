@@ -3,3 +3,5 @@ pub mod ReadingLemmas
 pub mod WritingLemmas
 pub mod SharedLemmas
 pub mod ClusterLemmas
+pub mod OrderLemmas
+pub mod RowsLemmas

@@ -1,6 +1,6 @@
 -- Equal shared texts say the same.
 use Rattle.std.proofs.Common.{◌≡◌, ℕ, ◌+◌, ◌<◌, ◌≤◌, ◌^◌, ◌%◌, Bool, true, List, [], ◌∷◌, ◌++◌, length, refl, sym, ap, ◌∙◌, arith, append_assoc, ne_eqb, true≢false}
-use Rattle.std.specs.Prelude.{not, ◌&&◌, nat_le, codes, slice_index}
+use Rattle.std.specs.Prelude.{not, ◌&&◌, nat_le, codes, slice_index, IfSome, Option, None, Some}
 use Rattle.std.specs.Fmt.{decimal}
 use Rattle.std.specs.List.{list_all, flat_map, AllByRecursion}
 use Rattle.std.proofs.lemmas.Bool.{and_parts}
@@ -14,8 +14,9 @@ use Rattle.token_file.specs.Fields.{fields_of, is_line_end, lines_of}
 use Rattle.token_file.specs.Row.{row_of}
 use Rattle.token_file.specs.Writing.{IsCredential, row_line}
 use Rattle.token_file.proofs.WritingLemmas.{inner_joined, row_is_line, row_is_read}
+use Rattle.token_names.specs.Names.{IsSalt}
 use Rattle.cluster_file.specs.Address.{Address, IsAddress, address_text}
-use Rattle.cluster_file.specs.Shared.{IsShared, Shared, book_text, member_line, members_text, settings_text, shared_text, untaken_row, word_line}
+use Rattle.cluster_file.specs.Shared.{IsShared, Shared, book_text, member_line, members_text, names_text, settings_text, shared_text, untaken_row, version_of, word_line}
 use Rattle.cluster_file.proofs.AddressLemmas.{address_same}
 
 -- no byte is an LF
@@ -173,7 +174,7 @@ rows_same (a ∷ xs) (b ∷ ys) h k e =
     let rest = rows_same xs ys h.1 k.1 others in
     cc
 
-books_same : (xs ys : List Credential) → AllByRecursion IsCredential xs → AllByRecursion IsCredential ys → book_text xs ≡ book_text ys → xs ≡ ys
+pub books_same : (xs ys : List Credential) → AllByRecursion IsCredential xs → AllByRecursion IsCredential ys → book_text xs ≡ book_text ys → xs ≡ ys
 unfolding book_text
 books_same xs ys h k e = rows_same xs ys h k (ap lines_of e)
 
@@ -183,17 +184,45 @@ first_of_settings : (settings : Limits) (rest : List ℕ) → slice_index (setti
 unfolding settings_text word_line
 first_of_settings settings rest = refl
 
+-- ---- the version and the names
+
+-- a salt has no LF
+no_end_salt : (salt : List ℕ) → IsSalt salt → has_no_end salt ≡ true
+no_end_salt salt h = no_end_word salt h.1
+
+no_end_version : (names : Option (List ℕ)) → has_no_end (version_of names) ≡ true
+no_end_version None = refl
+no_end_version (Some names) = refl
+
+-- a text splits in one way into a version, names and its rest
+heads_same : (a b : Option (List ℕ)) (r s : List ℕ) → IfSome a IsSalt → IfSome b IsSalt
+    → word_line (codes "wakdulg") (version_of a) ++ (names_text a ++ r) ≡ word_line (codes "wakdulg") (version_of b) ++ (names_text b ++ s)
+    → (a ≡ b) × (r ≡ s)
+heads_same a b r s h k e =
+    let versions = word_same (codes "wakdulg") (version_of a) (version_of b) (names_text a ++ r) (names_text b ++ s) (no_end_version a) (no_end_version b) e in
+    by a b h k versions.0 versions.1
+  where
+    by : (a b : Option (List ℕ)) → IfSome a IsSalt → IfSome b IsSalt → version_of a ≡ version_of b → names_text a ++ r ≡ names_text b ++ s
+        → (a ≡ b) × (r ≡ s)
+    by None None h k same e = (refl, e)
+    by None (Some y) h k same e = let versions : 49 ≡ 50 = ap (λ text. slice_index text 0) same in absurd (omega (arith, versions))
+    by (Some x) None h k same e = let versions : 50 ≡ 49 = ap (λ text. slice_index text 0) same in absurd (omega (arith, versions))
+    by (Some x) (Some y) h k same e =
+        let parts = word_same (codes "names") x y r s (no_end_salt x h) (no_end_salt y k) e in
+        (ap (λ (salt : List ℕ). Some salt) parts.0, parts.1)
+
 pub shared_same : (a b : Shared) → IsShared a → IsShared b → shared_text a ≡ shared_text b → a ≡ b
 shared_same a b h k e =
     let rest = λ (x : Shared). members_text 1 x.members ++ (settings_text x.settings ++ book_text x.book) in
-    let shape : (w x y z t : List ℕ) → w ++ x ++ y ++ z ++ t ≡ w ++ (x ++ (y ++ (z ++ t))) = λ w x y z t. simp append_assoc in
-    let version = word_line (codes "wakdulg") (codes "1") in
-    let whole = sym (shape version (word_line (codes "life") a.life) (members_text 1 a.members) (settings_text a.settings) (book_text a.book))
-    ∙ e ∙ shape version (word_line (codes "life") b.life) (members_text 1 b.members) (settings_text b.settings) (book_text b.book) in
-    let behind = behind_same version (word_line (codes "life") a.life ++ rest a) (word_line (codes "life") b.life ++ rest b) whole in
-    let lives = word_same (codes "life") a.life b.life (rest a) (rest b) (no_end_word a.life h.life) (no_end_word b.life k.life) behind in
+    let shape : (v n l m t z : List ℕ) → v ++ n ++ l ++ m ++ t ++ z ≡ v ++ (n ++ (l ++ (m ++ (t ++ z)))) = λ v n l m t z. simp append_assoc in
+    let line = λ (x : Shared). word_line (codes "wakdulg") (version_of x.names) in
+    let life = λ (x : Shared). word_line (codes "life") x.life in
+    let whole = sym (shape (line a) (names_text a.names) (life a) (members_text 1 a.members) (settings_text a.settings) (book_text a.book))
+    ∙ e ∙ shape (line b) (names_text b.names) (life b) (members_text 1 b.members) (settings_text b.settings) (book_text b.book) in
+    let names = heads_same a.names b.names (life a ++ rest a) (life b ++ rest b) h.names k.names whole in
+    let lives = word_same (codes "life") a.life b.life (rest a) (rest b) (no_end_word a.life h.life) (no_end_word b.life k.life) names.1 in
     let members = members_same 1 a.members b.members (settings_text a.settings ++ book_text a.book) (settings_text b.settings ++ book_text b.book) h.members k.members
     (first_of_settings a.settings (book_text a.book)) (first_of_settings b.settings (book_text b.book)) lives.1 in
     let settings = settings_same a.settings b.settings (book_text a.book) (book_text b.book) h.settings k.settings members.1 in
     let books = books_same a.book b.book h.book k.book settings.1 in
-    λ i. record { life = lives.0 i; members = members.0 i; settings = settings.0 i; book = books i }
+    λ i. record { names = names.0 i; life = lives.0 i; members = members.0 i; settings = settings.0 i; book = books i }

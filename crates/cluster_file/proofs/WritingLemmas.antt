@@ -83,10 +83,8 @@ pub count_item : (kind : Kind) (book : List Credential) (place : ℕ) (token : C
 count_item kind book place token within is =
     ap (kind_count kind) (take_more book place token within ∙ ap (λ x. take place book ++ x ∷ []) (sym is)) ∙ counted_more kind (take place book) token
 
--- five texts one after another, of which the last may fail
-pub five_on : {E : Type 0} (result : Result Unit E) (a b c d e f : Option (List ℕ)) (t u v w x : List ℕ)
-    → Appends a b t → Appends b c u → Appends c d v → Appends d e w → OnOk result (Appends e f x) → OnOk result (Appends a f (t ++ u ++ v ++ w ++ x))
-five_on (Ok one) a b c d e f t u v w x h i j k l =
-    append_more a e f (t ++ u ++ v ++ w) x
-    (append_more a d e (t ++ u ++ v) w (append_more a c d (t ++ u) v (append_more a b c t u h i) j) k) l
-five_on (Err fault) a b c d e f t u v w x h i j k l = tt
+-- one text, followed by one that may fail
+pub on_more : {E : Type 0} (result : Result Unit E) (old middle new : Option (List ℕ)) (front back : List ℕ)
+    → Appends old middle front → OnOk result (Appends middle new back) → OnOk result (Appends old new (front ++ back))
+on_more (Ok one) old middle new front back h k = append_more old middle new front back h k
+on_more (Err fault) old middle new front back h k = tt

@@ -1,10 +1,11 @@
 -- The content of a cluster file. The first fault of the first faulty line decides; without one a missing value does.
 use Rattle.std.specs.Prelude.{ℕ, ◌+◌, ◌==◌, nat_le, Bool, true, false, List, [], ◌∷◌, length, map, take, Option, Some, None, Result, Ok, Err, unwrap_or, if◌then◌else◌}
+use Rattle.std.specs.Option.{option_copied}
 use Rattle.otp_core.specs.Limits.{Limits}
 use Rattle.token_file.specs.Fields.{fields_of, lines_of}
 use Rattle.cluster_file.specs.declared.cluster.Cluster.{Cluster}
 use Rattle.cluster_file.specs.declared.fault.LineFault.{LineFault}
-use Rattle.cluster_file.specs.declared.fault.LineFault.TheVariants.{NoMember, NoKey, NoLife, TooLong, Memory}
+use Rattle.cluster_file.specs.declared.fault.LineFault.TheVariants.{NoMember, NoKey, NoLife, NoNames, TooLong, Memory}
 use Rattle.cluster_file.specs.Address.{Address, address_value}
 use Rattle.cluster_file.specs.Fields.{◌>>=◌}
 use Rattle.cluster_file.specs.Said.{KeyPlace, Said, after_fields, key_place, nothing_said}
@@ -15,6 +16,8 @@ pub record ClusterRecord : Type 0 where
   pub settings : Limits
   pub key : KeyPlace
   pub life : List ℕ
+  pub names : Option (List ℕ)
+  pub fresh : Bool
 
 -- the value of a cluster
 abbrev pub cluster_value : Cluster → ClusterRecord
@@ -24,6 +27,8 @@ cluster_value cluster =
       settings = cluster.settings;
       key = key_place cluster.key;
       life = cluster.life.now;
+      names = option_copied cluster.names;
+      fresh = cluster.fresh;
     }
 
 -- the given settings, with defaults for the others
@@ -36,11 +41,28 @@ settings_of said =
       drift = unwrap_or said.drift 0;
     }
 
+-- whether the lines give `new-tokens` without the names that it needs
+abbrev pub lacks_names : Bool → Option (List ℕ) → Bool
+lacks_names true None = true
+lacks_names fresh names = false
+
+-- the cluster of the lines with a key and a life
+abbrev pub cluster_with_names : Said → KeyPlace → List ℕ → Result ClusterRecord LineFault
+cluster_with_names said key life =
+    if lacks_names said.fresh said.names then Err NoNames
+    else Ok (record {
+      members = said.members;
+      settings = settings_of said;
+      key = key;
+      life = life;
+      names = said.names;
+      fresh = said.fresh;
+    })
+
 -- the cluster of the lines with a key, and with a life if the lines give one
 abbrev pub cluster_with_life : Said → KeyPlace → Option (List ℕ) → Result ClusterRecord LineFault
 cluster_with_life said key None = Err NoLife
-cluster_with_life said key (Some life) =
-    Ok (record { members = said.members; settings = settings_of said; key = key; life = life })
+cluster_with_life said key (Some life) = cluster_with_names said key life
 
 -- the cluster of the lines, with a key if the lines give one
 abbrev pub cluster_with_key : Said → Option KeyPlace → Result ClusterRecord LineFault

@@ -1,5 +1,5 @@
 -- The fields of a line after its word, and their values.
-use Rattle.std.specs.Prelude.{ℕ, nat_le, List, [], ◌∷◌, Option, Some, None, Result, Ok, Err, codes, if◌then◌else◌}
+use Rattle.std.specs.Prelude.{ℕ, nat_le, ◌&&◌, Bool, List, length, [], ◌∷◌, Option, Some, None, Result, Ok, Err, codes, if◌then◌else◌}
 use Rattle.std.specs.Borrow.{Bor}
 use Rattle.std.specs.Str.{bytes_eq}
 use Rattle.hex.specs.Hex.{decode_of}
@@ -9,9 +9,9 @@ use Rattle.secret_text.specs.declared.fault.SecretFault.{SecretFault}
 use Rattle.field_text.specs.Word.{is_word}
 use Rattle.vote_wire.specs.Key.{key_refusal_of}
 use Rattle.cluster_file.specs.declared.fault.LineFault.{LineFault}
-use Rattle.cluster_file.specs.declared.fault.LineFault.TheVariants.{MissingField, SurplusField, Twice, BadNumber, BadKey, BadLife}
+use Rattle.cluster_file.specs.declared.fault.LineFault.TheVariants.{MissingField, SurplusField, Twice, BadNumber, BadKey, BadLife, BadNames, BadNewTokens}
 use Rattle.cluster_file.specs.declared.word.Word.{Word}
-use Rattle.cluster_file.specs.declared.word.Word.TheVariants.{Member, LookAhead, Skew, Range, Drift, KeyFile, Key, Life}
+use Rattle.cluster_file.specs.declared.word.Word.TheVariants.{Member, LookAhead, Skew, Range, Drift, KeyFile, Key, Life, Names, NewTokens}
 
 -- the result of the next step, or the first fault
 infixl 10 ◌>>=◌
@@ -30,6 +30,8 @@ word_of text =
     else if bytes_eq text (codes "key-file") then Some KeyFile
     else if bytes_eq text (codes "key") then Some Key
     else if bytes_eq text (codes "life") then Some Life
+    else if bytes_eq text (codes "names") then Some Names
+    else if bytes_eq text (codes "new-tokens") then Some NewTokens
     else None
 
 -- the field of a list of one
@@ -84,3 +86,15 @@ key_of text = key_unless_refused (key_refusal_of text) (decode_of text)
 -- the `life` of the databases: a word of 1 to 64 bytes without a blank
 abbrev pub life_of : List ℕ → Result (List ℕ) LineFault
 life_of text = if is_word text then Ok text else Err BadLife
+
+-- whether a text is a salt: a word of 12 to 64 bytes
+abbrev pub is_salt : List ℕ → Bool
+is_salt text = nat_le 12 (length text) && is_word text
+
+-- the salt of the tokens' names
+abbrev pub salt_of : List ℕ → Result (List ℕ) LineFault
+salt_of text = if is_salt text then Ok text else Err BadNames
+
+-- the one value of `new-tokens`, which is `fresh`
+abbrev pub fresh_of : List ℕ → Result Unit LineFault
+fresh_of text = if bytes_eq text (codes "fresh") then Ok tt else Err BadNewTokens

@@ -5,4 +5,5 @@ pub mod Said
 pub mod ClusterFile
 pub mod Shared
 pub mod Key
+pub mod Rows
 pub mod Examples

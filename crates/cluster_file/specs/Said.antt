@@ -1,14 +1,14 @@
 -- The values that the lines of a cluster file give.
-use Rattle.std.specs.Prelude.{ℕ, ◌+◌, ◌==◌, nat_le, Bool, false, not, List, [], ◌∷◌, ◌++◌, length, Option, Some, None, Result, Ok, Err, if◌then◌else◌}
+use Rattle.std.specs.Prelude.{ℕ, ◌+◌, ◌==◌, nat_le, Bool, true, false, not, List, [], ◌∷◌, ◌++◌, length, Option, Some, None, Result, Ok, Err, if◌then◌else◌}
 use Rattle.field_text.specs.Number.{number_of}
 use Rattle.cluster_file.specs.declared.fault.LineFault.{LineFault}
-use Rattle.cluster_file.specs.declared.fault.LineFault.TheVariants.{UnknownWord, TooManyMembers, MemberNumber, BadAddress, TwiceAddress}
+use Rattle.cluster_file.specs.declared.fault.LineFault.TheVariants.{UnknownWord, TooManyMembers, MemberNumber, BadAddress, TwiceAddress, Twice}
 use Rattle.cluster_file.specs.declared.cluster.KeySource.{KeySource}
 use Rattle.cluster_file.specs.declared.cluster.KeySource.TheVariants as source
 use Rattle.cluster_file.specs.declared.word.Word.{Word}
-use Rattle.cluster_file.specs.declared.word.Word.TheVariants.{Member, LookAhead, Skew, Range, Drift, KeyFile, Key, Life}
+use Rattle.cluster_file.specs.declared.word.Word.TheVariants.{Member, LookAhead, Skew, Range, Drift, KeyFile, Key, Life, Names, NewTokens}
 use Rattle.cluster_file.specs.Address.{Address, address_of, is_among}
-use Rattle.cluster_file.specs.Fields.{◌>>=◌, key_of, life_of, one_field, setting_of, two_fields, unless_given, word_of}
+use Rattle.cluster_file.specs.Fields.{◌>>=◌, fresh_of, key_of, life_of, one_field, salt_of, setting_of, two_fields, unless_given, word_of}
 
 -- the place of the key: the file at a path, or the cluster file itself
 pub data KeyPlace : Type 0 where
@@ -20,7 +20,8 @@ abbrev pub key_place : KeySource → KeyPlace
 key_place (source.File path) = InFile path.now
 key_place (source.Given key) = Given key
 
--- the values of some lines: the members in order, and the given settings, key and life
+-- the values of some lines: the members in order, the given settings, key, life and salt, and whether a line gives
+-- `new-tokens`
 pub record Said : Type 0 where
   pub members : List Address
   pub look_ahead : Option ℕ
@@ -29,11 +30,23 @@ pub record Said : Type 0 where
   pub drift : Option ℕ
   pub key : Option KeyPlace
   pub life : Option (List ℕ)
+  pub names : Option (List ℕ)
+  pub fresh : Bool
 
 -- the values of no line
 abbrev pub nothing_said : Said
 nothing_said =
-    record { members = []; look_ahead = None; skew = None; range = None; drift = None; key = None; life = None }
+    record {
+      members = [];
+      look_ahead = None;
+      skew = None;
+      range = None;
+      drift = None;
+      key = None;
+      life = None;
+      names = None;
+      fresh = false;
+    }
 
 -- whether a number that was read, or None, is the given one
 abbrev pub is_number : Option ℕ → ℕ → Bool
@@ -76,6 +89,18 @@ life_in before fields = do
   text ← one_field fields
   unless_given before (life_of text)
 
+-- the salt of a line
+abbrev pub names_in : Option (List ℕ) → List (List ℕ) → Result (List ℕ) LineFault
+names_in before fields = do
+  text ← one_field fields
+  unless_given before (salt_of text)
+
+-- the value of `new-tokens` in a line, if no earlier line gave it
+abbrev pub fresh_in : Bool → List (List ℕ) → Result Unit LineFault
+fresh_in before fields = do
+  text ← one_field fields
+  if before then Err Twice else fresh_of text
+
 -- the values after a line of a word
 abbrev pub after_word : Said → Word → List (List ℕ) → Result Said LineFault
 after_word said Member fields = do
@@ -102,6 +127,12 @@ after_word said Key fields = do
 after_word said Life fields = do
   life ← life_in said.life fields
   Ok (record said { life = Some life })
+after_word said Names fields = do
+  salt ← names_in said.names fields
+  Ok (record said { names = Some salt })
+after_word said NewTokens fields = do
+  given ← fresh_in said.fresh fields
+  Ok (record said { fresh = true })
 
 -- the values after a line of a word, or a fault if its first field is not one
 abbrev pub after_named : Said → Option Word → List (List ℕ) → Result Said LineFault

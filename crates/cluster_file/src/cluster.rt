@@ -22,4 +22,8 @@ pub struct Cluster<'a> {
     pub key: KeySource<'a>,
     /// The `life`: a word of 1 to 64 bytes, which is new after every replacement of all databases.
     pub life: &'a [u8],
+    /// The salt of the tokens' names, a word of 12 to 64 bytes, or None if the members know a token by its row.
+    pub names: Option<&'a [u8]>,
+    /// Whether the file has the line `new-tokens fresh`. It is no part of what the members share.
+    pub fresh: bool,
 }

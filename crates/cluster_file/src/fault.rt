@@ -61,4 +61,13 @@ pub enum LineFault {
     /// The allocator refused the memory for a member.
     #[error("out of memory")]
     Memory,
+    /// The salt of the names has fewer than 12 or more than 64 bytes.
+    #[error("BadNames")]
+    BadNames,
+    /// The value of `new-tokens` is not `fresh`.
+    #[error("BadNewTokens")]
+    BadNewTokens,
+    /// A line gives `new-tokens`, and no line gives the names.
+    #[error("NoNames")]
+    NoNames,
 }

@@ -2,12 +2,15 @@ ghost use Rattle.std.specs.Prelude.{◌≡◌, ◌∷◌, [], ◌≤◌, length,
 ghost use Rattle.std.specs.List.{list_all, position_from};
 ghost use Rattle.field_text.specs.Word.{is_blank, is_visible};
 ghost use Rattle.token_file.specs.Fields.{fields_of};
-ghost use Rattle.cluster_file.specs.Fields.{field_value, fields_value, key_of, life_of, number_up_to, one_field, setting_of, two_fields};
+ghost use Rattle.cluster_file.specs.Fields.{field_value, fields_value, fresh_of, key_of, life_of, number_up_to, one_field, salt_of, setting_of, two_fields};
 ghost use Rattle.field_text.specs.Number.{number_of};
 
 use crate::fault::LineFault;
 use field_text::{is_word, read_number};
 use vote_wire::ClusterKey;
+
+/// The minimum length of a salt, in bytes.
+const MIN_SALT_LEN: usize = 12;
 
 /// Returns whether a byte divides fields.
 fn is_blank_byte(byte: u8) -> bool
@@ -108,5 +111,27 @@ pub(crate) fn life(text: &[u8]) -> Result<&[u8], LineFault>
         Ok(text)
     } else {
         Err(LineFault::BadLife)
+    }
+}
+
+/// Returns the salt of a text.
+pub(crate) fn salt(text: &[u8]) -> Result<&[u8], LineFault>
+    ensures { field_value result ≡ salt_of text.now }
+{
+    if text.len() >= MIN_SALT_LEN && is_word(text) {
+        Ok(text)
+    } else {
+        Err(LineFault::BadNames)
+    }
+}
+
+/// Tests the value of `new-tokens`, which is `fresh`.
+pub(crate) fn fresh(text: &[u8]) -> Result<(), LineFault>
+    ensures { result ≡ fresh_of text.now }
+{
+    if text == b"fresh".as_slice() {
+        Ok(())
+    } else {
+        Err(LineFault::BadNewTokens)
     }
 }

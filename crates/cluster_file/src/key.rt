@@ -1,6 +1,6 @@
 ghost use Rattle.std.specs.Prelude.{◌≡◌, IfOk};
 ghost use Rattle.cluster_file.specs.ClusterFile.{cluster_value};
-ghost use Rattle.cluster_file.specs.Key.{fingerprint_of, shared_key_of};
+ghost use Rattle.cluster_file.specs.Key.{fingerprint_of, print_of, shared_key_of};
 ghost use Rattle.cluster_file.specs.Shared.{shared_of};
 
 use crate::cluster::Cluster;
@@ -10,8 +10,8 @@ use std::alloc::{AllocError, Global};
 use token_file::Book;
 use vote_wire::ClusterKey;
 
-/// The number of bytes of a MAC that a fingerprint shows.
-const PRINT_LEN: usize = 8;
+/// The number of bytes of a MAC that a print shows.
+pub(crate) const PRINT_LEN: usize = 8;
 
 /// Returns the shared key, under which members tag their datagrams.
 ///
@@ -30,14 +30,21 @@ pub fn shared_key(
     Ok(ClusterKey::new(mac.as_slice()).unwrap())
 }
 
+/// Returns the print of a text: the first 8 bytes of its HMAC-SHA-256 under the shared key, in hexadecimal.
+pub(crate) fn print_of(shared_key: &ClusterKey, text: &[u8]) -> [u8; 2 * PRINT_LEN]
+    ensures { result ≡ print_of shared_key.now text.now }
+{
+    let mac = hmac(Hash::Sha256, shared_key.as_slice(), text);
+    let mut print = [0; 2 * PRINT_LEN];
+    hex::encode_to_slice(&mac.as_slice()[..PRINT_LEN], &mut print).unwrap();
+    print
+}
+
 /// Returns the fingerprint of a shared key, 16 hexadecimal digits that two sites compare.
 ///
 /// They are the first 8 bytes of HMAC-SHA-256 of the word `fingerprint` under the shared key.
 pub fn fingerprint(shared_key: &ClusterKey) -> [u8; 2 * PRINT_LEN]
     ensures { result ≡ fingerprint_of shared_key.now }
 {
-    let mac = hmac(Hash::Sha256, shared_key.as_slice(), b"fingerprint");
-    let mut print = [0; 2 * PRINT_LEN];
-    hex::encode_to_slice(&mac.as_slice()[..PRINT_LEN], &mut print).unwrap();
-    print
+    print_of(shared_key, b"fingerprint")
 }

@@ -1,6 +1,7 @@
-ghost use Rattle.std.specs.Prelude.{◌≡◌, ◌≤◌, ◌<◌, ◌==◌, ◌^◌, false, IfErr, IfOk, Ok, Err, length};
+ghost use Rattle.std.specs.Prelude.{◌≡◌, ◌≤◌, ◌<◌, ◌==◌, ◌^◌, false, IfErr, IfOk, IfSome, Ok, Err, length};
 ghost use Rattle.std.specs.List.{count_by};
 ghost use Rattle.token_file.specs.Fields.{lines_of};
+ghost use Rattle.token_names.specs.Names.{IsSalt};
 ghost use Rattle.cluster_file.specs.ClusterFile.{after_lines, cluster_of, cluster_value, is_memory, outcome_of};
 ghost use Rattle.cluster_file.specs.Said.{nothing_said};
 
@@ -81,6 +82,7 @@ pub fn read_cluster(alloc: Global, text: &[u8]) -> Result<Cluster<'_>, ClusterFa
     ensures cluster { IfOk result (λ cluster. cluster_of text.now ≡ Ok (cluster_value cluster)) }
     ensures members { IfOk result (λ cluster.
         (1 ≤ length cluster.members.items) × (length cluster.members.items ≤ 9)) }
+    ensures names { IfOk result (λ cluster. IfSome cluster.names (λ salt. IsSalt salt.now)) }
     ensures fault { IfErr result (λ fault. is_memory fault.kind ≡ false →
         cluster_of text.now ≡ Err (fault.line, fault.kind)) }
 {

@@ -3,13 +3,13 @@ ghost use Rattle.token_file.specs.Fields.{fields_of};
 ghost use Rattle.cluster_file.specs.Address.{address_value};
 ghost use Rattle.cluster_file.specs.ClusterFile.{cluster_value, finished, is_memory, settings_of};
 ghost use Rattle.cluster_file.specs.Fields.{field_value};
-ghost use Rattle.cluster_file.specs.Said.{after_fields, after_word, key_place, is_number, is_remark, member_of, nothing_said, path_of, bytes_of, life_in};
+ghost use Rattle.cluster_file.specs.Said.{after_fields, after_word, key_place, fresh_in, is_number, is_remark, member_of, names_in, nothing_said, path_of, bytes_of, life_in};
 ghost use Rattle.field_text.specs.Number.{number_of};
 
 use crate::address::{is_among, read_address};
 use crate::cluster::{Cluster, KeySource};
 use crate::fault::LineFault;
-use crate::fields::{first_field, key, life, one_field, setting, two_fields};
+use crate::fields::{first_field, fresh, key, life, one_field, salt, setting, two_fields};
 use crate::word::{Word, read_word};
 use field_text::read_number;
 use otp_core::{MAX_MEMBERS, Settings};
@@ -40,6 +40,8 @@ pub(crate) struct Said<'a> {
     drift: Option<u64>,
     key: Option<KeySource<'a>>,
     life: Option<&'a [u8]>,
+    names: Option<&'a [u8]>,
+    fresh: bool,
 }
 
 impl<'a> Model for Said<'a> {
@@ -58,6 +60,8 @@ impl<'a> Model for Said<'a> {
       drift = said.drift;
       key = option_map key_place said.key;
       life = option_copied said.life;
+      names = option_copied said.names;
+      fresh = said.fresh;
     } };
 
     ghost invariant = { λ said.
@@ -78,6 +82,8 @@ impl<'a> Said<'a> {
             drift: None,
             key: None,
             life: None,
+            names: None,
+            fresh: false,
         }
     }
 
@@ -121,6 +127,11 @@ impl<'a> Said<'a> {
             Word::KeyFile => self.key = Some(KeySource::File(self.key_path(rest)?)),
             Word::Key => self.key = Some(KeySource::Given(self.key_bytes(rest)?)),
             Word::Life => self.life = Some(self.new_life(rest)?),
+            Word::Names => self.names = Some(self.new_names(rest)?),
+            Word::NewTokens => {
+                self.new_fresh(rest)?;
+                self.fresh = true;
+            }
         }
         Ok(())
     }
@@ -180,6 +191,28 @@ impl<'a> Said<'a> {
         life(text)
     }
 
+    /// Returns the salt in a line.
+    fn new_names(&self, rest: &'a [u8]) -> Result<&'a [u8], LineFault>
+        ensures { field_value result ≡ names_in self.now.names (fields_of rest.now) }
+    {
+        let text = one_field(rest)?;
+        if self.names.is_some() {
+            return Err(LineFault::Twice);
+        }
+        salt(text)
+    }
+
+    /// Tests the value of `new-tokens` in a line.
+    fn new_fresh(&self, rest: &[u8]) -> Result<(), LineFault>
+        ensures { result ≡ fresh_in self.now.fresh (fields_of rest.now) }
+    {
+        let text = one_field(rest)?;
+        if self.fresh {
+            return Err(LineFault::Twice);
+        }
+        fresh(text)
+    }
+
     /// Returns the given settings, with defaults for the others.
     fn settings(&self) -> Settings
         ensures { result ≡ settings_of self.now }
@@ -201,6 +234,7 @@ impl<'a> Said<'a> {
     {
         let settings = self.settings();
         let (members, key, life) = (self.members, self.key, self.life);
+        let (names, fresh) = (self.names, self.fresh);
         if members.is_empty() {
             return Err(LineFault::NoMember);
         }
@@ -210,11 +244,16 @@ impl<'a> Said<'a> {
         let Some(life) = life else {
             return Err(LineFault::NoLife);
         };
+        if fresh && names.is_none() {
+            return Err(LineFault::NoNames);
+        }
         Ok(Cluster {
             members,
             settings,
             key,
             life,
+            names,
+            fresh,
         })
     }
 }

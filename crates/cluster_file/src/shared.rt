@@ -1,9 +1,10 @@
 ghost use Rattle.std.specs.Prelude.{◌≡◌, IfOk, OnOk, map};
 ghost use Rattle.std.specs.Fmt.{decimal};
 ghost use Rattle.std.specs.Io.KnownBytes.{Appends};
+ghost use Rattle.std.specs.Option.{option_copied};
 ghost use Rattle.cluster_file.specs.Address.{address_text, address_value};
 ghost use Rattle.cluster_file.specs.ClusterFile.{cluster_value};
-ghost use Rattle.cluster_file.specs.Shared.{book_text, member_line, members_text, settings_text, shared_of, shared_text, untaken_row, word_line};
+ghost use Rattle.cluster_file.specs.Shared.{book_text, member_line, members_text, names_text, settings_text, shared_book, shared_of, shared_text, untaken_row, version_of, word_line};
 
 use crate::cluster::Cluster;
 use otp_core::{Next, Settings};
@@ -21,6 +22,17 @@ pub(crate) fn write_word<W: Write>(writer: &mut W, word: &[u8], text: &[u8]) -> 
     writer.write_all(b" ")?;
     writer.write_all(text)?;
     writer.write_all(b"\n")
+}
+
+/// Writes the line of the names if there are names.
+pub(crate) fn write_names<W: Write>(writer: &mut W, names: Option<&[u8]>) -> io::Result<()>
+    ensures { OnOk result (Appends (W.contents writer.old) (W.contents writer.new)
+        (names_text (option_copied names.entry))) }
+{
+    match names {
+        Some(names) => write_word(writer, b"names", names),
+        None => Ok(()),
+    }
 }
 
 /// Writes a word and a number on a line.
@@ -85,7 +97,7 @@ fn first_factor() -> Next
 }
 
 /// Writes the row of a token, an event token's with the counter 0.
-fn write_token<W: Write>(writer: &mut W, token: &Token) -> io::Result<()>
+pub(crate) fn write_token<W: Write>(writer: &mut W, token: &Token) -> io::Result<()>
     ensures { OnOk result (Appends (W.contents writer.old) (W.contents writer.new) (untaken_row token.now)) }
 {
     write_row(writer, token, first_factor())
@@ -114,21 +126,45 @@ fn write_book<W: Write>(writer: &mut W, book: &Book) -> io::Result<()>
     Ok(())
 }
 
+/// Returns the version of a shared text.
+fn version_of(names: Option<&[u8]>) -> &'static [u8]
+    ensures { result.now ≡ version_of (option_copied names.entry) }
+{
+    match names {
+        Some(_) => b"2",
+        None => b"1",
+    }
+}
+
+/// Writes the rows of the tokens, or nothing if the members know tokens by names.
+#[tactic(auto, unfolding(crate::specs::Shared::book_text))]
+fn write_rows<W: Write>(writer: &mut W, names: Option<&[u8]>, book: &Book) -> io::Result<()>
+    ensures { OnOk result (Appends (W.contents writer.old) (W.contents writer.new)
+        (book_text (shared_book (option_copied names.entry) book.now))) }
+{
+    match names {
+        Some(_) => Ok(()),
+        None => write_book(writer, book),
+    }
+}
+
 /// Writes the shared values of a cluster with a book.
 fn write_shared<W: Write>(writer: &mut W, cluster: &Cluster, book: &Book) -> io::Result<()>
     ensures { OnOk result (Appends (W.contents writer.old) (W.contents writer.new)
         (shared_text (shared_of (cluster_value cluster.now) book.now))) }
 {
-    write_word(writer, b"wakdulg", b"1")?;
+    write_word(writer, b"wakdulg", version_of(cluster.names))?;
+    write_names(writer, cluster.names)?;
     write_word(writer, b"life", cluster.life)?;
     write_members(writer, &cluster.members)?;
     write_settings(writer, cluster.settings)?;
-    write_book(writer, book)
+    write_rows(writer, cluster.names, book)
 }
 
 /// Returns the shared values of a cluster with a book as one text, without the tokens' counters.
 ///
-/// Equal texts have the same life, members, settings and tokens (`shared_texts_tell`).
+/// Of a cluster with names the text has the names and no tokens, whatever the book. Equal texts have the same names,
+/// life, members, settings and tokens (`shared_texts_tell`).
 ///
 /// # Errors
 ///

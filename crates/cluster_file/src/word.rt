@@ -21,6 +21,10 @@ pub(crate) enum Word {
     Key,
     /// The life of the databases.
     Life,
+    /// The salt of the tokens' names.
+    Names,
+    /// How a node takes a token that it hasn't served.
+    NewTokens,
 }
 
 /// Returns whether two words have the same bytes.
@@ -50,6 +54,10 @@ pub(crate) fn read_word(text: &[u8]) -> Option<Word>
         Word::Key
     } else if is_same(text, b"life") {
         Word::Life
+    } else if is_same(text, b"names") {
+        Word::Names
+    } else if is_same(text, b"new-tokens") {
+        Word::NewTokens
     } else {
         return None;
     };

@@ -5,3 +5,4 @@ pub mod FloorLemmas
 pub mod RefusedLemmas
 pub mod GrownLemmas
 pub mod OpenLemmas
+pub mod LookLemmas

@@ -8,6 +8,7 @@ ghost use Rattle.token_names.specs.Seed.{seed_of};
 ghost use Rattle.named_store.specs.Entries.{entries_of, entry_under};
 ghost use Rattle.named_store.specs.Examples.{known, retired, two_new};
 ghost use Rattle.named_store.specs.Floors.{raised_floor, seeded_floors};
+ghost use Rattle.named_store.specs.Looked.{AreAllSeated, IsFirstNew};
 ghost use Rattle.named_store.specs.Seating.{AreDistinct, AreNew, AreSeatsOf, has_name, name_at, new_entries, new_places};
 
 /// Worked cases, and counterexamples: seats of names, a row that no name has, and two new names.
@@ -26,6 +27,19 @@ pub fn seats_are_worked()
     ensures another_seed { AreNew retired (entry_of 1 7 ∷ []) [] [] }
     ensures distinct { AreDistinct two_new }
     ensures twice { AreDistinct (entry_of 8 1 ∷ entry_of 9 1 ∷ entry_of 9 2 ∷ []) → ⊥ }
+{}
+
+/// Worked cases, and counterexamples: the first token without a row, and tokens that all have one.
+pub fn looks_are_worked()
+    ensures first { IsFirstNew retired two_new 0 }
+    ensures behind_a_known_one { IsFirstNew retired (entry_of 5 1 ∷ entry_of 8 1 ∷ []) 1 }
+    ensures a_known_one { IsFirstNew retired two_new 1 → ⊥ }
+    ensures second { IsFirstNew retired two_new 2 → ⊥ }
+    ensures past_the_last { IsFirstNew retired known 2 → ⊥ }
+    ensures other_order { AreAllSeated retired known (2 ∷ 0 ∷ []) }
+    ensures swapped { AreAllSeated retired known (0 ∷ 2 ∷ []) → ⊥ }
+    ensures with_new_ones { AreAllSeated retired two_new (3 ∷ 0 ∷ 4 ∷ []) → ⊥ }
+    ensures twice { AreAllSeated (entry_of 8 1 ∷ entry_of 8 2 ∷ []) (entry_of 8 1 ∷ []) (0 ∷ []) → ⊥ }
 {}
 
 /// Worked cases: the entries of two tokens, in their order, and of one device with two users.

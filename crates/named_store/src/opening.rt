@@ -24,7 +24,7 @@ use sqlite::{Alter, Connection};
 use std::alloc::Global;
 
 /// Opens the store of `node` with `tokens` tokens as it is. Its content has a row for each of them.
-fn open_counted<S: Alter>(
+pub(crate) fn open_counted<S: Alter>(
     alloc: Global,
     conn: Connection<S>,
     node: u8,

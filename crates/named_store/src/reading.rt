@@ -1,7 +1,8 @@
 //! Reads what a store says of its tokens and its cluster.
 
-ghost use Rattle.std.specs.Prelude.{◌≡◌, ◌≤◌, ◌↔◌, ◌+◌, length, vec_len, IsTrue, IfOk};
+ghost use Rattle.std.specs.Prelude.{◌≡◌, ◌≢◌, ◌≤◌, ◌↔◌, ◌+◌, length, vec_len, IsTrue, IfOk, IfErr};
 ghost use Rattle.floor_sql.specs.Steps.{ReadsTables};
+ghost use Rattle.named_store.specs.Looked.{IsUnseated};
 ghost use Rattle.named_store.specs.Opened.{HasNames, HasUsableNames, IsCause, Looks};
 ghost use Rattle.named_store.specs.Seating.{AreDistinct, AreNew, AreSeatsOf};
 
@@ -47,6 +48,32 @@ pub(crate) fn read_named<S: Alter>(
     Ok(Named { roster, bond })
 }
 
+/// Reads the entries of the store of `node` that is bound to `own`, and finds the seats of the tokens. New tokens have
+/// seats behind the rows, if there is room or not.
+pub(crate) fn find_tokens<S: Alter>(
+    alloc: Global,
+    conn: &mut Connection<S>,
+    node: u8,
+    names: &[Entry],
+    own: &Bond,
+) -> Result<(Vec<Entry>, Seating), NamedFault>
+    requires tokens { length names.now ≤ 10000 }
+    ensures looks { Looks S.Store conn.old conn.new (λ db r. HasNames db node r.0.items own.now)
+        (λ db. IsUnseated db own.now) result }
+    ensures never_full { IfErr result (λ fault. fault ≢ NamedFault.Full) }
+    ensures seats { IfOk result (λ r. AreSeatsOf r.0.items names.now r.1.seats.items) }
+    ensures fresh { IfOk result (λ r. AreNew r.0.items names.now r.1.places.items r.1.entries.items) }
+    ensures distinct { IfOk result (λ r. AreDistinct r.0.items) }
+    ensures rows { IfOk result (λ r. vec_len r.0 ≤ 10000) }
+{
+    let named = read_named(alloc, conn, node)?;
+    if !is_same(&named.bond, own) {
+        return Err(NamedFault::AnotherCluster);
+    }
+    let seating = find_seats(alloc, &named.roster, names)?;
+    Ok((named.roster, seating))
+}
+
 /// Reads the entries of the store of `node` that is bound to `own`, and finds the seats of the tokens in it.
 pub(crate) fn seat_tokens<S: Alter>(
     alloc: Global,
@@ -63,13 +90,9 @@ pub(crate) fn seat_tokens<S: Alter>(
     ensures distinct { IfOk result (λ r. AreDistinct r.0.items) }
     ensures room { IfOk result (λ r. vec_len r.0 + vec_len r.1.entries ≤ 10000) }
 {
-    let named = read_named(alloc, conn, node)?;
-    if !is_same(&named.bond, own) {
-        return Err(NamedFault::AnotherCluster);
-    }
-    let seating = find_seats(alloc, &named.roster, names)?;
-    if named.roster.len() + seating.entries.len() > MAX_TOKENS {
+    let (roster, seating) = find_tokens(alloc, conn, node, names, own)?;
+    if roster.len() + seating.entries.len() > MAX_TOKENS {
         return Err(NamedFault::Full);
     }
-    Ok((named.roster, seating))
+    Ok((roster, seating))
 }

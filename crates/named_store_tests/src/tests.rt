@@ -1,6 +1,6 @@
 use floor_sql::SqlStore;
 use floor_store::{FloorStore, Row, StoreFault};
-use named_store::{NamedFault, entries_of, open_named};
+use named_store::{LookFault, Looked, NamedFault, entries_of, look_named, open_named};
 use otp_core::{Next, Settings};
 use roster_sql::{Bond, Entry, NAME_LEN, make_named};
 use seated_store::SeatedStore;
@@ -14,7 +14,8 @@ use token_names::{Name, Salt};
 type Opened = SeatedStore<SqlStore<MemStore>>;
 
 /// The rows of two tokens.
-const ROWS: &[u8] = b"HOTP silver pw 3132333435363738393031323334353637383930 7\nHOTP/T30/8/SHA256 ann - 00FF\n";
+const ROWS: &[u8] =
+    b"HOTP silver pw 3132333435363738393031323334353637383930 7\nHOTP/T30/8/SHA256 ann - 00FF\n";
 
 /// The name and the seed of each token of [`ROWS`] under the salt `names-of-site-1`, as Python's hmac computes them.
 const ENTRIES: [[&str; 2]; 2] = [
@@ -156,6 +157,57 @@ fn refused(
     )
 }
 
+/// Looks at the store of node 3 that a connection holds.
+fn looks(
+    alloc: Global,
+    conn: Connection<MemStore>,
+    names: &[Entry],
+    own: &Bond,
+) -> Result<Looked<MemStore>, (Connection<MemStore>, LookFault)> {
+    if !conn.is_autocommit() || names.len() > 100 {
+        return Err((conn, LookFault::Named(NamedFault::Full)));
+    }
+    look_named(alloc, conn, 3, names, own)
+}
+
+/// Returns whether two of three tokens are seen in another order, beside the entries of all rows.
+fn looked_at(alloc: Global, floors: &[Next; 5], own: &Bond) -> Result<bool, NamedFault> {
+    let names = [entry(5, 1), entry(1, 9)];
+    let Ok(looked) = looks(alloc, made(alloc, floors, own)?, &names, own) else {
+        return Ok(false);
+    };
+    let order = shows(&looked.store, &[floors[2], floors[0]]);
+    let rows = [entry(1, 1), entry(3, 4), entry(5, 1)];
+    let named = looked.roster.as_slice() == rows.as_slice();
+    Ok(order && named && looked.seats.as_slice() == [2, 0].as_slice())
+}
+
+/// Returns whether a new token is told, and not enrolled.
+fn not_enrolled(alloc: Global, floors: &[Next; 5], own: &Bond) -> Result<bool, NamedFault> {
+    let names = [entry(5, 1), entry(8, 1), entry(9, 1)];
+    let Err((conn, fault)) = looks(alloc, made(alloc, floors, own)?, &names, own) else {
+        return Ok(false);
+    };
+    let rows = match looks(alloc, conn, &[entry(3, 4)], own) {
+        Ok(looked) => looked.roster.len(),
+        Err(_) => 0,
+    };
+    Ok(fault == LookFault::NotEnrolled { token: 1 } && rows == 3)
+}
+
+/// Returns whether a store is not shown to another cluster.
+fn not_shown(
+    alloc: Global,
+    floors: &[Next; 5],
+    own: &Bond,
+    other: &Bond,
+) -> Result<bool, NamedFault> {
+    match looks(alloc, made(alloc, floors, own)?, &[entry(8, 1)], other) {
+        Ok(_) => Ok(false),
+        Err((_, fault)) => Ok(fault == LookFault::Named(NamedFault::AnotherCluster)),
+    }
+}
+
 /// Returns whether an entry has the name and the seed that are written in hexadecimal.
 fn is_written(entry: Entry, digits: [&str; 2]) -> bool {
     let name = Name::new(entry.name).digits();
@@ -190,4 +242,33 @@ fn a_store_is_opened_by_names(rt: HostRuntime) {
     assert!(rt; other_order(rt.alloc(), &floors, &own) == Ok(true));
     assert!(rt; one_retired(rt.alloc(), &floors, &own) == Ok(true));
     assert!(rt; refused(rt.alloc(), &floors, &own, &other) == Ok(true));
+}
+
+#[test]
+fn a_store_is_looked_at_by_names(rt: HostRuntime) {
+    let (Some(own), Some(floors)) = (Bond::new(b"names", b"life", 5), five_floors()) else {
+        assert!(rt; false, "range");
+        return;
+    };
+    let Some(other) = Bond::new(b"names", b"another life", 5) else {
+        assert!(rt; false, "range");
+        return;
+    };
+    assert!(rt; looked_at(rt.alloc(), &floors, &own) == Ok(true));
+    assert!(rt; not_enrolled(rt.alloc(), &floors, &own) == Ok(true));
+    assert!(rt; not_shown(rt.alloc(), &floors, &own, &other) == Ok(true));
+}
+
+/// The text of each fault.
+#[test]
+fn faults_are_told(rt: HostRuntime) -> Result<(), Fail> {
+    let alloc = rt.alloc();
+    let new = LookFault::NotEnrolled { token: 1 };
+    assert!(rt; format!(in alloc; "{new}")?.as_str() == "NotEnrolled 1");
+    let another = LookFault::Named(NamedFault::AnotherCluster);
+    assert!(rt; format!(in alloc; "{another}")?.as_str() == "AnotherCluster");
+    assert!(rt; format!(in alloc; "{}", NamedFault::Full)?.as_str() == "Full");
+    let disk = NamedFault::Store(StoreFault::Disk);
+    assert!(rt; format!(in alloc; "{disk}")?.as_str() == "Disk");
+    Ok(())
 }

@@ -22,7 +22,8 @@ use Rattle.oathd_database.specs.Level.{HasLevelled}
 use Rattle.oathd_database.specs.Lost.{HasRemade}
 use Rattle.oathd_database.specs.Made.{HasMadeMember, store_line}
 use Rattle.oathd_database.specs.declared.lost.LostNode.{LostNode}
-use Rattle.oathd.specs.Done.{AreFloorsTold, IsCreated, IsLevelled, IsLostNodeOf, IsMemberCreated, IsMemberReplaced, IsMomentOf, IsReplaced, place_in}
+use Rattle.oathd.specs.Done.{AreFloorsTold, IsCreated, IsLevelled, IsLostNodeOf, IsMemberCreated, IsMemberReplaced, IsMomentOf, IsReplaced}
+use Rattle.oathd.specs.Serve.{place_in}
 
 module _ {V : Type 0} (items : V → List ℕ) (taken : Option (Bor (List ℕ))) (given : Option V) where
   -- the nodes that are named

@@ -1,4 +1,5 @@
 mod FaultLemmas
 mod ServeLemmas
+mod NamedLemmas
 mod WordsLemmas
 mod DoneLemmas

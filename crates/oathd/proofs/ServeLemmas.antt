@@ -13,10 +13,10 @@ use Rattle.oathd_database.specs.declared.serving.Serving.{Serving}
 use Rattle.oathd.specs.Serve.{EndsAsAsked, IsOfTask, IsServedAsAsked, ServeEndsSo}
 use Rattle.oathd.specs.Users.{IsOfUsers}
 use Rattle.oathd.specs.declared.fault.Fault.{Fault}
-use Rattle.oathd.specs.declared.fault.Fault.TheVariants.{Database, Floors, Task, Unlock}
+use Rattle.oathd.specs.declared.fault.Fault.TheVariants.{Database, Floors, Task, Unlock, Roster, Seats, Names}
 
 -- a users file is not imported
-not_imported : (limits : Limits) (moment longest : ℕ) (fault : database.Fault) (text : List ℕ) → IsUnread limits moment longest fault text
+pub not_imported : (limits : Limits) (moment longest : ℕ) (fault : database.Fault) (text : List ℕ) → IsUnread limits moment longest fault text
     → IsNotServed limits moment longest fault text
 not_imported limits moment longest Memory text h = tt
 not_imported limits moment longest CannotWrite text h = absurd h
@@ -41,6 +41,9 @@ module _ {S : Type 0} (g : Ghosts S) (finds : sql.Held S → Type 0) (IsAsked : 
   ends_by_task (Database fault) is = absurd is
   ends_by_task (Floors fault) is = absurd is
   ends_by_task (Unlock fault) is = absurd is
+  ends_by_task (Roster fault) is = absurd is
+  ends_by_task (Seats fault) is = absurd is
+  ends_by_task (Names fault) is = absurd is
 
   module _ (serving : Serving) (asked : IsAsked serving) where
     -- the node was served
@@ -59,6 +62,9 @@ module _ {S : Type 0} (g : Ghosts S) (finds : sql.Held S → Type 0) (IsAsked : 
         ends_by fault (record { serving = serving; asked = asked; users = is.0; ends = inl ends })
     users_end (Floors fault) is = absurd is
     users_end (Unlock fault) is = absurd is
+    users_end (Roster fault) is = absurd is
+    users_end (Seats fault) is = absurd is
+    users_end (Names fault) is = absurd is
 
     -- a fault of a node with these parameters
     same_end : (fault : database.Fault) → EndsAsAsked g finds (λ other. other ≡ serving) fault → EndsAsAsked g finds IsAsked fault
@@ -77,3 +83,6 @@ module _ {S : Type 0} (g : Ghosts S) (finds : sql.Held S → Type 0) (IsAsked : 
     ends_as_asked (Err (Database Socket)) h = same_end Socket h
     ends_as_asked (Err (Floors fault)) h = h
     ends_as_asked (Err (Unlock fault)) h = h
+    ends_as_asked (Err (Roster fault)) h = h
+    ends_as_asked (Err (Seats fault)) h = h
+    ends_as_asked (Err (Names fault)) h = h

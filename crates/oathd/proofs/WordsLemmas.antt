@@ -34,7 +34,8 @@ use Rattle.oathd_database.specs.declared.gate.ClientLines.TheVariants.{Of}
 use Rattle.oathd_tasks.specs.Clients.{HasClients}
 use Rattle.clients_file.specs.declared.clients.Clients.{Clients}
 use Rattle.oathd_database.specs.declared.node_key.NodeKey.TheVariants.{Own}
-use Rattle.oathd.specs.Serve.{AreLinesOf, IsAskedFor, IsMemberOf, IsRunOf, IsServedAsAsked, ServeEndsSo}
+use Rattle.oathd.specs.Named.{EndsSo, names_asked}
+use Rattle.oathd.specs.Serve.{AreLinesOf, IsAskedFor, IsMemberOf, IsRunOf, ServeEndsSo}
 use Rattle.oathd.specs.declared.fault.Fault.{Fault}
 
 -- the number of members in the cluster file that the words name
@@ -82,24 +83,27 @@ node_asked cluster settings place members path turns is_logged clients text serv
     )
 
 module _ {S : Type 0} (g : Ghosts S) (finds : sql.Held S → Type 0) where
-  -- a command that serves ended well
-  pub served_well : (IsAsked : Serving → Type 0) (result : Result Unit Fault) → ServeEndsSo g finds IsAsked result
-      → IfOk result (λ _. IsServedAsAsked g finds IsAsked)
-  served_well IsAsked (Ok done) h = h
-  served_well IsAsked (Err fault) h = tt
-
   -- an action with a name is the action
   pub done_so : (action named : Action) (text : List ℕ) (old new : Option (List ℕ)) (result : Result Unit Fault) → action ≡ named
       → IfOk result (λ _. IsDone g finds named text old new) → IfOk result (λ _. IsDone g finds action text old new)
   done_so action named text old new result is h = subst (λ words. IfOk result (λ _. IsDone g finds words text old new)) (sym is) h
 
-  -- the node that the text of the named cluster file describes
+  -- a node that the text of the named cluster file describes
   pub named_ends : (cluster : ClusterWords) (node : ℕ) (path : Bor (List ℕ)) (turns : ℕ) (is_logged : Bool) (clients : ClientWords) (text : List ℕ)
       (result : Result Unit Fault) → cluster ≡ Named node path
-      → ServeEndsSo g finds (IsAskedFor (Named node path) turns is_logged clients text) result
-      → ServeEndsSo g finds (IsAskedFor cluster turns is_logged clients text) result
+      → EndsSo g finds (IsAskedFor (Named node path) turns is_logged clients text) text (names_asked (Named node path) text) result
+      → EndsSo g finds (IsAskedFor cluster turns is_logged clients text) text (names_asked cluster text) result
   named_ends cluster node path turns is_logged clients text result is h =
-      subst (λ words. ServeEndsSo g finds (IsAskedFor words turns is_logged clients text) result) (sym is) h
+      subst (λ (words : ClusterWords). EndsSo g finds (IsAskedFor words turns is_logged clients text) text (names_asked words text) result) (sym is) h
+
+  -- a node that the words describe has no names
+  pub given_ends : (cluster : ClusterWords) (settings : Limits) (place : PlaceRecord) (members : Vec SocketAddrV4) (path : Bor (List ℕ)) (turns : ℕ)
+      (is_logged : Bool) (clients : ClientWords) (text : List ℕ) (result : Result Unit Fault) → cluster ≡ Given settings place members path
+      → ServeEndsSo g finds (IsAskedFor cluster turns is_logged clients text) result
+      → EndsSo g finds (IsAskedFor cluster turns is_logged clients text) text (names_asked cluster text) result
+  given_ends cluster settings place members path turns is_logged clients text result is h =
+      subst (λ (words : ClusterWords). ServeEndsSo g finds (IsAskedFor words turns is_logged clients text) result
+      → EndsSo g finds (IsAskedFor words turns is_logged clients text) text (names_asked words text) result) (sym is) (λ same. same) h
 
   module _ (node : ℕ) (import : ImportWords) (moment : Option ℕ) (text : List ℕ) (old new : Option (List ℕ)) where
     with_output : (settings : Limits) (r : Result Unit Fault) → new ≡ old → IfOk r (λ _. IsCreated g finds node settings moment)

@@ -10,13 +10,13 @@ use Rattle.sqlite.specs.State.{HasCleanDisk}
 use Rattle.otp_core.specs.Limits.{Limits, default_limits}
 use Rattle.otp_core.specs.Range.{IsMoment}
 use Rattle.floor_sql.specs.Held.{SqlHeld}
-use Rattle.vote_core.specs.NodeSet.{PlaceRecord}
 use Rattle.cluster_file.specs.ClusterFile.{ClusterRecord, cluster_of}
 use Rattle.oathd_words.specs.declared.former_words.CountWords.{CountWords}
 use Rattle.oathd_words.specs.declared.former_words.CountWords.TheVariants as counts
 use Rattle.oathd_words.specs.declared.former_words.FormerWords.{FormerWords}
 use Rattle.oathd_words.specs.declared.store_words.Action.{Action}
 use Rattle.oathd_words.specs.declared.store_words.Action.TheVariants.{Init, Remake, Serve, Export, Audit, Migrate, Floors, Level, Gates, Unlock}
+use Rattle.oathd_words.specs.declared.store_words.Action.TheVariants.{Named as ByNames}
 use Rattle.oathd_words.specs.declared.store_words.ImportWords.TheVariants.{Given, Named}
 use Rattle.oathd_database.specs.Commands.{HasAudited, HasExported, HasMade, HasMigrated}
 use Rattle.oathd_database.specs.Floors.{HasToldFloors}
@@ -26,7 +26,9 @@ use Rattle.oathd_database.specs.Lost.{HasRemade}
 use Rattle.oathd_database.specs.Made.{HasMadeMember, store_line}
 use Rattle.oathd_database.specs.Unlock.{Unlocks}
 use Rattle.oathd_database.specs.declared.lost.LostNode.{LostNode}
-use Rattle.oathd.specs.Serve.{IsAskedFor, IsServedAsAsked}
+use Rattle.oathd_database.specs.declared.serving.Serving.{Serving}
+use Rattle.oathd.specs.Named.{IsActDone, IsNamedOf, IsServedByNames, names_asked}
+use Rattle.oathd.specs.Serve.{IsAskedFor, IsServedAsAsked, place_in}
 
 -- the given moment, or any without one
 abbrev pub IsMomentOf : Option ℕ → ℕ → Type 0
@@ -38,10 +40,6 @@ abbrev pub IsCountOf : CountWords → List ℕ → ℕ → Type 0
 IsCountOf (counts.Given count) text members = members ≡ count
 IsCountOf (counts.Named path) text members =
     (cluster : ClusterRecord) × (cluster_of text ≡ Ok cluster) × (members ≡ length cluster.members)
-
--- the place of a node among the members of a cluster
-abbrev pub place_in : ClusterRecord → ℕ → PlaceRecord
-place_in cluster node = record { me = node; n = length cluster.members }
 
 -- the node whose store is replaced, with the lost nodes and the moment that the words give
 pub record IsLostNodeOf (node : ℕ) (former : FormerWords) (lost : LostNode) : Type 0 where
@@ -107,6 +105,11 @@ module _ {S : Type 0} (g : Ghosts S) (finds : sql.Held S → Type 0) where
     pub users : List ℕ
     pub told : HasToldFloors g finds default_limits 16777216 node members moment old new users
 
+  -- a node is served to the end of its turns, by names if there are names
+  abbrev pub IsServedSo : (Serving → Type 0) → List ℕ → Option (List ℕ) → Type 0
+  IsServedSo IsAsked text None = IsServedAsAsked g finds IsAsked
+  IsServedSo IsAsked text (Some names) = IsServedByNames g finds IsAsked (IsNamedOf text)
+
   -- The action is done, with the text of the cluster file that its words name. The records of the output before and
   -- after it are `old` and `new`. A store that is created without a cluster file prints nothing.
   abbrev pub IsDone : Action → List ℕ → Option (List ℕ) → Option (List ℕ) → Type 0
@@ -116,7 +119,7 @@ module _ {S : Type 0} (g : Ghosts S) (finds : sql.Held S → Type 0) where
       (store : SqlHeld S) × IsReplaced node settings moment former store × (new ≡ old)
   IsDone (Remake node (Named path) moment former) text old new = IsMemberReplaced node moment former text old new
   IsDone (Serve cluster turns is_logged clients) text old new =
-      IsServedAsAsked g finds (IsAskedFor cluster turns is_logged clients text)
+      IsServedSo (IsAskedFor cluster turns is_logged clients text) text (names_asked cluster text)
   IsDone Export text old new = (users : List ℕ) × HasExported g finds default_limits 0 16777216 old new users
   IsDone (Audit node) text old new = (users : List ℕ) × HasAudited g finds default_limits 0 16777216 node old new users
   IsDone (Migrate node) text old new =
@@ -127,3 +130,4 @@ module _ {S : Type 0} (g : Ghosts S) (finds : sql.Held S → Type 0) where
   IsDone (Gates node) text old new = (users : List ℕ) × HasToldGates g finds default_limits 16777216 node old new users
   IsDone (Unlock node user) text old new =
       (users : List ℕ) × (store : SqlHeld S) × Unlocks g finds default_limits 16777216 node user.now store users
+  IsDone (ByNames node path act) text old new = IsActDone g finds node act text old new

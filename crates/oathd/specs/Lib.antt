@@ -1,4 +1,5 @@
 pub mod Done
 pub mod Fault
+pub mod Named
 pub mod Serve
 pub mod Users

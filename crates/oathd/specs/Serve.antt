@@ -8,7 +8,7 @@ use Rattle.otp_core.specs.Limits.{Limits}
 use Rattle.vote_core.specs.NodeSet.{PlaceRecord}
 use Rattle.oath_node.specs.declared.turns.Served.{Served}
 use Rattle.clients_file.specs.declared.clients.Clients.{Clients}
-use Rattle.cluster_file.specs.ClusterFile.{cluster_of, cluster_value}
+use Rattle.cluster_file.specs.ClusterFile.{ClusterRecord, cluster_of, cluster_value}
 use Rattle.cluster_file.specs.Said.{key_place}
 use Rattle.cluster_file.specs.declared.cluster.Cluster.{Cluster}
 use Rattle.oathd_words.specs.declared.store_words.ClientWords.{ClientWords}
@@ -26,9 +26,13 @@ use Rattle.oathd_database.specs.declared.gate.ClientLines.TheVariants.{Anybody, 
 use Rattle.oathd_database.specs.declared.node_key.NodeKey.TheVariants.{Own}
 use Rattle.oathd_database.specs.declared.serving.Serving.{Serving}
 use Rattle.oathd.specs.declared.fault.Fault.{Fault}
-use Rattle.oathd.specs.declared.fault.Fault.TheVariants.{Database, Floors, Task, Unlock}
+use Rattle.oathd.specs.declared.fault.Fault.TheVariants.{Database, Floors, Task, Unlock, Roster, Seats, Names}
 
 -- ---- The parameters of the node
+
+-- the place of a node among the members of a cluster
+abbrev pub place_in : ClusterRecord → ℕ → PlaceRecord
+place_in cluster node = record { me = node; n = length cluster.members }
 
 -- the lines of clients that the words name; a clients file may say any
 abbrev pub AreLinesOf : ClientWords → ClientLines → Type 0
@@ -78,6 +82,12 @@ abbrev pub IsOfTask : Fault → Type 0
 IsOfTask (Task fault) = Unit {0}
 IsOfTask fault = ⊥
 
+-- the fault is one of the files that give a node's parameters
+abbrev pub IsOfFiles : Fault → Type 0
+IsOfFiles (Task fault) = Unit {0}
+IsOfFiles (Names fault) = Unit {0}
+IsOfFiles fault = ⊥
+
 -- Databases are opened by a connection that shows what `finds` says. `IsAsked` holds for the parameters that were asked
 -- for.
 module _ {S : Type 0} (g : Ghosts S) (finds : sql.Held S → Type 0) (IsAsked : Serving → Type 0) where
@@ -96,7 +106,7 @@ module _ {S : Type 0} (g : Ghosts S) (finds : sql.Held S → Type 0) (IsAsked : 
     pub users : List ℕ
     pub ends : EndsServing g finds serving fault users
 
-  -- The end of a command that serves. A fault of a task is one of the files that give the parameters.
+  -- The end of a command that serves. A fault of a task or of names is one of the files that give the parameters.
   abbrev pub ServeEndsSo : Result Unit Fault → Type 0
   ServeEndsSo (Ok done) = IsServedAsAsked
   ServeEndsSo (Err (Task fault)) = Unit {0}
@@ -108,3 +118,6 @@ module _ {S : Type 0} (g : Ghosts S) (finds : sql.Held S → Type 0) (IsAsked : 
   ServeEndsSo (Err (Database Socket)) = EndsAsAsked Socket
   ServeEndsSo (Err (Floors fault)) = ⊥
   ServeEndsSo (Err (Unlock fault)) = ⊥
+  ServeEndsSo (Err (Roster fault)) = ⊥
+  ServeEndsSo (Err (Seats fault)) = ⊥
+  ServeEndsSo (Err (Names fault)) = Unit {0}

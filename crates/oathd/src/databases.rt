@@ -1,29 +1,34 @@
 //! Carries out the commands over a database.
 
-ghost use Rattle.std.specs.Prelude.{◌≡◌, ◌<◌, ◌≤◌, ◌^◌, None, length, IfErr, IfOk, IfSome};
+ghost use Rattle.std.specs.Prelude.{◌≡◌, ◌≢◌, ◌<◌, ◌≤◌, ◌^◌, None, length, IfErr, IfOk, IfSome};
 ghost use Rattle.sqlite_wal.specs.Files.{image_at};
 ghost use Rattle.floor_sql.specs.Usable.{IsNode};
 ghost use Rattle.otp_core.specs.Range.{IsMoment};
+ghost use Rattle.cluster_file.specs.ClusterFile.{cluster_of, cluster_value};
 ghost use Rattle.oathd_database.specs.File.{FindsFiles};
 ghost use Rattle.oathd_database.specs.Gate.{IsSaid};
 ghost use Rattle.oathd_database.specs.declared.fault.Fault.TheVariants as database;
 ghost use Rattle.oathd_words.specs.StoreWords.{IsActionInRange, IsClusterInRange};
 ghost use Rattle.oathd_words.specs.declared.store_words.Action.TheVariants.{Audit, Export, Floors, Gates, Init, Level, Migrate, Remake, Unlock};
 ghost use Rattle.oathd.specs.Done.{IsCountOf, IsCreated, IsDone, IsLevelled, IsMemberCreated, IsMemberReplaced, IsMomentOf, IsReplaced};
+ghost use Rattle.oathd.specs.Named.{EndsBy, EndsSo, names_asked, names_in};
 ghost use Rattle.oathd.specs.Serve.{AreLinesOf, IsAskedFor, IsMemberOf, IsOfTask, IsRunOf, ServeEndsSo};
 ghost use Rattle.oathd.specs.Users.{IsOfUsers};
 
 use crate::fault::Fault;
 use crate::floors::{floors_texts, with_paths};
+use crate::named::named_cluster;
 use crate::users::{checked_users_text, users_text};
 use cluster_file::Cluster;
 use datagram_port::Clock;
 use floor_sql::SqlStore;
+use oathd_causes::NamesFault;
 use oathd_database::{
     ClientLines, DatabaseFile, LostNode, NodeKey, Serving, audit_store, export_store, floors_store,
     gates_store, init_lost_store, init_member_store, init_store, level_store, migrate_store,
     read_users, serve_store, unlock_store, write_store,
 };
+use oathd_roster::NamedCluster;
 use oathd_tasks::{clients_at, cluster_in, cluster_key, member_place, read_key};
 use oathd_words::{Action, ClientWords, ClusterWords, CountWords, FormerWords, ImportWords};
 use otp_core::{MOMENTS_END, Settings};
@@ -35,7 +40,7 @@ use std::time::Clock as TimeSource;
 use udp_port::SystemClock;
 
 /// Returns the current time.
-fn present_moment<'a, T: TimeSource>(source: &T) -> Result<u64, Fault<'a>>
+pub(crate) fn present_moment<'a, T: TimeSource>(source: &T) -> Result<u64, Fault<'a>>
     ensures moment { IfOk result IsMoment }
     ensures fault { IfErr result (λ fault. fault ≡ Fault.Database database.NoClock) }
 {
@@ -58,6 +63,17 @@ fn moment_of<'a, T: TimeSource>(source: &T, moment: Option<u64>) -> Result<u64, 
     }
 }
 
+/// Refuses a cluster file that gives names with `fault`.
+fn refuse_names<'a>(cluster: &Cluster<'_>, fault: NamesFault) -> Result<(), Fault<'a>>
+    ensures unnamed { IfOk result (λ _. (cluster_value cluster.now).names ≡ None) }
+    ensures fault { IfErr result (λ f. (f ≡ Fault.Names fault) × ((cluster_value cluster.now).names ≢ None)) }
+{
+    match cluster.names {
+        Some(_) => Err(Fault::Names(fault)),
+        None => Ok(()),
+    }
+}
+
 /// Returns the number of members, from the words or from the text of the cluster file. The file must have the node as a
 /// member.
 fn member_count<'a>(
@@ -73,6 +89,7 @@ fn member_count<'a>(
         CountWords::Given(count) => Ok(count),
         CountWords::Named(_) => {
             let cluster = cluster_in(alloc, text)?;
+            refuse_names(&cluster, NamesFault::HasNames)?;
             Ok(member_place(&cluster, node)?.n())
         }
     }
@@ -81,14 +98,14 @@ fn member_count<'a>(
 /// The database and the files of a command.
 #[derive(Clone, Copy)]
 pub(crate) struct Site<'r, 'a> {
-    alloc: Global,
-    rt: &'r HostRuntime,
+    pub(crate) alloc: Global,
+    pub(crate) rt: &'r HostRuntime,
     /// The path of the database.
-    database: &'a str,
+    pub(crate) database: &'a str,
     /// The path of the users file.
     users: &'a str,
     /// The text of the cluster file that the words name.
-    cluster: &'a [u8],
+    pub(crate) cluster: &'a [u8],
 }
 
 impl<'r, 'a> Site<'r, 'a> {
@@ -110,12 +127,16 @@ impl<'r, 'a> Site<'r, 'a> {
     }
 
     /// Returns the database in its file, which has to exist and not be empty.
-    fn found<S: Start>(&self, start: S) -> DatabaseFile<'_, S> {
+    pub(crate) fn found<S: Start>(&self, start: S) -> DatabaseFile<'_, S> {
         DatabaseFile::found(self.rt, self.database, start)
     }
 
     /// Returns the text of the users file for an import with `settings` at `moment`.
-    fn users(&self, settings: Settings, moment: u64) -> Result<Cursor<Vec<u8>>, Fault<'a>>
+    pub(crate) fn users(
+        &self,
+        settings: Settings,
+        moment: u64,
+    ) -> Result<Cursor<Vec<u8>>, Fault<'a>>
         requires { IsMoment moment }
         ensures { IfErr result (IsOfUsers settings moment) }
     {
@@ -123,7 +144,7 @@ impl<'r, 'a> Site<'r, 'a> {
     }
 
     /// Returns the text of the users file for a command that imports no floors.
-    fn users_alone(&self) -> Result<Cursor<Vec<u8>>, Fault<'a>> {
+    pub(crate) fn users_alone(&self) -> Result<Cursor<Vec<u8>>, Fault<'a>> {
         self.users(Settings::default(), 0)
     }
 
@@ -162,6 +183,7 @@ impl<'r, 'a> Site<'r, 'a> {
             node moment self.now.cluster.now (O.contents held.old) (O.contents held.new)) }
     {
         let cluster = cluster_in(self.alloc, self.cluster)?;
+        refuse_names(&cluster, NamesFault::PlainInit)?;
         let place = member_place(&cluster, node)?;
         let moment = moment_of(self.rt, moment)?;
         let (alloc, settings) = (self.alloc, cluster.settings);
@@ -250,6 +272,7 @@ impl<'r, 'a> Site<'r, 'a> {
             node moment former.entry self.now.cluster.now (O.contents held.old) (O.contents held.new)) }
     {
         let cluster = cluster_in(self.alloc, self.cluster)?;
+        refuse_names(&cluster, NamesFault::HasNames)?;
         let place = member_place(&cluster, node)?;
         let store = self.remake_store(start, node, cluster.settings, moment, former)?;
         write_store(place, &store, held)?;
@@ -312,6 +335,23 @@ impl<'r, 'a> Site<'r, 'a> {
         Ok(())
     }
 
+    /// Serves a node over its database, by names if the cluster has them.
+    fn serve_by<S: Start, O: Write>(
+        &self,
+        start: S,
+        named: Option<NamedCluster>,
+        serving: Serving<'_>,
+        held: &mut O,
+    ) -> Result<(), Fault<'a>>
+        ensures { EndsBy ⟦<FileStore<FileFrom<S>> as Store>⟧ (FindsFiles (image_at S.Start))
+            (λ other. other ≡ serving.entry) named result }
+    {
+        match &named {
+            Some(named) => self.serve_named(start, named, serving, held),
+            None => self.serve_as(start, serving, held),
+        }
+    }
+
     /// Serves a node of the cluster that the words, or the text of their cluster file, describe.
     fn serve<S: Start, O: Write>(
         &self,
@@ -324,8 +364,9 @@ impl<'r, 'a> Site<'r, 'a> {
     ) -> Result<(), Fault<'a>>
         requires cluster { IsClusterInRange cluster }
         requires turns { turns < 2 ^ 54 }
-        ensures { ServeEndsSo ⟦<FileStore<FileFrom<S>> as Store>⟧ (FindsFiles (image_at S.Start))
-            (IsAskedFor cluster.entry turns is_logged clients.entry self.now.cluster.now) result }
+        ensures { EndsSo ⟦<FileStore<FileFrom<S>> as Store>⟧ (FindsFiles (image_at S.Start))
+            (IsAskedFor cluster.entry turns is_logged clients.entry self.now.cluster.now) self.now.cluster.now
+            (names_asked cluster.entry self.now.cluster.now) result }
     {
         match cluster {
             ClusterWords::Given {
@@ -365,16 +406,17 @@ impl<'r, 'a> Site<'r, 'a> {
     ) -> Result<(), Fault<'a>>
         requires node { 1 ≤ node }
         requires turns { turns < 2 ^ 54 }
-        ensures { ServeEndsSo ⟦<FileStore<FileFrom<S>> as Store>⟧ (FindsFiles (image_at S.Start))
+        ensures { EndsSo ⟦<FileStore<FileFrom<S>> as Store>⟧ (FindsFiles (image_at S.Start))
             (λ serving. IsMemberOf node self.now.cluster.now serving × IsRunOf turns is_logged clients.entry serving)
-            result }
+            self.now.cluster.now (names_in (cluster_of self.now.cluster.now)) result }
     {
         let cluster = cluster_in(self.alloc, self.cluster)?;
         let place = member_place(&cluster, node)?;
         let key = cluster_key(self.alloc, self.rt, &cluster.key)?;
         let lines = self.lines_of(clients)?;
+        let named = named_cluster(&cluster, place.n())?;
         match Serving::of_member(&cluster, key, place, turns, is_logged, lines) {
-            Ok(serving) => self.serve_as(start, serving, held),
+            Ok(serving) => self.serve_by(start, named, serving, held),
             Err(_) => Err(Fault::Database(oathd_database::Fault::Memory)),
         }
     }
@@ -533,6 +575,7 @@ impl<'r, 'a> Site<'r, 'a> {
             Action::Level { node, floors } => self.level(start, node, floors),
             Action::Gates { node } => self.gates(start, node, held),
             Action::Unlock { node, user } => self.unlock(start, node, user),
+            Action::Named { node, act, .. } => self.act(start, node, act, held),
         }
     }
 }

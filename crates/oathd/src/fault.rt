@@ -1,6 +1,8 @@
 use crate::floors::PathFault;
-use oathd_causes::Cause;
+use oathd_causes::{Cause, NamesFault};
 use oathd_database::UnlockFault;
+use oathd_roster::RosterFault;
+use oathd_seats::SeatsFault;
 use program_edge::{OutsideFault, ProgramFault};
 use thiserror::Error;
 
@@ -19,6 +21,15 @@ pub(crate) enum Fault<'a> {
     /// A fault of the command `unlock`.
     #[error("{0}")]
     Unlock(UnlockFault<'a>),
+    /// A fault of a command over a store by names, and of no other one.
+    #[error("{0}")]
+    Roster(RosterFault),
+    /// A fault of a command that looks at a store by names, and of no other one.
+    #[error("{0}")]
+    Seats(SeatsFault<'a>),
+    /// The cluster file gives names or none, and the command is for the other kind of store.
+    #[error("{0}")]
+    Names(NamesFault),
 }
 
 impl ProgramFault for Fault<'_> {
@@ -32,6 +43,9 @@ impl ProgramFault for Fault<'_> {
             Fault::Database(fault) => fault.status(),
             Fault::Floors(fault) => fault.status(),
             Fault::Unlock(fault) => fault.status(),
+            Fault::Roster(fault) => fault.status(),
+            Fault::Seats(fault) => fault.status(),
+            Fault::Names(_) => 1,
         }
     }
 }
@@ -90,5 +104,33 @@ impl<'a> From<UnlockFault<'a>> for Fault<'a> {
 
     fn from(fault: UnlockFault<'a>) -> Self {
         Fault::Unlock(fault)
+    }
+}
+
+impl From<RosterFault> for Fault<'_> {
+    ghost use Rattle.std.specs.Prelude.{◌≡◌};
+    ghost use Rattle.oathd.specs.Named.{fault_of};
+
+    ghost from_gives = { λ roster fault. fault ≡ fault_of roster };
+
+    fn from(fault: RosterFault) -> Self {
+        match fault {
+            RosterFault::Command(fault) => Fault::Database(fault),
+            other => Fault::Roster(other),
+        }
+    }
+}
+
+impl<'a> From<SeatsFault<'a>> for Fault<'a> {
+    ghost use Rattle.std.specs.Prelude.{◌≡◌};
+    ghost use Rattle.oathd.specs.Named.{seats_fault_of};
+
+    ghost from_gives = { λ seats fault. fault ≡ seats_fault_of seats };
+
+    fn from(fault: SeatsFault<'a>) -> Self {
+        match fault {
+            SeatsFault::Roster(fault) => Fault::from(fault),
+            other => Fault::Seats(other),
+        }
     }
 }

@@ -4,6 +4,7 @@
 mod databases;
 mod fault;
 mod floors;
+mod named;
 mod tasks;
 mod users;
 

@@ -2,7 +2,9 @@
 
 use crate::databases::Site;
 use crate::fault::{Fault, ToldFault};
-use oathd_causes::{Cause, Names, database_cause, task_cause};
+use oathd_causes::{
+    Cause, Names, database_cause, names_cause, roster_cause, seats_cause, task_cause,
+};
 use oathd_database::UnlockFault;
 use oathd_tasks::{PROGRAM, TaskFault, perform};
 use oathd_words::Task;
@@ -28,6 +30,9 @@ fn cause_of<'a>(
         }
         Fault::Floors(fault) => Some(Cause::Floors(fault.advice())),
         Fault::Unlock(UnlockFault::NoUser(_)) => None,
+        Fault::Roster(fault) => Some(roster_cause(rt, names, fault)),
+        Fault::Seats(fault) => seats_cause(names, fault),
+        Fault::Names(fault) => names_cause(names, fault),
     }
 }
 

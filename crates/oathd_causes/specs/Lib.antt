@@ -1,3 +1,4 @@
 pub mod Causes
 pub mod Floors
 pub mod Named
+pub mod Roster

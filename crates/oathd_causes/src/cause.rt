@@ -7,8 +7,9 @@ use crate::floors::FloorsAdvice;
 use crate::key::{KeyCause, key_cause};
 use crate::named::StoreCause;
 use crate::names::Names;
+use crate::roster::NamesAdvice;
 use crate::socket::{SocketCause, socket_cause};
-use cluster_file::{ClusterFault, LineFault};
+use cluster_file::{ClusterFault, LineFault, read_cluster};
 use floor_store::StoreFault;
 use oathd_database::read_users;
 use otp_core::Settings;
@@ -34,6 +35,11 @@ pub enum Cause<'a> {
     Address(SocketAddrV4),
     #[error("{0}: {1}")]
     Socket(SocketAddrV4, SocketCause),
+    /// What to do about a cluster file that gives names, or none.
+    #[error("{0}: {1}")]
+    Names(&'a str, NamesAdvice),
+    #[error("{0}: its token has no row in the store: start the node with it first, or take the last file")]
+    Enrol(&'a str),
     /// What to do about floors files, whose paths the fault names.
     #[error("{0}")]
     Floors(FloorsAdvice),
@@ -46,16 +52,31 @@ fn rows_of(alloc: Global, rt: &HostRuntime, path: &str) -> Option<u64> {
     Some(users.book.len() as u64)
 }
 
+/// Returns whether the text of a cluster file gives names.
+fn has_names(alloc: Global, text: &[u8]) -> bool {
+    match read_cluster(alloc, text) {
+        Ok(cluster) => cluster.names.is_some(),
+        Err(_) => false,
+    }
+}
+
 /// Returns the cause of a fault of a store.
-fn of_store<'a>(alloc: Global, rt: &HostRuntime, names: Names<'a>, fault: StoreFault) -> Cause<'a> {
+fn of_store<'a>(
+    alloc: Global,
+    rt: &HostRuntime,
+    names: Names<'a>,
+    is_named: bool,
+    fault: StoreFault,
+) -> Cause<'a> {
     let rows = match fault {
-        StoreFault::Unusable => rows_of(alloc, rt, names.users),
+        StoreFault::Unusable if !is_named => rows_of(alloc, rt, names.users),
         _ => None,
     };
     let expected = Expected {
         node: names.node.map(u64::from),
         rows,
         is_new: names.is_new,
+        is_named,
     };
     match store_cause(rt, names.database, fault, expected) {
         Some(cause) => Cause::Store(names.database, cause),
@@ -126,7 +147,10 @@ pub fn database_cause<'a>(
     fault: oathd_database::Fault,
 ) -> Option<Cause<'a>> {
     match fault {
-        oathd_database::Fault::Store(fault) => Some(of_store(alloc, rt, names, fault)),
+        oathd_database::Fault::Store(fault) => {
+            let is_named = has_names(alloc, text);
+            Some(of_store(alloc, rt, names, is_named, fault))
+        }
         oathd_database::Fault::Users(_) => Some(of_file(rt, names.users)),
         oathd_database::Fault::Socket => {
             let address = names.own_address(alloc, text)?;

@@ -6,10 +6,13 @@
 use crate::file::{FileCause, file_cause_of};
 use crate::named::{Named, StoreCause, named_cause};
 use crate::space::space_cause;
+use arrayvec::ArrayString;
 use floor_store::StoreFault;
+use sqlite::types::ValueRef;
 use sqlite::{Connection, Error, ErrorCode, Row};
 use std::fs::{self, OpenOptions};
 use std::io::Read;
+use std::str;
 
 /// The first bytes of a database of SQLite.
 const MAGIC: &[u8; 16] = b"SQLite format 3\0";
@@ -26,6 +29,8 @@ pub struct Expected {
     pub rows: Option<u64>,
     /// Whether the command creates it.
     pub is_new: bool,
+    /// Whether its tokens have names.
+    pub is_named: bool,
 }
 
 /// Returns the reason why a file cannot be read and written now, or None without a known reason.
@@ -84,6 +89,28 @@ fn named_in(rt: &HostRuntime, path: &str) -> Option<Named> {
     })
 }
 
+/// The row that names the cluster of a store.
+const SELECT_BOND: &str = "SELECT life, members FROM bond WHERE id = 1";
+
+/// Returns the text in a column of a row, or None if it is not UTF-8 of at most 64 bytes.
+fn text_at(row: &Row, column: usize) -> Option<ArrayString<64>> {
+    match row.get_ref(column) {
+        Ok(ValueRef::Blob(bytes)) => ArrayString::from(str::from_utf8(bytes).ok()?).ok(),
+        _ => None,
+    }
+}
+
+/// Returns the cluster that the store in the database at `path` is bound to, or None if its tables don't say it.
+pub(crate) fn cluster_in(rt: &HostRuntime, path: &str) -> Option<StoreCause> {
+    if !is_database(rt, path) {
+        return None;
+    }
+    let mut conn = Connection::open(rt, path).ok()?;
+    let row = conn.query_row(SELECT_BOND, &[]).ok()?;
+    let life = text_at(&row, 0)?;
+    Some(StoreCause::OtherCluster(life, number_at(&row, 1)?))
+}
+
 /// Returns the reason why the store in the file at `path` cannot be used now, or `None` without a known reason.
 ///
 /// Called after the fault of a store has ended a command.
@@ -98,7 +125,7 @@ pub fn store_cause(
         StoreFault::AlreadyThere => Some(StoreCause::HasStore),
         StoreFault::Unusable if expected.is_new => Some(StoreCause::OtherTables),
         StoreFault::Unusable => match named_in(rt, path) {
-            Some(named) => named_cause(named, expected.node, expected.rows),
+            Some(named) => named_cause(named, expected.is_named, expected.node, expected.rows),
             None => Some(StoreCause::NoStore),
         },
         StoreFault::Memory | StoreFault::Spent => None,

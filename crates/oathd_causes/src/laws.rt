@@ -1,4 +1,4 @@
-ghost use Rattle.std.specs.Prelude.{◌≡◌, ◌∷◌, [], map, codes, Some, None};
+ghost use Rattle.std.specs.Prelude.{◌≡◌, ◌∷◌, [], map, codes, Some, None, false, true};
 ghost use Rattle.std.specs.declared.io.ErrorKind.TheVariants.{AddrInUse, AddrNotAvailable, IsADirectory, NotADirectory, NotFound, PermissionDenied, QuotaExceeded, ReadOnlyFilesystem, StorageFull, TimedOut};
 ghost use Rattle.secret_text.specs.declared.fault.SecretFault.{SecretFault};
 ghost use Rattle.oathd_causes.specs.Causes.{address_cause, file_cause_of, key_cause, socket_cause_of};
@@ -11,6 +11,9 @@ ghost use Rattle.oathd_causes.specs.declared.file.FileCause.{FileCause};
 ghost use Rattle.oathd_causes.specs.declared.floors.FloorsAdvice.{FloorsAdvice};
 ghost use Rattle.oathd_causes.specs.declared.key.KeyCause.{KeyCause};
 ghost use Rattle.oathd_causes.specs.declared.named.StoreCause.{StoreCause};
+ghost use Rattle.oathd_causes.specs.Roster.{names_advice};
+ghost use Rattle.oathd_causes.specs.declared.roster.NamesAdvice.{NamesAdvice};
+ghost use Rattle.oathd_causes.specs.declared.roster.NamesFault.{NamesFault};
 ghost use Rattle.oathd_causes.specs.declared.socket.SocketCause.{SocketCause};
 
 /// Worked cases. The cause of each error.
@@ -31,15 +34,20 @@ pub fn causes_are_worked()
 
 /// Worked cases. The order of causes is: the version, the node, the number of rows.
 pub fn store_causes_are_worked()
-    ensures none { named_cause (record { version = 2; node = 1; tokens = 50 }) (Some 1) (Some 50) ≡ None }
-    ensures unknown { named_cause (record { version = 2; node = 1; tokens = 50 }) None None ≡ None }
-    ensures one { named_cause (record { version = 1; node = 3; tokens = 51 }) (Some 1) (Some 50)
+    ensures none { named_cause (record { version = 2; node = 1; tokens = 50 }) false (Some 1) (Some 50) ≡ None }
+    ensures unknown { named_cause (record { version = 2; node = 1; tokens = 50 }) false None None ≡ None }
+    ensures one { named_cause (record { version = 1; node = 3; tokens = 51 }) false (Some 1) (Some 50)
         ≡ Some StoreCause.VersionOne }
-    ensures version { named_cause (record { version = 3; node = 1; tokens = 50 }) (Some 1) (Some 50)
-        ≡ Some (StoreCause.Version 3) }
-    ensures node { named_cause (record { version = 2; node = 1; tokens = 51 }) (Some 2) (Some 50)
+    ensures version { named_cause (record { version = 4; node = 1; tokens = 50 }) false (Some 1) (Some 50)
+        ≡ Some (StoreCause.Version 4) }
+    ensures by_names { named_cause (record { version = 3; node = 1; tokens = 50 }) false (Some 2) None
+        ≡ Some StoreCause.ByNames }
+    ensures named { named_cause (record { version = 3; node = 1; tokens = 50 }) true (Some 1) None ≡ None }
+    ensures unnamed { named_cause (record { version = 2; node = 1; tokens = 50 }) true (Some 2) None
+        ≡ Some StoreCause.Unnamed }
+    ensures node { named_cause (record { version = 2; node = 1; tokens = 51 }) false (Some 2) (Some 50)
         ≡ Some (StoreCause.OtherNode 1 2) }
-    ensures rows { named_cause (record { version = 2; node = 1; tokens = 51 }) (Some 1) (Some 50)
+    ensures rows { named_cause (record { version = 2; node = 1; tokens = 51 }) false (Some 1) (Some 50)
         ≡ Some (StoreCause.OtherRows 51 50) }
 {}
 
@@ -53,4 +61,11 @@ pub fn advice_is_worked()
     ensures together { map floors_advice (FilesFault.File 2 FileFault.IsLost ∷ FilesFault.NotLost ∷ FilesFault.Missing 3
         ∷ FilesFault.Surplus ∷ FilesFault.TooManyLost ∷ []) ≡ FloorsAdvice.LeaveOut ∷ FloorsAdvice.NameItself
         ∷ FloorsAdvice.TakeFile 3 ∷ FloorsAdvice.NameEachOnce ∷ FloorsAdvice.MakeAllAnew ∷ [] }
+{}
+
+/// Worked cases. What to do about each fault of names.
+pub fn names_are_worked()
+    ensures faults { map names_advice (NamesFault.HasNames ∷ NamesFault.PlainInit ∷ NamesFault.NoNames
+        ∷ NamesFault.NewTokens ∷ []) ≡ NamesAdvice.NotYet ∷ NamesAdvice.Begin ∷ NamesAdvice.GiveNames
+        ∷ NamesAdvice.LeaveOut ∷ [] }
 {}

@@ -17,6 +17,7 @@ mod key;
 mod laws;
 mod named;
 mod names;
+mod roster;
 mod socket;
 mod space;
 
@@ -26,7 +27,8 @@ pub use database::{Expected, store_cause};
 pub use file::{FileCause, file_cause, file_cause_of};
 pub use floors::{FloorsAdvice, file_advice, floors_advice};
 pub use key::{KeyCause, key_cause};
-pub use laws::{advice_is_worked, causes_are_worked, store_causes_are_worked};
+pub use laws::{advice_is_worked, causes_are_worked, names_are_worked, store_causes_are_worked};
 pub use named::{Named, StoreCause, named_cause};
 pub use names::Names;
+pub use roster::{NamesAdvice, NamesFault, names_advice, names_cause, roster_cause, seats_cause};
 pub use socket::{SocketCause, socket_cause};

@@ -2,6 +2,7 @@ ghost use Rattle.std.specs.Prelude.{◌≡◌};
 ghost use Rattle.oathd_causes.specs.Named.{named_cause, node_cause, tokens_cause, version_cause};
 
 use crate::file::FileCause;
+use arrayvec::ArrayString;
 use thiserror::Error;
 
 /// The reason why the store of a database cannot be used.
@@ -23,6 +24,16 @@ pub enum StoreCause {
     OtherTables,
     #[error("a store of version 1: oathd migrate makes version 2 of it")]
     VersionOne,
+    #[error("a store of version 2, without names: its cluster file has no line names")]
+    Unnamed,
+    #[error("a store of version 3, by names: give --cluster with its cluster file, which has a line names")]
+    ByNames,
+    /// The life and the number of members of the cluster that the store is bound to.
+    #[error("the store of another cluster: life {0} of {1} members")]
+    OtherCluster(ArrayString<64>, u64),
+    /// The store has no room for the new tokens.
+    #[error("the users file has new tokens, and a store has at most 10000 rows, those of retired tokens included")]
+    Full,
     /// The store has a version that this program doesn't know.
     #[error("a store of version {0}")]
     Version(u64),
@@ -42,13 +53,16 @@ pub struct Named {
     pub tokens: u64,
 }
 
-/// Returns the reason why a store of this version cannot be used, or None.
-fn version_cause(version: u64) -> Option<StoreCause>
-    ensures { result ≡ version_cause version }
+/// Returns the reason why a store of this version cannot be used by names or without them, or None.
+fn version_cause(is_named: bool, version: u64) -> Option<StoreCause>
+    ensures { result ≡ version_cause is_named version }
 {
     match version {
         1 => Some(StoreCause::VersionOne),
+        2 if is_named => Some(StoreCause::Unnamed),
         2 => None,
+        3 if is_named => None,
+        3 => Some(StoreCause::ByNames),
         _ => Some(StoreCause::Version(version)),
     }
 }
@@ -75,11 +89,17 @@ fn tokens_cause(tokens: u64, rows: Option<u64>) -> Option<StoreCause>
 
 /// Returns the reason why a store is not the one that a command needs, or None.
 ///
-/// A command needs version 2, and, as far as they are known, the node and the number of rows.
-pub fn named_cause(named: Named, node: Option<u64>, rows: Option<u64>) -> Option<StoreCause>
-    ensures { result ≡ named_cause named node rows }
+/// A command needs version 3 if `is_named`, else version 2, and, as far as they are known, the node and the number of
+/// rows.
+pub fn named_cause(
+    named: Named,
+    is_named: bool,
+    node: Option<u64>,
+    rows: Option<u64>,
+) -> Option<StoreCause>
+    ensures { result ≡ named_cause named is_named node rows }
 {
-    version_cause(named.version)
+    version_cause(is_named, named.version)
         .or(node_cause(named.node, node))
         .or(tokens_cause(named.tokens, rows))
 }

@@ -1,7 +1,7 @@
 //! The files, the node and the address that the words of a command over a database name.
 
 use cluster_file::{KeySource, read_cluster};
-use oathd_words::{Action, ClientWords, ClusterWords, Task};
+use oathd_words::{Action, ClientWords, ClusterWords, NamedAct, Task};
 use std::alloc::Global;
 use std::net::SocketAddrV4;
 use std::str;
@@ -76,6 +76,11 @@ impl<'a> Names<'a> {
                 ..self
             },
             Action::Export => self,
+            Action::Named { node, act, .. } => Names {
+                node: Some(*node),
+                is_new: matches!(act, NamedAct::Begin),
+                ..self
+            },
         }
     }
 

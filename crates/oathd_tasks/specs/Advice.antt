@@ -7,7 +7,7 @@ use Rattle.token_file.specs.declared.fault.FileFault.{FileFault}
 use Rattle.token_file.specs.declared.fault.LineFault as users_line
 use Rattle.token_file.specs.declared.fault.LineFault.TheVariants as users
 use Rattle.cluster_file.specs.declared.fault.LineFault.{LineFault}
-use Rattle.cluster_file.specs.declared.fault.LineFault.TheVariants.{UnknownWord, MissingField, SurplusField, TooManyMembers, MemberNumber, BadAddress, TwiceAddress, Twice, BadNumber, BadKey, BadLife, NoMember, NoKey, NoLife, TooLong, Memory}
+use Rattle.cluster_file.specs.declared.fault.LineFault.TheVariants.{UnknownWord, MissingField, SurplusField, TooManyMembers, MemberNumber, BadAddress, TwiceAddress, Twice, BadNumber, BadKey, BadLife, NoMember, NoKey, NoLife, TooLong, Memory, BadNames, BadNewTokens, NoNames}
 use Rattle.oathd_lines.specs.declared.fault.Fault.TheVariants as lines
 use Rattle.oathd_tasks.specs.declared.fault.Fault.{Fault}
 use Rattle.oathd_tasks.specs.declared.fault.Fault.TheVariants.{Run, CannotReadFile, ClusterFile, KeyPath, ByteOrderMark}
@@ -36,7 +36,7 @@ users_advice users.FileTooLong is_base32 = codes "a users file has at most 16777
 -- the advice for a fault of a cluster file
 abbrev pub cluster_advice : LineFault → List ℕ
 cluster_advice UnknownWord =
-    codes "a line begins with member, look-ahead, skew, range, drift, key, key-file or life, and a space"
+    codes "a line begins with member, look-ahead, skew, range, drift, key, key-file, life, names or new-tokens, and a space"
 cluster_advice MissingField = codes "a line has a word and its value, and that of a member a number and an address"
 cluster_advice SurplusField = codes "a line has a word and its value, and that of a member a number and an address"
 cluster_advice TooManyMembers = codes "a cluster has at most 9 members"
@@ -52,6 +52,9 @@ cluster_advice NoKey = codes "add a line key-file PATH"
 cluster_advice NoLife = codes "add a line life NAME, with a new name for each new set of databases"
 cluster_advice TooLong = codes "a cluster file has at most 65536 bytes"
 cluster_advice Memory = codes "the allocator refused memory"
+cluster_advice BadNames = codes "names has 12 to 64 bytes, and is the same word at all members for good"
+cluster_advice BadNewTokens = codes "new-tokens is fresh, or the line is left out"
+cluster_advice NoNames = codes "new-tokens stands beside a line names WORD"
 
 -- the advice for a key
 abbrev pub key_advice : List ℕ

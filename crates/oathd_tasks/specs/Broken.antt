@@ -5,11 +5,10 @@ use Rattle.std.specs.Borrow.{Bor}
 use Rattle.otp_core.specs.Limits.{Limits, default_limits, limits_of}
 use Rattle.token_file.specs.Credential.{Credential}
 use Rattle.token_file.specs.Examples.{event_token}
-use Rattle.cluster_file.specs.Check.{check_text}
+use Rattle.cluster_file.specs.Check.{named_check_text}
 use Rattle.cluster_file.specs.ClusterFile.{ClusterRecord}
 use Rattle.cluster_file.specs.Examples.{small_cluster, small_file, text_of, zeros}
 use Rattle.cluster_file.specs.Said.{Given as GivenKey}
-use Rattle.cluster_file.specs.Shared.{shared_of}
 use Rattle.cluster_file.specs.declared.fault.LineFault.{LineFault}
 use Rattle.clients_file.specs.declared.fault.LineFault as clients_line
 use Rattle.token_file.specs.declared.fault.LineFault as users_line
@@ -114,7 +113,7 @@ one_token = event_token (codes "a") ∷ []
 
 -- the output of a check of the small cluster with a book, under an empty key
 abbrev pub checked : List Credential → List ℕ
-checked book = check_text [] (shared_of small_cluster book)
+checked book = named_check_text [] small_cluster book
 
 -- a users file whose first row a byte order mark hides
 abbrev pub marked : List ℕ

@@ -5,10 +5,9 @@ use Rattle.otp_core.specs.Limits.{Limits}
 use Rattle.token_file.specs.Credential.{Credential}
 use Rattle.token_file.specs.TypeWord.{has_prefix}
 use Rattle.token_file.specs.UsersFile.{book_of, import_of, instant_of}
-use Rattle.cluster_file.specs.Check.{check_text}
+use Rattle.cluster_file.specs.Check.{named_check_text}
 use Rattle.cluster_file.specs.ClusterFile.{ClusterRecord, cluster_of}
 use Rattle.cluster_file.specs.Said.{Given, InFile, KeyPlace}
-use Rattle.cluster_file.specs.Shared.{shared_of}
 use Rattle.oathd_lines.specs.declared.fault.Fault as lines_fault
 use Rattle.oathd_lines.specs.declared.fault.Fault.TheVariants as lines
 use Rattle.oathd_tasks.specs.declared.fault.Fault.{Fault}
@@ -42,12 +41,12 @@ WritesSo text (Err lines.Memory) old new = new ≡ old
 WritesSo text (Err fault) old new = ⊥
 
 -- What the members of a cluster share, with the tokens of a users file without a byte order mark, is written with its
--- fingerprint.
+-- fingerprint. If the cluster file gives names, so are the number of the tokens and the print of their rows.
 pub record HasChecked (key : List ℕ) (cluster : ClusterRecord) (users old new : Option (List ℕ)) : Type 0 where
   pub book : List Credential
   pub unmarked : IfSome users (λ rows. has_mark rows ≡ false)
   pub has_tokens : IfSome users (HasTokens cluster.settings book)
-  pub written : Appends old new (check_text key (shared_of cluster book))
+  pub written : Appends old new (named_check_text key cluster book)
 
 -- The end of a cluster's check, over a users file if its text is known: everything is written, the output fails, or
 -- nothing is written.

@@ -58,7 +58,7 @@ fn cluster_advice(kind: cluster_file::LineFault) -> &'static [u8]
 {
     match kind {
         cluster_file::LineFault::UnknownWord => {
-            b"a line begins with member, look-ahead, skew, range, drift, key, key-file or life, and a space"
+            b"a line begins with member, look-ahead, skew, range, drift, key, key-file, life, names or new-tokens, and a space"
         }
         cluster_file::LineFault::MissingField => {
             b"a line has a word and its value, and that of a member a number and an address"
@@ -85,6 +85,10 @@ fn cluster_advice(kind: cluster_file::LineFault) -> &'static [u8]
             b"add a line life NAME, with a new name for each new set of databases",
         cluster_file::LineFault::TooLong => b"a cluster file has at most 65536 bytes",
         cluster_file::LineFault::Memory => b"the allocator refused memory",
+        cluster_file::LineFault::BadNames =>
+            b"names has 12 to 64 bytes, and is the same word at all members for good",
+        cluster_file::LineFault::BadNewTokens => b"new-tokens is fresh, or the line is left out",
+        cluster_file::LineFault::NoNames => b"new-tokens stands beside a line names WORD",
     }
 }
 

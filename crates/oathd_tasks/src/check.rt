@@ -1,15 +1,14 @@
 //! The command `check`: prints what the members of a cluster have to share.
 
 ghost use Rattle.std.specs.Prelude.{◌≡◌, IfOk, IfSome, Some};
-ghost use Rattle.cluster_file.specs.Check.{check_text};
+ghost use Rattle.cluster_file.specs.Check.{named_check_text};
 ghost use Rattle.cluster_file.specs.ClusterFile.{ClusterRecord, cluster_value};
-ghost use Rattle.cluster_file.specs.Shared.{shared_of};
 ghost use Rattle.oathd_tasks.specs.Check.{CheckEndsSo, EndsUsersSo, HasTokens, WritesSo, has_mark};
 
 use crate::cluster::{cluster_in, cluster_key};
 use crate::fault::Fault;
 use crate::key::file_text;
-use cluster_file::{Cluster, fingerprint, shared_key, write_summary};
+use cluster_file::{Cluster, book_print, fingerprint, shared_key, write_named_summary};
 use otp_core::Settings;
 use std::alloc::Global;
 use std::io::{Read, Write};
@@ -37,14 +36,17 @@ fn write_checked<O: Write>(
     book: &Book,
     held: &mut O,
 ) -> Result<(), oathd_lines::Fault>
-    ensures { WritesSo (check_text key.now (shared_of (cluster_value cluster.now) book.now)) result
+    ensures { WritesSo (named_check_text key.now (cluster_value cluster.now) book.now) result
         (O.contents held.old) (O.contents held.new) }
 {
     let Ok(shared) = shared_key(alloc, key, cluster, book) else {
         return Err(oathd_lines::Fault::Memory);
     };
+    let Ok(rows) = book_print(alloc, &shared, book) else {
+        return Err(oathd_lines::Fault::Memory);
+    };
     let print = fingerprint(&shared);
-    if write_summary(held, cluster, book, &print).is_err() || held.flush().is_err() {
+    if write_named_summary(held, cluster, book, &print, &rows).is_err() || held.flush().is_err() {
         return Err(oathd_lines::Fault::CannotWrite);
     }
     Ok(())

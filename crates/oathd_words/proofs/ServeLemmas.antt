@@ -8,9 +8,12 @@ use Rattle.otp_core.specs.Limits.{Limits}
 use Rattle.vote_core.specs.NodeSet.{PlaceRecord}
 use Rattle.oathd_words.specs.Members.{AreMembers, SayAddresses, parts_of}
 use Rattle.oathd_words.specs.Given.{GivesLimits, GivesMember}
-use Rattle.oathd_words.specs.StoreWords.{AsksForAction, AsksForCluster, GivesPlace, turns_given}
+use Rattle.oathd_words.specs.StoreWords.{AsksForAct, AsksForAction, AsksForCluster, GivesPlace, turns_given}
 use Rattle.oathd_words.specs.declared.store_words.Action.{Action}
+use Rattle.oathd_words.specs.declared.store_words.Action.TheVariants as actions
 use Rattle.oathd_words.specs.declared.store_words.Action.TheVariants.{Init, Remake, Serve, Export, Audit, Migrate, Floors, Level, Gates, Unlock}
+use Rattle.oathd_words.specs.declared.store_words.NamedAct.{NamedAct}
+use Rattle.oathd_words.specs.declared.store_words.NamedAct.TheVariants as acts
 use Rattle.oathd_words.specs.declared.store_words.ClusterWords.{ClusterWords}
 use Rattle.oathd_words.specs.declared.store_words.ClusterWords.TheVariants.{Given, Named}
 use Rattle.oathd_words.proofs.MembersLemmas.{says_unique}
@@ -47,28 +50,39 @@ module _ (found : Found) where
   no_member path named none (Given settings place others key) asks = let clash = sym named ∙ asks.0 in absurd cc
   no_member path named none (Named node other) asks = none node asks.1
 
+  -- a store by names is served by no act on it
+  no_act : (act : NamedAct) → AsksForAct (codes "serve") found act → ⊥
+  no_act acts.Begin asks = apart (codes "serve") _ _ asks.0 refl (lit< tt)
+  no_act acts.Export asks = apart (codes "serve") _ _ asks refl (lit< tt)
+  no_act acts.Audit asks = apart (codes "serve") _ _ asks refl (lit< tt)
+  no_act acts.Gates asks = apart (codes "serve") _ _ asks refl (lit< tt)
+  no_act (acts.Unlock user) asks = apart (codes "serve") _ _ refl asks.0 (lit< tt)
+  no_act acts.Roster asks = apart (codes "serve") _ _ asks refl (lit< tt)
+
   -- if no cluster is asked for, no action is
   pub no_cluster : ((cluster : ClusterWords) → AsksForCluster found cluster → ⊥) → (action : Action) → AsksForAction (codes "serve") found action → ⊥
   no_cluster none (Init node settings moment) asks = apart (codes "serve") _ _ asks.0 refl (lit< tt)
   no_cluster none (Remake node settings moment former) asks = apart (codes "serve") _ _ asks.0 refl (lit< tt)
   no_cluster none (Serve cluster turns is_logged clients) asks = none cluster asks.1
-  no_cluster none Export asks = apart (codes "serve") _ _ asks refl (lit< tt)
+  no_cluster none Export asks = apart (codes "serve") _ _ asks.0 refl (lit< tt)
   no_cluster none (Audit node) asks = apart (codes "serve") _ _ asks.0 refl (lit< tt)
   no_cluster none (Migrate node) asks = apart (codes "serve") _ _ asks.0 refl (lit< tt)
   no_cluster none (Floors node count) asks = apart (codes "serve") _ _ asks.0 refl (lit< tt)
   no_cluster none (Level node floors) asks = apart (codes "serve") _ _ asks.0 refl (lit< tt)
   no_cluster none (Gates node) asks = apart (codes "serve") _ _ asks.0 refl (lit< tt)
   no_cluster none (Unlock node user) asks = apart (codes "serve") _ _ refl asks.0 (lit< tt)
+  no_cluster none (actions.Named node path act) asks = no_act act asks.2
 
   -- if `turns_given` is None, no action is asked for
   pub no_turns : turns_given found ≡ None → (action : Action) → AsksForAction (codes "serve") found action → ⊥
   no_turns none (Init node settings moment) asks = apart (codes "serve") _ _ asks.0 refl (lit< tt)
   no_turns none (Remake node settings moment former) asks = apart (codes "serve") _ _ asks.0 refl (lit< tt)
   no_turns none (Serve cluster turns is_logged clients) asks = let clash = sym none ∙ asks.2 in absurd cc
-  no_turns none Export asks = apart (codes "serve") _ _ asks refl (lit< tt)
+  no_turns none Export asks = apart (codes "serve") _ _ asks.0 refl (lit< tt)
   no_turns none (Audit node) asks = apart (codes "serve") _ _ asks.0 refl (lit< tt)
   no_turns none (Migrate node) asks = apart (codes "serve") _ _ asks.0 refl (lit< tt)
   no_turns none (Floors node count) asks = apart (codes "serve") _ _ asks.0 refl (lit< tt)
   no_turns none (Level node floors) asks = apart (codes "serve") _ _ asks.0 refl (lit< tt)
   no_turns none (Gates node) asks = apart (codes "serve") _ _ asks.0 refl (lit< tt)
   no_turns none (Unlock node user) asks = apart (codes "serve") _ _ refl asks.0 (lit< tt)
+  no_turns none (actions.Named node path act) asks = no_act act asks.2

@@ -8,11 +8,13 @@ use Rattle.clap.specs.Matches.{first_value}
 use Rattle.clap.specs.declared.parser.matches.Found.{Found}
 use Rattle.oathd_words.specs.Given.{GivesMember, is_flag}
 use Rattle.oathd_words.specs.NodesWords.{AsksForNodes}
-use Rattle.oathd_words.specs.StoreWords.{AsksForAction, AsksForStore, GivesMoment}
+use Rattle.oathd_words.specs.StoreWords.{AsksForAct, AsksForAction, AsksForStore, GivesMoment}
 use Rattle.oathd_words.specs.Words.{AsksForNothing, AsksToCheck}
 use Rattle.oathd_words.specs.declared.nodes_words.NodesWords.{NodesWords}
 use Rattle.oathd_words.specs.declared.store_words.Action.{Action}
-use Rattle.oathd_words.specs.declared.store_words.Action.TheVariants.{Init, Remake, Serve, Export, Audit, Migrate, Floors, Level, Gates, Unlock}
+use Rattle.oathd_words.specs.declared.store_words.Action.TheVariants.{Init, Remake, Serve, Export, Audit, Migrate, Floors, Level, Gates, Unlock, Named}
+use Rattle.oathd_words.specs.declared.store_words.NamedAct.{NamedAct}
+use Rattle.oathd_words.specs.declared.store_words.NamedAct.TheVariants as acts
 use Rattle.oathd_words.specs.declared.words.Task.TheVariants.{Lines, Sim, Cluster, Store, Check, NewKey, Secret, SecretOfInput}
 
 -- a number that distinguishes the names of the commands
@@ -26,6 +28,15 @@ apart name a b p q below =
 
 -- ---- The names of the commands over a database
 
+-- the name of the command that does this with a store by names
+abbrev act_name : NamedAct → List ℕ
+act_name acts.Begin = codes "init"
+act_name acts.Export = codes "export"
+act_name acts.Audit = codes "audit"
+act_name acts.Gates = codes "gates"
+act_name (acts.Unlock user) = codes "unlock"
+act_name acts.Roster = codes "roster"
+
 -- the name of the command that does this with a store
 abbrev action_name : Action → List ℕ
 action_name (Init node import moment) = codes "init"
@@ -38,10 +49,19 @@ action_name (Floors node count) = codes "floors"
 action_name (Level node floors) = codes "level"
 action_name (Gates node) = codes "gates"
 action_name (Unlock node user) = codes "unlock"
+action_name (Named node path act) = act_name act
 
 abbrev is_store_name : List ℕ → Bool
 is_store_name name = list_any (bytes_eq name) (codes "init" ∷ codes "serve" ∷ codes "export" ∷ codes "audit" ∷ codes "migrate" ∷ codes "floors"
-    ∷ codes "level" ∷ codes "gates" ∷ codes "unlock" ∷ [])
+    ∷ codes "level" ∷ codes "gates" ∷ codes "unlock" ∷ codes "roster" ∷ [])
+
+act_stored : (act : NamedAct) → is_store_name (act_name act) ≡ true
+act_stored acts.Begin = refl
+act_stored acts.Export = refl
+act_stored acts.Audit = refl
+act_stored acts.Gates = refl
+act_stored (acts.Unlock user) = refl
+act_stored acts.Roster = refl
 
 store_named : (action : Action) → is_store_name (action_name action) ≡ true
 store_named (Init node import moment) = refl
@@ -54,19 +74,29 @@ store_named (Floors node count) = refl
 store_named (Level node floors) = refl
 store_named (Gates node) = refl
 store_named (Unlock node user) = refl
+store_named (Named node path act) = act_stored act
+
+act_so : (name : List ℕ) (found : Found) (act : NamedAct) → AsksForAct name found act → name ≡ act_name act
+act_so name found acts.Begin asks = asks.0
+act_so name found acts.Export asks = asks
+act_so name found acts.Audit asks = asks
+act_so name found acts.Gates asks = asks
+act_so name found (acts.Unlock user) asks = asks.0
+act_so name found acts.Roster asks = asks
 
 -- an action is asked for by its command
 pub named_so : (name : List ℕ) (found : Found) (action : Action) → AsksForAction name found action → name ≡ action_name action
 named_so name found (Init node import moment) asks = asks.0
 named_so name found (Remake node import moment former) asks = asks.0
 named_so name found (Serve cluster turns is_logged clients) asks = asks.0
-named_so name found Export asks = asks
+named_so name found Export asks = asks.0
 named_so name found (Audit node) asks = asks.0
 named_so name found (Migrate node) asks = asks.0
 named_so name found (Floors node count) asks = asks.0
 named_so name found (Level node floors) asks = asks.0
 named_so name found (Gates node) asks = asks.0
 named_so name found (Unlock node user) asks = asks.0
+named_so name found (Named node path act) asks = act_so name found act asks.2
 
 -- a command with another name asks for none
 no_store : (name other : List ℕ) (found : Found) → name ≡ other → is_store_name other ≡ false → (action : Action) → AsksForAction name found action → ⊥
@@ -151,16 +181,17 @@ module _ (name : List ℕ) (found : Found) where
 -- without a node's number nothing is asked for by `init`
 pub no_init_node : (found : Found) → ((number : ℕ) → GivesMember found (codes "node") number → ⊥) → (action : Action)
     → AsksForAction (codes "init") found action → ⊥
-no_init_node found none (Init node import moment) asks = none node asks.2
-no_init_node found none (Remake node import moment former) asks = none node asks.2
+no_init_node found none (Init node import moment) asks = none node asks.3
+no_init_node found none (Remake node import moment former) asks = none node asks.3
 no_init_node found none (Serve cluster turns is_logged clients) asks = apart (codes "init") _ _ refl asks.0 (lit< tt)
-no_init_node found none Export asks = apart (codes "init") _ _ asks refl (lit< tt)
+no_init_node found none Export asks = apart (codes "init") _ _ asks.0 refl (lit< tt)
 no_init_node found none (Audit node) asks = apart (codes "init") _ _ asks.0 refl (lit< tt)
 no_init_node found none (Migrate node) asks = apart (codes "init") _ _ refl asks.0 (lit< tt)
 no_init_node found none (Floors node count) asks = apart (codes "init") _ _ asks.0 refl (lit< tt)
 no_init_node found none (Level node floors) asks = apart (codes "init") _ _ refl asks.0 (lit< tt)
 no_init_node found none (Gates node) asks = apart (codes "init") _ _ asks.0 refl (lit< tt)
 no_init_node found none (Unlock node user) asks = apart (codes "init") _ _ refl asks.0 (lit< tt)
+no_init_node found none (Named node path act) asks = none node asks.0
 
 -- a claim that holds without a result gives what follows from it
 pub none_then : {A : Type 0} (result : Option A) (P Q : Type 0) → IfNone result P → (P → Q) → IfNone result Q

@@ -11,10 +11,12 @@ use Rattle.oathd_words.specs.declared.nodes_words.NodesWords.{NodesWords}
 use Rattle.oathd_words.specs.declared.nodes_words.NodesWords.TheVariants as nodes
 use Rattle.oathd_words.specs.declared.store_words.Action.{Action}
 use Rattle.oathd_words.specs.declared.store_words.ClientWords.TheVariants.{Anybody, ThisMachine}
+use Rattle.oathd_words.specs.declared.store_words.Action.TheVariants as actions
 use Rattle.oathd_words.specs.declared.store_words.Action.TheVariants.{Init, Remake, Serve, Floors, Level, Unlock}
 use Rattle.oathd_words.specs.declared.store_words.ClusterWords.{ClusterWords}
 use Rattle.oathd_words.specs.declared.store_words.ClusterWords.TheVariants as clusters
 use Rattle.oathd_words.specs.declared.store_words.ImportWords.TheVariants as imports
+use Rattle.oathd_words.specs.declared.store_words.NamedAct.{NamedAct}
 use Rattle.oathd_words.specs.declared.words.Task.{Task}
 use Rattle.oathd_words.specs.declared.words.Task.TheVariants as tasks
 
@@ -95,6 +97,10 @@ level_by floors node = Level node floors
 -- a clearing of failures
 abbrev pub unlock_of : ℕ → Action
 unlock_of node = Unlock node (word [])
+
+-- an action on a store by names, with the cluster file
+abbrev pub named_by : NamedAct → ℕ → Action
+named_by act node = actions.Named node file act
 
 -- ---- Tasks
 

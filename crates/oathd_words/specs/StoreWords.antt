@@ -19,7 +19,10 @@ use Rattle.oathd_words.specs.declared.store_words.ClusterWords.{ClusterWords}
 use Rattle.oathd_words.specs.declared.store_words.ClusterWords.TheVariants.{Given, Named}
 use Rattle.oathd_words.specs.declared.store_words.ImportWords.{ImportWords}
 use Rattle.oathd_words.specs.declared.store_words.ImportWords.TheVariants as imports
+use Rattle.oathd_words.specs.declared.store_words.Action.TheVariants as actions
 use Rattle.oathd_words.specs.declared.store_words.Action.TheVariants.{Init, Remake, Serve, Export, Audit, Migrate, Floors, Level, Gates, Unlock}
+use Rattle.oathd_words.specs.declared.store_words.NamedAct.{NamedAct}
+use Rattle.oathd_words.specs.declared.store_words.NamedAct.TheVariants as acts
 
 -- a given moment in its range, or None without the option
 abbrev pub GivesMoment : Found → Option ℕ → Type 0
@@ -88,29 +91,51 @@ AsksForClients found ThisMachine =
     (first_value found (codes "clients") ≡ None) × (takes_anybody found ≡ false)
 AsksForClients found (clients.Named path) = first_value found (codes "clients") ≡ Some path.now
 
+-- whether a cluster begins that never served
+abbrev pub begins : Found → Bool
+begins found = is_flag (first_value found (codes "begins"))
+
+-- what the command `name` does to a store by names, with the values found beside its node and its cluster file
+abbrev pub AsksForAct : List ℕ → Found → NamedAct → Type 0
+AsksForAct name found acts.Begin =
+    (name ≡ codes "init") × (begins found ≡ true) × (is_of_former found ≡ false)
+    × (first_value found (codes "moment") ≡ None)
+AsksForAct name found acts.Export = name ≡ codes "export"
+AsksForAct name found acts.Audit = name ≡ codes "audit"
+AsksForAct name found acts.Gates = name ≡ codes "gates"
+AsksForAct name found (acts.Unlock user) =
+    (name ≡ codes "unlock") × (first_value found (codes "USER") ≡ Some user.now)
+AsksForAct name found acts.Roster = name ≡ codes "roster"
+
 -- the action that the command `name` asks for with the values found
 abbrev pub AsksForAction : List ℕ → Found → Action → Type 0
 AsksForAction name found (Init node import moment) =
-    (name ≡ codes "init") × (is_of_former found ≡ false) × GivesMember found (codes "node") node
-    × AsksForImport found import × GivesMoment found moment
+    (name ≡ codes "init") × (begins found ≡ false) × (is_of_former found ≡ false)
+    × GivesMember found (codes "node") node × AsksForImport found import × GivesMoment found moment
 AsksForAction name found (Remake node import moment former) =
-    (name ≡ codes "init") × (is_of_former found ≡ true) × GivesMember found (codes "node") node
-    × AsksForImport found import × GivesMoment found moment × (former_given found ≡ Some (former_value former))
+    (name ≡ codes "init") × (begins found ≡ false) × (is_of_former found ≡ true)
+    × GivesMember found (codes "node") node × AsksForImport found import × GivesMoment found moment
+    × (former_given found ≡ Some (former_value former))
 AsksForAction name found (Serve cluster turns is_logged clients) =
     (name ≡ codes "serve") × AsksForCluster found cluster × (turns_given found ≡ Some turns)
     × (is_logged ≡ is_flag (first_value found (codes "log"))) × AsksForClients found clients
-AsksForAction name found Export = name ≡ codes "export"
-AsksForAction name found (Audit node) = (name ≡ codes "audit") × GivesMember found (codes "node") node
+AsksForAction name found Export = (name ≡ codes "export") × (first_value found (codes "cluster") ≡ None)
+AsksForAction name found (Audit node) =
+    (name ≡ codes "audit") × GivesMember found (codes "node") node × (first_value found (codes "cluster") ≡ None)
 AsksForAction name found (Migrate node) = (name ≡ codes "migrate") × GivesMember found (codes "node") node
 AsksForAction name found (Floors node count) =
     (name ≡ codes "floors") × GivesMember found (codes "node") node × AsksForCount found node count
 AsksForAction name found (Level node floors) =
     (name ≡ codes "level") × GivesMember found (codes "node") node
     × (values_given found (codes "floors") ≡ Some (map (λ path. path.now) floors.items))
-AsksForAction name found (Gates node) = (name ≡ codes "gates") × GivesMember found (codes "node") node
+AsksForAction name found (Gates node) =
+    (name ≡ codes "gates") × GivesMember found (codes "node") node × (first_value found (codes "cluster") ≡ None)
 AsksForAction name found (Unlock node user) =
-    (name ≡ codes "unlock") × GivesMember found (codes "node") node
+    (name ≡ codes "unlock") × GivesMember found (codes "node") node × (first_value found (codes "cluster") ≡ None)
     × (first_value found (codes "USER") ≡ Some user.now)
+AsksForAction name found (actions.Named node path act) =
+    GivesMember found (codes "node") node × (first_value found (codes "cluster") ≡ Some path.now)
+    × AsksForAct name found act
 
 -- an action with the paths of its database and its users file
 abbrev pub AsksForStore : List ℕ → Found → List ℕ → List ℕ → Action → Type 0
@@ -137,3 +162,4 @@ IsActionInRange (Floors node count) = (1 ≤ node) × (node ≤ 9)
 IsActionInRange (Level node floors) = (1 ≤ node) × (node ≤ 9)
 IsActionInRange (Gates node) = (1 ≤ node) × (node ≤ 9)
 IsActionInRange (Unlock node user) = (1 ≤ node) × (node ≤ 9)
+IsActionInRange (actions.Named node path act) = (1 ≤ node) × (node ≤ 9)

@@ -9,6 +9,7 @@ use Rattle.oathd_words.specs.StoreWords.{AsksForStore, GivesMoment, IsActionInRa
 use Rattle.oathd_words.specs.declared.former_words.CountWords.{CountWords}
 use Rattle.oathd_words.specs.declared.former_words.CountWords.TheVariants as counts
 use Rattle.oathd_words.specs.declared.store_words.Action.{Action}
+use Rattle.oathd_words.specs.declared.store_words.Action.TheVariants as actions
 use Rattle.oathd_words.specs.declared.store_words.Action.TheVariants.{Init, Remake, Serve, Export, Audit, Migrate, Floors, Level, Gates, Unlock}
 use Rattle.oathd_words.specs.declared.store_words.ClusterWords.{ClusterWords}
 use Rattle.oathd_words.specs.declared.store_words.ClusterWords.TheVariants.{Given, Named}
@@ -81,6 +82,7 @@ path_of_action (Floors node count) = count_path count
 path_of_action (Level node floors) = None
 path_of_action (Gates node) = None
 path_of_action (Unlock node user) = None
+path_of_action (actions.Named node path act) = Some path.now
 
 -- the path of the cluster file that a task names, if it names one
 abbrev pub cluster_path_of : Task → Option (List ℕ)

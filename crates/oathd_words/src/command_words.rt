@@ -2,14 +2,15 @@
 
 use crate::help::{
     AUDIT_HELP, CHECK_HELP, CLUSTER_HELP, EXPORT_HELP, FLOORS_HELP, GATES_HELP, INIT_HELP,
-    LEVEL_HELP, LINES_HELP, MIGRATE_HELP, NEW_KEY_HELP, PROGRAM_HELP, SECRET_HELP, SERVE_HELP,
-    SERVE_USAGE, SIM_HELP, UNLOCK_HELP, VERSION_HELP,
+    LEVEL_HELP, LINES_HELP, MIGRATE_HELP, NEW_KEY_HELP, PROGRAM_HELP, ROSTER_HELP, SECRET_HELP,
+    SERVE_HELP, SERVE_USAGE, SIM_HELP, UNLOCK_HELP, VERSION_HELP,
 };
 use crate::option_words::{
-    ANEW, CHECKED_CLUSTER, CLIENTS, CLOCK_MOMENT, CLUSTER, COUNT_CLUSTER, DATABASE, DRIFT, FLOORS,
-    FOREVER, FORMER_FLOORS, HEX, IMPORT_CLUSTER, IMPORT_DRIFT, KEY, KEY_OR_ZEROS, LOG, LOOK_AHEAD,
-    LOST, MEMBER_COUNT, MEMBERS, MOMENT, NODE, NODE_CLUSTER, NODE_COUNT, NODES_CLUSTER,
-    PLAIN_LINES, RANGE, SINCE, SINCE_NUMBER, SKEW, STDIN, TURNS, USER, USERS, Word,
+    ANEW, BEGINS, CHECKED_CLUSTER, CLIENTS, CLOCK_MOMENT, CLUSTER, COUNT_CLUSTER, DATABASE, DRIFT,
+    FLOORS, FOREVER, FORMER_FLOORS, HEX, IMPORT_CLUSTER, IMPORT_DRIFT, KEY, KEY_OR_ZEROS, LOG,
+    LOOK_AHEAD, LOST, MEMBER_COUNT, MEMBERS, MOMENT, NAMES_CLUSTER, NAMES_NODE, NODE, NODE_CLUSTER,
+    NODE_COUNT, NODES_CLUSTER, PLAIN_LINES, RANGE, SINCE, SINCE_NUMBER, SKEW, STDIN, TURNS, USER,
+    USERS, Word,
 };
 use crate::store_words::is_given;
 use clap::error::ErrorKind;
@@ -49,7 +50,7 @@ const STORE: &[Word] = &[Word::Text(DATABASE), Word::Text(USERS), Word::Text(NOD
 pub(crate) const VERSION_COMMAND: &str = "version";
 
 /// The commands in the order of the help. Clap's own command `help` follows.
-pub(crate) const COMMANDS: [CommandWords; 16] = [
+pub(crate) const COMMANDS: [CommandWords; 17] = [
     CommandWords {
         word: "lines",
         whole: "oathd lines",
@@ -111,6 +112,7 @@ pub(crate) const COMMANDS: [CommandWords; 16] = [
                 Word::Flag(ANEW),
                 Word::List(FORMER_FLOORS),
                 Word::Text(SINCE),
+                Word::Flag(BEGINS),
             ],
         ],
     },
@@ -136,7 +138,10 @@ pub(crate) const COMMANDS: [CommandWords; 16] = [
         usage: None,
         after_help: EXPORT_HELP,
         next_line_help: true,
-        words: &[&[Word::Text(DATABASE), Word::Text(USERS)]],
+        words: &[
+            &[Word::Text(DATABASE), Word::Text(USERS)],
+            &[Word::Text(NAMES_NODE), Word::Text(NAMES_CLUSTER)],
+        ],
     },
     CommandWords {
         word: "audit",
@@ -145,7 +150,7 @@ pub(crate) const COMMANDS: [CommandWords; 16] = [
         usage: None,
         after_help: AUDIT_HELP,
         next_line_help: true,
-        words: &[STORE],
+        words: &[STORE, &[Word::Text(NAMES_CLUSTER)]],
     },
     CommandWords {
         word: "migrate",
@@ -184,7 +189,7 @@ pub(crate) const COMMANDS: [CommandWords; 16] = [
         usage: None,
         after_help: GATES_HELP,
         next_line_help: true,
-        words: &[STORE],
+        words: &[STORE, &[Word::Text(NAMES_CLUSTER)]],
     },
     CommandWords {
         word: "unlock",
@@ -193,7 +198,16 @@ pub(crate) const COMMANDS: [CommandWords; 16] = [
         usage: None,
         after_help: UNLOCK_HELP,
         next_line_help: true,
-        words: &[STORE, &[Word::Text(USER)]],
+        words: &[STORE, &[Word::Text(USER), Word::Text(NAMES_CLUSTER)]],
+    },
+    CommandWords {
+        word: "roster",
+        whole: "oathd roster",
+        about: "Prints the rows of a store by names",
+        usage: None,
+        after_help: ROSTER_HELP,
+        next_line_help: true,
+        words: &[STORE, &[Word::Text(CHECKED_CLUSTER)]],
     },
     CommandWords {
         word: "check",

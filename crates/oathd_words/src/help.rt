@@ -130,6 +130,9 @@ them was lost. With --anew the databases of all nodes are replaced. The floors
 files are then of stopped nodes, and each majority has one of them. A user of
 none of these files begins as at any import.
 
+With --begins it creates the store of a node by names: a token is known by its
+name, and not by its row. No member of the cluster has served before.
+
 The status is 1 if floors files have a fault or don't say enough. It is 3 if a
 store is there, or the database fails.
 
@@ -243,6 +246,16 @@ stays.
 
 The status is 1 if there is no such user, and 3 if the database fails, or holds
 no store of node I.";
+
+/// The help of the command `roster`, after its options.
+pub(crate) const ROSTER_HELP: &str = "\
+DB is the store of node I, which is stopped, and USERS its users file. Prints
+this line for each row of the store:
+    row NUMBER NAME FLOOR USER
+NAME is the name of the token by the cluster file, and FLOOR its first factor
+that is not used up. USER is - for a retired token, which is in no row of USERS.
+
+The status is 3 if the database fails, or holds no store of node I.";
 
 /// The help of the command `check`, after its options.
 pub(crate) const CHECK_HELP: &str = "\

@@ -3,17 +3,21 @@ ghost use Rattle.std.specs.Borrow.{Bor};
 ghost use Rattle.std.specs.Global.{Vec};
 ghost use Rattle.std.specs.declared.net.socket_addr.SocketAddrV4.{SocketAddrV4};
 ghost use Rattle.udp_port.specs.Examples.{at_host, at_local};
-ghost use Rattle.oathd_words.specs.Broken.{cluster_at, file, floors_by_file, floors_of, given_cluster, given_nodes, init_at, level_by, lines_at, local_text, local_texts, named_cluster, named_nodes, remake_at, serve_for, sim_at, store_of, unlock_of, usual_init, usual_remake, usual_serve, word};
+ghost use Rattle.oathd_words.specs.Broken.{cluster_at, file, floors_by_file, floors_of, given_cluster, given_nodes, init_at, level_by, lines_at, local_text, local_texts, named_by, named_cluster, named_nodes, remake_at, serve_for, sim_at, store_of, unlock_of, usual_init, usual_remake, usual_serve, word};
+ghost use Rattle.clap.specs.Matches.{first_value};
 ghost use Rattle.clap.specs.declared.parser.matches.Found.{Found};
 ghost use Rattle.clap.specs.declared.parser.matches.MatchedArg.{MatchedArg};
 ghost use Rattle.oathd_words.specs.FormerWords.{former_of, is_of_former, lost_said, moment_or_0, nodes_in};
+ghost use Rattle.oathd_words.specs.Given.{GivesMember};
 ghost use Rattle.oathd_words.specs.Members.{AreMembers, SayAddresses, are_different};
 ghost use Rattle.oathd_words.specs.NodesWords.{AreNodesInRange};
-ghost use Rattle.oathd_words.specs.StoreWords.{AsksForClients, IsActionInRange, IsClusterInRange, takes_anybody};
+ghost use Rattle.oathd_words.specs.StoreWords.{AsksForAct, AsksForAction, AsksForClients, IsActionInRange, IsClusterInRange, begins, takes_anybody};
 ghost use Rattle.oathd_words.specs.Words.{IsInRange, cluster_path_of, path_of_action};
 ghost use Rattle.oathd_words.specs.declared.former_words.FormerWords.{FormerWords as AnyFormer};
 ghost use Rattle.oathd_words.specs.declared.store_words.Action.TheVariants.{Audit, Export, Gates, Migrate};
 ghost use Rattle.oathd_words.specs.declared.store_words.ClientWords.TheVariants.{Anybody, Named, ThisMachine};
+ghost use Rattle.oathd_words.specs.declared.store_words.NamedAct.{NamedAct as AnyAct};
+ghost use Rattle.oathd_words.specs.declared.store_words.NamedAct.TheVariants as acts;
 ghost use Rattle.oathd_words.specs.declared.words.Task.TheVariants.{Check, NewKey, Secret, SecretOfInput};
 
 /// Counterexamples: the smallest list of members is accepted, and each part of the rule fails for a minimal one.
@@ -89,6 +93,9 @@ pub fn ranges_can_be_broken()
     ensures unlock { IsActionInRange (unlock_of 1) × IsActionInRange (unlock_of 9) }
     ensures unlock_0 { IsActionInRange (unlock_of 0) → ⊥ }
     ensures unlock_10 { IsActionInRange (unlock_of 10) → ⊥ }
+    ensures named { (act : AnyAct) → IsActionInRange (named_by act 1) × IsActionInRange (named_by act 9) }
+    ensures named_0 { (act : AnyAct) → IsActionInRange (named_by act 0) → ⊥ }
+    ensures named_10 { (act : AnyAct) → IsActionInRange (named_by act 10) → ⊥ }
 
     ensures lines { IsInRange (lines_at 0 (given_nodes 1)) × IsInRange (lines_at 1099511627775 named_nodes) }
     ensures lines_of_none { IsInRange (lines_at 0 (given_nodes 0)) → ⊥ }
@@ -111,6 +118,7 @@ pub fn paths_are_worked()
         ∷ store_of (init_at None 1) ∷ store_of (serve_for 0 1) ∷ store_of floors_by_file ∷ Check (word []) file ∷ [])
         ≡ replicate 7 (Some (codes "c")) }
     ensures remake { (former : AnyFormer) → path_of_action (remake_at None former 1) ≡ Some (codes "c") }
+    ensures by_names { (act : AnyAct) → path_of_action (named_by act 1) ≡ Some (codes "c") }
     ensures none { map cluster_path_of (lines_at 0 (given_nodes 1) ∷ sim_at 0 (given_nodes 1)
         ∷ cluster_at 0 (given_nodes 1) ∷ store_of usual_init ∷ store_of Export ∷ store_of (Audit 1)
         ∷ store_of (Migrate 1) ∷ store_of (floors_of 1) ∷ store_of (Gates 1) ∷ store_of (unlock_of 1)
@@ -171,4 +179,49 @@ pub fn client_words_are_worked()
         × (AsksForClients found (Named (word (codes "g"))) → ⊥) × (AsksForClients found Anybody → ⊥)
         × (AsksForClients found ThisMachine → ⊥) }
     ensures new_key { cluster_path_of NewKey ≡ None }
+{}
+
+/// Worked cases. What the commands do to a store by names, and what they ask for without a cluster file.
+pub fn named_words_are_worked()
+    ensures begins { (found : Found) (value : MatchedArg) → found.entries.items ≡ (word (codes "begins"), value) ∷ []
+        → value.vals.items ≡ word (codes "true") ∷ []
+        → (begins found ≡ true) × AsksForAct (codes "init") found acts.Begin }
+    ensures served { (found : Found) → found.entries.items ≡ [] → begins found ≡ false }
+    ensures begins_without_the_flag { (found : Found) → begins found ≡ false
+        → AsksForAct (codes "init") found acts.Begin → ⊥ }
+    ensures begins_at_a_moment { (found : Found) (moment : List ℕ) → first_value found (codes "moment") ≡ Some moment
+        → AsksForAct (codes "init") found acts.Begin → ⊥ }
+    ensures begins_of_former { (found : Found) → is_of_former found ≡ true
+        → AsksForAct (codes "init") found acts.Begin → ⊥ }
+    ensures begins_is_no_init { (found : Found) → begins found ≡ true
+        → AsksForAction (codes "init") found usual_init → ⊥ }
+    ensures begins_is_no_remake { (found : Found) (former : AnyFormer) → begins found ≡ true
+        → AsksForAction (codes "init") found (usual_remake former) → ⊥ }
+
+    ensures acts { (found : Found) → AsksForAct (codes "export") found acts.Export
+        × AsksForAct (codes "audit") found acts.Audit × AsksForAct (codes "gates") found acts.Gates
+        × AsksForAct (codes "roster") found acts.Roster }
+    ensures acts_of_others { (found : Found) → (AsksForAct (codes "audit") found acts.Export → ⊥)
+        × (AsksForAct (codes "gates") found acts.Audit → ⊥) × (AsksForAct (codes "roster") found acts.Gates → ⊥)
+        × (AsksForAct (codes "export") found acts.Roster → ⊥) × (AsksForAct (codes "roster") found acts.Begin → ⊥) }
+    ensures unlock { (found : Found) → first_value found (codes "USER") ≡ Some (codes "u")
+        → AsksForAct (codes "unlock") found (acts.Unlock (word (codes "u")))
+        × (AsksForAct (codes "unlock") found (acts.Unlock (word (codes "v"))) → ⊥)
+        × (AsksForAct (codes "gates") found (acts.Unlock (word (codes "u"))) → ⊥) }
+
+    // a cluster file gives the names, and without one there are none
+    ensures named { (found : Found) → GivesMember found (codes "node") 1
+        → first_value found (codes "cluster") ≡ Some (codes "c")
+        → AsksForAction (codes "audit") found (named_by acts.Audit 1)
+        × (AsksForAction (codes "audit") found (named_by acts.Audit 2) → ⊥)
+        × (AsksForAction (codes "audit") found (named_by acts.Gates 1) → ⊥) }
+    ensures named_is_not_plain { (found : Found) → first_value found (codes "cluster") ≡ Some (codes "c")
+        → (AsksForAction (codes "export") found Export → ⊥) × (AsksForAction (codes "audit") found (Audit 1) → ⊥)
+        × (AsksForAction (codes "gates") found (Gates 1) → ⊥)
+        × (AsksForAction (codes "unlock") found (unlock_of 1) → ⊥) }
+    ensures plain { (found : Found) → GivesMember found (codes "node") 1
+        → first_value found (codes "cluster") ≡ None → AsksForAction (codes "export") found Export
+        × AsksForAction (codes "audit") found (Audit 1) × AsksForAction (codes "gates") found (Gates 1) }
+    ensures plain_is_not_named { (found : Found) (act : AnyAct) → first_value found (codes "cluster") ≡ None
+        → AsksForAction (codes "audit") found (named_by act 1) → ⊥ }
 {}

@@ -19,6 +19,8 @@ pub(crate) struct TextWord {
     unless: Option<&'static str>,
     /// The options that exclude it.
     conflicts: &'static [&'static str],
+    /// The options that it needs.
+    needs: &'static [&'static str],
     /// Whether its value is a number from 1 to 9.
     is_digit: bool,
     help: &'static str,
@@ -34,7 +36,8 @@ impl TextWord {
             .required(self.is_required)
             .action(ArgAction::Set)
             .help(self.help)
-            .conflicts_with_all(self.conflicts)?;
+            .conflicts_with_all(self.conflicts)?
+            .requires_all(self.needs)?;
         if let Some(other) = self.unless {
             arg = arg.required_unless_present(other)?;
         }
@@ -213,6 +216,7 @@ pub(crate) const NODE_COUNT: TextWord = TextWord {
     is_required: true,
     unless: None,
     conflicts: &[],
+    needs: &[],
     is_digit: true,
     help: "How many nodes there are, 1 to 9",
 };
@@ -224,6 +228,7 @@ pub(crate) const USERS: TextWord = TextWord {
     is_required: true,
     unless: None,
     conflicts: &[],
+    needs: &[],
     is_digit: false,
     help: "The path of the users file",
 };
@@ -235,6 +240,7 @@ pub(crate) const DATABASE: TextWord = TextWord {
     is_required: true,
     unless: None,
     conflicts: &[],
+    needs: &[],
     is_digit: false,
     help: "The path of the database",
 };
@@ -246,6 +252,7 @@ pub(crate) const HEX: TextWord = TextWord {
     is_required: false,
     unless: Some("stdin"),
     conflicts: &["stdin"],
+    needs: &[],
     is_digit: false,
     help: "The secret in hexadecimal: two digits for each of 1 to 128 bytes",
 };
@@ -265,6 +272,7 @@ pub(crate) const NODE: TextWord = TextWord {
     is_required: true,
     unless: None,
     conflicts: &[],
+    needs: &[],
     is_digit: true,
     help: "The number of the node, 1 to 9",
 };
@@ -276,6 +284,7 @@ pub(crate) const CLOCK_MOMENT: TextWord = TextWord {
     is_required: false,
     unless: None,
     conflicts: &[],
+    needs: &[],
     is_digit: false,
     help: "The moment at which the users are imported, in seconds since\n\
         1970-01-01 00:00:00 UTC, 0 to 1099511627775 [default: the clock]",
@@ -288,6 +297,7 @@ pub(crate) const MEMBERS: TextWord = TextWord {
     is_required: false,
     unless: Some("cluster"),
     conflicts: &[],
+    needs: &[],
     is_digit: false,
     help: "The addresses of the members in order of their numbers, 1 to 9 of\n\
         the form 127.0.0.1:7001, all different",
@@ -300,6 +310,7 @@ pub(crate) const KEY: TextWord = TextWord {
     is_required: false,
     unless: Some("cluster"),
     conflicts: &[],
+    needs: &[],
     is_digit: false,
     help: "A file of the cluster's key: 16 to 64 bytes in hexadecimal",
 };
@@ -311,6 +322,7 @@ pub(crate) const CLUSTER: TextWord = TextWord {
     is_required: false,
     unless: None,
     conflicts: &["members", "key", "look-ahead", "skew", "range", "drift"],
+    needs: &[],
     is_digit: false,
     help: "A cluster file, which says the members, the key and how far a code is\n\
         searched, in place of those options",
@@ -323,6 +335,7 @@ pub(crate) const CLIENTS: TextWord = TextWord {
     is_required: false,
     unless: None,
     conflicts: &["plain-lines"],
+    needs: &[],
     is_digit: false,
     help: "A clients file: lines are taken from clients that share a key with\n\
         the node. Without it, and with a cluster file, they are taken from\n\
@@ -361,6 +374,7 @@ pub(crate) const IMPORT_CLUSTER: TextWord = TextWord {
     is_required: false,
     unless: None,
     conflicts: &["skew", "drift"],
+    needs: &[],
     is_digit: false,
     help: "A cluster file, which says the skew and the drift in place of those\n\
         options",
@@ -397,6 +411,14 @@ pub(crate) const ANEW: FlagWord = FlagWord {
     help: "The databases of all nodes are replaced",
 };
 
+/// The flag that creates the store of a member of a cluster that never served.
+pub(crate) const BEGINS: FlagWord = FlagWord {
+    name: "begins",
+    conflicts: &["moment", "lost", "anew", "floors", "since", "skew", "drift"],
+    needs: &["cluster"],
+    help: "The cluster never served, and its cluster file gives names",
+};
+
 /// The floors files of the other nodes, from which a replacement is made.
 pub(crate) const FORMER_FLOORS: ListWord = ListWord {
     name: "floors",
@@ -427,6 +449,7 @@ pub(crate) const SINCE: TextWord = TextWord {
     is_required: false,
     unless: None,
     conflicts: &[],
+    needs: &[],
     is_digit: false,
     help: "When the last of the lost nodes was lost, in seconds since 1970-01-01\n\
         00:00:00 UTC: an older floors file is refused",
@@ -449,6 +472,7 @@ pub(crate) const MEMBER_COUNT: TextWord = TextWord {
     is_required: false,
     unless: Some("cluster"),
     conflicts: &["cluster"],
+    needs: &[],
     is_digit: true,
     help: "How many members the cluster has, 1 to 9",
 };
@@ -460,8 +484,33 @@ pub(crate) const COUNT_CLUSTER: TextWord = TextWord {
     is_required: false,
     unless: None,
     conflicts: &["members"],
+    needs: &[],
     is_digit: false,
     help: "A cluster file, which says the members in place of that option",
+};
+
+/// The number of the node, which only a store by names needs.
+pub(crate) const NAMES_NODE: TextWord = TextWord {
+    name: "node",
+    value_name: Some("I"),
+    is_required: false,
+    unless: None,
+    conflicts: &[],
+    needs: &["cluster"],
+    is_digit: true,
+    help: "The number of the node, 1 to 9",
+};
+
+/// The cluster file of a store by names.
+pub(crate) const NAMES_CLUSTER: TextWord = TextWord {
+    name: "cluster",
+    value_name: Some("FILE"),
+    is_required: false,
+    unless: None,
+    conflicts: &[],
+    needs: &["node"],
+    is_digit: false,
+    help: "The cluster file of a store by names: it gives the names",
 };
 
 /// The user whose failures are cleared.
@@ -471,6 +520,7 @@ pub(crate) const USER: TextWord = TextWord {
     is_required: true,
     unless: None,
     conflicts: &[],
+    needs: &[],
     is_digit: false,
     help: "The name of the user",
 };
@@ -482,6 +532,7 @@ pub(crate) const NODE_CLUSTER: TextWord = TextWord {
     is_required: false,
     unless: None,
     conflicts: &["key", "look-ahead", "skew", "range", "drift"],
+    needs: &[],
     is_digit: false,
     help: "A cluster file, which says the key and how far a code is searched, in\n\
         place of those options",
@@ -494,18 +545,20 @@ pub(crate) const NODES_CLUSTER: TextWord = TextWord {
     is_required: false,
     unless: None,
     conflicts: &["N", "key", "look-ahead", "skew", "range", "drift"],
+    needs: &[],
     is_digit: false,
     help: "A cluster file, which says how many nodes there are, the key and how\n\
         far a code is searched, in place of N and those options",
 };
 
-/// The cluster file of the command `check`.
+/// The cluster file of the commands `check` and `roster`.
 pub(crate) const CHECKED_CLUSTER: TextWord = TextWord {
     name: "cluster",
     value_name: Some("FILE"),
     is_required: true,
     unless: None,
     conflicts: &[],
+    needs: &[],
     is_digit: false,
     help: "The cluster file",
 };
@@ -517,6 +570,7 @@ pub(crate) const KEY_OR_ZEROS: TextWord = TextWord {
     is_required: false,
     unless: None,
     conflicts: &[],
+    needs: &[],
     is_digit: false,
     help: "A file of the cluster's key: 16 to 64 bytes in hexadecimal.\nWithout it the key is 32 zeros",
 };

@@ -9,7 +9,7 @@ ghost use Rattle.otp_core.specs.Limits.{Limits};
 ghost use Rattle.vote_core.specs.NodeSet.{PlaceRecord};
 ghost use Rattle.oathd_words.specs.FormerWords.{former_given, former_value, is_of_former as spec_is_of_former};
 ghost use Rattle.oathd_words.specs.Given.{is_flag};
-ghost use Rattle.oathd_words.specs.StoreWords.{AsksForAction, AsksForClients, AsksForCluster, AsksForImport, GivesImport, GivesMoment, GivesPlace, few_turns, takes_anybody, turns_given};
+ghost use Rattle.oathd_words.specs.StoreWords.{AsksForAction, AsksForClients, AsksForCluster, AsksForImport, GivesImport, GivesMoment, GivesPlace, begins, few_turns, takes_anybody, turns_given};
 ghost use Rattle.oathd_words.specs.Words.{path_of_action};
 ghost use Rattle.oathd_words.specs.declared.store_words.Action.{Action as AnyAction};
 ghost use Rattle.oathd_words.specs.declared.store_words.ClusterWords.{ClusterWords as AnyCluster};
@@ -67,6 +67,26 @@ pub enum ImportWords<'a> {
     Given(Settings),
     /// The path of the cluster file that has them.
     Named(&'a str),
+}
+
+/// What is done to the store of a member whose cluster file gives names.
+#[derive(Drop)]
+pub enum NamedAct<'a> {
+    /// Creates it, for a cluster that never served.
+    Begin,
+    /// Prints a users file with its content.
+    Export,
+    /// Prints its passes.
+    Audit,
+    /// Prints its gates that have failures.
+    Gates,
+    /// Clears the failures of a user.
+    Unlock {
+        /// The name of the user.
+        user: &'a str,
+    },
+    /// Prints its rows.
+    Roster,
 }
 
 /// An action on the store of a node.
@@ -137,6 +157,14 @@ pub enum Action<'a> {
         /// The name of the user.
         user: &'a str,
     },
+    /// An action on the store of a member whose cluster file gives names.
+    Named {
+        /// The number of the node: 1 to 9.
+        node: u8,
+        /// The path of the cluster file.
+        path: &'a str,
+        act: NamedAct<'a>,
+    },
 }
 
 impl<'a> Action<'a> {
@@ -161,6 +189,7 @@ impl<'a> Action<'a> {
                 cluster: ClusterWords::Named { path, .. },
                 ..
             } => Some(*path),
+            Action::Named { path, .. } => Some(*path),
             _ => None,
         }
     }
@@ -251,9 +280,26 @@ fn place_of(matches: &ArgMatches<'_>, members: u8) -> Option<Place>
     Place::new(member_number(matches, "node")?, members)
 }
 
+/// Returns the action of `init` for a cluster that begins, or `None` if a value is missing or wrong.
+fn begin<'a>(matches: &ArgMatches<'a>) -> Option<Action<'a>>
+    requires { begins (found_of matches.now) ≡ true }
+    ensures some { IfSome result (AsksForAction (codes "init") (found_of matches.now)) }
+    ensures none { IfNone result ((action : AnyAction)
+        → AsksForAction (codes "init") (found_of matches.now) action → ⊥) }
+{
+    if is_of_former(matches) || matches.get_str("moment").is_some() {
+        return None;
+    }
+    let node = member_number(matches, "node")?;
+    let path = matches.get_str("cluster")?;
+    let act = NamedAct::Begin;
+    Some(Action::Named { node, path, act })
+}
+
 /// Returns the action of `init` without options about former stores, or `None` if a value is missing or wrong.
 fn plain_init<'a>(matches: &ArgMatches<'a>) -> Option<Action<'a>>
-    requires { spec_is_of_former (found_of matches.now) ≡ false }
+    requires served { begins (found_of matches.now) ≡ false }
+    requires plain { spec_is_of_former (found_of matches.now) ≡ false }
     ensures some { IfSome result (AsksForAction (codes "init") (found_of matches.now)) }
     ensures none { IfNone result ((action : AnyAction)
         → AsksForAction (codes "init") (found_of matches.now) action → ⊥) }
@@ -272,6 +318,7 @@ fn plain_init<'a>(matches: &ArgMatches<'a>) -> Option<Action<'a>>
 
 /// Returns the action of `init` with `former`, or `None` if a value is missing or wrong.
 fn remake<'a>(matches: &ArgMatches<'a>, former: FormerWords<'a>) -> Option<Action<'a>>
+    requires served { begins (found_of matches.now) ≡ false }
     requires of_former { spec_is_of_former (found_of matches.now) ≡ true }
     requires given { former_given (found_of matches.now) ≡ Some (former_value former) }
     ensures some { IfSome result (AsksForAction (codes "init") (found_of matches.now)) }
@@ -300,6 +347,9 @@ fn init_action<'a>(
     ensures none { IfOk result (λ read. IfNone read ((action : AnyAction)
         → AsksForAction (codes "init") (found_of matches.now) action → ⊥)) }
 {
+    if is_given(matches, "begins") {
+        return Ok(begin(matches));
+    }
     if !is_of_former(matches) {
         return Ok(plain_init(matches));
     }
@@ -393,15 +443,34 @@ fn serve_action<'a>(
     }))
 }
 
+/// Returns the action of `export`, or `None` if a value is missing or wrong.
+fn export_action<'a>(matches: &ArgMatches<'a>) -> Option<Action<'a>>
+    ensures some { IfSome result (AsksForAction (codes "export") (found_of matches.now)) }
+    ensures none { IfNone result ((action : AnyAction)
+        → AsksForAction (codes "export") (found_of matches.now) action → ⊥) }
+{
+    let Some(path) = matches.get_str("cluster") else {
+        return Some(Action::Export);
+    };
+    let node = member_number(matches, "node")?;
+    let act = NamedAct::Export;
+    Some(Action::Named { node, path, act })
+}
+
 /// Returns the action of `audit`, or `None` if a value is missing or wrong.
-fn audit_action<'a>(matches: &ArgMatches<'_>) -> Option<Action<'a>>
+fn audit_action<'a>(matches: &ArgMatches<'a>) -> Option<Action<'a>>
     ensures some { IfSome result (AsksForAction (codes "audit") (found_of matches.now)) }
     ensures none { IfNone result ((action : AnyAction)
         → AsksForAction (codes "audit") (found_of matches.now) action → ⊥) }
 {
-    Some(Action::Audit {
-        node: member_number(matches, "node")?,
-    })
+    let node = member_number(matches, "node")?;
+    match matches.get_str("cluster") {
+        Some(path) => {
+            let act = NamedAct::Audit;
+            Some(Action::Named { node, path, act })
+        }
+        None => Some(Action::Audit { node }),
+    }
 }
 
 /// Returns the action of `migrate`, or `None` if a value is missing or wrong.
@@ -447,14 +516,19 @@ fn level_action<'a>(
 }
 
 /// Returns the action of `gates`, or `None` if a value is missing or wrong.
-fn gates_action<'a>(matches: &ArgMatches<'_>) -> Option<Action<'a>>
+fn gates_action<'a>(matches: &ArgMatches<'a>) -> Option<Action<'a>>
     ensures some { IfSome result (AsksForAction (codes "gates") (found_of matches.now)) }
     ensures none { IfNone result ((action : AnyAction)
         → AsksForAction (codes "gates") (found_of matches.now) action → ⊥) }
 {
-    Some(Action::Gates {
-        node: member_number(matches, "node")?,
-    })
+    let node = member_number(matches, "node")?;
+    match matches.get_str("cluster") {
+        Some(path) => {
+            let act = NamedAct::Gates;
+            Some(Action::Named { node, path, act })
+        }
+        None => Some(Action::Gates { node }),
+    }
 }
 
 /// Returns the action of `unlock`, or `None` if a value is missing or wrong.
@@ -465,7 +539,25 @@ fn unlock_action<'a>(matches: &ArgMatches<'a>) -> Option<Action<'a>>
 {
     let node = member_number(matches, "node")?;
     let user = matches.get_str("USER")?;
-    Some(Action::Unlock { node, user })
+    match matches.get_str("cluster") {
+        Some(path) => {
+            let act = NamedAct::Unlock { user };
+            Some(Action::Named { node, path, act })
+        }
+        None => Some(Action::Unlock { node, user }),
+    }
+}
+
+/// Returns the action of `roster`, or `None` if a value is missing or wrong.
+fn roster_action<'a>(matches: &ArgMatches<'a>) -> Option<Action<'a>>
+    ensures some { IfSome result (AsksForAction (codes "roster") (found_of matches.now)) }
+    ensures none { IfNone result ((action : AnyAction)
+        → AsksForAction (codes "roster") (found_of matches.now) action → ⊥) }
+{
+    let node = member_number(matches, "node")?;
+    let path = matches.get_str("cluster")?;
+    let act = NamedAct::Roster;
+    Some(Action::Named { node, path, act })
 }
 
 /// Returns the action of the command `name`, or `None` if it is no command over a database or a value is wrong.
@@ -481,13 +573,14 @@ pub(crate) fn read_action<'a>(
     match name {
         "init" => init_action(alloc, matches),
         "serve" => serve_action(alloc, matches),
-        "export" => Ok(Some(Action::Export)),
+        "export" => Ok(export_action(matches)),
         "audit" => Ok(audit_action(matches)),
         "migrate" => Ok(migrate_action(matches)),
         "floors" => Ok(floors_action(matches)),
         "level" => level_action(alloc, matches),
         "gates" => Ok(gates_action(matches)),
         "unlock" => Ok(unlock_action(matches)),
+        "roster" => Ok(roster_action(matches)),
         _ => Ok(None),
     }
 }

@@ -37,3 +37,15 @@ returns-clause-keys c = refl
 pub returns-clause-lives : goal.returns-clause-lives
 unfolding read_socket_v4 read_ipv4 read_port read_octet read_number is_same address_text decode_pairs
 returns-clause-lives c = refl
+
+pub returns-clause-no_new_words : goal.returns-clause-no_new_words
+unfolding read_socket_v4 read_ipv4 read_port read_octet read_number is_same address_text decode_pairs
+returns-clause-no_new_words c = refl
+
+pub returns-clause-salts : goal.returns-clause-salts
+unfolding read_socket_v4 read_ipv4 read_port read_octet read_number is_same address_text decode_pairs
+returns-clause-salts c = refl
+
+pub returns-clause-fresh : goal.returns-clause-fresh
+unfolding read_socket_v4 read_ipv4 read_port read_octet read_number is_same address_text decode_pairs
+returns-clause-fresh c = refl

@@ -52,3 +52,23 @@ returns-clause-too_long c = refl
 pub returns-clause-faults : goal.returns-clause-faults
 unfolding read_socket_v4 read_ipv4 read_port read_octet read_number is_same address_text decode_pairs
 returns-clause-faults c = refl
+
+pub returns-clause-named : goal.returns-clause-named
+unfolding read_socket_v4 read_ipv4 read_port read_octet read_number is_same address_text decode_pairs
+returns-clause-named c = refl
+
+pub returns-clause-names_alone : goal.returns-clause-names_alone
+unfolding read_socket_v4 read_ipv4 read_port read_octet read_number is_same address_text decode_pairs
+returns-clause-names_alone c = refl
+
+pub returns-clause-no_names : goal.returns-clause-no_names
+unfolding read_socket_v4 read_ipv4 read_port read_octet read_number is_same address_text decode_pairs
+returns-clause-no_names c = refl
+
+pub returns-clause-no_life_before_no_names : goal.returns-clause-no_life_before_no_names
+unfolding read_socket_v4 read_ipv4 read_port read_octet read_number is_same address_text decode_pairs
+returns-clause-no_life_before_no_names c = refl
+
+pub returns-clause-bad_names : goal.returns-clause-bad_names
+unfolding read_socket_v4 read_ipv4 read_port read_octet read_number is_same address_text decode_pairs
+returns-clause-bad_names c = refl

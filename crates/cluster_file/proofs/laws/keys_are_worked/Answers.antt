@@ -18,3 +18,24 @@ returns-clause-key c = refl
 pub returns-clause-fingerprint : goal.returns-clause-fingerprint
 unfolding digits word_line member_line settings_text book_text address_text encode_with sha256_steps.first_words sha256_steps.schedule sha256_steps.rounds sha256_steps.compress sha256_steps.hash_after sha256_steps.digest_bytes sha256_steps.sha256
 returns-clause-fingerprint c = refl
+
+pub returns-clause-named_text : goal.returns-clause-named_text
+unfolding digits word_line member_line settings_text book_text address_text encode_with sha256_steps.first_words sha256_steps.schedule sha256_steps.rounds sha256_steps.compress sha256_steps.hash_after sha256_steps.digest_bytes sha256_steps.sha256
+returns-clause-named_text c = refl
+
+pub returns-clause-any_book : goal.returns-clause-any_book
+returns-clause-any_book c = λ book. refl
+
+pub returns-clause-fresh_is_not_shared : goal.returns-clause-fresh_is_not_shared
+returns-clause-fresh_is_not_shared c = λ cluster book. refl
+
+pub returns-clause-named_key : goal.returns-clause-named_key
+unfolding digits word_line member_line settings_text book_text address_text encode_with sha256_steps.first_words sha256_steps.schedule sha256_steps.rounds sha256_steps.compress sha256_steps.hash_after sha256_steps.digest_bytes sha256_steps.sha256
+returns-clause-named_key c = refl
+
+pub returns-clause-named_fingerprint : goal.returns-clause-named_fingerprint
+unfolding digits word_line member_line settings_text book_text address_text encode_with sha256_steps.first_words sha256_steps.schedule sha256_steps.rounds sha256_steps.compress sha256_steps.hash_after sha256_steps.digest_bytes sha256_steps.sha256
+returns-clause-named_fingerprint c = refl
+
+pub returns-clause-all_rows : goal.returns-clause-all_rows
+returns-clause-all_rows c = refl

@@ -64,3 +64,11 @@ returns-clause-missing c = refl
 pub returns-clause-surplus : goal.returns-clause-surplus
 unfolding read_socket_v4 read_ipv4 read_port read_octet read_number is_same address_text decode_pairs
 returns-clause-surplus c = refl
+
+pub returns-clause-names_and_new_tokens : goal.returns-clause-names_and_new_tokens
+unfolding read_socket_v4 read_ipv4 read_port read_octet read_number is_same address_text decode_pairs
+returns-clause-names_and_new_tokens c = refl
+
+pub returns-clause-bad_names_and_new_tokens : goal.returns-clause-bad_names_and_new_tokens
+unfolding read_socket_v4 read_ipv4 read_port read_octet read_number is_same address_text decode_pairs
+returns-clause-bad_names_and_new_tokens c = refl

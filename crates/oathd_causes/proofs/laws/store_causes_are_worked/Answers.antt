@@ -19,3 +19,12 @@ returns-clause-node c = refl
 
 pub returns-clause-rows : goal.returns-clause-rows
 returns-clause-rows c = refl
+
+pub returns-clause-by_names : goal.returns-clause-by_names
+returns-clause-by_names c = refl
+
+pub returns-clause-named : goal.returns-clause-named
+returns-clause-named c = refl
+
+pub returns-clause-unnamed : goal.returns-clause-unnamed
+returns-clause-unnamed c = refl

@@ -1,5 +1,7 @@
 use Rattle.oathd.specs.Serve.{IsAskedFor}
-use Rattle.oathd.proofs.WordsLemmas.{done_so, served_well}
+use Rattle.oathd.specs.Named.{names_asked}
+use Rattle.oathd.proofs.NamedLemmas.{served_so_well}
+use Rattle.oathd.proofs.WordsLemmas.{done_so}
 use Rattle.oathd.proofs.databases.Site.perform.Goals as goal
 
 pub returns-in-Export : goal.returns-in-Export
@@ -26,10 +28,14 @@ returns-in-Unlock g c = done_so _ _ c.args.action _ c.args.self.now.cluster.now 
 pub returns-in-Serve : goal.returns-in-Serve
 returns-in-Serve g c =
     done_so _ _ c.args.action _ c.args.self.now.cluster.now _ _ c.serve.result c.in-Serve.is
-    (served_well _ _ (IsAskedFor c.in-Serve.cluster c.in-Serve.turns c.in-Serve.is_logged c.in-Serve.clients c.args.self.now.cluster.now) c.serve.result c.serve.ensures)
+    (served_so_well _ _ (IsAskedFor c.in-Serve.cluster c.in-Serve.turns c.in-Serve.is_logged c.in-Serve.clients c.args.self.now.cluster.now) c.args.self.now.cluster.now
+    (names_asked c.in-Serve.cluster c.args.self.now.cluster.now) c.serve.result c.serve.ensures)
 
 pub returns-in-Init : goal.returns-in-Init
 returns-in-Init g c = done_so _ _ c.args.action _ c.args.self.now.cluster.now _ _ c.init.result c.in-Init.is c.init.ensures
 
 pub returns-in-Remake : goal.returns-in-Remake
 returns-in-Remake g c = done_so _ _ c.args.action _ c.args.self.now.cluster.now _ _ c.remake.result c.in-Remake.is c.remake.ensures
+
+pub returns-in-Named : goal.returns-in-Named
+returns-in-Named g c = done_so _ _ c.args.action _ c.args.self.now.cluster.now _ _ c.act.result c.in-Named.is c.act.ensures

@@ -1,7 +1,7 @@
 use Rattle.std.proofs.Common.{refl}
 use Rattle.oathd.specs.Serve.{IsAskedFor}
 use Rattle.oathd.proofs.ServeLemmas.{ends_as_asked}
-use Rattle.oathd.proofs.WordsLemmas.{named_ends, node_asked}
+use Rattle.oathd.proofs.WordsLemmas.{given_ends, named_ends, node_asked}
 use Rattle.oathd.proofs.databases.Site.serve.Goals as goal
 
 pub returns-in-Named : goal.returns-in-Named
@@ -11,7 +11,9 @@ returns-in-Named g c =
 
 pub returns-in_ok-lines-in-Given : goal.returns-in_ok-lines-in-Given
 returns-in_ok-lines-in-Given g c =
-    ends_as_asked _ _ (IsAskedFor c.args.cluster c.args.turns c.args.is_logged c.args.clients c.args.self.now.cluster.now) _
+    given_ends _ _ c.args.cluster c.in-Given.settings c.in-Given.place c.in-Given.members _ c.args.turns c.args.is_logged c.args.clients c.args.self.now.cluster.now
+    c.serve_as.result c.in-Given.is
+    (ends_as_asked _ _ (IsAskedFor c.args.cluster c.args.turns c.args.is_logged c.args.clients c.args.self.now.cluster.now) _
     (node_asked c.args.cluster c.in-Given.settings c.in-Given.place c.in-Given.members _ c.args.turns c.args.is_logged c.args.clients c.args.self.now.cluster.now _
     c.in_ok-read_key-in-Given.field-0 c.in-Given.is refl refl refl refl refl refl c.in_ok-lines-in-Given.ensures.lines)
-    c.serve_as.result c.serve_as.ensures
+    c.serve_as.result c.serve_as.ensures)

@@ -1,32 +1,44 @@
+use Rattle.cluster_file.specs.ClusterFile.{cluster_of, cluster_value}
 use Rattle.oathd_database.specs.declared.serving.Serving.{Serving}
-use Rattle.oathd.specs.Serve.{IsMemberOf, IsRunOf, ServeEndsSo}
+use Rattle.oathd.specs.Named.{EndsSo, names_in}
+use Rattle.oathd.specs.Serve.{IsMemberOf, IsRunOf}
 use Rattle.oathd.specs.declared.fault.Fault.TheVariants.{Task}
 use Rattle.oathd.proofs.FaultLemmas.{failed_so}
-use Rattle.oathd.proofs.ServeLemmas.{ends_as_asked, ends_by_task}
+use Rattle.oathd.proofs.NamedLemmas.{ends_by_files, ends_by_names, of_files}
 use Rattle.oathd.proofs.WordsLemmas.{member_asked}
 use Rattle.oathd.proofs.databases.Site.serve_member.Goals as goal
 
 pub returns-in-Ok : goal.returns-in-Ok
 returns-in-Ok g c =
-    ends_as_asked _ _ (λ (serving : Serving). IsMemberOf c.args.node c.args.self.now.cluster.now serving × IsRunOf c.args.turns c.args.is_logged c.args.clients serving) c.in-Ok.serving
+    ends_by_names _ _ (λ (serving : Serving). IsMemberOf c.args.node c.args.self.now.cluster.now serving × IsRunOf c.args.turns c.args.is_logged c.args.clients serving) c.args.self.now.cluster.now
+    (cluster_value c.in_ok-cluster.cluster) c.in_ok-cluster.ensures.cluster c.in-Ok.serving
     (member_asked c.args.node c.args.self.now.cluster.now c.args.turns c.args.is_logged c.args.clients c.in-Ok.serving _ c.in_ok-key.key c.in_ok-place.place
     c.in_ok-lines.lines c.in_ok-cluster.ensures.cluster c.in_ok-key.ensures.key c.in_ok-place.ensures.place c.in_ok-lines.ensures.lines c.in-Ok.ensures)
-    c.serve_as.result c.serve_as.ensures
+    c.serve_by.result c.in_ok-named.named c.in_ok-named.ensures.names c.serve_by.ensures
 
 pub returns-in_err-cluster : goal.returns-in_err-cluster
 returns-in_err-cluster g c =
-    failed_so c.from_residual.result (Task c.in_err-cluster.field-0.0) (ServeEndsSo _ _ (λ (serving : Serving). IsMemberOf c.args.node c.args.self.now.cluster.now serving × IsRunOf c.args.turns c.args.is_logged c.args.clients serving)) c.from_residual.ensures.1 tt
+    failed_so c.from_residual.result (Task c.in_err-cluster.field-0.0) (EndsSo _ _ (λ (serving : Serving). IsMemberOf c.args.node c.args.self.now.cluster.now serving × IsRunOf c.args.turns c.args.is_logged c.args.clients serving) c.args.self.now.cluster.now (names_in (cluster_of c.args.self.now.cluster.now)))
+    c.from_residual.ensures.1 (ends_by_files _ _ (λ (serving : Serving). IsMemberOf c.args.node c.args.self.now.cluster.now serving × IsRunOf c.args.turns c.args.is_logged c.args.clients serving) c.args.self.now.cluster.now (names_in (cluster_of c.args.self.now.cluster.now)) (Task c.in_err-cluster.field-0.0) tt)
 
 pub returns-in_err-place : goal.returns-in_err-place
 returns-in_err-place g c =
-    failed_so c.from_residual-in_err-place.result (Task c.in_err-place.field-0.0) (ServeEndsSo _ _ (λ (serving : Serving). IsMemberOf c.args.node c.args.self.now.cluster.now serving × IsRunOf c.args.turns c.args.is_logged c.args.clients serving)) c.from_residual-in_err-place.ensures.1 tt
+    failed_so c.from_residual-in_err-place.result (Task c.in_err-place.field-0.0) (EndsSo _ _ (λ (serving : Serving). IsMemberOf c.args.node c.args.self.now.cluster.now serving × IsRunOf c.args.turns c.args.is_logged c.args.clients serving) c.args.self.now.cluster.now (names_in (cluster_of c.args.self.now.cluster.now)))
+    c.from_residual-in_err-place.ensures.1 (ends_by_files _ _ (λ (serving : Serving). IsMemberOf c.args.node c.args.self.now.cluster.now serving × IsRunOf c.args.turns c.args.is_logged c.args.clients serving) c.args.self.now.cluster.now (names_in (cluster_of c.args.self.now.cluster.now)) (Task c.in_err-place.field-0.0) tt)
 
 pub returns-in_err-key : goal.returns-in_err-key
 returns-in_err-key g c =
-    failed_so c.from_residual-in_err-key.result (Task c.in_err-key.field-0.0) (ServeEndsSo _ _ (λ (serving : Serving). IsMemberOf c.args.node c.args.self.now.cluster.now serving × IsRunOf c.args.turns c.args.is_logged c.args.clients serving)) c.from_residual-in_err-key.ensures.1 tt
+    failed_so c.from_residual-in_err-key.result (Task c.in_err-key.field-0.0) (EndsSo _ _ (λ (serving : Serving). IsMemberOf c.args.node c.args.self.now.cluster.now serving × IsRunOf c.args.turns c.args.is_logged c.args.clients serving) c.args.self.now.cluster.now (names_in (cluster_of c.args.self.now.cluster.now)))
+    c.from_residual-in_err-key.ensures.1 (ends_by_files _ _ (λ (serving : Serving). IsMemberOf c.args.node c.args.self.now.cluster.now serving × IsRunOf c.args.turns c.args.is_logged c.args.clients serving) c.args.self.now.cluster.now (names_in (cluster_of c.args.self.now.cluster.now)) (Task c.in_err-key.field-0.0) tt)
 
 pub returns-in_err-lines : goal.returns-in_err-lines
 returns-in_err-lines g c =
     let fault = c.in_err-lines.field-0.0 in
-    failed_so c.from_residual-in_err-lines.result fault (ServeEndsSo _ _ (λ (serving : Serving). IsMemberOf c.args.node c.args.self.now.cluster.now serving × IsRunOf c.args.turns c.args.is_logged c.args.clients serving)) c.from_residual-in_err-lines.ensures.1
-    (ends_by_task _ _ (λ (serving : Serving). IsMemberOf c.args.node c.args.self.now.cluster.now serving × IsRunOf c.args.turns c.args.is_logged c.args.clients serving) fault c.in_err-lines.ensures.fault)
+    failed_so c.from_residual-in_err-lines.result fault (EndsSo _ _ (λ (serving : Serving). IsMemberOf c.args.node c.args.self.now.cluster.now serving × IsRunOf c.args.turns c.args.is_logged c.args.clients serving) c.args.self.now.cluster.now (names_in (cluster_of c.args.self.now.cluster.now)))
+    c.from_residual-in_err-lines.ensures.1 (ends_by_files _ _ (λ (serving : Serving). IsMemberOf c.args.node c.args.self.now.cluster.now serving × IsRunOf c.args.turns c.args.is_logged c.args.clients serving) c.args.self.now.cluster.now (names_in (cluster_of c.args.self.now.cluster.now)) fault (of_files fault c.in_err-lines.ensures.fault))
+
+pub returns-in_err-named : goal.returns-in_err-named
+returns-in_err-named g c =
+    let fault = c.in_err-named.field-0.0 in
+    failed_so c.from_residual-in_err-named.result fault (EndsSo _ _ (λ (serving : Serving). IsMemberOf c.args.node c.args.self.now.cluster.now serving × IsRunOf c.args.turns c.args.is_logged c.args.clients serving) c.args.self.now.cluster.now (names_in (cluster_of c.args.self.now.cluster.now)))
+    c.from_residual-in_err-named.ensures.1 (ends_by_files _ _ (λ (serving : Serving). IsMemberOf c.args.node c.args.self.now.cluster.now serving × IsRunOf c.args.turns c.args.is_logged c.args.clients serving) c.args.self.now.cluster.now (names_in (cluster_of c.args.self.now.cluster.now)) fault c.in_err-named.ensures.fault)

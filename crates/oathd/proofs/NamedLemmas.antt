@@ -1,0 +1,245 @@
+-- How a command over a store by names ends.
+use Rattle.std.proofs.Common.{inl, ◌≡◌, ◌∙◌, ℕ, List, Option, Some, None, length, ap, refl, subst, sym}
+use Rattle.std.specs.Prelude.{Result, Ok, Err, IfOk, false, true}
+use Rattle.std.proofs.lemmas.List.{length-map}
+use Rattle.std.specs.Borrow.{Bor}
+use Rattle.sqlite.specs.Store.{Ghosts}
+use Rattle.sqlite.specs.Held as sql
+use Rattle.otp_core.specs.Limits.{Limits}
+use Rattle.otp_core.specs.Range.{IsMoment}
+use Rattle.floor_sql.specs.Held.{SqlHeld}
+use Rattle.seated_store.specs.Seated.{SeatedRecord}
+use Rattle.vote_core.specs.NodeSet.{PlaceRecord}
+use Rattle.oath_node.specs.declared.turns.Served.{Served}
+use Rattle.cluster_file.specs.Address.{address_value}
+use Rattle.cluster_file.specs.ClusterFile.{ClusterRecord, cluster_of, cluster_value}
+use Rattle.cluster_file.specs.declared.cluster.Cluster.{Cluster}
+use Rattle.oathd_words.specs.declared.store_words.ClientWords.{ClientWords}
+use Rattle.oathd_words.specs.declared.store_words.NamedAct.{NamedAct}
+use Rattle.oathd_words.specs.declared.store_words.NamedAct.TheVariants as acts
+use Rattle.oathd_seats.specs.Commands.{HasAuditedNamed, HasExportedNamed, HasToldGatesNamed, HasToldRoster}
+use Rattle.oathd_seats.specs.Unlock.{UnlocksNamed}
+use Rattle.oathd_words.specs.declared.store_words.ClusterWords.{ClusterWords}
+use Rattle.oathd_words.specs.declared.store_words.ClusterWords.TheVariants.{Given, Named}
+use Rattle.oathd_database.specs.Commands.{IsNotServed}
+use Rattle.oathd_database.specs.Users.{IsUnread}
+use Rattle.oathd_database.specs.declared.fault.Fault as database
+use Rattle.oathd_database.specs.declared.fault.Fault.TheVariants.{Memory, CannotWrite, NoClock, Users, Store, Socket}
+use Rattle.oathd_database.specs.declared.serving.Serving.{Serving}
+use Rattle.oathd_roster.specs.Served.{EndsServingNamed, HasServedNamed}
+use Rattle.oathd_roster.specs.declared.cluster.NamedCluster.{NamedCluster}
+use Rattle.oathd_roster.specs.declared.fault.RosterFault.{RosterFault}
+use Rattle.oathd_roster.specs.declared.fault.RosterFault.TheVariants.{Command, SameName, AnotherCluster, Full}
+use Rattle.oathd.specs.Done.{IsServedSo}
+use Rattle.oathd.specs.Named.{ActsFor, AreNamesIn, EndsBy, EndsByNames, EndsSo, IsActDone, IsMemberByNames, IsNamedIn, IsNamedOf, IsServedByNames, NamedEndsSo, fault_of, names_in}
+use Rattle.oathd.specs.Serve.{IsOfFiles, IsOfTask, ServeEndsSo, place_in}
+use Rattle.oathd.specs.Users.{IsOfUsers}
+use Rattle.oathd.specs.declared.fault.Fault.{Fault}
+use Rattle.oathd.specs.declared.fault.Fault.TheVariants.{Database, Floors, Task, Unlock, Roster, Seats, Names}
+use Rattle.oathd.proofs.ServeLemmas.{ends_as_asked, not_imported}
+
+-- a fault of a task is one of the files
+pub of_files : (fault : Fault) → IsOfTask fault → IsOfFiles fault
+of_files (Task fault) is = tt
+of_files (Database fault) is = absurd is
+of_files (Floors fault) is = absurd is
+of_files (Unlock fault) is = absurd is
+of_files (Roster fault) is = absurd is
+of_files (Seats fault) is = absurd is
+of_files (Names fault) is = absurd is
+
+-- the place of a node among the members of a cluster file
+member_at : (cluster : Cluster) (node : ℕ) (place : PlaceRecord) → place ≡ record { me = node; n = length cluster.members.items }
+    → place ≡ place_in (cluster_value cluster) node
+member_at cluster node place at =
+    let of_count : ℕ → PlaceRecord = λ n. record { me = node; n = n } in
+    at ∙ ap of_count (sym (length-map cluster.members.items address_value))
+
+-- the member of the cluster that the text of a cluster file describes
+pub member_by_names : (node : ℕ) (text : List ℕ) (cluster : Cluster) (given : Option NamedCluster) (named : NamedCluster) (place : PlaceRecord)
+    → cluster_of text ≡ Ok (cluster_value cluster) → AreNamesIn (cluster_value cluster) given → given ≡ Some named
+    → place ≡ record { me = node; n = length cluster.members.items } → IsMemberByNames node text cluster.settings place named
+member_by_names node text cluster given named place said are is at = record {
+  cluster = cluster_value cluster;
+  of_text = said;
+  of_settings = refl;
+  of_place = member_at cluster node place at;
+  is_in = subst (AreNamesIn (cluster_value cluster)) is are;
+}
+
+module _ {S : Type 0} (g : Ghosts S) (finds : sql.Held S → Type 0) where
+  -- an act with a name is the act
+  pub act_done : (node : ℕ) (act other : NamedAct) (text : List ℕ) (old new : Option (List ℕ)) (settings : Limits) (place : PlaceRecord)
+      (named : NamedCluster) (result : Result Unit Fault) → act ≡ other → IsMemberByNames node text settings place named
+      → IfOk result (λ _. ActsFor g finds other settings place named old new) → IfOk result (λ _. IsActDone g finds node act text old new)
+  act_done node act other text old new settings place named (Ok done) is member h = record {
+    settings = settings;
+    place = place;
+    named = named;
+    member = member;
+    acts = subst (λ (a : NamedAct). ActsFor g finds a settings place named old new) (sym is) h;
+  }
+  act_done node act other text old new settings place named (Err fault) is member h = tt
+
+  module _ (settings : Limits) (place : PlaceRecord) (named : NamedCluster) (old new : Option (List ℕ)) (node : ℕ) (same : node ≡ place.me)
+      (users : List ℕ) where
+    -- what is printed of the store of the member, and what is unlocked in it
+    pub exported : HasExportedNamed g finds named settings 16777216 node old new users → ActsFor g finds acts.Export settings place named old new
+    exported h = (users, subst (λ (n : ℕ). HasExportedNamed g finds named settings 16777216 n old new users) same h)
+
+    pub audited : HasAuditedNamed g finds named settings 16777216 node old new users → ActsFor g finds acts.Audit settings place named old new
+    audited h = (users, subst (λ (n : ℕ). HasAuditedNamed g finds named settings 16777216 n old new users) same h)
+
+    pub told_gates : HasToldGatesNamed g finds named settings 16777216 node old new users → ActsFor g finds acts.Gates settings place named old new
+    told_gates h = (users, subst (λ (n : ℕ). HasToldGatesNamed g finds named settings 16777216 n old new users) same h)
+
+    pub told_roster : HasToldRoster g finds named settings 16777216 node old new users → ActsFor g finds acts.Roster settings place named old new
+    told_roster h = (users, subst (λ (n : ℕ). HasToldRoster g finds named settings 16777216 n old new users) same h)
+
+    pub unlocked : (user : Bor (List ℕ)) (store : SqlHeld S) → UnlocksNamed g finds named settings 16777216 node user.now store users
+        → ActsFor g finds (acts.Unlock user) settings place named old new
+    unlocked user store h = (users, (store, subst (λ (n : ℕ). UnlocksNamed g finds named settings 16777216 n user.now store users) same h))
+
+  module _ (IsAsked : Serving → Type 0) (IsCluster : NamedCluster → Type 0) where
+    -- a fault of a node
+    ends_named : (fault : RosterFault) → EndsByNames g finds IsAsked IsCluster fault → NamedEndsSo g finds IsAsked IsCluster (Err (fault_of fault))
+    ends_named (Command Memory) h = tt
+    ends_named (Command CannotWrite) h = h
+    ends_named (Command NoClock) h = tt
+    ends_named (Command (Users fault)) h = h
+    ends_named (Command (Store fault)) h = h
+    ends_named (Command Socket) h = h
+    ends_named (SameName row) h = h
+    ends_named AnotherCluster h = h
+    ends_named Full h = h
+
+    module _ (serving : Serving) (asked : IsAsked serving) (named : NamedCluster) (of_cluster : IsCluster named) (moment : ℕ)
+        (is_moment : IsMoment moment) where
+      -- the node was served
+      pub served_named : (counts : Served) (users : List ℕ) → HasServedNamed g finds named moment serving (Ok counts) users
+          → IsServedByNames g finds IsAsked IsCluster
+      served_named counts users h = record {
+        serving = serving;
+        asked = asked;
+        named = named;
+        of_cluster = of_cluster;
+        moment = moment;
+        is_moment = is_moment;
+        users = users;
+        counts = counts;
+        served = h;
+      }
+
+      -- the node ended with a fault
+      pub ended_named : (fault : RosterFault) (users : List ℕ) → EndsServingNamed g finds named moment serving fault users
+          → NamedEndsSo g finds IsAsked IsCluster (Err (fault_of fault))
+      ended_named fault users h = ends_named fault (record {
+        serving = serving;
+        asked = asked;
+        named = named;
+        of_cluster = of_cluster;
+        moment = moment;
+        is_moment = is_moment;
+        users = users;
+        ends = h;
+      })
+
+      -- the users file has a fault
+      pub users_named : (fault : Fault) → IsOfUsers serving.settings moment fault → NamedEndsSo g finds IsAsked IsCluster (Err fault)
+      users_named (Task fault) is = tt
+      users_named (Database fault) is =
+          let ends = not_imported serving.settings moment 16777216 fault is.0 is.1 in
+          ended_named (Command fault) is.0 (inl ends)
+      users_named (Floors fault) is = absurd is
+      users_named (Unlock fault) is = absurd is
+      users_named (Roster fault) is = absurd is
+      users_named (Seats fault) is = absurd is
+      users_named (Names fault) is = absurd is
+
+  -- the clock fails
+  pub clock_named : (IsAsked : Serving → Type 0) (IsCluster : NamedCluster → Type 0) (fault : Fault) → fault ≡ Database NoClock
+      → NamedEndsSo g finds IsAsked IsCluster (Err fault)
+  clock_named IsAsked IsCluster fault is = subst (λ (f : Fault). NamedEndsSo g finds IsAsked IsCluster (Err f)) (sym is) tt
+
+  module _ (IsAsked : Serving → Type 0) (IsCluster : NamedCluster → Type 0) (serving : Serving) (asked : IsAsked serving) (named : NamedCluster)
+      (of_cluster : IsCluster named) where
+    same_named : (fault : RosterFault) → EndsByNames g finds (λ other. other ≡ serving) (λ other. other ≡ named) fault
+        → EndsByNames g finds IsAsked IsCluster fault
+    same_named fault h = record {
+      serving = h.serving;
+      asked = subst IsAsked (sym h.asked) asked;
+      named = h.named;
+      of_cluster = subst IsCluster (sym h.of_cluster) of_cluster;
+      moment = h.moment;
+      is_moment = h.is_moment;
+      users = h.users;
+      ends = h.ends;
+    }
+
+    -- the parameters and the cluster were asked for
+    pub named_as_asked : (result : Result Unit Fault) → NamedEndsSo g finds (λ other. other ≡ serving) (λ other. other ≡ named) result
+        → NamedEndsSo g finds IsAsked IsCluster result
+    named_as_asked (Ok done) h = record {
+      serving = h.serving;
+      asked = subst IsAsked (sym h.asked) asked;
+      named = h.named;
+      of_cluster = subst IsCluster (sym h.of_cluster) of_cluster;
+      moment = h.moment;
+      is_moment = h.is_moment;
+      users = h.users;
+      counts = h.counts;
+      served = h.served;
+    }
+    named_as_asked (Err (Task fault)) h = tt
+    named_as_asked (Err (Database Memory)) h = tt
+    named_as_asked (Err (Database CannotWrite)) h = same_named (Command CannotWrite) h
+    named_as_asked (Err (Database NoClock)) h = tt
+    named_as_asked (Err (Database (Users fault))) h = same_named (Command (Users fault)) h
+    named_as_asked (Err (Database (Store fault))) h = same_named (Command (Store fault)) h
+    named_as_asked (Err (Database Socket)) h = same_named (Command Socket) h
+    named_as_asked (Err (Floors fault)) h = h
+    named_as_asked (Err (Unlock fault)) h = h
+    named_as_asked (Err (Roster fault)) h = same_named fault h
+    named_as_asked (Err (Seats fault)) h = h
+    named_as_asked (Err (Names fault)) h = tt
+
+  -- a fault of the files that give the parameters
+  pub ends_by_files : (IsAsked : Serving → Type 0) (text : List ℕ) (names : Option (List ℕ)) (fault : Fault) → IsOfFiles fault
+      → EndsSo g finds IsAsked text names (Err fault)
+  ends_by_files IsAsked text None (Task fault) is = tt
+  ends_by_files IsAsked text None (Names fault) is = tt
+  ends_by_files IsAsked text None (Database fault) is = absurd is
+  ends_by_files IsAsked text None (Floors fault) is = absurd is
+  ends_by_files IsAsked text None (Unlock fault) is = absurd is
+  ends_by_files IsAsked text None (Roster fault) is = absurd is
+  ends_by_files IsAsked text None (Seats fault) is = absurd is
+  ends_by_files IsAsked text (Some names) (Task fault) is = tt
+  ends_by_files IsAsked text (Some names) (Names fault) is = tt
+  ends_by_files IsAsked text (Some names) (Database fault) is = absurd is
+  ends_by_files IsAsked text (Some names) (Floors fault) is = absurd is
+  ends_by_files IsAsked text (Some names) (Unlock fault) is = absurd is
+  ends_by_files IsAsked text (Some names) (Roster fault) is = absurd is
+  ends_by_files IsAsked text (Some names) (Seats fault) is = absurd is
+
+  module _ (IsAsked : Serving → Type 0) (text : List ℕ) (cluster : ClusterRecord) (said : cluster_of text ≡ Ok cluster) (serving : Serving)
+      (asked : IsAsked serving) (result : Result Unit Fault) where
+    by_names : (names : Option (List ℕ)) (given : Option NamedCluster) → cluster.names ≡ names → AreNamesIn cluster given
+        → EndsBy g finds (λ other. other ≡ serving) given result → EndsSo g finds IsAsked text names result
+    by_names None None same are h = ends_as_asked g finds IsAsked serving asked result h
+    by_names None (Some named) same are h = let e = sym same ∙ are.of_names in absurd cc
+    by_names (Some word) None same are h = let e = sym same ∙ are in absurd cc
+    by_names (Some word) (Some named) same are h =
+        named_as_asked IsAsked (IsNamedOf text) serving asked named (record { cluster = cluster; of_text = said; is_in = are }) result h
+
+    -- a node is served by the names that the cluster file gives, or without names
+    pub ends_by_names : (given : Option NamedCluster) → AreNamesIn cluster given → EndsBy g finds (λ other. other ≡ serving) given result
+        → EndsSo g finds IsAsked text (names_in (cluster_of text)) result
+    ends_by_names given are h = by_names (names_in (cluster_of text)) given (sym (ap names_in said)) are h
+
+  -- a command that serves ended well
+  pub served_so_well : (IsAsked : Serving → Type 0) (text : List ℕ) (names : Option (List ℕ)) (result : Result Unit Fault)
+      → EndsSo g finds IsAsked text names result → IfOk result (λ _. IsServedSo g finds IsAsked text names)
+  served_so_well IsAsked text None (Ok done) h = h
+  served_so_well IsAsked text None (Err fault) h = tt
+  served_so_well IsAsked text (Some names) (Ok done) h = h
+  served_so_well IsAsked text (Some names) (Err fault) h = tt

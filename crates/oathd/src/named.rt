@@ -1,0 +1,219 @@
+//! Carries out the commands over a store by names.
+
+ghost use Rattle.std.specs.Prelude.{◌≡◌, ◌≤◌, ℕ, List, Option, IfErr, IfOk, length};
+ghost use Rattle.sqlite_wal.specs.Files.{image_at};
+ghost use Rattle.cluster_file.specs.ClusterFile.{cluster_value};
+ghost use Rattle.floor_sql.specs.Usable.{IsNode};
+ghost use Rattle.oathd_database.specs.File.{FindsFiles};
+ghost use Rattle.oathd_words.specs.declared.store_words.NamedAct.TheVariants as acts;
+ghost use Rattle.oathd.specs.Named.{ActsFor, AreNamesIn, IsActDone, IsMemberByNames, NamedEndsSo};
+ghost use Rattle.oathd.specs.Serve.{IsOfFiles};
+
+use crate::databases::{Site, present_moment};
+use crate::fault::Fault;
+use cluster_file::{Cluster, ClusterFault, LineFault};
+use oathd_causes::NamesFault;
+use oathd_database::{DatabaseFile, Serving};
+use oathd_roster::{NamedCluster, begin_store, serve_named_store};
+use oathd_seats::{
+    audit_named_store, export_named_store, gates_named_store, roster_named_store,
+    unlock_named_store,
+};
+use oathd_tasks::{cluster_in, member_place};
+use oathd_words::NamedAct;
+use otp_core::Settings;
+use roster_sql::Bond;
+use sqlite::{FileFrom, FileStore, Start};
+use sqlite_trees::store::Store;
+use std::io::Write;
+use token_names::Salt;
+use vote_core::Place;
+
+/// Returns the cluster to which the stores of a cluster file's members are bound, or None if it gives no names.
+pub(crate) fn named_cluster<'a>(
+    cluster: &Cluster<'_>,
+    members: u8,
+) -> Result<Option<NamedCluster>, Fault<'a>>
+    requires { members ≡ length cluster.now.members.items }
+    ensures names { IfOk result (AreNamesIn (cluster_value cluster.now)) }
+    ensures fault { IfErr result IsOfFiles }
+{
+    let Some(word) = cluster.names else {
+        return Ok(None);
+    };
+    if cluster.fresh {
+        return Err(Fault::Names(NamesFault::NewTokens));
+    }
+    match (Salt::new(word), Bond::new(word, cluster.life, members)) {
+        (Some(salt), Some(bond)) => Ok(Some(NamedCluster { salt, bond })),
+        // A cluster file with such a word isn't read.
+        _ => {
+            let (line, kind) = (0, LineFault::BadNames);
+            Err(Fault::Task(oathd_tasks::Fault::ClusterFile(ClusterFault { line, kind })))
+        }
+    }
+}
+
+impl<'a> Site<'_, 'a> {
+    /// Serves a node over its store by names.
+    pub(crate) fn serve_named<S: Start, O: Write>(
+        &self,
+        start: S,
+        cluster: &NamedCluster,
+        serving: Serving<'_>,
+        held: &mut O,
+    ) -> Result<(), Fault<'a>>
+        ensures { NamedEndsSo ⟦<FileStore<FileFrom<S>> as Store>⟧ (FindsFiles (image_at S.Start))
+            (λ other. other ≡ serving.entry) (λ named. named ≡ cluster.now) result }
+    {
+        let moment = present_moment(self.rt)?;
+        let users = self.users(serving.settings, moment)?;
+        let (alloc, rt, found) = (self.alloc, self.rt, self.found(start));
+        let _served = serve_named_store(alloc, rt, users, moment, serving, cluster, found, held)?;
+        Ok(())
+    }
+
+    /// Returns the settings, the place and the names of the member `node` of the cluster.
+    fn member(&self, node: u8) -> Result<(Settings, Place, NamedCluster), Fault<'a>>
+        requires { 1 ≤ node }
+        ensures { IfOk result (λ m. IsMemberByNames node self.now.cluster.now m.0 m.1 m.2) }
+    {
+        let cluster = cluster_in(self.alloc, self.cluster)?;
+        let place = member_place(&cluster, node)?;
+        let named = named_cluster(&cluster, place.n())?;
+        match named {
+            Some(named) => Ok((cluster.settings, place, named)),
+            None => Err(Fault::Names(NamesFault::NoNames)),
+        }
+    }
+
+    /// Creates the store of a member for a cluster that never served, and prints what was made.
+    fn begin<S: Start, O: Write>(
+        &self,
+        start: S,
+        settings: Settings,
+        place: Place,
+        named: &NamedCluster,
+        held: &mut O,
+    ) -> Result<(), Fault<'a>>
+        requires { IsNode place.me }
+        ensures { IfOk result (λ _. ActsFor ⟦<FileStore<FileFrom<S>> as Store>⟧ (FindsFiles (image_at S.Start))
+            acts.Begin settings place named.now (O.contents held.old) (O.contents held.new)) }
+    {
+        let moment = present_moment(self.rt)?;
+        let users = self.users(settings, moment)?;
+        let alloc = self.alloc;
+        let database = DatabaseFile::found_or_made(self.rt, self.database, start);
+        let _store = begin_store(alloc, users, settings, moment, place, named, database, held)?;
+        Ok(())
+    }
+
+    /// Prints a users file with the content of the store.
+    fn export_named<S: Start, O: Write>(
+        &self,
+        start: S,
+        settings: Settings,
+        place: Place,
+        named: &NamedCluster,
+        held: &mut O,
+    ) -> Result<(), Fault<'a>>
+        ensures { IfOk result (λ _. ActsFor ⟦<FileStore<FileFrom<S>> as Store>⟧ (FindsFiles (image_at S.Start))
+            acts.Export settings place named.now (O.contents held.old) (O.contents held.new)) }
+    {
+        let (alloc, users, found) = (self.alloc, self.users_alone()?, self.found(start));
+        export_named_store(alloc, users, settings, place.me(), named, found, held)?;
+        Ok(())
+    }
+
+    /// Prints the passes of the store.
+    fn audit_named<S: Start, O: Write>(
+        &self,
+        start: S,
+        settings: Settings,
+        place: Place,
+        named: &NamedCluster,
+        held: &mut O,
+    ) -> Result<(), Fault<'a>>
+        ensures { IfOk result (λ _. ActsFor ⟦<FileStore<FileFrom<S>> as Store>⟧ (FindsFiles (image_at S.Start))
+            acts.Audit settings place named.now (O.contents held.old) (O.contents held.new)) }
+    {
+        let (alloc, users, found) = (self.alloc, self.users_alone()?, self.found(start));
+        audit_named_store(alloc, users, settings, place.me(), named, found, held)?;
+        Ok(())
+    }
+
+    /// Prints the gates that have failures.
+    fn gates_named<S: Start, O: Write>(
+        &self,
+        start: S,
+        settings: Settings,
+        place: Place,
+        named: &NamedCluster,
+        held: &mut O,
+    ) -> Result<(), Fault<'a>>
+        ensures { IfOk result (λ _. ActsFor ⟦<FileStore<FileFrom<S>> as Store>⟧ (FindsFiles (image_at S.Start))
+            acts.Gates settings place named.now (O.contents held.old) (O.contents held.new)) }
+    {
+        let (alloc, users, found) = (self.alloc, self.users_alone()?, self.found(start));
+        gates_named_store(alloc, users, settings, place.me(), named, found, held)?;
+        Ok(())
+    }
+
+    /// Prints the rows of the store.
+    fn roster_named<S: Start, O: Write>(
+        &self,
+        start: S,
+        settings: Settings,
+        place: Place,
+        named: &NamedCluster,
+        held: &mut O,
+    ) -> Result<(), Fault<'a>>
+        ensures { IfOk result (λ _. ActsFor ⟦<FileStore<FileFrom<S>> as Store>⟧ (FindsFiles (image_at S.Start))
+            acts.Roster settings place named.now (O.contents held.old) (O.contents held.new)) }
+    {
+        let (alloc, users, found) = (self.alloc, self.users_alone()?, self.found(start));
+        roster_named_store(alloc, users, settings, place.me(), named, found, held)?;
+        Ok(())
+    }
+
+    /// Clears the failures of a user.
+    fn unlock_named<S: Start>(
+        &self,
+        start: S,
+        settings: Settings,
+        place: Place,
+        named: &NamedCluster,
+        user: &'a str,
+    ) -> Result<(), Fault<'a>>
+        ensures { (old : Option (List ℕ)) (new : Option (List ℕ)) → IfOk result (λ _. ActsFor
+            ⟦<FileStore<FileFrom<S>> as Store>⟧ (FindsFiles (image_at S.Start)) (acts.Unlock user.entry) settings place
+            named.now old new) }
+    {
+        let (alloc, users, found) = (self.alloc, self.users_alone()?, self.found(start));
+        let _store = unlock_named_store(alloc, users, settings, place.me(), user, named, found)?;
+        Ok(())
+    }
+
+    /// Does an act on the store of the member `node`.
+    pub(crate) fn act<S: Start, O: Write>(
+        &self,
+        start: S,
+        node: u8,
+        act: NamedAct<'a>,
+        held: &mut O,
+    ) -> Result<(), Fault<'a>>
+        requires { IsNode node }
+        ensures { IfOk result (λ _. IsActDone ⟦<FileStore<FileFrom<S>> as Store>⟧ (FindsFiles (image_at S.Start)) node
+            act.entry self.now.cluster.now (O.contents held.old) (O.contents held.new)) }
+    {
+        let (settings, place, named) = self.member(node)?;
+        match act {
+            NamedAct::Begin => self.begin(start, settings, place, &named, held),
+            NamedAct::Export => self.export_named(start, settings, place, &named, held),
+            NamedAct::Audit => self.audit_named(start, settings, place, &named, held),
+            NamedAct::Gates => self.gates_named(start, settings, place, &named, held),
+            NamedAct::Unlock { user } => self.unlock_named(start, settings, place, &named, user),
+            NamedAct::Roster => self.roster_named(start, settings, place, &named, held),
+        }
+    }
+}

@@ -1,0 +1,80 @@
+//! Says what to do about a store by names, and about a cluster file that gives names or none.
+
+ghost use Rattle.std.specs.Prelude.{◌≡◌};
+ghost use Rattle.oathd_causes.specs.Roster.{names_advice as spec_names_advice};
+
+use crate::cause::Cause;
+use crate::database::cluster_in;
+use crate::named::StoreCause;
+use crate::names::Names;
+use oathd_roster::RosterFault;
+use oathd_seats::SeatsFault;
+use thiserror::Error;
+
+/// A fault of a cluster file that gives names, or none, for a command over a store.
+#[derive(Clone, Copy, Debug, PartialEq, Eq, Error)]
+pub enum NamesFault {
+    /// The file gives names, and the command is for stores without names.
+    #[error("cluster: HasNames")]
+    HasNames,
+    /// The file gives names, and the command creates a store without saying whether the cluster has served.
+    #[error("cluster: HasNames")]
+    PlainInit,
+    /// The file gives no names, and the command is for stores by names.
+    #[error("cluster: NoNames")]
+    NoNames,
+    /// The file gives `new-tokens`, which no command takes yet.
+    #[error("cluster: NewTokens")]
+    NewTokens,
+}
+
+/// What to do about such a fault.
+#[derive(Clone, Copy, Debug, PartialEq, Eq, Error)]
+pub enum NamesAdvice {
+    #[error("it gives names: oathd init takes --begins, for a cluster that never served, and for no other")]
+    Begin,
+    #[error("it gives names, and this command takes no store by names yet")]
+    NotYet,
+    #[error("give names WORD in it, or leave --begins and --cluster out")]
+    GiveNames,
+    #[error("leave the line new-tokens out: tokens are imported as before")]
+    LeaveOut,
+}
+
+/// Returns what to do about a fault of names.
+pub fn names_advice(fault: NamesFault) -> NamesAdvice
+    ensures { result ≡ spec_names_advice fault }
+{
+    match fault {
+        NamesFault::HasNames => NamesAdvice::NotYet,
+        NamesFault::PlainInit => NamesAdvice::Begin,
+        NamesFault::NoNames => NamesAdvice::GiveNames,
+        NamesFault::NewTokens => NamesAdvice::LeaveOut,
+    }
+}
+
+/// Returns the cause of a fault of the names in the cluster file that the words name, or None if they name none.
+pub fn names_cause(names: Names<'_>, fault: NamesFault) -> Option<Cause<'_>> {
+    Some(Cause::Names(names.cluster?, names_advice(fault)))
+}
+
+/// Returns the cause of a fault of a command over a store by names, and of no other one.
+pub fn roster_cause<'a>(rt: &HostRuntime, names: Names<'a>, fault: RosterFault) -> Cause<'a> {
+    let cause = match fault {
+        RosterFault::AnotherCluster => cluster_in(rt, names.database),
+        RosterFault::Full => Some(StoreCause::Full),
+        RosterFault::SameName(_) | RosterFault::Command(_) => return Cause::Path(names.users),
+    };
+    match cause {
+        Some(cause) => Cause::Store(names.database, cause),
+        None => Cause::Path(names.database),
+    }
+}
+
+/// Returns the cause of a fault of a command that looks at a store by names, or None if the fault has none.
+pub fn seats_cause<'a>(names: Names<'a>, fault: SeatsFault<'_>) -> Option<Cause<'a>> {
+    match fault {
+        SeatsFault::NotEnrolled(_) => Some(Cause::Enrol(names.users)),
+        SeatsFault::Roster(_) | SeatsFault::NoUser(_) => None,
+    }
+}

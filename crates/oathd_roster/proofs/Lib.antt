@@ -1,0 +1,5 @@
+mod UsersLemmas
+mod OpenedLemmas
+mod BegunLemmas
+mod NamedLemmas
+mod ServedLemmas

@@ -1,0 +1,94 @@
+-- A node that is served over a port by names.
+use Rattle.std.specs.Prelude.{◌≡◌, ◌⊎◌, ℕ, ◌+◌, List, [], Option, Some, None, Result, Err}
+use Rattle.sqlite.specs.Store.{Ghosts}
+use Rattle.sqlite.specs.Held as sql
+use Rattle.sqlite.specs.State.{HasCleanDisk}
+use Rattle.datagram_port.specs.Port.{PortEvent}
+use Rattle.datagram_port.specs.Setup.{Setup}
+use Rattle.floor_sql.specs.Held.{SqlHeld, sql_held}
+use Rattle.floor_store.specs.Held.{Held}
+use Rattle.named_port.specs.Runs.{below_events, handed_events}
+use Rattle.named_port.specs.Translator.{TranslatorRecord, new_translator}
+use Rattle.oath_node.specs.Calls.{IsOpened}
+use Rattle.oath_node.specs.Hosted.{Hosted}
+use Rattle.oath_node.specs.TurnServing.{Serves}
+use Rattle.oath_node.specs.declared.serve_fault.ServeFault.{ServeFault}
+use Rattle.oath_node.specs.declared.turns.Served.{Served}
+use Rattle.seated_store.specs.Seated.{SeatedRecord, seated_held}
+use Rattle.token_names.specs.Names.{names_of}
+use Rattle.udp_port.specs.Calls.{SocketCalls}
+use Rattle.oathd_database.specs.Commands.{HasImport, IsNotServed}
+use Rattle.oathd_database.specs.Fault.{serve_end}
+use Rattle.oathd_database.specs.NodeKey.{tag_key}
+use Rattle.oathd_database.specs.Setup.{AreEventsOf, setup_for}
+use Rattle.oathd_database.specs.declared.fault.Fault.{Fault}
+use Rattle.oathd_database.specs.declared.serving.Serving.{Serving}
+use Rattle.oathd_roster.specs.Opened.{HasOpenedNamed, IsNotOpened}
+use Rattle.oathd_roster.specs.declared.cluster.NamedCluster.{NamedCluster}
+use Rattle.oathd_roster.specs.declared.fault.RosterFault.{RosterFault}
+use Rattle.oathd_roster.specs.declared.fault.RosterFault.TheVariants.{Command, SameName, AnotherCluster, Full}
+
+-- ---- the turns
+
+-- A node was served for some turns through a translator, which was new at the start. `below` is the record of the port
+-- below at the end.
+pub record ServesNamed {S : Type 0} (held : S → Held) (old new : Hosted S) (start : TranslatorRecord)
+    (below : Option (List PortEvent)) (turns : ℕ) (end : Result Served ServeFault) : Type 0 where
+  -- the events that the port below received, and the node's offers
+  pub calls : List PortEvent
+  -- the node received what the translator handed in for them
+  pub serves : Serves held old new (Some []) (Some (handed_events start calls)) None None turns end
+  -- the port below was offered what the translator made of the node's offers
+  pub below_is : (events : List PortEvent) → below ≡ Some events → events ≡ below_events start calls
+
+-- A node was served for some turns through a new translator over a port with the setup. The port kept a record, and had
+-- received and offered nothing. The run ended with `result`.
+pub record IsServedNamed {S : Type 0} (held : S → Held) (old new : Hosted S) (setup : Setup)
+    (start : TranslatorRecord) (turns : ℕ) (result : Result Served Fault) : Type 0 where
+  -- the port's record at the end
+  pub events : List PortEvent
+  -- the calls of its socket, as the port noted them
+  pub calls : SocketCalls
+  pub of_setup : AreEventsOf setup calls events
+  pub end : Result Served ServeFault
+  pub serves : ServesNamed held old new start (Some events) turns end
+  pub ends : result ≡ serve_end end
+
+-- ---- the command
+
+module _ {S : Type 0} (g : Ghosts S) (finds : sql.Held S → Type 0) (cluster : NamedCluster) (moment : ℕ)
+    (serving : Serving) where
+  -- A node was opened over its store and served for the given turns, or until the fault that ended them. The store was
+  -- opened for the tokens of the users file, by their names. The node speaks to the other members by the same names.
+  pub record HasServedNamed (result : Result Served Fault) (text : List ℕ) : Type 0 where
+    pub import : HasImport serving.settings moment 16777216 text
+    pub found : SeatedRecord (SqlHeld S)
+    pub opened : HasOpenedNamed g finds cluster serving.settings serving.place.me import.book import.floors found
+    pub first : Hosted (SeatedRecord (SqlHeld S))
+    pub in_boot : IsOpened (seated_held (sql_held g)) found first
+    pub of_book : first.book ≡ import.book
+    pub of_limits : first.limits ≡ serving.settings
+    pub of_key : first.key ≡ tag_key serving.key import.book
+    pub of_place : first.voter.place ≡ serving.place
+    pub last : Hosted (SeatedRecord (SqlHeld S))
+    -- the boot of the node, after that of its store
+    pub boot : ℕ
+    pub boot_is : HasCleanDisk (sql.state g found.inner.conn) → boot ≡ found.inner.mirror.boot + 1
+    -- the port below is at the members of `serving`, and takes its lines
+    pub served_is :
+        let setup = setup_for serving.place.me serving.members.items serving.lines in
+        let key = tag_key serving.key import.book in
+        let start = new_translator key (names_of cluster.salt import.book) serving.place.me boot in
+        IsServedNamed (seated_held (sql_held g)) first last setup start serving.turns result
+
+  -- A command that serves a node by names ends with the fault: before the first turn, or in a turn, with all that was
+  -- served until then.
+  abbrev pub EndsServingNamed : RosterFault → List ℕ → Type 0
+  EndsServingNamed (Command fault) text =
+      IsNotServed serving.settings moment 16777216 fault text ⊎ HasServedNamed (Err fault) text
+  EndsServingNamed (SameName row) text =
+      IsNotOpened g finds cluster serving.settings moment 16777216 serving.place.me (SameName row) text
+  EndsServingNamed AnotherCluster text =
+      IsNotOpened g finds cluster serving.settings moment 16777216 serving.place.me AnotherCluster text
+  EndsServingNamed Full text =
+      IsNotOpened g finds cluster serving.settings moment 16777216 serving.place.me Full text

@@ -1,0 +1,157 @@
+//! The command `init` for a member of a cluster that never served: creates its store, and says what was made.
+//!
+//! Floor: the first free factor of a token at a node.
+
+ghost use Rattle.std.specs.Prelude.{◌≡◌, ◌≢◌, ◌≤◌, false, length, IfErr, IfOk, IfSome};
+ghost use Rattle.otp_core.specs.Range.{IsMoment};
+ghost use Rattle.floor_store.specs.Range.{IsCount};
+ghost use Rattle.floor_sql.specs.Usable.{IsNode};
+ghost use Rattle.named_store.specs.Opened.{HasSeated};
+ghost use Rattle.oathd_database.specs.Users.{IsImported};
+ghost use Rattle.oathd_database.specs.declared.fault.Fault.TheVariants.{CannotWrite};
+ghost use Rattle.oathd_roster.specs.Begun.{HasBegun, IsBegun, IsBegunAt, IsNotBegun, IsNotCreated};
+ghost use Rattle.oathd_roster.specs.declared.fault.RosterFault.TheVariants.{Command};
+
+use crate::cluster::NamedCluster;
+use crate::fault::RosterFault;
+use crate::users::{NamedUsers, read_named_users};
+use floor_sql::{Refusal, SqlStore};
+use floor_store::{FloorStore, StoreFault};
+use named_store::{NamedFault, open_named};
+use oathd_database::{Database, Fault, drifted_floors, write_made};
+use otp_core::{Next, Settings};
+use roster_sql::{Bond, Entry, make_named};
+use seated_store::SeatedStore;
+use sqlite::{Alter, Connection};
+use std::alloc::Global;
+use std::io::{Read, Write};
+use vote_core::Place;
+
+/// The number of boots for each second.
+const BOOTS: u64 = 1 << 20;
+
+/// Opens the store of `node` that was created in the tables of `conn`.
+fn open_created<S: Alter + Drop>(
+    alloc: Global,
+    conn: Connection<S>,
+    node: u8,
+    entries: &[Entry],
+    floors: &[Next],
+    own: &Bond,
+) -> Result<SeatedStore<SqlStore<S>>, StoreFault>
+    requires idle { conn.in_transaction ≡ false }
+    requires tokens { length entries.now ≤ 10000 }
+    requires counted { length floors.now ≡ length entries.now }
+    ensures seated { IfOk result (HasSeated S.Store conn node entries.now floors.now own.now) }
+    ensures each { IfOk result (λ store. length store.seats ≡ length entries.now) }
+{
+    let store = match open_named(alloc, conn, node, entries, floors, own) {
+        Ok(store) => store,
+        Err((_, NamedFault::Store(fault))) => return Err(fault),
+        // The disk returned something other than what was written.
+        Err((_, NamedFault::AnotherCluster | NamedFault::Full)) => {
+            return Err(StoreFault::Unusable);
+        }
+    };
+    if store.tokens() as usize != entries.len() {
+        return Err(StoreFault::Unusable);
+    }
+    Ok(store)
+}
+
+/// Creates the store of `node` at `boot` in the tables of `conn`, and opens it.
+fn begin_seated<S: Alter + Drop>(
+    alloc: Global,
+    mut conn: Connection<S>,
+    node: u8,
+    boot: u64,
+    entries: &[Entry],
+    floors: &[Next],
+    own: &Bond,
+) -> Result<SeatedStore<SqlStore<S>>, StoreFault>
+    requires idle { conn.in_transaction ≡ false }
+    requires node { IsNode node }
+    requires boot { IsCount boot }
+    requires tokens { length entries.now ≤ 10000 }
+    requires counted { length floors.now ≡ length entries.now }
+    ensures begun { IfOk result (IsBegunAt S.Store (λ first. first ≡ conn) node boot entries.now floors.now own.now) }
+{
+    if let Err(Refusal(fault)) = make_named(&mut conn, node, boot, floors, entries, own) {
+        return Err(fault);
+    }
+    open_created(alloc, conn, node, entries, floors, own)
+}
+
+/// Creates a store as [`begin_store`] does, and returns it with the tokens of the users file.
+fn create_named<R: Read + Drop, S: Alter + Drop, D: Database<S>>(
+    alloc: Global,
+    users: R,
+    settings: Settings,
+    moment: u64,
+    node: u8,
+    cluster: &NamedCluster,
+    database: D,
+) -> Result<(NamedUsers, SeatedStore<SqlStore<S>>), RosterFault>
+    requires moment { IsMoment moment }
+    requires node { IsNode node }
+    ensures users { IfOk result (λ made. IfSome (R.remaining users)
+        (IsImported settings moment 16777216 made.0.users.book made.0.users.floors.items)) }
+    ensures begun { IfOk result (λ made. IsBegun S.Store D.finds cluster.now settings moment node
+        made.0.users.book made.0.users.floors.items made.1) }
+    ensures fault { IfErr result (λ fault. IfSome (R.remaining users)
+        (IsNotCreated cluster.now settings moment 16777216 fault)) }
+{
+    let named = read_named_users(alloc, users, settings, moment, &cluster.salt)?;
+    let Ok(floors) = drifted_floors(alloc, &named.users, settings.drift()) else {
+        return Err(RosterFault::Command(Fault::Memory));
+    };
+    let boot = moment * BOOTS;
+    let conn = database.connect()?;
+    match begin_seated(
+        alloc,
+        conn,
+        node,
+        boot,
+        &named.entries,
+        &floors,
+        &cluster.bond,
+    ) {
+        Ok(store) => Ok((named, store)),
+        Err(fault) => Err(RosterFault::Command(Fault::Store(fault))),
+    }
+}
+
+/// Creates the store of the member at `place`, which never served, and writes what was made, as [`write_made`] does.
+///
+/// The tokens of the users file are imported at the given moment, in seconds since 1970-01-01 00:00:00 UTC, 0 to
+/// 1099511627775. The store has 2^20 boots behind it for each second up to the moment. It is bound to the cluster.
+///
+/// # Errors
+/// - Returns the errors of [`read_named_users`]. The database is not opened.
+/// - Returns `Command(Store(AlreadyThere))` if the database holds a store.
+/// - Returns `Command(Store(Unusable))` if the database has other tables.
+/// - Returns `Command(Store(Disk))` or `Command(Store(Memory))` if the store meets one of these failures.
+/// - Returns `Command(CannotWrite)` if the output fails. The store was created and stays.
+pub fn begin_store<R: Read + Drop, S: Alter + Drop, D: Database<S>, W: Write>(
+    alloc: Global,
+    users: R,
+    settings: Settings,
+    moment: u64,
+    place: Place,
+    cluster: &NamedCluster,
+    database: D,
+    writer: &mut W,
+) -> Result<SeatedStore<SqlStore<S>>, RosterFault>
+    requires { IsMoment moment }
+    ensures begun { IfOk result (λ store. IfSome (R.remaining users) (HasBegun S.Store D.finds cluster.now settings
+        moment 16777216 place store (W.contents writer.old) (W.contents writer.new))) }
+    ensures fault { IfErr result (λ fault. IfSome (R.remaining users)
+        (IsNotBegun S.Store D.finds cluster.now settings moment 16777216 place.me fault)) }
+    ensures quiet { IfErr result (λ fault. fault ≢ Command CannotWrite
+        → W.contents writer.new ≡ W.contents writer.old) }
+{
+    let node = place.me();
+    let (named, store) = create_named(alloc, users, settings, moment, node, cluster, database)?;
+    write_made(place, &store, &named.users.book, settings, moment, writer)?;
+    Ok(store)
+}

@@ -1,0 +1,25 @@
+//! The commands of `oathd` over a store that has its tokens by their names, from the first to the last step.
+//!
+//! Each is over any [`Database`](oathd_database::Database). The tokens of a users file may change their rows, and new
+//! ones may be added: at each start [`open_named_store`] finds the row of each token by its name, and enrols the new
+//! ones.
+#![tactic(auto)]
+
+mod begin;
+mod cluster;
+mod fault;
+mod laws;
+mod names;
+mod opening;
+mod serve;
+#[cfg(test)]
+mod tests;
+mod users;
+
+pub use begin::begin_store;
+pub use cluster::NamedCluster;
+pub use fault::RosterFault;
+pub use laws::faults_are_worked;
+pub use opening::open_named_store;
+pub use serve::serve_named_store;
+pub use users::{NamedUsers, read_named_users};

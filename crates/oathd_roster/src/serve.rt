@@ -1,0 +1,180 @@
+//! The command `serve` over a store by names: runs a node over the store and a socket.
+
+ghost use Rattle.std.specs.Prelude.{◌≡◌, ◌<◌, ◌^◌, [], None, false, true, map, Result, Ok, IfErr, IfOk, IfSome, IsSome};
+ghost use Rattle.otp_core.specs.Range.{IsMoment};
+ghost use Rattle.oath_node.specs.declared.serve_fault.ServeFault.{ServeFault};
+ghost use Rattle.oath_node.specs.declared.turns.Served.{Served};
+ghost use Rattle.named_port.specs.Translator.{new_translator};
+ghost use Rattle.oathd_database.specs.Fault.{serve_end};
+ghost use Rattle.oathd_database.specs.Setup.{setup_behind};
+ghost use Rattle.oathd_roster.specs.Served.{EndsServingNamed, HasServedNamed, IsServedNamed, ServesNamed};
+
+use crate::cluster::NamedCluster;
+use crate::fault::RosterFault;
+use crate::names::names_in;
+use crate::opening::open_named_store;
+use crate::users::NamedUsers;
+use floor_store::FloorStore;
+use named_port::{NamedPort, Names};
+use node_log::Gatekeeper;
+use oath_node::{Node, Served};
+use oathd_database::{
+    Database, Fault, Front, ServeLog, Serving, front_of, log_of, open_node, serve_port, socket_at,
+    start_of, tag_key,
+};
+use sealed_port::SealedPort;
+use sqlite::Alter;
+use std::alloc::Global;
+use std::io::{Read, Write};
+use std::net::Net;
+use std::time::Clock as TimeSource;
+use udp_port::{SystemClock, UdpPort};
+use vote_wire::ClusterKey;
+
+/// What a node's port translates by.
+#[derive(Drop)]
+struct Naming {
+    key: ClusterKey,
+    names: Names,
+    me: u8,
+    boot: u64,
+}
+
+/// Serves a node by names over a port, which has received and offered nothing, with a log if there is one.
+///
+/// # Errors
+/// Returns the errors of [`serve_port`].
+fn serve_named<S: FloorStore, P: Gatekeeper + Drop, N: TimeSource, W: Write>(
+    node: &mut Node<'_, S>,
+    port: P,
+    naming: &Naming,
+    outside: &N,
+    turns: u64,
+    log: Option<ServeLog>,
+    writer: &mut W,
+) -> Result<Served, Fault>
+    requires turns { turns < 2 ^ 54 }
+    requires fresh { IfSome (P.events port) (λ events. events ≡ []) }
+    requires known { IsSome (P.setup port) }
+    ensures turns { (end : Result Served ServeFault) × (last : P)
+        × ServesNamed S.held node.old node.new
+        (new_translator naming.now.key naming.now.names naming.now.me naming.now.boot) (P.events last) turns end
+        × (P.setup last ≡ P.setup port) × (result ≡ serve_end end) }
+    ensures unlogged { log ≡ None → writer.new ≡ writer.old }
+{
+    let port = NamedPort::new(port, &naming.key, &naming.names, naming.me, naming.boot);
+    serve_port(node, port, outside, turns, log, writer)
+}
+
+/// Serves a node by names over a socket, for the clients that `front` lets through, with a log if there is one. Without
+/// a log it writes nothing.
+fn serve_front<S: FloorStore, N: TimeSource, W: Write>(
+    node: &mut Node<'_, S>,
+    port: UdpPort<&N>,
+    naming: &Naming,
+    outside: &N,
+    front: Front,
+    turns: u64,
+    log: Option<ServeLog>,
+    writer: &mut W,
+) -> Result<Served, Fault>
+    requires turns { turns < 2 ^ 54 }
+    requires calls { port.calls.made ≡ [] }
+    requires plain { (port.skips_answers ≡ true) × (port.takes_loopback_alone ≡ false) }
+    ensures turns { IsServedNamed S.held node.old node.new (setup_behind port.entry.members.items front)
+        (new_translator naming.now.key naming.now.names naming.now.me naming.now.boot) turns result }
+    ensures unlogged { log ≡ None → writer.new ≡ writer.old }
+{
+    match front {
+        Front::Anybody => serve_named(node, port, naming, outside, turns, log, writer),
+        Front::ThisMachine => {
+            let port = port.taking_loopback_alone();
+            serve_named(node, port, naming, outside, turns, log, writer)
+        }
+        Front::Gate(gate) => {
+            let port = SealedPort::new(port.under_gate(), SystemClock::new(outside), gate);
+            serve_named(node, port, naming, outside, turns, log, writer)
+        }
+    }
+}
+
+/// Returns the names of the tokens of a users file, with their index.
+fn indexed_names(alloc: Global, named: &NamedUsers) -> Result<Names, Fault>
+    ensures names { IfOk result (λ names. names ≡ map (λ entry. entry.name) named.now.entries.items) }
+    ensures fault { IfErr result (λ fault. fault ≡ Fault.Memory) }
+{
+    // At most 10,000.
+    let _tokens = named.users.book.len();
+    let Ok(names) = names_in(alloc, &named.entries) else {
+        return Err(Fault::Memory);
+    };
+    match Names::new(alloc, names) {
+        Ok(names) => Ok(names),
+        Err(_) => Err(Fault::Memory),
+    }
+}
+
+/// Opens a node over its store by names in a new boot, binds a UDP socket to its address, and serves it for the given
+/// turns.
+///
+/// The store is opened as [`open_named_store`] does. The node speaks to the other members by the names of its tokens.
+/// All else is as in [`serve_store`](oathd_database::serve_store).
+///
+/// # Errors
+/// - Returns the errors of [`open_named_store`].
+/// - Returns `Command` with the errors of [`open_node`].
+/// - Returns `Command(Socket)` if the socket cannot be bound.
+/// - Returns `Command` with the errors of [`front_of`].
+/// - Returns `Command` with the errors of [`serve_port`].
+pub fn serve_named_store<
+    R: Read + Drop,
+    S: Alter + Drop,
+    D: Database<S>,
+    N: Net + TimeSource,
+    W: Write,
+>(
+    alloc: Global,
+    outside: &N,
+    users: R,
+    moment: u64,
+    serving: Serving<'_>,
+    cluster: &NamedCluster,
+    database: D,
+    writer: &mut W,
+) -> Result<Served, RosterFault>
+    requires { IsMoment moment }
+    ensures served { IfOk result (λ served. IfSome (R.remaining users)
+        (HasServedNamed S.Store D.finds cluster.now moment serving.entry (Ok served))) }
+    ensures fault { IfErr result (λ fault. IfSome (R.remaining users)
+        (EndsServingNamed S.Store D.finds cluster.now moment serving.entry fault)) }
+    ensures unlogged { serving.entry.is_logged ≡ false → writer.new ≡ writer.old }
+{
+    let Serving {
+        settings,
+        place,
+        members,
+        key,
+        turns,
+        is_logged,
+        lines,
+    } = serving;
+    let node = place.me();
+    let (named, store) = open_named_store(alloc, users, settings, moment, node, cluster, database)?;
+    let book = &named.users.book;
+    let key = tag_key(alloc, key, book)?;
+    let names = indexed_names(alloc, &named)?;
+    let address = members[usize::from(node) - 1];
+    let start = start_of(place, address, store.boot()?, book, &key);
+    let naming = Naming {
+        key,
+        names,
+        me: node,
+        boot: start.boot,
+    };
+    let mut node = open_node(alloc, book, settings, place, &naming.key, store)?;
+    let port = UdpPort::new(socket_at(outside, address)?, members, outside);
+    let front = front_of(alloc, place.me(), lines, outside)?;
+    let log = log_of(is_logged, start, place);
+    let served = serve_front(&mut node, port, &naming, outside, front, turns, log, writer)?;
+    Ok(served)
+}

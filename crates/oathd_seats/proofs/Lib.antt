@@ -1,0 +1,4 @@
+pub mod FaultLemmas
+pub mod SeenLemmas
+pub mod CommandLemmas
+pub mod RosterLemmas

@@ -1,0 +1,6 @@
+pub mod Commands
+pub mod Examples
+pub mod Fault
+pub mod Roster
+pub mod Seen
+pub mod Unlock
