@@ -6,13 +6,10 @@
 use crate::file::{FileCause, file_cause_of};
 use crate::named::{Named, StoreCause, named_cause};
 use crate::space::space_cause;
-use arrayvec::ArrayString;
 use floor_store::StoreFault;
-use sqlite::types::ValueRef;
 use sqlite::{Connection, Error, ErrorCode, Row};
 use std::fs::{self, OpenOptions};
 use std::io::Read;
-use std::str;
 
 /// The first bytes of a database of SQLite.
 const MAGIC: &[u8; 16] = b"SQLite format 3\0";
@@ -89,16 +86,8 @@ fn named_in(rt: &HostRuntime, path: &str) -> Option<Named> {
     })
 }
 
-/// The row that names the cluster of a store.
-const SELECT_BOND: &str = "SELECT life, members FROM bond WHERE id = 1";
-
-/// Returns the text in a column of a row, or None if it is not UTF-8 of at most 64 bytes.
-fn text_at(row: &Row, column: usize) -> Option<ArrayString<64>> {
-    match row.get_ref(column) {
-        Ok(ValueRef::Blob(bytes)) => ArrayString::from(str::from_utf8(bytes).ok()?).ok(),
-        _ => None,
-    }
-}
+/// The row that has the number of members of the cluster of a store.
+const SELECT_BOND: &str = "SELECT members FROM bond WHERE id = 1";
 
 /// Returns the cluster that the store in the database at `path` is bound to, or None if its tables don't say it.
 pub(crate) fn cluster_in(rt: &HostRuntime, path: &str) -> Option<StoreCause> {
@@ -107,8 +96,7 @@ pub(crate) fn cluster_in(rt: &HostRuntime, path: &str) -> Option<StoreCause> {
     }
     let mut conn = Connection::open(rt, path).ok()?;
     let row = conn.query_row(SELECT_BOND, &[]).ok()?;
-    let life = text_at(&row, 0)?;
-    Some(StoreCause::OtherCluster(life, number_at(&row, 1)?))
+    Some(StoreCause::OtherCluster(number_at(&row, 0)?))
 }
 
 /// Returns the reason why the store in the file at `path` cannot be used now, or `None` without a known reason.

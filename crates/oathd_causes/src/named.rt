@@ -2,7 +2,6 @@ ghost use Rattle.std.specs.Prelude.{◌≡◌};
 ghost use Rattle.oathd_causes.specs.Named.{named_cause, node_cause, tokens_cause, version_cause};
 
 use crate::file::FileCause;
-use arrayvec::ArrayString;
 use thiserror::Error;
 
 /// The reason why the store of a database cannot be used.
@@ -28,9 +27,9 @@ pub enum StoreCause {
     Unnamed,
     #[error("a store of version 3, by names: give --cluster with its cluster file, which has a line names")]
     ByNames,
-    /// The life and the number of members of the cluster that the store is bound to.
-    #[error("the store of another cluster: life {0} of {1} members")]
-    OtherCluster(ArrayString<64>, u64),
+    /// The number of members of the cluster that the store is bound to.
+    #[error("the store of another cluster: its life, its names or its {0} members differ")]
+    OtherCluster(u64),
     /// The store has no room for the new tokens.
     #[error("the users file has new tokens, and a store has at most 10000 rows, those of retired tokens included")]
     Full,
