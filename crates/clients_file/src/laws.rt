@@ -30,8 +30,8 @@ pub fn fields_are_worked()
         ≡ Some Word.Client ∷ Some Word.Plain ∷ Some Word.Ahead ∷ Some Word.Failures ∷ [] }
     ensures no_words { map word_of (codes "clients" ∷ codes "Client" ∷ codes "plai" ∷ codes "operator" ∷ [] ∷ [])
         ≡ replicate 5 None }
-    ensures numbers { map (λ text. number_within 1 60 (number_of text)) (codes "1" ∷ codes "060" ∷ codes "0" ∷ codes "61"
-        ∷ codes "-1" ∷ [] ∷ []) ≡ Ok 1 ∷ Ok 60 ∷ replicate 4 (Err LineFault.BadNumber) }
+    ensures numbers { map (λ text. number_within 1 60 (number_of text)) (codes "1" ∷ codes "060" ∷ codes "0"
+        ∷ codes "61" ∷ codes "-1" ∷ [] ∷ []) ≡ Ok 1 ∷ Ok 60 ∷ replicate 4 (Err LineFault.BadNumber) }
     ensures addresses { map octets_of (codes "127.0.0.1" ∷ codes "192.0.2.255" ∷ [])
         ≡ Some (127 ∷ 0 ∷ 0 ∷ 1 ∷ []) ∷ Some (192 ∷ 0 ∷ 2 ∷ 255 ∷ []) ∷ [] }
     ensures no_addresses { map octets_of (codes "127.0.0.1:7101" ∷ codes "127.0.0" ∷ codes "127.0.0.01"
@@ -62,8 +62,8 @@ pub fn lines_are_worked()
         ∷ client_line (codes "65535") (codes "00") ∷ [])
         ≡ Ok (record nothing_said { clients = record { number = 0; key = key_at 0 } ∷ [] })
         ∷ Ok (record nothing_said { clients = record { number = 65535; key = key_at 0 } ∷ [] }) ∷ [] }
-    ensures bad_numbers { after_each nothing_said (codes "client 65536 x" ∷ codes "client x x" ∷ codes "client -1 x" ∷ [])
-        ≡ replicate 3 (Err LineFault.BadNumber) }
+    ensures bad_numbers { after_each nothing_said (codes "client 65536 x" ∷ codes "client x x"
+        ∷ codes "client -1 x" ∷ []) ≡ replicate 3 (Err LineFault.BadNumber) }
     ensures twice_number { after_text (with_clients (7 ∷ 8 ∷ [])) (codes "client 7 x") ≡ Err LineFault.Twice }
     ensures bad_keys { after_each (with_clients (7 ∷ [])) (codes "client 8 00" ∷ codes "client 8 x" ∷ [])
         ≡ replicate 2 (Err LineFault.BadKey) }
@@ -115,8 +115,8 @@ pub fn files_are_worked()
         ≡ Err (3, LineFault.Twice) }
     ensures fault_before_the_end { clients_of (text_of (codes "x" ∷ small_file)) ≡ Err (1, LineFault.UnknownWord) }
     ensures as_long_as_may_be { outcome_of 42 (text_of small_file) ≡ Ok small_clients }
-    ensures too_long { map (λ limit. outcome_of limit (text_of small_file ++ text_of small_file)) (83 ∷ 42 ∷ 41 ∷ 0 ∷ [])
-        ≡ Err (2, LineFault.TooLong) ∷ Err (2, LineFault.TooLong) ∷ Err (1, LineFault.TooLong)
+    ensures too_long { map (λ limit. outcome_of limit (text_of small_file ++ text_of small_file))
+        (83 ∷ 42 ∷ 41 ∷ 0 ∷ []) ≡ Err (2, LineFault.TooLong) ∷ Err (2, LineFault.TooLong) ∷ Err (1, LineFault.TooLong)
         ∷ Err (1, LineFault.TooLong) ∷ [] }
     ensures faults { map is_memory faults ≡ replicate 12 false ++ true ∷ [] }
 {}

@@ -10,8 +10,8 @@ use Rattle.token_names.specs.Names.{IsSalt}
 use Rattle.cluster_file.specs.Address.{Address, IsAddress, address_text}
 use Rattle.cluster_file.specs.ClusterFile.{ClusterRecord}
 
--- The life, the members in order, the settings, and the tokens in order, without the tokens' counters. Members that know
--- tokens by names share the salt of the names.
+-- The life, the members in order, the settings, and the tokens in order, without the tokens' counters. Members that
+-- know tokens by names share the salt of the names.
 pub record Shared : Type 0 where
   pub names : Option (List ℕ)
   pub life : List ℕ

@@ -110,7 +110,8 @@ pub fn lines_are_worked()
     ensures bad_key_and_life { after_each nothing_said (codes "key 00" ∷ (codes "life " ++ word_of 65) ∷ [])
         ≡ Err LineFault.BadKey ∷ Err LineFault.BadLife ∷ [] }
     ensures names_and_new_tokens { after_each nothing_said ((codes "names " ++ word_of 12)
-        ∷ codes "new-tokens fresh" ∷ []) ≡ Ok (record nothing_said { names = Some (word_of 12) }) ∷ Ok (record nothing_said { fresh = true }) ∷ [] }
+        ∷ codes "new-tokens fresh" ∷ [])
+        ≡ Ok (record nothing_said { names = Some (word_of 12) }) ∷ Ok (record nothing_said { fresh = true }) ∷ [] }
     ensures bad_names_and_new_tokens { after_each nothing_said ((codes "names " ++ word_of 11)
         ∷ (codes "names " ++ word_of 65) ∷ codes "new-tokens old" ∷ [])
         ≡ Err LineFault.BadNames ∷ Err LineFault.BadNames ∷ Err LineFault.BadNewTokens ∷ [] }
@@ -189,8 +190,8 @@ pub fn book_prints_agree()
     ensures { (key : List ℕ) (a b : List Credential) → IsPermutation a b → book_print_of key a ≡ book_print_of key b }
 {}
 
-/// Different prints: books with equal prints have the same rows in some order. Otherwise two of their rows have the same
-/// MAC, or the texts of their MACs have the same print.
+/// Different prints: books with equal prints have the same rows in some order. Otherwise two of their rows have the
+/// same MAC, or the texts of their MACs have the same print.
 pub fn book_prints_tell()
     ensures { (key : List ℕ) (a b : List Credential) → AllByRecursion IsCredential a → AllByRecursion IsCredential b →
         book_print_of key a ≡ book_print_of key b →

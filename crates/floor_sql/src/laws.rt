@@ -335,7 +335,8 @@ pub fn tables_can_be_broken()
     ensures usable_self { (boot : ℕ) → IsUsable (db_at boot []) 2 0 → ⊥ }
     ensures usable_rows { (boot : ℕ) → IsUsable (db_of (self_row 1 1 boot ∷ []) [] [] []) 1 1 → ⊥ }
     ensures usable_named { IsUsableAs Named named_db 1 0 }
-    ensures usable_version { (boot : ℕ) → IsUsableAs Named (record (db_at boot []) { schema = schema_of Named }) 1 0 → ⊥ }
+    ensures usable_version { (boot : ℕ) → IsUsableAs Named (record (db_at boot []) { schema = schema_of Named }) 1 0
+        → ⊥ }
     ensures usable_passes { (boot : ℕ) → IsUsable (db_at boot (pass_row 2 old_pass ∷ [])) 1 0 → ⊥ }
     ensures old_usable { IsUsableUndrifted old_token_db 1 1 }
     ensures old_usable_schema { IsUsableUndrifted (record (old_db_at 4 []) { schema = floor_schema }) 1 0 → ⊥ }

@@ -3,8 +3,8 @@
 //! A [`NamedPort`] is a node's port over another one. A node and its port speak in numbered datagrams, of version 2,
 //! under the cluster's key. Members speak in named datagrams, of version 3, under the same key. The port translates one
 //! datagram into one. It hands a member's datagram without a translation to the node as one without bytes, which the
-//! node drops. So it drops a datagram whose head has an older boot than its member was heard in ([`Older`](node_log::Older)).
-//! Clients' datagrams pass unchanged.
+//! node drops. So it drops a datagram whose head has an older boot than its member was heard in
+//! ([`Older`](node_log::Older)). Clients' datagrams pass unchanged.
 #![tactic(auto)]
 
 mod gatekeeper;

@@ -96,12 +96,16 @@ module _ {S : Type 0} (g : Ghosts S) (finds : sql.Held S → Type 0) where
   -- what is done to the store of a member
   abbrev pub Acts : NamedAct → Limits → PlaceRecord → NamedCluster → Option (List ℕ) → Option (List ℕ) → List ℕ → Type 0
   Acts acts.Begin settings place named old new users = Begins settings place named old new users
-  Acts acts.Export settings place named old new users = HasExportedNamed g finds named settings 16777216 place.me old new users
-  Acts acts.Audit settings place named old new users = HasAuditedNamed g finds named settings 16777216 place.me old new users
-  Acts acts.Gates settings place named old new users = HasToldGatesNamed g finds named settings 16777216 place.me old new users
+  Acts acts.Export settings place named old new users =
+      HasExportedNamed g finds named settings 16777216 place.me old new users
+  Acts acts.Audit settings place named old new users =
+      HasAuditedNamed g finds named settings 16777216 place.me old new users
+  Acts acts.Gates settings place named old new users =
+      HasToldGatesNamed g finds named settings 16777216 place.me old new users
   Acts (acts.Unlock user) settings place named old new users =
       (store : SqlHeld S) × UnlocksNamed g finds named settings 16777216 place.me user.now store users
-  Acts acts.Roster settings place named old new users = HasToldRoster g finds named settings 16777216 place.me old new users
+  Acts acts.Roster settings place named old new users =
+      HasToldRoster g finds named settings 16777216 place.me old new users
 
   -- the same for some users file
   abbrev pub ActsFor : NamedAct → Limits → PlaceRecord → NamedCluster → Option (List ℕ) → Option (List ℕ) → Type 0

@@ -26,4 +26,5 @@ tokens_cause tokens (Some rows) = if tokens == rows then None else Some (OtherRo
 -- the first of these reasons
 abbrev pub named_cause : Named → Bool → Option ℕ → Option ℕ → Option StoreCause
 named_cause named is_named node rows =
-    option_or (version_cause is_named named.version) (option_or (node_cause named.node node) (tokens_cause named.tokens rows))
+    option_or (version_cause is_named named.version) (option_or (node_cause named.node node)
+    (tokens_cause named.tokens rows))

@@ -75,8 +75,8 @@ pub fn audit_store<R: Read + Drop, S: Alter + Drop, D: Database<S>, W: Write>(
     database: D,
     writer: &mut W,
 ) -> Result<(), Fault>
-    ensures audited { IfOk result (λ _. IfSome (R.remaining users) (HasAudited S.Store D.finds default_limits 0 16777216 node
-        (W.contents writer.old) (W.contents writer.new))) }
+    ensures audited { IfOk result (λ _. IfSome (R.remaining users) (HasAudited S.Store D.finds default_limits 0 16777216
+        node (W.contents writer.old) (W.contents writer.new))) }
     ensures fault { IfErr result (λ fault. IfSome (R.remaining users) (EndsOutput default_limits 0 16777216 fault)) }
 {
     let (_users, mut store) = open_store(alloc, users, Settings::default(), Some(node), database)?;

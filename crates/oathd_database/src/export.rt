@@ -64,8 +64,8 @@ pub fn export_store<R: Read + Drop, S: Alter + Drop, D: Database<S>, W: Write>(
     database: D,
     writer: &mut W,
 ) -> Result<(), Fault>
-    ensures exported { IfOk result (λ _. IfSome (R.remaining users) (HasExported S.Store D.finds default_limits 0 16777216
-        (W.contents writer.old) (W.contents writer.new))) }
+    ensures exported { IfOk result (λ _. IfSome (R.remaining users) (HasExported S.Store D.finds default_limits 0
+        16777216 (W.contents writer.old) (W.contents writer.new))) }
     ensures fault { IfErr result (λ fault. IfSome (R.remaining users) (EndsOutput default_limits 0 16777216 fault)) }
 {
     let (users, store) = open_store(alloc, users, Settings::default(), None, database)?;

@@ -123,8 +123,8 @@ pub fn floors_store<R: Read + Drop, S: Alter + Drop, D: Database<S>, W: Write>(
     database: D,
     writer: &mut W,
 ) -> Result<(), Fault>
-    ensures told { IfOk result (λ _. IfSome (R.remaining users) (HasToldFloors S.Store D.finds default_limits 16777216 node
-        members moment (W.contents writer.old) (W.contents writer.new))) }
+    ensures told { IfOk result (λ _. IfSome (R.remaining users) (HasToldFloors S.Store D.finds default_limits 16777216
+        node members moment (W.contents writer.old) (W.contents writer.new))) }
     ensures fault { IfErr result (λ fault. IfSome (R.remaining users) (EndsOutput default_limits 0 16777216 fault)) }
 {
     let (users, store) = open_store(alloc, users, Settings::default(), Some(node), database)?;

@@ -50,8 +50,8 @@ pub fn seats_can_be_broken()
     ensures exported { HasExportedNamed fallen shows_any small_cluster default_limits 11 1 (Some []) (Some []) [] }
     ensures exported_import { HasExportedNamed fallen shows_any small_cluster default_limits 11 1 (Some []) (Some [])
         no_users → ⊥ }
-    ensures exported_found { HasExportedNamed one_named shows_none small_cluster default_limits 11 1 (Some []) (Some []) []
-        → ⊥ }
+    ensures exported_found { HasExportedNamed one_named shows_none small_cluster default_limits 11 1 (Some []) (Some [])
+        [] → ⊥ }
     ensures exported_written { HasExportedNamed one_named shows_any small_cluster default_limits 11 1 (Some [])
         (Some (codes "x")) [] → ⊥ }
 

@@ -355,8 +355,8 @@ fn addresses_error(
     members: &str,
 ) -> Result<Error, AllocError> {
     let text = format!(in alloc;
-        "invalid value '{members}' for '--members <A,B,..>': A,B,.. is 1 to 9 IPv4 addresses with ports, all different, \
-        and one of them the node's"
+        "invalid value '{members}' for '--members <A,B,..>': A,B,.. is 1 to 9 IPv4 addresses with ports, all \
+        different, and one of them the node's"
     )?;
     usage.error(ErrorKind::ValueValidation, text.as_str())
 }

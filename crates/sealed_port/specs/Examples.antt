@@ -50,8 +50,13 @@ failed_at client number = record { client = client; number = number }
 
 -- a gate whose one client is 258, with lines without an answer; clients at 127.0.0.1 may speak plainly
 abbrev pub gate_at : WindowRecord → List AskedRecord → GateRecord
-gate_at window asked =
-    record { node = 2; clients = client_at 258 window ∷ []; plain = 2130706433 ∷ []; asked = asked; failures = no_limit }
+gate_at window asked = record {
+  node = 2;
+  clients = client_at 258 window ∷ [];
+  plain = 2130706433 ∷ [];
+  asked = asked;
+  failures = no_limit;
+}
 
 -- the gate before it opened anything
 abbrev pub first_gate : GateRecord

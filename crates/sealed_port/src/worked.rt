@@ -47,8 +47,8 @@ pub fn rulings_are_worked()
     ensures same_line { opened (gate_at (window_at 0 []) (asked_line ∷ [])) (Some 1) sealed_line
         ≡ Some opened_line }
     // two failures of client 258 in the clock's minute are its limit
-    ensures limited { cause_of (record first_gate { failures = failures_in 0 (failed_at 258 2 ∷ []) }) (Some 1) sealed_line
-        ≡ Some Limited }
+    ensures limited { cause_of (record first_gate { failures = failures_in 0 (failed_at 258 2 ∷ []) }) (Some 1)
+        sealed_line ≡ Some Limited }
     ensures below_the_limit { opened (record first_gate { failures = failures_in 0 (failed_at 258 1 ∷ []) }) (Some 1)
         sealed_line ≡ Some opened_line }
     ensures kinds { map is_line (Line ∷ Answer ∷ Request ∷ Report ∷ []) ≡ true ∷ false ∷ false ∷ false ∷ [] }
@@ -79,7 +79,8 @@ pub fn failures_are_worked()
     ensures one_more { failures_after 258 (codes "NO k1 INVALID") (failures_in 1 (failed_at 7 1 ∷ failed_at 258 1 ∷ []))
         ≡ failures_in 1 (failed_at 7 1 ∷ failed_at 258 2 ∷ []) }
     ensures no_failure { failures_after 258 (codes "OK k1 0") (failures_in 1 []) ≡ failures_in 1 [] }
-    ensures room { failed_after 258 (replicate 63 (failed_at 7 1)) ≡ replicate 63 (failed_at 7 1) ++ failed_at 258 1 ∷ [] }
+    ensures room { failed_after 258 (replicate 63 (failed_at 7 1))
+        ≡ replicate 63 (failed_at 7 1) ++ failed_at 258 1 ∷ [] }
     ensures full { failed_after 258 (replicate 64 (failed_at 7 1)) ≡ replicate 64 (failed_at 7 1) }
     ensures most { with_one_of 258 (failed_at 258 (2 ^ 64 - 1)) ≡ failed_at 258 (2 ^ 64 - 1) }
 {}
@@ -162,9 +163,10 @@ pub fn events_are_worked()
 
 /// Worked cases. The numbers of unopened datagrams.
 pub fn numbers_are_worked()
-    ensures one { map (counted nothing) (None ∷ Some Form ∷ Some Tag ∷ Some Early ∷ Some Late ∷ Some Again ∷ Some Limited ∷ [])
-        ≡ nothing ∷ record nothing { form = 1 } ∷ record nothing { tag = 1 } ∷ record nothing { early = 1 }
-        ∷ record nothing { late = 1 } ∷ record nothing { again = 1 } ∷ record nothing { limited = 1 } ∷ [] }
+    ensures one { map (counted nothing) (None ∷ Some Form ∷ Some Tag ∷ Some Early ∷ Some Late ∷ Some Again
+        ∷ Some Limited ∷ []) ≡ nothing ∷ record nothing { form = 1 } ∷ record nothing { tag = 1 }
+        ∷ record nothing { early = 1 } ∷ record nothing { late = 1 } ∷ record nothing { again = 1 }
+        ∷ record nothing { limited = 1 } ∷ [] }
     ensures most { map (λ cause. counted (record {
       form = 2 ^ 64 - 1;
       tag = 2 ^ 64 - 1;

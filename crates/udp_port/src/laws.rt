@@ -74,8 +74,8 @@ pub fn calls_are_worked()
         ∷ (Hear true (Came 3 (at_local 2)), codes "NO ") ∷ (Hear false (Came 3 (at_local 2)), codes "OK ") ∷ []) ≡ [] }
     ensures turn { events_by_one ((Turn, []) ∷ []) ≡ QuietEvent ∷ [] }
     ensures given_up { events_by_one ((GivenUp, []) ∷ []) ≡ QuietEvent ∷ [] }
-    ensures gives_up { map is_given_up (GivenUp ∷ Turn ∷ Stuck ∷ Hear true (Failed WouldBlock) ∷ Send (Peer 2) true ∷ [])
-        ≡ true ∷ replicate 4 false }
+    ensures gives_up { map is_given_up (GivenUp ∷ Turn ∷ Stuck ∷ Hear true (Failed WouldBlock) ∷ Send (Peer 2) true
+        ∷ []) ≡ true ∷ replicate 4 false }
     ensures sent { events_by_one ((Send (Peer 2) false, 5 ∷ []) ∷ (Send (Peer 1) true, 6 ∷ []) ∷ [])
         ≡ Offered (Peer 2) (5 ∷ []) ∷ Offered (Peer 1) (6 ∷ []) ∷ [] }
     ensures settings { events_of_calls false true [] ((Hear true (Came 1 (at_host 10 1)), 7 ∷ []) ∷ []) ≡ [] }
