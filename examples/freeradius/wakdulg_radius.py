@@ -2,9 +2,10 @@
 
 The environment of the RADIUS server has NODES, as `127.0.0.1:717,127.0.0.1:718`, and WAKDULG_KEY_FILE: the number of
 this client and its key file, as `7:FILE`, which freerad alone may read. PLAIN_LINES=yes in its place asks without a
-key. User-Password is the code, of DIGITS digits or 6. With PASSWORDS=yes a password may stand before the code, which
-the node checks: then no row of the users file may have `+`, at which a node takes any password. The folder of
-wakdulg.py stands in python_path, as that of this file.
+key. User-Password is the code: six to eight digits, as the user's token has, or DIGITS digits alone. With PASSWORDS=yes
+a password may stand before the code, which the node checks. Then all codes have six digits, or DIGITS, and no row of
+the users file may have `+`, at which a node takes any password. The folder of wakdulg.py stands in python_path, as that
+of this file.
 """
 import os
 import re
@@ -12,8 +13,11 @@ import re
 import radiusd
 import wakdulg
 
-DIGITS = int(os.environ.get("DIGITS", "6"))
 PASSWORDS = os.environ.get("PASSWORDS", "no") == "yes"
+# The length of the code alone tells the end of a password.
+DIGITS = os.environ.get("DIGITS") or ("6" if PASSWORDS else "6,8")
+if DIGITS not in ("6", "7", "8", "6,8"):
+    raise ValueError("DIGITS is 6, 7 or 8")
 KEY = wakdulg.key_of(os.environ.get("WAKDULG_KEY_FILE"), os.environ.get("PLAIN_LINES", "no") == "yes")
 # A request has to be answered within max_request_time, and the access device asks again after some seconds.
 CLUSTER = wakdulg.Cluster(os.environ["NODES"], total=6.0, key=KEY)
@@ -22,7 +26,7 @@ NEXT_CODE = (("Reply-Message", "Give the next code."),)
 
 def decide(user, given):
     """Returns what a call returned or raised."""
-    parts = re.fullmatch("([!-~]*?)([0-9]{%d})" % DIGITS, given, re.ASCII)
+    parts = re.fullmatch("([!-~]*?)([0-9]{%s})" % DIGITS, given, re.ASCII)
     if not parts:
         return wakdulg.BadField("no code")
     if not re.fullmatch("[!-~]{1,64}", user, re.ASCII):

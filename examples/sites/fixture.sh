@@ -8,8 +8,9 @@
 #   make_cluster                  makes in $work: key, cluster (its cluster file), clients (client 7, the front end, has
 #                                 front.key, and client 8, as which this script asks, has ask.key), users (u1 to u99, an
 #                                 event token each with the secret of RFC 4226; pin with the password hunter2; plus with
-#                                 the password +; eight of 8 digits; clock1 to clock30, time tokens; probe1 to probe3,
-#                                 time tokens with the password watchword), and three databases; and starts the nodes
+#                                 the password +; seven and eight of 7 and 8 digits; clock1 to clock30, time tokens;
+#                                 probe1 to probe3, time tokens with the password watchword), and three databases; and
+#                                 starts the nodes
 #   start_node I [CLUSTER USERS]  starts node I and waits until it answers, with other files than those
 #   kill_node I                   ends it at once
 #   begin STEP                    names what comes next
@@ -183,6 +184,7 @@ make_cluster() {
             for user in {1..99}; do echo "HOTP u$user - $secret"; done
             echo "HOTP pin hunter2 $secret"
             echo "HOTP plus + $secret"
+            echo "HOTP/E/7 seven - $secret"
             echo "HOTP/E/8 eight - $secret"
             for user in clock{1..30}; do echo "HOTP/T30 $user - $secret"; done
             for user in probe{1..3}; do echo "HOTP/T30 $user watchword $secret"; done
