@@ -22,6 +22,8 @@ import sys
 sys.dont_write_bytecode = True
 import wakdulg
 
+USAGE = "usage: ask.py [--key-file NUMBER:FILE] LINE|- ADDRESS:PORT.. (ask.py --help says more)"
+
 
 def with_nonce(line):
     """The line, with a nonce of 20 letters and digits where it has none."""
@@ -39,6 +41,8 @@ def read_words(words):
     """Returns the line, and each node's address with what it is asked."""
     key_word = os.environ.get("WAKDULG_KEY_FILE")
     if words[:1] == ["--key-file"]:
+        if len(words) == 1:
+            raise ValueError("--key-file without its NUMBER:FILE")
         key_word, *words = words[1:]
     key = wakdulg.read_key(key_word) if key_word else None
     numbered = [wakdulg.read_numbered(word, number) for number, word in enumerate(words[1:], 1)]
@@ -49,10 +53,13 @@ def read_words(words):
 
 
 def main():
+    if sys.argv[1:] in (["--help"], ["-h"]):
+        print(__doc__, end="")
+        return
     try:
         asked = read_words(sys.argv[1:])
-    except (IndexError, ValueError, OSError) as fault:
-        print("%sask.py: %s" % (__doc__, fault), file=sys.stderr)
+    except (ValueError, OSError) as fault:
+        print("ask.py: %s\n%s" % (fault, USAGE), file=sys.stderr)
         sys.exit(2)
     last = None
     for node, line in asked:

@@ -36,14 +36,14 @@ ask() {
     return 1
 }
 
-usage() {
-    echo 'usage: ask.sh LINE|- ADDRESS:PORT..' >&2
+refuse() { # FAULT
+    printf 'ask.sh: %s\nusage: ask.sh LINE|- ADDRESS:PORT..\n' "$1" >&2
     exit 2
 }
 
-[ $# -ge 2 ] || usage
+[ $# -ge 2 ] || refuse 'no ADDRESS:PORT'
 for node in "${@:2}"; do
-    [[ $node =~ ^[0-9]+(\.[0-9]+){3}:[0-9]{1,5}$ ]] || usage
+    [[ $node =~ ^[0-9]+(\.[0-9]+){3}:[0-9]{1,5}$ ]] || refuse "not an ADDRESS:PORT, as 192.0.2.1:717: $node"
 done
 line=$1 answer=
 [ "$line" != - ] || IFS= read -r line || [ -n "$line" ] || line=

@@ -403,8 +403,8 @@ static int complete(char *line, char *nonce) {
     return 0;
 }
 
-static int usage(void) {
-    fputs("usage: ask [--key-file NUMBER:FILE] LINE|- ADDRESS:PORT..\n", stderr);
+static int refuse(const char *fault) {
+    fprintf(stderr, "ask: %s\nusage: ask [--key-file NUMBER:FILE] LINE|- ADDRESS:PORT..\n", fault);
     return 2;
 }
 
@@ -419,15 +419,19 @@ int main(int count, char **words) {
     for (int k = 2; k < count; k++)
         snprintf(nodes + strlen(nodes), sizeof nodes - strlen(nodes), "%s ", words[k]);
     struct wakdulg_cluster cluster;
-    if (count < 3 || wakdulg_set_nodes(&cluster, nodes) < 0 || (key && *key && wakdulg_set_key(&cluster, key) < 0))
-        return usage();
+    if (count < 3)
+        return refuse("no ADDRESS:PORT");
+    if (wakdulg_set_nodes(&cluster, nodes) < 0)
+        return refuse("not 1 to 9 times ADDRESS:PORT, as 192.0.2.1:717");
+    if (key && *key && wakdulg_set_key(&cluster, key) < 0)
+        return refuse("no key: not NUMBER:FILE, no such file, others may read it, or a node stands twice");
     if (strcmp(words[1], "-") == 0) {
         if (fgets(line, sizeof line, stdin))
             line[strcspn(line, "\n")] = 0;
     } else
         snprintf(line, sizeof line, "%s", words[1]);
     if (complete(line, nonce) < 0 || strlen(line) > (cluster.is_sealed ? WAKDULG_MAX_LINE : ROOM))
-        return usage();
+        return refuse("no line of a client");
     for (size_t k = 0; k < cluster.count; k++) {
         struct asked asked = {.cluster = &cluster, .node = &cluster.nodes[k], .line = line, .nonce = nonce};
         if (ask_node(&asked, now_of(CLOCK_MONOTONIC) + cluster.total, text) == HEARD) {

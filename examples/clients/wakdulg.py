@@ -81,9 +81,13 @@ SEALED_HINT = ": look at the key, at its number, and at this machine's clock"
 def read_node(text):
     """Returns the address and the port. A name isn't taken, since to look it up may take its time."""
     host, _, port = text.partition(":")
-    if not re.fullmatch("[0-9]{1,5}", port) or not 0 < int(port) < 65536:
-        raise ValueError("not an ADDRESS:PORT: " + text)
-    return str(ipaddress.IPv4Address(host)), int(port)
+    try:
+        address = str(ipaddress.IPv4Address(host))
+    except ValueError:
+        address = None
+    if not address or not re.fullmatch("[0-9]{1,5}", port) or not 0 < int(port) < 65536:
+        raise ValueError("not an ADDRESS:PORT, as 192.0.2.1:717: " + text)
+    return address, int(port)
 
 
 def read_numbered(text, number):
