@@ -315,6 +315,18 @@ class File(Case):
         self.users.write_text("HOTP ann - 31\nHOTP ann - 32\n")
         self.assertIn("oathd: users line 2: DuplicateUser", self.refused("refuses the new file", *self.WORDS))
 
+    def test_a_byte_order_mark(self):
+        self.put("users", "\ufeffHOTP\tann\t-\t00ff\t7\n")
+        self.refused("ByteOrderMark", "phone", "bob", "--issuer", "Site", "--uri")
+
+    def test_what_members_compare_and_what_oathd_notes(self):
+        self.put("users", "hotp\tann\t-\t00ff\t7\n")
+        self.put("cluster", self.cluster.read_text() + "names word-of-a-trial\n")
+        printed, said, status = self.run_it("phone", "bob", "--issuer", "Site", "--uri", "--cluster", self.cluster)
+        self.assertEqual(status, 0, said)
+        self.assertRegex(printed, "\nfingerprint [0-9a-f]{16}\nbook [0-9a-f]{16}\n")
+        self.assertIn("oathd: note: the new file: ignored 1, first line 1: hotp\n", said)
+
     def test_others_who_may_read(self):
         self.users.chmod(0o644)
         self.assertIn("chmod 600", self.run_it(*self.WORDS, "--dry-run")[1])

@@ -1,6 +1,7 @@
 """Tokens, as files of other programs name them, and their rows in a users file (docs/reference/formats.md)."""
 import base64
 import binascii
+import codecs
 import re
 from dataclasses import dataclass
 
@@ -73,7 +74,8 @@ def read_secret(text, form, place):
         text = text.rstrip("=").upper()
         return base64.b32decode(text + "=" * (-len(text) % 8))
     except (binascii.Error, ValueError):
-        raise Fault(place, "BadSecret", "%d characters that are no %s" % (len(text), form)) from None
+        hint = ": --secrets base32 reads base32" if form == "hex" and re.fullmatch("[A-Za-z2-7]+=*", text) else ""
+        raise Fault(place, "BadSecret", "%d characters that are no %s%s" % (len(text), form, hint)) from None
 
 
 def read_number(text, place, what):
@@ -104,6 +106,8 @@ class Row:
 
 def read_rows(text):
     """Returns the rows of a users file as oathd reads it. Lines of other types and remarks are passed over."""
+    if text.startswith(codecs.BOM_UTF8):
+        raise Fault("line 1 of the users file", "ByteOrderMark", "save the file as UTF-8 without one")
     rows = []
     for number, line in enumerate(text.split(b"\n"), 1):
         fields = [field for field in BLANKS.split(line) if field]

@@ -88,10 +88,13 @@ def lock_beside(path):
 
 
 def ask_oathd(oathd, text, cluster):
-    """Has oathd read the text of a users file by standard input. Returns the fingerprint if there is a cluster file."""
+    """Has oathd read the text of a users file by standard input. If there is a cluster file, returns the lines by which
+    members are compared, and what oathd notes of the text."""
     words = [oathd, "check", "/dev/stdin", "--cluster", cluster] if cluster else [oathd, "lines"]
     done = subprocess.run(words, input=text, capture_output=True)
     if done.returncode:
         said = done.stderr.decode("utf-8", "replace").strip().replace("\n", "\n  ")
         raise Fault("oathd %s" % words[1], "refuses the new file", said)
-    return done.stdout.decode().split()[-1] if cluster else None
+    prints = [line for line in done.stdout.decode().splitlines() if line.startswith(("fingerprint ", "book "))]
+    notes = done.stderr.decode("utf-8", "replace").replace("/dev/stdin", "the new file").splitlines()
+    return (prints, notes) if cluster else ([], [])
