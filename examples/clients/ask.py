@@ -52,6 +52,15 @@ def read_words(words):
     return [(node, wakdulg.Sealed(line, key, number) if key else wakdulg.Plain(line)) for number, node in numbered]
 
 
+def cause_of(answer, line):
+    """Returns why a node may have given no answer, and what to look at. `answer` is None, or b"" if nobody took the line."""
+    if answer is not None:
+        return "nobody takes lines there: start the node"
+    if isinstance(line, wakdulg.Sealed):
+        return "silent" + wakdulg.SEALED_HINT
+    return "silent: a node with a clients file wants --key-file, and one without it takes lines of its own machine alone"
+
+
 def main():
     if sys.argv[1:] in (["--help"], ["-h"]):
         print(__doc__, end="")
@@ -61,14 +70,15 @@ def main():
     except (ValueError, OSError) as fault:
         print("ask.py: %s\n%s" % (fault, USAGE), file=sys.stderr)
         sys.exit(2)
-    last = None
+    last, causes = None, ""
     for node, line in asked:
-        last = wakdulg.hear(node, line) or last
+        answer = wakdulg.hear(node, line)
+        causes += "" if answer else "\n  %s:%d: %s" % (*node, cause_of(answer, line))
+        last = answer or last
         if last and last.decode().split(" ")[2] not in wakdulg.OF_THE_NODE:
             break
     if not last:
-        print("ask.py: no node answers" + (wakdulg.SEALED_HINT if isinstance(asked[0][1], wakdulg.Sealed) else ""),
-              file=sys.stderr)
+        print("ask.py: no node answers" + causes, file=sys.stderr)
         sys.exit(2)
     print(last.decode())
     sys.exit(0 if last.startswith(b"OK ") else 1)
