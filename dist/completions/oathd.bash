@@ -1,7 +1,7 @@
 # bash completion for oathd(8)
 _oathd() {
     local cur prev words cword split command options= files=
-    local commands='lines sim cluster init serve export audit migrate floors level gates unlock roster check new-key secret version help'
+    local commands='lines sim cluster init serve export audit migrate floors level gates unlock roster check new-key new-cluster secret version help'
     _init_completion -s || return
     if ((cword == 1)); then
         COMPREPLY=($(compgen -W "$commands --help --version" -- "$cur"))
@@ -23,13 +23,12 @@ _oathd() {
         serve)
             options='--node --cluster --members --key --look-ahead --skew --range --drift --clients --plain-lines'
             options+=' --turns --forever --log' files=yes ;;
-        export | audit | gates | unlock | roster) options='--node --cluster' files=yes ;;
-        migrate) options='--node' files=yes ;;
+        export | audit | migrate | gates | unlock | roster) options='--node --cluster' files=yes ;;
         floors) options='--node --members --cluster' files=yes ;;
-        level) options='--node --floors' files=yes ;;
+        level) options='--node --floors --cluster' files=yes ;;
         check) options='--cluster' files=yes ;;
         secret) options='--stdin' ;;
-        new-key | version) ;;
+        new-key | new-cluster | version) ;;
         help) ((cword == 2)) && COMPREPLY=($(compgen -W "$commands" -- "$cur")); return ;;
         *) return ;;
     esac

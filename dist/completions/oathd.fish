@@ -1,5 +1,5 @@
 # fish completion for oathd(8)
-set -l commands lines sim cluster init serve export audit migrate floors level gates unlock roster check new-key secret version help
+set -l commands lines sim cluster init serve export audit migrate floors level gates unlock roster check new-key new-cluster secret version help
 complete -c oathd -f
 complete -c oathd -n __fish_use_subcommand -a lines -d 'Answer the lines of clients after a users file'
 complete -c oathd -n __fish_use_subcommand -a sim -d 'Run a script of events over the nodes of a cluster'
@@ -16,6 +16,7 @@ complete -c oathd -n __fish_use_subcommand -a unlock -d 'Forget the failures of 
 complete -c oathd -n __fish_use_subcommand -a roster -d 'Print the rows of a store by names'
 complete -c oathd -n __fish_use_subcommand -a check -d 'Print what the members of a cluster share'
 complete -c oathd -n __fish_use_subcommand -a new-key -d 'Print a new key for a client of the nodes'
+complete -c oathd -n __fish_use_subcommand -a new-cluster -d 'Print a cluster file with new names, without members'
 complete -c oathd -n __fish_use_subcommand -a secret -d 'Print a secret in base32'
 complete -c oathd -n __fish_use_subcommand -a version -d 'Print version'
 complete -c oathd -n __fish_use_subcommand -a help -d 'Print help of a command'
@@ -27,7 +28,7 @@ complete -c oathd -n __fish_use_subcommand -s V -l version -d 'Print version'
 set -l nodes '__fish_seen_subcommand_from init serve export audit migrate floors level gates unlock roster'
 set -l serving '__fish_seen_subcommand_from serve'
 set -l made '__fish_seen_subcommand_from init'
-set -l agreed '__fish_seen_subcommand_from lines sim cluster init serve check floors export audit gates unlock roster'
+set -l agreed '__fish_seen_subcommand_from lines sim cluster init serve check floors export audit migrate level gates unlock roster'
 set -l answering '__fish_seen_subcommand_from lines sim cluster serve'
 set -l importing '__fish_seen_subcommand_from lines sim cluster init'
 set -l skewed '__fish_seen_subcommand_from lines sim cluster serve init'

@@ -1,11 +1,13 @@
 -- How a command over a store by names ends.
-use Rattle.std.proofs.Common.{inl, ◌≡◌, ◌∙◌, ℕ, List, Option, Some, None, length, ap, refl, subst, sym}
-use Rattle.std.specs.Prelude.{Result, Ok, Err, IfOk, false, true}
+use Rattle.std.proofs.Common.{inl, ◌≡◌, ◌∙◌, ℕ, List, [], Option, Some, None, length, ap, refl, subst, sym}
+use Rattle.std.specs.Prelude.{Result, Ok, Err, IfOk, false}
 use Rattle.std.proofs.lemmas.List.{length-map}
 use Rattle.std.specs.Borrow.{Bor}
+use Rattle.std.specs.Global.{Vec}
+use Rattle.std.specs.Option.{unwrap_or}
 use Rattle.sqlite.specs.Store.{Ghosts}
 use Rattle.sqlite.specs.Held as sql
-use Rattle.otp_core.specs.Limits.{Limits}
+use Rattle.otp_core.specs.Limits.{Limits, default_limits}
 use Rattle.otp_core.specs.Range.{IsMoment}
 use Rattle.floor_sql.specs.Held.{SqlHeld}
 use Rattle.seated_store.specs.Seated.{SeatedRecord}
@@ -14,16 +16,10 @@ use Rattle.oath_node.specs.declared.turns.Served.{Served}
 use Rattle.cluster_file.specs.Address.{address_value}
 use Rattle.cluster_file.specs.ClusterFile.{ClusterRecord, cluster_of, cluster_value}
 use Rattle.cluster_file.specs.declared.cluster.Cluster.{Cluster}
-use Rattle.oathd_words.specs.declared.store_words.ClientWords.{ClientWords}
 use Rattle.oathd_words.specs.declared.store_words.NamedAct.{NamedAct}
 use Rattle.oathd_words.specs.declared.store_words.NamedAct.TheVariants as acts
 use Rattle.oathd_seats.specs.Commands.{HasAuditedNamed, HasExportedNamed, HasToldGatesNamed, HasToldRoster}
 use Rattle.oathd_seats.specs.Unlock.{UnlocksNamed}
-use Rattle.oathd_words.specs.declared.store_words.ClusterWords.{ClusterWords}
-use Rattle.oathd_words.specs.declared.store_words.ClusterWords.TheVariants.{Given, Named}
-use Rattle.oathd_database.specs.Commands.{IsNotServed}
-use Rattle.oathd_database.specs.Users.{IsUnread}
-use Rattle.oathd_database.specs.declared.fault.Fault as database
 use Rattle.oathd_database.specs.declared.fault.Fault.TheVariants.{Memory, CannotWrite, NoClock, Users, Store, Socket}
 use Rattle.oathd_database.specs.declared.serving.Serving.{Serving}
 use Rattle.oathd_roster.specs.Served.{EndsServingNamed, HasServedNamed}
@@ -31,22 +27,18 @@ use Rattle.oathd_roster.specs.declared.cluster.NamedCluster.{NamedCluster}
 use Rattle.oathd_roster.specs.declared.fault.RosterFault.{RosterFault}
 use Rattle.oathd_roster.specs.declared.fault.RosterFault.TheVariants.{Command, SameName, AnotherCluster, Full}
 use Rattle.oathd.specs.Done.{IsServedSo}
-use Rattle.oathd.specs.Named.{ActsFor, AreNamesIn, EndsBy, EndsByNames, EndsSo, IsActDone, IsMemberByNames, IsNamedIn, IsNamedOf, IsServedByNames, NamedEndsSo, fault_of, names_in}
-use Rattle.oathd.specs.Serve.{IsOfFiles, IsOfTask, ServeEndsSo, place_in}
+use Rattle.oathd.specs.Named.{ActsFor, AreNamedFloorsTold, AreNamesIn, EndsBy, EndsByNames, EndsSo, IsActDone, IsFormerOf, IsKeyOf, IsMemberByNames, IsNamedOf, IsRemadeByNames, IsServedByNames, IsUntaken, NamedEndsSo, fault_of, names_in}
+use Rattle.oathd_floors.specs.Levelled.{HasLevelled}
+use Rattle.oathd_floors.specs.Named.{HasNamed}
+use Rattle.oathd_floors.specs.Remade.{HasRemade}
+use Rattle.oathd_floors.specs.Told.{HasTold}
+use Rattle.oathd_floors.specs.declared.remaking.Former.{Former}
+use Rattle.oathd_words.specs.declared.former_words.FormerWords.{FormerWords}
+use Rattle.oathd.specs.Serve.{IsOfTask, place_in}
 use Rattle.oathd.specs.Users.{IsOfUsers}
 use Rattle.oathd.specs.declared.fault.Fault.{Fault}
 use Rattle.oathd.specs.declared.fault.Fault.TheVariants.{Database, Floors, Task, Unlock, Roster, Seats, Names}
 use Rattle.oathd.proofs.ServeLemmas.{ends_as_asked, not_imported}
-
--- a fault of a task is one of the files
-pub of_files : (fault : Fault) → IsOfTask fault → IsOfFiles fault
-of_files (Task fault) is = tt
-of_files (Database fault) is = absurd is
-of_files (Floors fault) is = absurd is
-of_files (Unlock fault) is = absurd is
-of_files (Roster fault) is = absurd is
-of_files (Seats fault) is = absurd is
-of_files (Names fault) is = absurd is
 
 -- the place of a node among the members of a cluster file
 member_at : (cluster : Cluster) (node : ℕ) (place : PlaceRecord) → place ≡ record { me = node; n = length cluster.members.items }
@@ -71,34 +63,81 @@ module _ {S : Type 0} (g : Ghosts S) (finds : sql.Held S → Type 0) where
   -- an act with a name is the act
   pub act_done : (node : ℕ) (act other : NamedAct) (text : List ℕ) (old new : Option (List ℕ)) (settings : Limits) (place : PlaceRecord)
       (named : NamedCluster) (result : Result Unit Fault) → act ≡ other → IsMemberByNames node text settings place named
-      → IfOk result (λ _. ActsFor g finds other settings place named old new) → IfOk result (λ _. IsActDone g finds node act text old new)
+      → IfOk result (λ _. ActsFor g finds text other settings place named old new) → IfOk result (λ _. IsActDone g finds node act text old new)
   act_done node act other text old new settings place named (Ok done) is member h = record {
     settings = settings;
     place = place;
     named = named;
     member = member;
-    acts = subst (λ (a : NamedAct). ActsFor g finds a settings place named old new) (sym is) h;
+    acts = subst (λ (a : NamedAct). ActsFor g finds text a settings place named old new) (sym is) h;
   }
   act_done node act other text old new settings place named (Err fault) is member h = tt
 
-  module _ (settings : Limits) (place : PlaceRecord) (named : NamedCluster) (old new : Option (List ℕ)) (node : ℕ) (same : node ≡ place.me)
+  module _ (text : List ℕ) (settings : Limits) (place : PlaceRecord) (named : NamedCluster) (old new : Option (List ℕ)) (node : ℕ) (same : node ≡ place.me)
       (users : List ℕ) where
     -- what is printed of the store of the member, and what is unlocked in it
-    pub exported : HasExportedNamed g finds named settings 16777216 node old new users → ActsFor g finds acts.Export settings place named old new
+    pub exported : HasExportedNamed g finds named settings 16777216 node old new users → ActsFor g finds text acts.Export settings place named old new
     exported h = (users, subst (λ (n : ℕ). HasExportedNamed g finds named settings 16777216 n old new users) same h)
 
-    pub audited : HasAuditedNamed g finds named settings 16777216 node old new users → ActsFor g finds acts.Audit settings place named old new
+    pub audited : HasAuditedNamed g finds named settings 16777216 node old new users → ActsFor g finds text acts.Audit settings place named old new
     audited h = (users, subst (λ (n : ℕ). HasAuditedNamed g finds named settings 16777216 n old new users) same h)
 
-    pub told_gates : HasToldGatesNamed g finds named settings 16777216 node old new users → ActsFor g finds acts.Gates settings place named old new
+    pub told_gates : HasToldGatesNamed g finds named settings 16777216 node old new users → ActsFor g finds text acts.Gates settings place named old new
     told_gates h = (users, subst (λ (n : ℕ). HasToldGatesNamed g finds named settings 16777216 n old new users) same h)
 
-    pub told_roster : HasToldRoster g finds named settings 16777216 node old new users → ActsFor g finds acts.Roster settings place named old new
+    pub told_roster : HasToldRoster g finds named settings 16777216 node old new users → ActsFor g finds text acts.Roster settings place named old new
     told_roster h = (users, subst (λ (n : ℕ). HasToldRoster g finds named settings 16777216 n old new users) same h)
 
     pub unlocked : (user : Bor (List ℕ)) (store : SqlHeld S) → UnlocksNamed g finds named settings 16777216 node user.now store users
-        → ActsFor g finds (acts.Unlock user) settings place named old new
+        → ActsFor g finds text (acts.Unlock user) settings place named old new
     unlocked user store h = (users, (store, subst (λ (n : ℕ). UnlocksNamed g finds named settings 16777216 n user.now store users) same h))
+
+    pub migrated : (conn : sql.Held S) → HasNamed g finds named default_limits 16777216 node conn users
+        → ActsFor g finds text acts.Migrate settings place named old new
+    migrated conn h = (users, (conn, subst (λ (n : ℕ). HasNamed g finds named default_limits 16777216 n conn users) same h))
+
+  -- floors are raised by names
+  pub levelled_named : (text : List ℕ) (settings : Limits) (place : PlaceRecord) (named : NamedCluster) (old new : Option (List ℕ)) (floors : Vec (Bor (List ℕ)))
+      (key given : List ℕ) (node now : ℕ) (texts : List (List ℕ)) (store : SqlHeld S) → IsKeyOf text key → given ≡ key → node ≡ place.me → IsMoment now
+      → length texts ≡ length floors.items → HasLevelled g finds (record { key = given; own = named.bond; is_anew = false; now = now }) node texts store
+      → ActsFor g finds text (acts.Level floors) settings place named old new
+  levelled_named text settings place named old new floors key given node now texts store of_key same at is_now each h = (
+    [],
+    record {
+      key = key;
+      of_key = of_key;
+      now = now;
+      is_now = is_now;
+      texts = texts;
+      each = each;
+      store = store;
+      levelled = subst (λ (n : ℕ). HasLevelled g finds (record { key = key; own = named.bond; is_anew = false; now = now }) n texts store) at
+          (subst (λ (k : List ℕ). HasLevelled g finds (record { key = k; own = named.bond; is_anew = false; now = now }) node texts store) same h);
+    },
+  )
+
+  -- a floors file by names is written
+  pub named_floors_told : (named : NamedCluster) (key given : List ℕ) (node moment : ℕ) (old new : Option (List ℕ)) → given ≡ key → IsMoment moment
+      → HasTold g finds named.bond given node moment old new → AreNamedFloorsTold g finds named key node old new
+  named_floors_told named key given node moment old new same at h = record {
+    moment = moment;
+    is_moment = at;
+    told = subst (λ (k : List ℕ). HasTold g finds named.bond k node moment old new) same h;
+  }
+
+  -- a store is replaced by names
+  pub remade_by_names : (settings : Limits) (place : PlaceRecord) (given : Option ℕ) (named : NamedCluster) (key k : List ℕ) (words : FormerWords)
+      (old new : Option (List ℕ)) (users : List ℕ) (former : Former) (store : SeatedRecord (SqlHeld S)) (moment : ℕ) → IsFormerOf words former → k ≡ key
+      → moment ≡ unwrap_or given former.now → HasRemade g finds named k settings moment 16777216 place former store old new users
+      → IsRemadeByNames g finds settings place given named key words old new
+  remade_by_names settings place given named key k words old new users former store moment of_former same at h = record {
+    users = users;
+    former = former;
+    of_former = of_former;
+    store = store;
+    made = subst (λ (m : ℕ). HasRemade g finds named key settings m 16777216 place former store old new users) at
+        (subst (λ (l : List ℕ). HasRemade g finds named l settings moment 16777216 place former store old new users) same h);
+  }
 
   module _ (IsAsked : Serving → Type 0) (IsCluster : NamedCluster → Type 0) where
     -- a fault of a node
@@ -201,25 +240,48 @@ module _ {S : Type 0} (g : Ghosts S) (finds : sql.Held S → Type 0) where
     named_as_asked (Err (Unlock fault)) h = h
     named_as_asked (Err (Roster fault)) h = same_named fault h
     named_as_asked (Err (Seats fault)) h = h
-    named_as_asked (Err (Names fault)) h = tt
+    named_as_asked (Err (Names fault)) h = h
 
-  -- a fault of the files that give the parameters
-  pub ends_by_files : (IsAsked : Serving → Type 0) (text : List ℕ) (names : Option (List ℕ)) (fault : Fault) → IsOfFiles fault
+  -- a fault of a task, with names or without
+  pub ends_by_files : (IsAsked : Serving → Type 0) (text : List ℕ) (names : Option (List ℕ)) (fault : Fault) → IsOfTask fault
       → EndsSo g finds IsAsked text names (Err fault)
   ends_by_files IsAsked text None (Task fault) is = tt
-  ends_by_files IsAsked text None (Names fault) is = tt
+  ends_by_files IsAsked text None (Names fault) is = absurd is
   ends_by_files IsAsked text None (Database fault) is = absurd is
   ends_by_files IsAsked text None (Floors fault) is = absurd is
   ends_by_files IsAsked text None (Unlock fault) is = absurd is
   ends_by_files IsAsked text None (Roster fault) is = absurd is
   ends_by_files IsAsked text None (Seats fault) is = absurd is
   ends_by_files IsAsked text (Some names) (Task fault) is = tt
-  ends_by_files IsAsked text (Some names) (Names fault) is = tt
+  ends_by_files IsAsked text (Some names) (Names fault) is = absurd is
   ends_by_files IsAsked text (Some names) (Database fault) is = absurd is
   ends_by_files IsAsked text (Some names) (Floors fault) is = absurd is
   ends_by_files IsAsked text (Some names) (Unlock fault) is = absurd is
   ends_by_files IsAsked text (Some names) (Roster fault) is = absurd is
   ends_by_files IsAsked text (Some names) (Seats fault) is = absurd is
+
+  -- names that are not taken
+  ends_by_cluster : (IsAsked : Serving → Type 0) (text : List ℕ) (cluster : ClusterRecord) (names : Option (List ℕ)) (fault : Fault)
+      → cluster.names ≡ names → IsUntaken cluster fault → EndsSo g finds IsAsked text names (Err fault)
+  ends_by_cluster IsAsked text cluster None (Task fault) same is = tt
+  ends_by_cluster IsAsked text cluster None (Names fault) same is = absurd (is.2 same)
+  ends_by_cluster IsAsked text cluster None (Database fault) same is = absurd is
+  ends_by_cluster IsAsked text cluster None (Floors fault) same is = absurd is
+  ends_by_cluster IsAsked text cluster None (Unlock fault) same is = absurd is
+  ends_by_cluster IsAsked text cluster None (Roster fault) same is = absurd is
+  ends_by_cluster IsAsked text cluster None (Seats fault) same is = absurd is
+  ends_by_cluster IsAsked text cluster (Some names) (Task fault) same is = tt
+  ends_by_cluster IsAsked text cluster (Some names) (Names fault) same is = is.0
+  ends_by_cluster IsAsked text cluster (Some names) (Database fault) same is = absurd is
+  ends_by_cluster IsAsked text cluster (Some names) (Floors fault) same is = absurd is
+  ends_by_cluster IsAsked text cluster (Some names) (Unlock fault) same is = absurd is
+  ends_by_cluster IsAsked text cluster (Some names) (Roster fault) same is = absurd is
+  ends_by_cluster IsAsked text cluster (Some names) (Seats fault) same is = absurd is
+
+  pub ends_untaken : (IsAsked : Serving → Type 0) (text : List ℕ) (cluster : ClusterRecord) (fault : Fault) → cluster_of text ≡ Ok cluster
+      → IsUntaken cluster fault → EndsSo g finds IsAsked text (names_in (cluster_of text)) (Err fault)
+  ends_untaken IsAsked text cluster fault said is =
+      ends_by_cluster IsAsked text cluster (names_in (cluster_of text)) fault (sym (ap names_in said)) is
 
   module _ (IsAsked : Serving → Type 0) (text : List ℕ) (cluster : ClusterRecord) (said : cluster_of text ≡ Ok cluster) (serving : Serving)
       (asked : IsAsked serving) (result : Result Unit Fault) where

@@ -2,7 +2,6 @@
 use Rattle.std.proofs.Common.{◌≡◌, ◌∙◌, refl, sym, subst, ℕ, List, Option, None, Some, Ok, Err, IfSome, length}
 use Rattle.std.specs.Prelude.{Result, Bool, IfOk}
 use Rattle.std.specs.Borrow.{Bor}
-use Rattle.std.proofs.lemmas.List.{length-map}
 use Rattle.std.specs.declared.net.socket_addr.SocketAddrV4.{SocketAddrV4}
 use Rattle.std.specs.Global.{Vec}
 use Rattle.sqlite.specs.Store.{Ghosts}
@@ -10,7 +9,6 @@ use Rattle.sqlite.specs.Held as sql
 use Rattle.otp_core.specs.Limits.{Limits}
 use Rattle.floor_sql.specs.Held.{SqlHeld}
 use Rattle.vote_core.specs.NodeSet.{PlaceRecord}
-use Rattle.cluster_file.specs.Address.{address_value}
 use Rattle.cluster_file.specs.ClusterFile.{cluster_of, cluster_value}
 use Rattle.cluster_file.specs.Said.{key_place}
 use Rattle.cluster_file.specs.declared.cluster.Cluster.{Cluster}
@@ -18,7 +16,7 @@ use Rattle.oathd_words.specs.declared.former_words.CountWords.{CountWords}
 use Rattle.oathd_words.specs.declared.former_words.CountWords.TheVariants as counts
 use Rattle.oathd_words.specs.declared.former_words.FormerWords.{FormerWords}
 use Rattle.oathd_words.specs.declared.store_words.Action.{Action}
-use Rattle.oathd_words.specs.declared.store_words.Action.TheVariants.{Init, Remake}
+use Rattle.oathd_words.specs.declared.store_words.Action.TheVariants.{Floors, Init, Remake}
 use Rattle.oathd_words.specs.declared.store_words.ClientWords.{ClientWords}
 use Rattle.oathd_words.specs.declared.store_words.ClientWords.TheVariants as client_words
 use Rattle.oathd_words.specs.declared.store_words.ClusterWords.{ClusterWords}
@@ -26,7 +24,7 @@ use Rattle.oathd_words.specs.declared.store_words.ClusterWords.TheVariants.{Give
 use Rattle.oathd_words.specs.declared.store_words.ImportWords.{ImportWords}
 use Rattle.oathd_words.specs.declared.store_words.ImportWords.TheVariants as imports
 use Rattle.oathd_database.specs.declared.serving.Serving.{Serving}
-use Rattle.oathd.specs.Done.{IsCountOf, IsCreated, IsDone, IsMemberCreated, IsMemberReplaced, IsReplaced}
+use Rattle.oathd.specs.Done.{AreFloorsTold, AreMembersFloorsTold, IsCreated, IsDone, IsMemberCreated, IsMemberReplaced, IsReplaced}
 use Rattle.oathd_tasks.specs.Check.{IsKeyIn}
 use Rattle.oathd_database.specs.Serving.{IsOfMember}
 use Rattle.oathd_database.specs.declared.gate.ClientLines.{ClientLines}
@@ -37,13 +35,6 @@ use Rattle.oathd_database.specs.declared.node_key.NodeKey.TheVariants.{Own}
 use Rattle.oathd.specs.Named.{EndsSo, names_asked}
 use Rattle.oathd.specs.Serve.{AreLinesOf, IsAskedFor, IsMemberOf, IsRunOf, ServeEndsSo}
 use Rattle.oathd.specs.declared.fault.Fault.{Fault}
-
--- the number of members in the cluster file that the words name
-pub count_in_file : (count : CountWords) (path : Bor (List ℕ)) (text : List ℕ) (cluster : Cluster) (members : ℕ)
-    → count ≡ counts.Named path → cluster_of text ≡ Ok (cluster_value cluster) → members ≡ length cluster.members.items → IsCountOf count text members
-count_in_file count path text cluster members named said each =
-    subst (λ words. IsCountOf words text members) (sym named)
-    (cluster_value cluster, said, each ∙ sym (length-map cluster.members.items address_value))
 
 -- the lines of clients in the file that the words name
 pub lines_in_file : (words : ClientWords) (path : Bor (List ℕ)) (clients : Clients) → words ≡ client_words.Named path → HasClients clients
@@ -104,6 +95,17 @@ module _ {S : Type 0} (g : Ghosts S) (finds : sql.Held S → Type 0) where
   given_ends cluster settings place members path turns is_logged clients text result is h =
       subst (λ (words : ClusterWords). ServeEndsSo g finds (IsAskedFor words turns is_logged clients text) result
       → EndsSo g finds (IsAskedFor words turns is_logged clients text) text (names_asked words text) result) (sym is) (λ same. same) h
+
+  module _ (node : ℕ) (count : CountWords) (text : List ℕ) (old new : Option (List ℕ)) (result : Result Unit Fault) where
+    -- the floors file among the members that the words count
+    pub floors_given : (members : ℕ) → count ≡ counts.Given members → IfOk result (λ _. AreFloorsTold g finds node members old new)
+        → IfOk result (λ _. IsDone g finds (Floors node count) text old new)
+    floors_given members is h = subst (λ (words : CountWords). IfOk result (λ _. IsDone g finds (Floors node words) text old new)) (sym is) h
+
+    -- or that of a member of the cluster file that they name
+    pub floors_named : (path : Bor (List ℕ)) → count ≡ counts.Named path → IfOk result (λ _. AreMembersFloorsTold g finds node text old new)
+        → IfOk result (λ _. IsDone g finds (Floors node count) text old new)
+    floors_named path is h = subst (λ (words : CountWords). IfOk result (λ _. IsDone g finds (Floors node words) text old new)) (sym is) h
 
   module _ (node : ℕ) (import : ImportWords) (moment : Option ℕ) (text : List ℕ) (old new : Option (List ℕ)) where
     with_output : (settings : Limits) (r : Result Unit Fault) → new ≡ old → IfOk r (λ _. IsCreated g finds node settings moment)

@@ -9,9 +9,9 @@ use Rattle.sqlite.specs.Held as sql
 use Rattle.sqlite.specs.State.{HasCleanDisk}
 use Rattle.otp_core.specs.Limits.{Limits, default_limits}
 use Rattle.otp_core.specs.Range.{IsMoment}
+use Rattle.vote_core.specs.NodeSet.{PlaceRecord}
 use Rattle.floor_sql.specs.Held.{SqlHeld}
 use Rattle.cluster_file.specs.ClusterFile.{ClusterRecord, cluster_of}
-use Rattle.oathd_words.specs.declared.former_words.CountWords.{CountWords}
 use Rattle.oathd_words.specs.declared.former_words.CountWords.TheVariants as counts
 use Rattle.oathd_words.specs.declared.former_words.FormerWords.{FormerWords}
 use Rattle.oathd_words.specs.declared.store_words.Action.{Action}
@@ -27,19 +27,15 @@ use Rattle.oathd_database.specs.Made.{HasMadeMember, store_line}
 use Rattle.oathd_database.specs.Unlock.{Unlocks}
 use Rattle.oathd_database.specs.declared.lost.LostNode.{LostNode}
 use Rattle.oathd_database.specs.declared.serving.Serving.{Serving}
-use Rattle.oathd.specs.Named.{IsActDone, IsNamedOf, IsServedByNames, names_asked}
+use Rattle.oathd_roster.specs.declared.cluster.NamedCluster.{NamedCluster}
+use Rattle.oathd_tasks.specs.Check.{IsKeyIn}
+use Rattle.oathd.specs.Named.{AreNamedFloorsTold, IsActDone, IsNamedIn, IsNamedOf, IsRemadeByNames, IsServedByNames, names_asked}
 use Rattle.oathd.specs.Serve.{IsAskedFor, IsServedAsAsked, place_in}
 
 -- the given moment, or any without one
 abbrev pub IsMomentOf : Option ℕ → ℕ → Type 0
 IsMomentOf None moment = IsMoment moment
 IsMomentOf (Some given) moment = moment ≡ given
-
--- the number of members, from the words or from the text of a cluster file
-abbrev pub IsCountOf : CountWords → List ℕ → ℕ → Type 0
-IsCountOf (counts.Given count) text members = members ≡ count
-IsCountOf (counts.Named path) text members =
-    (cluster : ClusterRecord) × (cluster_of text ≡ Ok cluster) × (members ≡ length cluster.members)
 
 -- the node whose store is replaced, with the lost nodes and the moment that the words give
 pub record IsLostNodeOf (node : ℕ) (former : FormerWords) (lost : LostNode) : Type 0 where
@@ -62,6 +58,7 @@ module _ {S : Type 0} (g : Ghosts S) (finds : sql.Held S → Type 0) where
   pub record IsMemberCreated (node : ℕ) (given : Option ℕ) (text : List ℕ) (old new : Option (List ℕ)) : Type 0 where
     pub cluster : ClusterRecord
     pub of_text : cluster_of text ≡ Ok cluster
+    pub unnamed : cluster.names ≡ None
     pub moment : ℕ
     pub of_moment : IsMomentOf given moment
     pub users : List ℕ
@@ -80,15 +77,34 @@ module _ {S : Type 0} (g : Ghosts S) (finds : sql.Held S → Type 0) where
     pub each : length texts ≡ length former.floors.items
     pub made : HasRemade g finds settings moment 16777216 lost texts store users
 
-  -- The store of a member is replaced with the settings of its cluster file, and the line of the new store is written.
+  -- The store of the node at `place` is replaced, and the line of the new store is written.
+  pub record IsReplacedSo (settings : Limits) (place : PlaceRecord) (given : Option ℕ) (former : FormerWords)
+      (old new : Option (List ℕ)) : Type 0 where
+    pub store : SqlHeld S
+    pub replaced : IsReplaced place.me settings given former store
+    pub written : HasCleanDisk (sql.state g store.conn) → Appends old new (store_line place store.mirror)
+
+  -- A member's store is replaced by names, under the own key of its cluster.
+  pub record IsMemberRemade (cluster : ClusterRecord) (place : PlaceRecord) (given : Option ℕ) (former : FormerWords)
+      (old new : Option (List ℕ)) : Type 0 where
+    pub named : NamedCluster
+    pub is_in : IsNamedIn cluster named
+    pub key : List ℕ
+    pub of_key : IsKeyIn cluster.key key
+    pub remade : IsRemadeByNames g finds cluster.settings place given named key former old new
+
+  -- a member's store is replaced, by names if there are names
+  abbrev pub IsReplacedBy : ClusterRecord → PlaceRecord → Option ℕ → FormerWords → Option (List ℕ)
+      → Option (List ℕ) → Option (List ℕ) → Type 0
+  IsReplacedBy cluster place given former None old new = IsReplacedSo cluster.settings place given former old new
+  IsReplacedBy cluster place given former (Some names) old new = IsMemberRemade cluster place given former old new
+
+  -- The store of a member is replaced with the settings of its cluster file.
   pub record IsMemberReplaced (node : ℕ) (given : Option ℕ) (former : FormerWords) (text : List ℕ)
       (old new : Option (List ℕ)) : Type 0 where
     pub cluster : ClusterRecord
     pub of_text : cluster_of text ≡ Ok cluster
-    pub store : SqlHeld S
-    pub replaced : IsReplaced node cluster.settings given former store
-    pub written : HasCleanDisk (sql.state g store.conn)
-        → Appends old new (store_line (place_in cluster node) store.mirror)
+    pub replaced : IsReplacedBy cluster (place_in cluster node) given former cluster.names old new
 
   -- The floors of the node's store are raised by the texts of `count` floors files.
   pub record IsLevelled (node count : ℕ) : Type 0 where
@@ -104,6 +120,26 @@ module _ {S : Type 0} (g : Ghosts S) (finds : sql.Held S → Type 0) where
     pub is_moment : IsMoment moment
     pub users : List ℕ
     pub told : HasToldFloors g finds default_limits 16777216 node members moment old new users
+
+  -- The floors file of a member's store is written by names, under the own key of its cluster.
+  pub record AreMembersNamedFloorsTold (cluster : ClusterRecord) (node : ℕ) (old new : Option (List ℕ))
+      : Type 0 where
+    pub named : NamedCluster
+    pub is_in : IsNamedIn cluster named
+    pub key : List ℕ
+    pub of_key : IsKeyIn cluster.key key
+    pub told : AreNamedFloorsTold g finds named key node old new
+
+  -- a member's floors file is written, by names if there are names
+  abbrev pub AreFloorsToldBy : ClusterRecord → ℕ → Option (List ℕ) → Option (List ℕ) → Option (List ℕ) → Type 0
+  AreFloorsToldBy cluster node None old new = AreFloorsTold node (length cluster.members) old new
+  AreFloorsToldBy cluster node (Some names) old new = AreMembersNamedFloorsTold cluster node old new
+
+  -- The floors file of a member of the cluster that the text of a cluster file describes is written.
+  pub record AreMembersFloorsTold (node : ℕ) (text : List ℕ) (old new : Option (List ℕ)) : Type 0 where
+    pub cluster : ClusterRecord
+    pub of_text : cluster_of text ≡ Ok cluster
+    pub told : AreFloorsToldBy cluster node cluster.names old new
 
   -- a node is served to the end of its turns, by names if there are names
   abbrev pub IsServedSo : (Serving → Type 0) → List ℕ → Option (List ℕ) → Type 0
@@ -124,8 +160,8 @@ module _ {S : Type 0} (g : Ghosts S) (finds : sql.Held S → Type 0) where
   IsDone (Audit node) text old new = (users : List ℕ) × HasAudited g finds default_limits 0 16777216 node old new users
   IsDone (Migrate node) text old new =
       (users : List ℕ) × (conn : sql.Held S) × HasMigrated g finds default_limits 0 16777216 node conn users
-  IsDone (Floors node count) text old new =
-      (members : ℕ) × IsCountOf count text members × AreFloorsTold node members old new
+  IsDone (Floors node (counts.Given count)) text old new = AreFloorsTold node count old new
+  IsDone (Floors node (counts.Named path)) text old new = AreMembersFloorsTold node text old new
   IsDone (Level node floors) text old new = IsLevelled node (length floors.items)
   IsDone (Gates node) text old new = (users : List ℕ) × HasToldGates g finds default_limits 16777216 node old new users
   IsDone (Unlock node user) text old new =

@@ -1,8 +1,9 @@
 -- The commands over a store by names: what they do, and the ends of `serve`.
-use Rattle.std.specs.Prelude.{◌≡◌, ℕ, List, length, Option, Some, None, Result, Ok, Err}
+use Rattle.std.specs.Prelude.{◌≡◌, ◌≢◌, ◌<◌, ℕ, false, true, List, length, Option, Some, None, Result, Ok, Err, min}
+use Rattle.std.specs.Option.{option_map, unwrap_or}
 use Rattle.sqlite.specs.Store.{Ghosts}
 use Rattle.sqlite.specs.Held as sql
-use Rattle.otp_core.specs.Limits.{Limits}
+use Rattle.otp_core.specs.Limits.{Limits, default_limits}
 use Rattle.otp_core.specs.Range.{IsMoment}
 use Rattle.vote_core.specs.NodeSet.{PlaceRecord}
 use Rattle.floor_sql.specs.Held.{SqlHeld}
@@ -10,12 +11,19 @@ use Rattle.seated_store.specs.Seated.{SeatedRecord}
 use Rattle.oath_node.specs.declared.turns.Served.{Served}
 use Rattle.cluster_file.specs.ClusterFile.{ClusterRecord, cluster_of}
 use Rattle.cluster_file.specs.declared.fault.LineFault.{LineFault}
+use Rattle.oathd_words.specs.declared.former_words.FormerWords.{FormerWords}
 use Rattle.oathd_words.specs.declared.store_words.ClusterWords.{ClusterWords}
 use Rattle.oathd_words.specs.declared.store_words.ClusterWords.TheVariants.{Given, Named}
 use Rattle.oathd_database.specs.declared.fault.Fault.TheVariants.{Memory, CannotWrite, NoClock, Users, Store, Socket}
 use Rattle.oathd_database.specs.declared.serving.Serving.{Serving}
 use Rattle.oathd_words.specs.declared.store_words.NamedAct.{NamedAct}
 use Rattle.oathd_words.specs.declared.store_words.NamedAct.TheVariants as acts
+use Rattle.oathd_causes.specs.declared.roster.NamesFault.TheVariants.{NewTokens}
+use Rattle.oathd_floors.specs.Levelled.{HasLevelled}
+use Rattle.oathd_floors.specs.Named.{HasNamed}
+use Rattle.oathd_floors.specs.Remade.{HasRemade}
+use Rattle.oathd_floors.specs.Told.{HasTold}
+use Rattle.oathd_floors.specs.declared.remaking.Former.{Former}
 use Rattle.oathd_roster.specs.Begun.{HasBegun}
 use Rattle.oathd_seats.specs.Commands.{HasAuditedNamed, HasExportedNamed, HasToldGatesNamed, HasToldRoster}
 use Rattle.oathd_seats.specs.Unlock.{UnlocksNamed}
@@ -25,6 +33,7 @@ use Rattle.oathd_roster.specs.Served.{EndsServingNamed, HasServedNamed}
 use Rattle.oathd_roster.specs.declared.cluster.NamedCluster.{NamedCluster}
 use Rattle.oathd_roster.specs.declared.fault.RosterFault.{RosterFault}
 use Rattle.oathd_roster.specs.declared.fault.RosterFault.TheVariants.{Command, SameName, AnotherCluster, Full}
+use Rattle.oathd_tasks.specs.Check.{IsKeyIn}
 use Rattle.oathd.specs.Serve.{ServeEndsSo, place_in}
 use Rattle.oathd.specs.declared.fault.Fault.{Fault}
 use Rattle.oathd.specs.declared.fault.Fault.TheVariants.{Database, Floors, Task, Unlock, Roster, Seats, Names}
@@ -51,6 +60,18 @@ pub record IsNamedIn (cluster : ClusterRecord) (named : NamedCluster) : Type 0 w
 abbrev pub AreNamesIn : ClusterRecord → Option NamedCluster → Type 0
 AreNamesIn cluster None = cluster.names ≡ None
 AreNamesIn cluster (Some named) = IsNamedIn cluster named
+
+-- the fault is one of a task, or the cluster file gives names and a line that no command takes
+abbrev pub IsUntaken : ClusterRecord → Fault → Type 0
+IsUntaken cluster (Task fault) = Unit {0}
+IsUntaken cluster (Names fault) = (fault ≡ NewTokens) × (cluster.fresh ≡ true) × (cluster.names ≢ None)
+IsUntaken cluster fault = ⊥
+
+-- the own key of the cluster that the text of a cluster file describes
+pub record IsKeyOf (text key : List ℕ) : Type 0 where
+  pub cluster : ClusterRecord
+  pub of_text : cluster_of text ≡ Ok cluster
+  pub is_in : IsKeyIn cluster.key key
 
 -- the cluster of the text of a cluster file
 pub record IsNamedOf (text : List ℕ) (named : NamedCluster) : Type 0 where
@@ -80,7 +101,15 @@ seats_fault_of (seats.Roster fault) = fault_of fault
 seats_fault_of (seats.NotEnrolled row) = Seats (seats.NotEnrolled row)
 seats_fault_of (seats.NoUser user) = Seats (seats.NoUser user)
 
--- ---- The ends
+-- ---- The acts
+
+-- The floors files of former stores are those of the words, and were read in a later second than they say.
+pub record IsFormerOf (words : FormerWords) (former : Former) : Type 0 where
+  pub of_lost : option_map (λ nodes. nodes.now) former.lost ≡ option_map (λ nodes. nodes.items) words.lost
+  pub is_said : 0 < words.since
+  pub of_since : former.since ≡ min words.since former.now
+  pub is_now : IsMoment former.now
+  pub each : length former.texts.now ≡ length words.floors.items
 
 -- Databases are opened by a connection that shows what `finds` says.
 module _ {S : Type 0} (g : Ghosts S) (finds : sql.Held S → Type 0) where
@@ -93,23 +122,59 @@ module _ {S : Type 0} (g : Ghosts S) (finds : sql.Held S → Type 0) where
     pub store : SeatedRecord (SqlHeld S)
     pub begun : HasBegun g finds named settings moment 16777216 place store old new users
 
-  -- what is done to the store of a member
-  abbrev pub Acts : NamedAct → Limits → PlaceRecord → NamedCluster → Option (List ℕ) → Option (List ℕ) → List ℕ → Type 0
-  Acts acts.Begin settings place named old new users = Begins settings place named old new users
-  Acts acts.Export settings place named old new users =
+  -- The floors of the member's store are raised by the texts of `count` floors files, under the own key of the cluster.
+  pub record IsLevelledByNames (text : List ℕ) (node : ℕ) (named : NamedCluster) (count : ℕ) : Type 0 where
+    pub key : List ℕ
+    pub of_key : IsKeyOf text key
+    pub now : ℕ
+    pub is_now : IsMoment now
+    pub texts : List (List ℕ)
+    pub each : length texts ≡ count
+    pub store : SqlHeld S
+    pub levelled : HasLevelled g finds (record { key = key; own = named.bond; is_anew = false; now = now }) node texts
+        store
+
+  -- The floors file of a member's store is written under a key, at some moment.
+  pub record AreNamedFloorsTold (named : NamedCluster) (key : List ℕ) (node : ℕ) (old new : Option (List ℕ))
+      : Type 0 where
+    pub moment : ℕ
+    pub is_moment : IsMoment moment
+    pub told : HasTold g finds named.bond key node moment old new
+
+  -- The store of a member is replaced by names from floors files. New tokens are imported at the given moment, or at
+  -- the present one.
+  pub record IsRemadeByNames (settings : Limits) (place : PlaceRecord) (given : Option ℕ) (named : NamedCluster)
+      (key : List ℕ) (words : FormerWords) (old new : Option (List ℕ)) : Type 0 where
+    pub users : List ℕ
+    pub former : Former
+    pub of_former : IsFormerOf words former
+    pub store : SeatedRecord (SqlHeld S)
+    pub made : HasRemade g finds named key settings (unwrap_or given former.now) 16777216 place former store old new
+        users
+
+  -- what is done to the store of a member of the cluster that the text of a cluster file describes
+  abbrev pub Acts : List ℕ → NamedAct → Limits → PlaceRecord → NamedCluster → Option (List ℕ) → Option (List ℕ)
+      → List ℕ → Type 0
+  Acts text acts.Begin settings place named old new users = Begins settings place named old new users
+  Acts text acts.Export settings place named old new users =
       HasExportedNamed g finds named settings 16777216 place.me old new users
-  Acts acts.Audit settings place named old new users =
+  Acts text acts.Audit settings place named old new users =
       HasAuditedNamed g finds named settings 16777216 place.me old new users
-  Acts acts.Gates settings place named old new users =
+  Acts text acts.Gates settings place named old new users =
       HasToldGatesNamed g finds named settings 16777216 place.me old new users
-  Acts (acts.Unlock user) settings place named old new users =
+  Acts text (acts.Unlock user) settings place named old new users =
       (store : SqlHeld S) × UnlocksNamed g finds named settings 16777216 place.me user.now store users
-  Acts acts.Roster settings place named old new users =
+  Acts text acts.Roster settings place named old new users =
       HasToldRoster g finds named settings 16777216 place.me old new users
+  Acts text acts.Migrate settings place named old new users =
+      (conn : sql.Held S) × HasNamed g finds named default_limits 16777216 place.me conn users
+  Acts text (acts.Level floors) settings place named old new users =
+      IsLevelledByNames text place.me named (length floors.items)
 
   -- the same for some users file
-  abbrev pub ActsFor : NamedAct → Limits → PlaceRecord → NamedCluster → Option (List ℕ) → Option (List ℕ) → Type 0
-  ActsFor act settings place named old new = (users : List ℕ) × Acts act settings place named old new users
+  abbrev pub ActsFor : List ℕ → NamedAct → Limits → PlaceRecord → NamedCluster → Option (List ℕ)
+      → Option (List ℕ) → Type 0
+  ActsFor text act settings place named old new = (users : List ℕ) × Acts text act settings place named old new users
 
   -- The act on the store of the member `node` is done. The text is that of the cluster file.
   pub record IsActDone (node : ℕ) (act : NamedAct) (text : List ℕ) (old new : Option (List ℕ)) : Type 0 where
@@ -117,7 +182,9 @@ module _ {S : Type 0} (g : Ghosts S) (finds : sql.Held S → Type 0) where
     pub place : PlaceRecord
     pub named : NamedCluster
     pub member : IsMemberByNames node text settings place named
-    pub acts : ActsFor act settings place named old new
+    pub acts : ActsFor text act settings place named old new
+
+  -- ---- The ends
 
   -- `IsAsked` holds for the parameters that were asked for, and `IsCluster` for the cluster.
   module _ (IsAsked : Serving → Type 0) (IsCluster : NamedCluster → Type 0) where
@@ -144,8 +211,8 @@ module _ {S : Type 0} (g : Ghosts S) (finds : sql.Held S → Type 0) where
       pub users : List ℕ
       pub ends : EndsServingNamed g finds named moment serving fault users
 
-    -- The end of a command that serves by names. A fault of a task or of names is one of the files that give the
-    -- parameters, and the clock may fail before anything else.
+    -- The end of a command that serves by names. A fault of a task is one of the files that give the parameters, one of
+    -- names is a line that no command takes, and the clock may fail before anything else.
     abbrev pub NamedEndsSo : Result Unit Fault → Type 0
     NamedEndsSo (Ok done) = IsServedByNames
     NamedEndsSo (Err (Task fault)) = Unit {0}
@@ -159,7 +226,7 @@ module _ {S : Type 0} (g : Ghosts S) (finds : sql.Held S → Type 0) where
     NamedEndsSo (Err (Floors fault)) = ⊥
     NamedEndsSo (Err (Unlock fault)) = ⊥
     NamedEndsSo (Err (Seats fault)) = ⊥
-    NamedEndsSo (Err (Names fault)) = Unit {0}
+    NamedEndsSo (Err (Names fault)) = fault ≡ NewTokens
 
   -- the end of a command that serves, by names if there are names
   abbrev pub EndsSo : (Serving → Type 0) → List ℕ → Option (List ℕ) → Result Unit Fault → Type 0

@@ -82,12 +82,6 @@ abbrev pub IsOfTask : Fault → Type 0
 IsOfTask (Task fault) = Unit {0}
 IsOfTask fault = ⊥
 
--- the fault is one of the files that give a node's parameters
-abbrev pub IsOfFiles : Fault → Type 0
-IsOfFiles (Task fault) = Unit {0}
-IsOfFiles (Names fault) = Unit {0}
-IsOfFiles fault = ⊥
-
 -- Databases are opened by a connection that shows what `finds` says. `IsAsked` holds for the parameters that were asked
 -- for.
 module _ {S : Type 0} (g : Ghosts S) (finds : sql.Held S → Type 0) (IsAsked : Serving → Type 0) where
@@ -106,7 +100,7 @@ module _ {S : Type 0} (g : Ghosts S) (finds : sql.Held S → Type 0) (IsAsked : 
     pub users : List ℕ
     pub ends : EndsServing g finds serving fault users
 
-  -- The end of a command that serves. A fault of a task or of names is one of the files that give the parameters.
+  -- The end of a command that serves. A fault of a task is one of the files that give the parameters.
   abbrev pub ServeEndsSo : Result Unit Fault → Type 0
   ServeEndsSo (Ok done) = IsServedAsAsked
   ServeEndsSo (Err (Task fault)) = Unit {0}
@@ -120,4 +114,4 @@ module _ {S : Type 0} (g : Ghosts S) (finds : sql.Held S → Type 0) (IsAsked : 
   ServeEndsSo (Err (Unlock fault)) = ⊥
   ServeEndsSo (Err (Roster fault)) = ⊥
   ServeEndsSo (Err (Seats fault)) = ⊥
-  ServeEndsSo (Err (Names fault)) = Unit {0}
+  ServeEndsSo (Err (Names fault)) = ⊥

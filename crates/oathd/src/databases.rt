@@ -7,10 +7,11 @@ ghost use Rattle.otp_core.specs.Range.{IsMoment};
 ghost use Rattle.cluster_file.specs.ClusterFile.{cluster_of, cluster_value};
 ghost use Rattle.oathd_database.specs.File.{FindsFiles};
 ghost use Rattle.oathd_database.specs.Gate.{IsSaid};
+ghost use Rattle.oathd_causes.specs.declared.roster.NamesFault.TheVariants as names;
 ghost use Rattle.oathd_database.specs.declared.fault.Fault.TheVariants as database;
 ghost use Rattle.oathd_words.specs.StoreWords.{IsActionInRange, IsClusterInRange};
 ghost use Rattle.oathd_words.specs.declared.store_words.Action.TheVariants.{Audit, Export, Floors, Gates, Init, Level, Migrate, Remake, Unlock};
-ghost use Rattle.oathd.specs.Done.{IsCountOf, IsCreated, IsDone, IsLevelled, IsMemberCreated, IsMemberReplaced, IsMomentOf, IsReplaced};
+ghost use Rattle.oathd.specs.Done.{AreFloorsTold, AreMembersFloorsTold, IsCreated, IsDone, IsLevelled, IsMemberCreated, IsMemberReplaced, IsMomentOf, IsReplaced, IsReplacedSo};
 ghost use Rattle.oathd.specs.Named.{EndsBy, EndsSo, names_asked, names_in};
 ghost use Rattle.oathd.specs.Serve.{AreLinesOf, IsAskedFor, IsMemberOf, IsOfTask, IsRunOf, ServeEndsSo};
 ghost use Rattle.oathd.specs.Users.{IsOfUsers};
@@ -38,6 +39,7 @@ use std::alloc::Global;
 use std::io::{Cursor, Write};
 use std::time::Clock as TimeSource;
 use udp_port::SystemClock;
+use vote_core::Place;
 
 /// Returns the current time.
 pub(crate) fn present_moment<'a, T: TimeSource>(source: &T) -> Result<u64, Fault<'a>>
@@ -63,35 +65,15 @@ fn moment_of<'a, T: TimeSource>(source: &T, moment: Option<u64>) -> Result<u64, 
     }
 }
 
-/// Refuses a cluster file that gives names with `fault`.
-fn refuse_names<'a>(cluster: &Cluster<'_>, fault: NamesFault) -> Result<(), Fault<'a>>
+/// Refuses a cluster file that gives names, for an `init` that does not say whether the cluster has served.
+fn refuse_names<'a>(cluster: &Cluster<'_>) -> Result<(), Fault<'a>>
     ensures unnamed { IfOk result (λ _. (cluster_value cluster.now).names ≡ None) }
-    ensures fault { IfErr result (λ f. (f ≡ Fault.Names fault) × ((cluster_value cluster.now).names ≢ None)) }
+    ensures fault { IfErr result (λ f.
+        (f ≡ Fault.Names names.PlainInit) × ((cluster_value cluster.now).names ≢ None)) }
 {
     match cluster.names {
-        Some(_) => Err(Fault::Names(fault)),
+        Some(_) => Err(Fault::Names(NamesFault::PlainInit)),
         None => Ok(()),
-    }
-}
-
-/// Returns the number of members, from the words or from the text of the cluster file. The file must have the node as a
-/// member.
-fn member_count<'a>(
-    alloc: Global,
-    count: CountWords<'a>,
-    node: u8,
-    text: &'a [u8],
-) -> Result<u8, Fault<'a>>
-    requires { 1 ≤ node }
-    ensures { IfOk result (IsCountOf count.entry text.now) }
-{
-    match count {
-        CountWords::Given(count) => Ok(count),
-        CountWords::Named(_) => {
-            let cluster = cluster_in(alloc, text)?;
-            refuse_names(&cluster, NamesFault::HasNames)?;
-            Ok(member_place(&cluster, node)?.n())
-        }
     }
 }
 
@@ -103,7 +85,7 @@ pub(crate) struct Site<'r, 'a> {
     /// The path of the database.
     pub(crate) database: &'a str,
     /// The path of the users file.
-    users: &'a str,
+    pub(crate) users: &'a str,
     /// The text of the cluster file that the words name.
     pub(crate) cluster: &'a [u8],
 }
@@ -183,7 +165,7 @@ impl<'r, 'a> Site<'r, 'a> {
             node moment self.now.cluster.now (O.contents held.old) (O.contents held.new)) }
     {
         let cluster = cluster_in(self.alloc, self.cluster)?;
-        refuse_names(&cluster, NamesFault::PlainInit)?;
+        refuse_names(&cluster)?;
         let place = member_place(&cluster, node)?;
         let moment = moment_of(self.rt, moment)?;
         let (alloc, settings) = (self.alloc, cluster.settings);
@@ -256,8 +238,28 @@ impl<'r, 'a> Site<'r, 'a> {
         }
     }
 
-    /// Creates a replacement store, as [`Site::remake_store`] does, for a member of the cluster that the text of the
-    /// cluster file describes, and prints what was made.
+    /// Creates a replacement store, as [`Site::remake_store`] does, and prints what was made.
+    fn remake_numbered<S: Start, O: Write>(
+        &self,
+        start: S,
+        settings: Settings,
+        place: Place,
+        moment: Option<u64>,
+        former: FormerWords<'a>,
+        held: &mut O,
+    ) -> Result<(), Fault<'a>>
+        requires node { IsNode place.me }
+        requires moment { IfSome moment IsMoment }
+        ensures { IfOk result (λ _. IsReplacedSo ⟦<FileStore<FileFrom<S>> as Store>⟧ (FindsFiles (image_at S.Start))
+            settings place moment former.entry (O.contents held.old) (O.contents held.new)) }
+    {
+        let store = self.remake_store(start, place.me(), settings, moment, former)?;
+        write_store(place, &store, held)?;
+        Ok(())
+    }
+
+    /// Creates a replacement store for a member of the cluster that the text of the cluster file describes, by names if
+    /// it gives names. Prints what was made.
     fn remake_member<S: Start, O: Write>(
         &self,
         start: S,
@@ -272,11 +274,16 @@ impl<'r, 'a> Site<'r, 'a> {
             node moment former.entry self.now.cluster.now (O.contents held.old) (O.contents held.new)) }
     {
         let cluster = cluster_in(self.alloc, self.cluster)?;
-        refuse_names(&cluster, NamesFault::HasNames)?;
         let place = member_place(&cluster, node)?;
-        let store = self.remake_store(start, node, cluster.settings, moment, former)?;
-        write_store(place, &store, held)?;
-        Ok(())
+        let settings = cluster.settings;
+        let named = named_cluster(&cluster, place.n())?;
+        match named {
+            Some(named) => {
+                let key = cluster_key(self.alloc, self.rt, &cluster.key)?;
+                self.remake_named(start, settings, place, moment, &named, &key, former, held)
+            }
+            None => self.remake_numbered(start, settings, place, moment, former, held),
+        }
     }
 
     /// Creates a replacement store with the settings that the words give. Prints what was made if the words name a
@@ -454,6 +461,47 @@ impl<'r, 'a> Site<'r, 'a> {
         Ok(())
     }
 
+    /// Prints the floors file of the store of a node of `members` members.
+    fn floors_among<S: Start, O: Write>(
+        &self,
+        start: S,
+        node: u8,
+        members: u8,
+        held: &mut O,
+    ) -> Result<(), Fault<'a>>
+        ensures { IfOk result (λ _. AreFloorsTold ⟦<FileStore<FileFrom<S>> as Store>⟧ (FindsFiles (image_at S.Start))
+            node members (O.contents held.old) (O.contents held.new)) }
+    {
+        let moment = present_moment(self.rt)?;
+        let (users, database) = (self.users_alone()?, self.found(start));
+        floors_store(self.alloc, users, node, members, moment, database, held)?;
+        Ok(())
+    }
+
+    /// Prints the floors file of a member of the cluster that the text of the cluster file describes, by names if it
+    /// gives names.
+    fn floors_of_member<S: Start, O: Write>(
+        &self,
+        start: S,
+        node: u8,
+        held: &mut O,
+    ) -> Result<(), Fault<'a>>
+        requires { 1 ≤ node }
+        ensures { IfOk result (λ _. AreMembersFloorsTold ⟦<FileStore<FileFrom<S>> as Store>⟧
+            (FindsFiles (image_at S.Start)) node self.now.cluster.now (O.contents held.old) (O.contents held.new)) }
+    {
+        let cluster = cluster_in(self.alloc, self.cluster)?;
+        let place = member_place(&cluster, node)?;
+        let named = named_cluster(&cluster, place.n())?;
+        match named {
+            Some(named) => {
+                let key = cluster_key(self.alloc, self.rt, &cluster.key)?;
+                self.floors_by_names(start, node, &named, &key, held)
+            }
+            None => self.floors_among(start, node, place.n(), held),
+        }
+    }
+
     /// Prints the floors file of the store.
     fn floors<S: Start, O: Write>(
         &self,
@@ -466,11 +514,10 @@ impl<'r, 'a> Site<'r, 'a> {
         ensures { IfOk result (λ _. IsDone ⟦<FileStore<FileFrom<S>> as Store>⟧ (FindsFiles (image_at S.Start))
             (Floors node count.entry) self.now.cluster.now (O.contents held.old) (O.contents held.new)) }
     {
-        let members = member_count(self.alloc, count, node, self.cluster)?;
-        let moment = present_moment(self.rt)?;
-        let (users, database) = (self.users_alone()?, self.found(start));
-        floors_store(self.alloc, users, node, members, moment, database, held)?;
-        Ok(())
+        match count {
+            CountWords::Given(members) => self.floors_among(start, node, members, held),
+            CountWords::Named(_) => self.floors_of_member(start, node, held),
+        }
     }
 
     /// Raises the floors of a node to the greatest in the floors files at `paths`, with the text of the users file.

@@ -6,6 +6,7 @@ use crate::fault::Fault;
 use floors_file::{FileFault, FilesFault, FloorsFault, MAX_FLOORS_LEN};
 use oathd_causes::{FloorsAdvice, file_advice, floors_advice};
 use oathd_database::GatherFault;
+use oathd_floors::NamedFloorsFault;
 use oathd_tasks::file_text;
 use program_edge::ProgramFault;
 use std::alloc::Global;
@@ -27,6 +28,9 @@ pub(crate) enum PathFault<'a> {
     /// The file does not fit the other files, or the command.
     #[error("floors {0}: {1}")]
     File(&'a str, FileFault),
+    /// The file was read after the present time.
+    #[error("floors {0}: Ahead")]
+    Ahead(&'a str),
     /// Together the files are insufficient.
     #[error("{0}")]
     Files(FilesFault),
@@ -47,6 +51,7 @@ impl PathFault<'_> {
             PathFault::TooLong(_) | PathFault::Line(_, _) => FloorsAdvice::TakeAgain,
             PathFault::NoUser(_, line) => file_advice(FileFault::NoUser(line)),
             PathFault::File(_, fault) => file_advice(fault),
+            PathFault::Ahead(_) => FloorsAdvice::SetTheClocks,
             PathFault::Files(fault) => floors_advice(fault),
         }
     }
@@ -103,6 +108,14 @@ fn file_fault<'a>(path: &'a str, fault: FileFault) -> PathFault<'a> {
     }
 }
 
+/// Returns the fault of several files, which it names by their paths.
+fn files_fault<'a>(paths: &[&'a str], fault: FilesFault) -> PathFault<'a> {
+    match fault {
+        FilesFault::File(number, fault) => file_fault(path_of(paths, number), fault),
+        fault => PathFault::Files(fault),
+    }
+}
+
 /// Returns the program's fault for a fault of floors files, which it names by their paths.
 pub(crate) fn with_paths<'a>(paths: &[&'a str], fault: GatherFault) -> Fault<'a> {
     match fault {
@@ -110,9 +123,18 @@ pub(crate) fn with_paths<'a>(paths: &[&'a str], fault: GatherFault) -> Fault<'a>
         GatherFault::Floors(number, fault) => {
             Fault::Floors(PathFault::Line(path_of(paths, number), fault))
         }
-        GatherFault::Files(FilesFault::File(number, fault)) => {
-            Fault::Floors(file_fault(path_of(paths, number), fault))
+        GatherFault::Files(fault) => Fault::Floors(files_fault(paths, fault)),
+    }
+}
+
+/// Returns the program's fault for a fault of floors files by names, which it names by their paths.
+pub(crate) fn with_named_paths<'a>(paths: &[&'a str], fault: NamedFloorsFault) -> Fault<'a> {
+    match fault {
+        NamedFloorsFault::Roster(fault) => Fault::from(fault),
+        NamedFloorsFault::Floors(number, fault) => {
+            Fault::Floors(PathFault::Line(path_of(paths, number), fault))
         }
-        GatherFault::Files(fault) => Fault::Floors(PathFault::Files(fault)),
+        NamedFloorsFault::Ahead(number) => Fault::Floors(PathFault::Ahead(path_of(paths, number))),
+        NamedFloorsFault::Files(fault) => Fault::Floors(files_fault(paths, fault)),
     }
 }

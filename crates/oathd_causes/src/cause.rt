@@ -148,7 +148,7 @@ pub fn database_cause<'a>(
 ) -> Option<Cause<'a>> {
     match fault {
         oathd_database::Fault::Store(fault) => {
-            let is_named = has_names(alloc, text);
+            let is_named = has_names(alloc, text) && !names.is_naming;
             Some(of_store(alloc, rt, names, is_named, fault))
         }
         oathd_database::Fault::Users(_) => Some(of_file(rt, names.users)),

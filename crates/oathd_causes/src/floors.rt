@@ -34,6 +34,8 @@ pub enum FloorsAdvice {
     SetTheClock,
     #[error("use the users file with which it was taken, or take it again")]
     UseItsUsersFile,
+    #[error("it was read at a time that lies ahead: set the clocks of this machine and of its node")]
+    SetTheClocks,
 }
 
 /// Returns what to do about the fault of one file.

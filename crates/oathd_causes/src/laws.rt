@@ -65,7 +65,7 @@ pub fn advice_is_worked()
 
 /// Worked cases. What to do about each fault of names.
 pub fn names_are_worked()
-    ensures faults { map names_advice (NamesFault.HasNames ∷ NamesFault.PlainInit ∷ NamesFault.NoNames
-        ∷ NamesFault.NewTokens ∷ []) ≡ NamesAdvice.NotYet ∷ NamesAdvice.Begin ∷ NamesAdvice.GiveNames
-        ∷ NamesAdvice.LeaveOut ∷ [] }
+    ensures faults { map names_advice (NamesFault.PlainInit ∷ NamesFault.NoNames ∷ NamesFault.NewTokens
+        ∷ NamesFault.NoSince ∷ []) ≡ NamesAdvice.Begin ∷ NamesAdvice.GiveNames ∷ NamesAdvice.LeaveOut
+        ∷ NamesAdvice.GiveSince ∷ [] }
 {}

@@ -23,7 +23,7 @@ pub enum StoreCause {
     OtherTables,
     #[error("a store of version 1: oathd migrate makes version 2 of it")]
     VersionOne,
-    #[error("a store of version 2, without names: its cluster file has no line names")]
+    #[error("a store of version 2, without names: oathd migrate --cluster gives its tokens names")]
     Unnamed,
     #[error("a store of version 3, by names: give --cluster with its cluster file, which has a line names")]
     ByNames,

@@ -23,6 +23,8 @@ pub struct Names<'a> {
     address: Option<SocketAddrV4>,
     /// Whether the command creates the store.
     pub(crate) is_new: bool,
+    /// Whether the command gives the tokens of a store names.
+    pub(crate) is_naming: bool,
 }
 
 /// Returns the path of the key file, or None if the key is given itself.
@@ -50,6 +52,7 @@ impl<'a> Names<'a> {
             node: None,
             address: None,
             is_new: false,
+            is_naming: false,
         }
     }
 
@@ -79,6 +82,7 @@ impl<'a> Names<'a> {
             Action::Named { node, act, .. } => Names {
                 node: Some(*node),
                 is_new: matches!(act, NamedAct::Begin),
+                is_naming: matches!(act, NamedAct::Migrate),
                 ..self
             },
         }

@@ -14,9 +14,6 @@ use thiserror::Error;
 /// A fault of a cluster file that gives names, or none, for a command over a store.
 #[derive(Clone, Copy, Debug, PartialEq, Eq, Error)]
 pub enum NamesFault {
-    /// The file gives names, and the command is for stores without names.
-    #[error("cluster: HasNames")]
-    HasNames,
     /// The file gives names, and the command creates a store without saying whether the cluster has served.
     #[error("cluster: HasNames")]
     PlainInit,
@@ -26,19 +23,22 @@ pub enum NamesFault {
     /// The file gives `new-tokens`, which no command takes yet.
     #[error("cluster: NewTokens")]
     NewTokens,
+    /// The file gives names, and the command takes floors files without saying since when they were read.
+    #[error("cluster: NoSince")]
+    NoSince,
 }
 
 /// What to do about such a fault.
 #[derive(Clone, Copy, Debug, PartialEq, Eq, Error)]
 pub enum NamesAdvice {
-    #[error("it gives names: oathd init takes --begins, for a cluster that never served, and for no other")]
+    #[error("it gives names: oathd init takes --begins for a cluster that never served, else --lost or --anew")]
     Begin,
-    #[error("it gives names, and this command takes no store by names yet")]
-    NotYet,
     #[error("give names WORD in it, or leave --begins and --cluster out")]
     GiveNames,
     #[error("leave the line new-tokens out: tokens are imported as before")]
     LeaveOut,
+    #[error("it gives names: give --since SECONDS, a time after the last node that is lost or replaced had stopped")]
+    GiveSince,
 }
 
 /// Returns what to do about a fault of names.
@@ -46,10 +46,10 @@ pub fn names_advice(fault: NamesFault) -> NamesAdvice
     ensures { result ≡ spec_names_advice fault }
 {
     match fault {
-        NamesFault::HasNames => NamesAdvice::NotYet,
         NamesFault::PlainInit => NamesAdvice::Begin,
         NamesFault::NoNames => NamesAdvice::GiveNames,
         NamesFault::NewTokens => NamesAdvice::LeaveOut,
+        NamesFault::NoSince => NamesAdvice::GiveSince,
     }
 }
 

@@ -30,8 +30,14 @@ use vote_core::Place;
 /// The number of boots for each second.
 const BOOTS: u64 = 1 << 20;
 
-/// Opens the store of `node` that was created in the tables of `conn`.
-fn open_created<S: Alter + Drop>(
+/// Opens the store of `node` that was created in the tables of `conn`, for the tokens with the given entries and floors.
+///
+/// The store is bound to `own`. Each of the tokens is seen at the row with its name.
+///
+/// # Errors
+/// - Returns `Unusable` if the disk returned something other than what was written.
+/// - Returns `Disk` or `Memory` if the store meets one of these failures.
+pub fn open_created<S: Alter + Drop>(
     alloc: Global,
     conn: Connection<S>,
     node: u8,

@@ -16,7 +16,7 @@ mod serve;
 mod tests;
 mod users;
 
-pub use begin::begin_store;
+pub use begin::{begin_store, open_created};
 pub use cluster::NamedCluster;
 pub use fault::RosterFault;
 pub use laws::faults_are_worked;

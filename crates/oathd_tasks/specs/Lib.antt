@@ -4,6 +4,7 @@ pub mod Check
 pub mod Clients
 pub mod Fault
 pub mod File
+pub mod NewCluster
 pub mod NewKey
 pub mod Nodes
 pub mod Notes

@@ -14,8 +14,9 @@ use Rattle.oathd_sim.specs.Sim.{Setup}
 use Rattle.oathd_words.specs.declared.nodes_words.NodesWords.{NodesWords}
 use Rattle.oathd_words.specs.declared.nodes_words.NodesWords.TheVariants.{Given, Named}
 use Rattle.oathd_words.specs.declared.words.Task.{Task}
-use Rattle.oathd_words.specs.declared.words.Task.TheVariants.{Lines, Sim as SimTask, Cluster as ClusterTask, Store, Check, NewKey, Secret, SecretOfInput}
+use Rattle.oathd_words.specs.declared.words.Task.TheVariants.{Lines, Sim as SimTask, Cluster as ClusterTask, Store, Check, NewKey, NewCluster, Secret, SecretOfInput}
 use Rattle.users_input.specs.Input.{lines_of}
+use Rattle.oathd_tasks.specs.NewCluster.{NewClusterEndsSo}
 use Rattle.oathd_tasks.specs.NewKey.{NewKeyEndsSo}
 use Rattle.oathd_tasks.specs.Check.{CheckEndsSo, IsKeyIn, IsOfClusterFile}
 use Rattle.oathd_tasks.specs.declared.fault.Fault.{Fault}
@@ -138,5 +139,6 @@ EndsAsAsked (ClusterTask users nodes moment) text input result old new =
 EndsAsAsked (Store database users action) text input result old new = (result ≡ Err NoDatabases) × (new ≡ old)
 EndsAsAsked (Check users cluster) text input result old new = CheckEndsSo text None result old new
 EndsAsAsked NewKey text input result old new = NewKeyEndsSo result old new
+EndsAsAsked NewCluster text input result old new = NewClusterEndsSo result old new
 EndsAsAsked SecretOfInput text input result old new = InputEndsSo input result old new
 EndsAsAsked (Secret hex) text input result old new = SecretEndsSo hex.now result old new

@@ -6,6 +6,7 @@ ghost use Rattle.oathd_words.specs.Words.{IsInRange};
 
 use crate::check::check;
 use crate::fault::Fault;
+use crate::new_cluster::print_new_cluster;
 use crate::new_key::print_new_key;
 use crate::secret_input::print_secret_of;
 use crate::setup::{NodesSetup, nodes_setup};
@@ -164,6 +165,7 @@ pub fn perform<'a, F: Files + Net + RandomSource, R: Read, O: Write>(
             check(alloc, files, cluster, users, &mut rows, held)
         }
         Task::NewKey => print_new_key(files, held),
+        Task::NewCluster => print_new_cluster(files, held),
         Task::Secret { hex } => match print(hex, held) {
             Ok(()) => Ok(()),
             Err(fault) => Err(Fault::Run(fault)),

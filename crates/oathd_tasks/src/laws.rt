@@ -17,6 +17,7 @@ ghost use Rattle.oathd_tasks.specs.Advice.{advice_text, is_base32_in, line_at, u
 ghost use Rattle.oathd_tasks.specs.Check.{CheckEndsSo, HasChecked, HasTokens, IsKeyIn, IsOfClusterFile, has_mark};
 ghost use Rattle.oathd_tasks.specs.Clients.{IsOfClients, IsOfClientsFile};
 ghost use Rattle.oathd_tasks.specs.File.{IsOfFile};
+ghost use Rattle.oathd_tasks.specs.NewCluster.{NewClusterEndsSo, new_cluster_text};
 ghost use Rattle.oathd_tasks.specs.NewKey.{NewKeyEndsSo};
 ghost use Rattle.oathd_tasks.specs.Nodes.{ClusterEndsSo, EndsAsAsked, EndsWithSetup, InputEndsSo, IsKeyOf, IsOfKey, IsOfSetup, IsSetup, LinesEndSo, SecretEndsSo, SimEndsSo};
 ghost use Rattle.oathd_tasks.specs.Notes.{notes_text, printed, rows_text, shown};
@@ -279,6 +280,11 @@ pub fn clients_can_be_broken()
     ensures new_key_is_lost { NewKeyEndsSo done (Some []) (Some []) → ⊥ }
     ensures no_random { NewKeyEndsSo (ended_by NoRandom) (Some []) (Some []) }
     ensures no_random_and_writes { NewKeyEndsSo (ended_by NoRandom) (Some []) (Some (codes "x")) → ⊥ }
+    ensures new_cluster_is_lost { NewClusterEndsSo done (Some []) (Some []) → ⊥ }
+    ensures new_cluster_without_random { NewClusterEndsSo (ended_by NoRandom) (Some []) (Some (codes "x")) → ⊥ }
+    ensures new_cluster_ends_by_another { NewClusterEndsSo (run_ended_by Memory) (Some []) (Some []) → ⊥ }
+    ensures new_cluster { new_cluster_text (replicate 16 0)
+        ≡ codes "names 00000000000000000000000000000000\nlife 1\nkey-file key\n" }
     ensures new_key_ends_by_another { (NewKeyEndsSo (run_ended_by Memory) (Some []) (Some []) → ⊥)
         × (NewKeyEndsSo (ended_by NoDatabases) (Some []) (Some []) → ⊥) }
 

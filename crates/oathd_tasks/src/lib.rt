@@ -13,6 +13,7 @@ mod commands;
 mod fault;
 mod key;
 mod laws;
+mod new_cluster;
 mod new_key;
 mod notes;
 mod program;

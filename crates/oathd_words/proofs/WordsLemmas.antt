@@ -15,7 +15,7 @@ use Rattle.oathd_words.specs.declared.store_words.Action.{Action}
 use Rattle.oathd_words.specs.declared.store_words.Action.TheVariants.{Init, Remake, Serve, Export, Audit, Migrate, Floors, Level, Gates, Unlock, Named}
 use Rattle.oathd_words.specs.declared.store_words.NamedAct.{NamedAct}
 use Rattle.oathd_words.specs.declared.store_words.NamedAct.TheVariants as acts
-use Rattle.oathd_words.specs.declared.words.Task.TheVariants.{Lines, Sim, Cluster, Store, Check, NewKey, Secret, SecretOfInput}
+use Rattle.oathd_words.specs.declared.words.Task.TheVariants.{Lines, Sim, Cluster, Store, Check, NewKey, NewCluster, Secret, SecretOfInput}
 
 -- a number that distinguishes the names of the commands
 abbrev mark : List ℕ → ℕ
@@ -36,6 +36,8 @@ act_name acts.Audit = codes "audit"
 act_name acts.Gates = codes "gates"
 act_name (acts.Unlock user) = codes "unlock"
 act_name acts.Roster = codes "roster"
+act_name acts.Migrate = codes "migrate"
+act_name (acts.Level floors) = codes "level"
 
 -- the name of the command that does this with a store
 abbrev action_name : Action → List ℕ
@@ -62,6 +64,8 @@ act_stored acts.Audit = refl
 act_stored acts.Gates = refl
 act_stored (acts.Unlock user) = refl
 act_stored acts.Roster = refl
+act_stored acts.Migrate = refl
+act_stored (acts.Level floors) = refl
 
 store_named : (action : Action) → is_store_name (action_name action) ≡ true
 store_named (Init node import moment) = refl
@@ -83,6 +87,8 @@ act_so name found acts.Audit asks = asks
 act_so name found acts.Gates asks = asks
 act_so name found (acts.Unlock user) asks = asks.0
 act_so name found acts.Roster asks = asks
+act_so name found acts.Migrate asks = asks
+act_so name found (acts.Level floors) asks = asks.0
 
 -- an action is asked for by its command
 pub named_so : (name : List ℕ) (found : Found) (action : Action) → AsksForAction name found action → name ≡ action_name action
@@ -103,7 +109,7 @@ no_store : (name other : List ℕ) (found : Found) → name ≡ other → is_sto
 no_store name other found is others action asks =
     false≢true (sym others ∙ ap is_store_name (sym is ∙ named_so name found action asks) ∙ store_named action)
 
--- ---- The other names in order of their marks: check, cluster, lines, new-key, sim, secret
+-- ---- The other names in order of their marks: check, cluster, lines, new-key, new-cluster, sim, secret
 
 module _ (name : List ℕ) (found : Found) where
   pub not_for_lines : name ≡ codes "lines"
@@ -111,6 +117,7 @@ module _ (name : List ℕ) (found : Found) where
       → AsksForNothing name found
   not_for_lines is none (Lines nodes moment) asks = none nodes moment asks.1 asks.2
   not_for_lines is none NewKey asks = apart name _ _ is asks (lit< tt)
+  not_for_lines is none NewCluster asks = apart name _ _ is asks (lit< tt)
   not_for_lines is none (Secret hex) asks = apart name _ _ is asks.0 (lit< tt)
   not_for_lines is none SecretOfInput asks = apart name _ _ is asks.0 (lit< tt)
   not_for_lines is none (Check users cluster) asks = apart name _ _ asks.0 is (lit< tt)
@@ -123,6 +130,7 @@ module _ (name : List ℕ) (found : Found) where
       → AsksForNothing name found
   not_for_sim is none (Lines nodes moment) asks = apart name _ _ asks.0 is (lit< tt)
   not_for_sim is none NewKey asks = apart name _ _ asks is (lit< tt)
+  not_for_sim is none NewCluster asks = apart name _ _ asks is (lit< tt)
   not_for_sim is none (Secret hex) asks = apart name _ _ is asks.0 (lit< tt)
   not_for_sim is none SecretOfInput asks = apart name _ _ is asks.0 (lit< tt)
   not_for_sim is none (Check users cluster) asks = apart name _ _ asks.0 is (lit< tt)
@@ -136,6 +144,7 @@ module _ (name : List ℕ) (found : Found) where
       → AsksForNothing name found
   not_for_cluster is none (Lines nodes moment) asks = apart name _ _ is asks.0 (lit< tt)
   not_for_cluster is none NewKey asks = apart name _ _ is asks (lit< tt)
+  not_for_cluster is none NewCluster asks = apart name _ _ is asks (lit< tt)
   not_for_cluster is none (Secret hex) asks = apart name _ _ is asks.0 (lit< tt)
   not_for_cluster is none SecretOfInput asks = apart name _ _ is asks.0 (lit< tt)
   not_for_cluster is none (Check users cluster) asks = apart name _ _ asks.0 is (lit< tt)
@@ -147,6 +156,7 @@ module _ (name : List ℕ) (found : Found) where
       → (first_value found (codes "HEX") ≡ None) × (is_flag (first_value found (codes "stdin")) ≡ false) → AsksForNothing name found
   not_for_secret is none (Lines nodes moment) asks = apart name _ _ asks.0 is (lit< tt)
   not_for_secret is none NewKey asks = apart name _ _ asks is (lit< tt)
+  not_for_secret is none NewCluster asks = apart name _ _ asks is (lit< tt)
   not_for_secret is none (Secret hex) asks = let clash = sym none.0 ∙ asks.1 in cc
   not_for_secret is none SecretOfInput asks = false≢true (sym none.1 ∙ asks.1)
   not_for_secret is none (Check users cluster) asks = apart name _ _ asks.0 is (lit< tt)
@@ -157,6 +167,7 @@ module _ (name : List ℕ) (found : Found) where
   pub not_for_check : name ≡ codes "check" → ((users cluster : List ℕ) → AsksToCheck found users cluster → ⊥) → AsksForNothing name found
   not_for_check is none (Lines nodes moment) asks = apart name _ _ is asks.0 (lit< tt)
   not_for_check is none NewKey asks = apart name _ _ is asks (lit< tt)
+  not_for_check is none NewCluster asks = apart name _ _ is asks (lit< tt)
   not_for_check is none (Secret hex) asks = apart name _ _ is asks.0 (lit< tt)
   not_for_check is none SecretOfInput asks = apart name _ _ is asks.0 (lit< tt)
   not_for_check is none (Check users cluster) asks = none _ _ asks.1
@@ -166,17 +177,18 @@ module _ (name : List ℕ) (found : Found) where
 
   -- a name of no other command
   pub not_for_store : (name ≡ codes "lines" → ⊥) → (name ≡ codes "sim" → ⊥) → (name ≡ codes "cluster" → ⊥) → (name ≡ codes "check" → ⊥)
-      → (name ≡ codes "new-key" → ⊥) → (name ≡ codes "secret" → ⊥)
+      → (name ≡ codes "new-key" → ⊥) → (name ≡ codes "new-cluster" → ⊥) → (name ≡ codes "secret" → ⊥)
       → ((database users : List ℕ) (action : Action) → AsksForStore name found database users action → ⊥)
       → AsksForNothing name found
-  not_for_store lines sim cluster check new_key secret none (Lines nodes moment) asks = lines asks.0
-  not_for_store lines sim cluster check new_key secret none NewKey asks = new_key asks
-  not_for_store lines sim cluster check new_key secret none (Secret hex) asks = secret asks.0
-  not_for_store lines sim cluster check new_key secret none SecretOfInput asks = secret asks.0
-  not_for_store lines sim cluster check new_key secret none (Check users file) asks = check asks.0
-  not_for_store lines sim cluster check new_key secret none (Sim nodes moment) asks = sim asks.0
-  not_for_store lines sim cluster check new_key secret none (Cluster users nodes moment) asks = cluster asks.0
-  not_for_store lines sim cluster check new_key secret none (Store database users action) asks = none _ _ _ asks
+  not_for_store lines sim cluster check new_key new_cluster secret none (Lines nodes moment) asks = lines asks.0
+  not_for_store lines sim cluster check new_key new_cluster secret none NewKey asks = new_key asks
+  not_for_store lines sim cluster check new_key new_cluster secret none NewCluster asks = new_cluster asks
+  not_for_store lines sim cluster check new_key new_cluster secret none (Secret hex) asks = secret asks.0
+  not_for_store lines sim cluster check new_key new_cluster secret none SecretOfInput asks = secret asks.0
+  not_for_store lines sim cluster check new_key new_cluster secret none (Check users file) asks = check asks.0
+  not_for_store lines sim cluster check new_key new_cluster secret none (Sim nodes moment) asks = sim asks.0
+  not_for_store lines sim cluster check new_key new_cluster secret none (Cluster users nodes moment) asks = cluster asks.0
+  not_for_store lines sim cluster check new_key new_cluster secret none (Store database users action) asks = none _ _ _ asks
 
 -- without a node's number nothing is asked for by `init`
 pub no_init_node : (found : Found) → ((number : ℕ) → GivesMember found (codes "node") number → ⊥) → (action : Action)

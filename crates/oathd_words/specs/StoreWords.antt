@@ -106,6 +106,9 @@ AsksForAct name found acts.Gates = name ≡ codes "gates"
 AsksForAct name found (acts.Unlock user) =
     (name ≡ codes "unlock") × (first_value found (codes "USER") ≡ Some user.now)
 AsksForAct name found acts.Roster = name ≡ codes "roster"
+AsksForAct name found acts.Migrate = name ≡ codes "migrate"
+AsksForAct name found (acts.Level floors) =
+    (name ≡ codes "level") × (values_given found (codes "floors") ≡ Some (map (λ path. path.now) floors.items))
 
 -- the action that the command `name` asks for with the values found
 abbrev pub AsksForAction : List ℕ → Found → Action → Type 0
@@ -122,11 +125,12 @@ AsksForAction name found (Serve cluster turns is_logged clients) =
 AsksForAction name found Export = (name ≡ codes "export") × (first_value found (codes "cluster") ≡ None)
 AsksForAction name found (Audit node) =
     (name ≡ codes "audit") × GivesMember found (codes "node") node × (first_value found (codes "cluster") ≡ None)
-AsksForAction name found (Migrate node) = (name ≡ codes "migrate") × GivesMember found (codes "node") node
+AsksForAction name found (Migrate node) =
+    (name ≡ codes "migrate") × GivesMember found (codes "node") node × (first_value found (codes "cluster") ≡ None)
 AsksForAction name found (Floors node count) =
     (name ≡ codes "floors") × GivesMember found (codes "node") node × AsksForCount found node count
 AsksForAction name found (Level node floors) =
-    (name ≡ codes "level") × GivesMember found (codes "node") node
+    (name ≡ codes "level") × GivesMember found (codes "node") node × (first_value found (codes "cluster") ≡ None)
     × (values_given found (codes "floors") ≡ Some (map (λ path. path.now) floors.items))
 AsksForAction name found (Gates node) =
     (name ≡ codes "gates") × GivesMember found (codes "node") node × (first_value found (codes "cluster") ≡ None)

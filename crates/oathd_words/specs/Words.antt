@@ -16,7 +16,7 @@ use Rattle.oathd_words.specs.declared.store_words.ClusterWords.TheVariants.{Give
 use Rattle.oathd_words.specs.declared.store_words.ImportWords.{ImportWords}
 use Rattle.oathd_words.specs.declared.store_words.ImportWords.TheVariants as imports
 use Rattle.oathd_words.specs.declared.words.Task.{Task}
-use Rattle.oathd_words.specs.declared.words.Task.TheVariants.{Lines, Sim, Cluster, Store, Check, NewKey, Secret, SecretOfInput}
+use Rattle.oathd_words.specs.declared.words.Task.TheVariants.{Lines, Sim, Cluster, Store, Check, NewKey, NewCluster, Secret, SecretOfInput}
 
 -- the paths of a users file and of a cluster file
 abbrev pub AsksToCheck : Found → List ℕ → List ℕ → Type 0
@@ -36,6 +36,7 @@ AsksFor name found (Store database users action) = AsksForStore name found datab
 AsksFor name found (Check users cluster) =
     (name ≡ codes "check") × AsksToCheck found users.now cluster.now
 AsksFor name found NewKey = name ≡ codes "new-key"
+AsksFor name found NewCluster = name ≡ codes "new-cluster"
 AsksFor name found SecretOfInput =
     (name ≡ codes "secret") × (is_flag (first_value found (codes "stdin")) ≡ true)
 AsksFor name found (Secret hex) = (name ≡ codes "secret") × (first_value found (codes "HEX") ≡ Some hex.now)
@@ -52,6 +53,7 @@ IsInRange (Cluster users nodes moment) = AreNodesInRange nodes × IsMoment momen
 IsInRange (Store database users action) = IsActionInRange action
 IsInRange (Check users cluster) = Unit {0}
 IsInRange NewKey = Unit {0}
+IsInRange NewCluster = Unit {0}
 IsInRange SecretOfInput = Unit {0}
 IsInRange (Secret hex) = Unit {0}
 
@@ -92,5 +94,6 @@ cluster_path_of (Cluster users nodes moment) = nodes_path nodes
 cluster_path_of (Store database users action) = path_of_action action
 cluster_path_of (Check users cluster) = Some cluster.now
 cluster_path_of NewKey = None
+cluster_path_of NewCluster = None
 cluster_path_of SecretOfInput = None
 cluster_path_of (Secret hex) = None

@@ -2,8 +2,8 @@
 
 use crate::help::{
     AUDIT_HELP, CHECK_HELP, CLUSTER_HELP, EXPORT_HELP, FLOORS_HELP, GATES_HELP, INIT_HELP,
-    LEVEL_HELP, LINES_HELP, MIGRATE_HELP, NEW_KEY_HELP, PROGRAM_HELP, ROSTER_HELP, SECRET_HELP,
-    SERVE_HELP, SERVE_USAGE, SIM_HELP, UNLOCK_HELP, VERSION_HELP,
+    LEVEL_HELP, LINES_HELP, MIGRATE_HELP, NEW_CLUSTER_HELP, NEW_KEY_HELP, PROGRAM_HELP,
+    ROSTER_HELP, SECRET_HELP, SERVE_HELP, SERVE_USAGE, SIM_HELP, UNLOCK_HELP, VERSION_HELP,
 };
 use crate::option_words::{
     ANEW, BEGINS, CHECKED_CLUSTER, CLIENTS, CLOCK_MOMENT, CLUSTER, COUNT_CLUSTER, DATABASE, DRIFT,
@@ -50,7 +50,7 @@ const STORE: &[Word] = &[Word::Text(DATABASE), Word::Text(USERS), Word::Text(NOD
 pub(crate) const VERSION_COMMAND: &str = "version";
 
 /// The commands in the order of the help. Clap's own command `help` follows.
-pub(crate) const COMMANDS: [CommandWords; 17] = [
+pub(crate) const COMMANDS: [CommandWords; 18] = [
     CommandWords {
         word: "lines",
         whole: "oathd lines",
@@ -159,7 +159,7 @@ pub(crate) const COMMANDS: [CommandWords; 17] = [
         usage: None,
         after_help: MIGRATE_HELP,
         next_line_help: true,
-        words: &[STORE],
+        words: &[STORE, &[Word::Text(NAMES_CLUSTER)]],
     },
     CommandWords {
         word: "floors",
@@ -180,7 +180,7 @@ pub(crate) const COMMANDS: [CommandWords; 17] = [
         usage: None,
         after_help: LEVEL_HELP,
         next_line_help: true,
-        words: &[STORE, &[Word::List(FLOORS)]],
+        words: &[STORE, &[Word::List(FLOORS), Word::Text(NAMES_CLUSTER)]],
     },
     CommandWords {
         word: "gates",
@@ -224,6 +224,15 @@ pub(crate) const COMMANDS: [CommandWords; 17] = [
         about: "Prints a new key for a client of the nodes",
         usage: None,
         after_help: NEW_KEY_HELP,
+        next_line_help: false,
+        words: &[],
+    },
+    CommandWords {
+        word: "new-cluster",
+        whole: "oathd new-cluster",
+        about: "Prints a cluster file with new names, without members",
+        usage: None,
+        after_help: NEW_CLUSTER_HELP,
         next_line_help: false,
         words: &[],
     },

@@ -131,7 +131,11 @@ files are then of stopped nodes, and each majority has one of them. A user of
 none of these files begins as at any import.
 
 With --begins it creates the store of a node by names: a token is known by its
-name, and not by its row. No member of the cluster has served before.
+name, and not by its row. No member of the cluster has served before. With
+--lost or --anew and a cluster file that gives names, the floors files are by
+names, and --since is wanted: they were read in a later second. Then the new
+store has their rows, also those of retired tokens, and after them the new
+tokens of the users file.
 
 The status is 1 if floors files have a fault or don't say enough. It is 3 if a
 store is there, or the database fails.
@@ -206,6 +210,10 @@ DB is the store of node I of a version of oathd without clock drift, and USERS
 its users file. The store then keeps the drift of each token, 0 at first, and
 all else stays. All is done in one step, or nothing.
 
+With --cluster, DB is a store of the present version without names. Its tokens
+get the names that FILE gives, in the order of USERS, and it is bound to the
+cluster. Don't edit USERS before all members of the cluster are migrated.
+
 The status is 3 if the database fails, holds no such store, or is of the present
 version.";
 
@@ -217,6 +225,12 @@ floors file, for oathd init and oathd level of other nodes:
     USER NEXT                       for each token
 NEXT is the floor of the token at the node. The store stays as it is.
 
+If FILE gives names, the file has a row for each row of the store, and its last
+line is a MAC under the cluster's key. USERS is not read then:
+    floors 2 NODE MEMBERS BOOT MOMENT ROWS NAMES LIFE
+    NAME NEXT                       for each row
+    mac DIGITS
+
 The status is 3 if the database fails, or holds no store of node I.";
 
 /// The help of the command `level`, after its options.
@@ -225,6 +239,9 @@ DB is the store of node I, which is stopped, and USERS its users file. Raises
 the floor of each token to the greatest of the floors files, if that is greater.
 All else stays. So a node that was away for days has at once what the others
 would tell it one by one.
+
+With --cluster the store and the floors files are by names. Each file is of this
+cluster. USERS is not read then.
 
 The status is 1 if a floors file has a fault, and 3 if the database fails, or
 holds no store of node I.";
@@ -293,6 +310,17 @@ and for the key file of the client.
 
 Example:
     umask 077; oathd new-key > radius.key";
+
+/// The help of the command `new-cluster`, after its options.
+pub(crate) const NEW_CLUSTER_HELP: &str = "\
+Prints the lines of a cluster file but those of its members: a word of 16 random
+bytes for the names of its tokens, a life, and the name of its key file. All
+members have the same file, and the word is never changed.
+
+Example, for one member:
+    umask 077; oathd new-key > key
+    (echo 'member 1 127.0.0.1:7101'; oathd new-cluster) > cluster
+    oathd init node1.db users --node 1 --cluster cluster --begins";
 
 /// The help of the command `version`, after its options.
 pub(crate) const VERSION_HELP: &str = "Prints what oathd --version prints.";

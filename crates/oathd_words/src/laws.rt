@@ -7,7 +7,7 @@ ghost use Rattle.oathd_words.specs.Broken.{cluster_at, file, floors_by_file, flo
 ghost use Rattle.clap.specs.Matches.{first_value};
 ghost use Rattle.clap.specs.declared.parser.matches.Found.{Found};
 ghost use Rattle.clap.specs.declared.parser.matches.MatchedArg.{MatchedArg};
-ghost use Rattle.oathd_words.specs.FormerWords.{former_of, is_of_former, lost_said, moment_or_0, nodes_in};
+ghost use Rattle.oathd_words.specs.FormerWords.{former_of, is_of_former, lost_said, moment_or_0, nodes_in, values_given};
 ghost use Rattle.oathd_words.specs.Given.{GivesMember};
 ghost use Rattle.oathd_words.specs.Members.{AreMembers, SayAddresses, are_different};
 ghost use Rattle.oathd_words.specs.NodesWords.{AreNodesInRange};
@@ -18,7 +18,7 @@ ghost use Rattle.oathd_words.specs.declared.store_words.Action.TheVariants.{Audi
 ghost use Rattle.oathd_words.specs.declared.store_words.ClientWords.TheVariants.{Anybody, Named, ThisMachine};
 ghost use Rattle.oathd_words.specs.declared.store_words.NamedAct.{NamedAct as AnyAct};
 ghost use Rattle.oathd_words.specs.declared.store_words.NamedAct.TheVariants as acts;
-ghost use Rattle.oathd_words.specs.declared.words.Task.TheVariants.{Check, NewKey, Secret, SecretOfInput};
+ghost use Rattle.oathd_words.specs.declared.words.Task.TheVariants.{Check, NewCluster, NewKey, Secret, SecretOfInput};
 
 /// Counterexamples: the smallest list of members is accepted, and each part of the rule fails for a minimal one.
 pub fn members_can_be_broken()
@@ -179,6 +179,7 @@ pub fn client_words_are_worked()
         × (AsksForClients found (Named (word (codes "g"))) → ⊥) × (AsksForClients found Anybody → ⊥)
         × (AsksForClients found ThisMachine → ⊥) }
     ensures new_key { cluster_path_of NewKey ≡ None }
+    ensures new_cluster { cluster_path_of NewCluster ≡ None }
 {}
 
 /// Worked cases. What the commands do to a store by names, and what they ask for without a cluster file.
@@ -200,10 +201,16 @@ pub fn named_words_are_worked()
 
     ensures acts { (found : Found) → AsksForAct (codes "export") found acts.Export
         × AsksForAct (codes "audit") found acts.Audit × AsksForAct (codes "gates") found acts.Gates
-        × AsksForAct (codes "roster") found acts.Roster }
+        × AsksForAct (codes "roster") found acts.Roster × AsksForAct (codes "migrate") found acts.Migrate }
     ensures acts_of_others { (found : Found) → (AsksForAct (codes "audit") found acts.Export → ⊥)
         × (AsksForAct (codes "gates") found acts.Audit → ⊥) × (AsksForAct (codes "roster") found acts.Gates → ⊥)
-        × (AsksForAct (codes "export") found acts.Roster → ⊥) × (AsksForAct (codes "roster") found acts.Begin → ⊥) }
+        × (AsksForAct (codes "export") found acts.Roster → ⊥) × (AsksForAct (codes "roster") found acts.Begin → ⊥)
+        × (AsksForAct (codes "level") found acts.Migrate → ⊥) }
+    ensures level { (found : Found) (floors : Vec (Bor (List ℕ))) → values_given found (codes "floors")
+        ≡ Some (map (λ path. path.now) floors.items) → AsksForAct (codes "level") found (acts.Level floors)
+        × (AsksForAct (codes "gates") found (acts.Level floors) → ⊥) }
+    ensures level_by_others { (found : Found) (floors : Vec (Bor (List ℕ))) → values_given found (codes "floors") ≡ None
+        → AsksForAct (codes "level") found (acts.Level floors) → ⊥ }
     ensures unlock { (found : Found) → first_value found (codes "USER") ≡ Some (codes "u")
         → AsksForAct (codes "unlock") found (acts.Unlock (word (codes "u")))
         × (AsksForAct (codes "unlock") found (acts.Unlock (word (codes "v"))) → ⊥)
@@ -218,7 +225,11 @@ pub fn named_words_are_worked()
     ensures named_is_not_plain { (found : Found) → first_value found (codes "cluster") ≡ Some (codes "c")
         → (AsksForAction (codes "export") found Export → ⊥) × (AsksForAction (codes "audit") found (Audit 1) → ⊥)
         × (AsksForAction (codes "gates") found (Gates 1) → ⊥)
-        × (AsksForAction (codes "unlock") found (unlock_of 1) → ⊥) }
+        × (AsksForAction (codes "unlock") found (unlock_of 1) → ⊥)
+        × (AsksForAction (codes "migrate") found (Migrate 1) → ⊥) }
+    ensures named_level_is_not_plain { (found : Found) (floors : Vec (Bor (List ℕ)))
+        → first_value found (codes "cluster") ≡ Some (codes "c")
+        → AsksForAction (codes "level") found (level_by floors 1) → ⊥ }
     ensures plain { (found : Found) → GivesMember found (codes "node") 1
         → first_value found (codes "cluster") ≡ None → AsksForAction (codes "export") found Export
         × AsksForAction (codes "audit") found (Audit 1) × AsksForAction (codes "gates") found (Gates 1) }

@@ -87,6 +87,13 @@ pub enum NamedAct<'a> {
     },
     /// Prints its rows.
     Roster,
+    /// Upgrades it from a store without names.
+    Migrate,
+    /// Raises its floors to the greatest in floors files.
+    Level {
+        /// The paths of the floors files.
+        floors: Vec<&'a str>,
+    },
 }
 
 /// An action on the store of a node.
@@ -474,14 +481,19 @@ fn audit_action<'a>(matches: &ArgMatches<'a>) -> Option<Action<'a>>
 }
 
 /// Returns the action of `migrate`, or `None` if a value is missing or wrong.
-fn migrate_action<'a>(matches: &ArgMatches<'_>) -> Option<Action<'a>>
+fn migrate_action<'a>(matches: &ArgMatches<'a>) -> Option<Action<'a>>
     ensures some { IfSome result (AsksForAction (codes "migrate") (found_of matches.now)) }
     ensures none { IfNone result ((action : AnyAction)
         → AsksForAction (codes "migrate") (found_of matches.now) action → ⊥) }
 {
-    Some(Action::Migrate {
-        node: member_number(matches, "node")?,
-    })
+    let node = member_number(matches, "node")?;
+    match matches.get_str("cluster") {
+        Some(path) => {
+            let act = NamedAct::Migrate;
+            Some(Action::Named { node, path, act })
+        }
+        None => Some(Action::Migrate { node }),
+    }
 }
 
 /// Returns the action of `floors`, or `None` if a value is missing or wrong.
@@ -509,9 +521,15 @@ fn level_action<'a>(
     let Some(node) = member_number(matches, "node") else {
         return Ok(None);
     };
-    match paths_of(alloc, matches, "floors")? {
-        Some(floors) => Ok(Some(Action::Level { node, floors })),
-        None => Ok(None),
+    let Some(floors) = paths_of(alloc, matches, "floors")? else {
+        return Ok(None);
+    };
+    match matches.get_str("cluster") {
+        Some(path) => {
+            let act = NamedAct::Level { floors };
+            Ok(Some(Action::Named { node, path, act }))
+        }
+        None => Ok(Some(Action::Level { node, floors })),
     }
 }
 

@@ -58,6 +58,8 @@ pub enum Task<'a> {
     },
     /// Prints a new key of a client.
     NewKey,
+    /// Prints a cluster file with new names, which lacks the members.
+    NewCluster,
     /// Prints the base32 text of a secret, which the input gives in hexadecimal.
     SecretOfInput,
     /// Prints the base32 text of a secret.
@@ -79,7 +81,7 @@ impl<'a> Task<'a> {
             }
             Task::Store { action, .. } => action.cluster_path(),
             Task::Check { cluster, .. } => Some(*cluster),
-            Task::NewKey | Task::SecretOfInput | Task::Secret { .. } => None,
+            Task::NewKey | Task::NewCluster | Task::SecretOfInput | Task::Secret { .. } => None,
         }
     }
 }
@@ -229,6 +231,7 @@ fn task_of<'a>(
         "cluster" => Ok(cluster_task(matches)),
         "check" => Ok(check_task(matches)),
         "new-key" => Ok(Some(Task::NewKey)),
+        "new-cluster" => Ok(Some(Task::NewCluster)),
         "secret" => Ok(secret_task(matches)),
         _ => store_task(alloc, name, matches),
     }

@@ -24,3 +24,11 @@ returns-in-Roster g c =
 pub returns-in-Unlock : goal.returns-in-Unlock
 returns-in-Unlock g c =
     act_done _ _ c.args.node c.args.act _ c.args.self.now.cluster.now _ _ _ _ _ c.unlock_named.result c.in-Unlock.is c.in_ok-settings.ensures (c.unlock_named.ensures (g.O.Write.contents c.args.held.now) (g.O.Write.contents c.args.held.now))
+
+pub returns-in-Migrate : goal.returns-in-Migrate
+returns-in-Migrate g c =
+    act_done _ _ c.args.node c.args.act _ c.args.self.now.cluster.now _ _ _ _ _ c.migrate_named.result c.in-Migrate.is c.in_ok-settings.ensures (c.migrate_named.ensures (g.O.Write.contents c.args.held.now) (g.O.Write.contents c.args.held.now))
+
+pub returns-in-Level : goal.returns-in-Level
+returns-in-Level g c =
+    act_done _ _ c.args.node c.args.act _ c.args.self.now.cluster.now _ _ _ _ _ c.level_named.result c.in-Level.is c.in_ok-settings.ensures (c.level_named.ensures (g.O.Write.contents c.args.held.now) (g.O.Write.contents c.args.held.now))

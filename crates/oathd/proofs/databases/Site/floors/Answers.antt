@@ -1,9 +1,10 @@
-use Rattle.oathd.proofs.DoneLemmas.{floors_told}
+use Rattle.oathd.proofs.WordsLemmas.{floors_given, floors_named}
 use Rattle.oathd.proofs.databases.Site.floors.Goals as goal
 
-pub returns : goal.returns
-returns g c = (
-  c.in_ok-members.members,
-  c.in_ok-members.ensures,
-  floors_told _ _ c.args.node _ c.in_ok-members.members c.in_ok-moment.moment _ _ c.in_ok-moment.ensures.moment c.in_ok-floors_store.ensures.told,
-)
+pub returns-in-Given : goal.returns-in-Given
+returns-in-Given g c =
+    floors_given _ _ c.args.node c.args.count c.args.self.now.cluster.now _ _ c.floors_among.result c.in-Given.members c.in-Given.is c.floors_among.ensures
+
+pub returns-in-Named : goal.returns-in-Named
+returns-in-Named g c =
+    floors_named _ _ c.args.node c.args.count c.args.self.now.cluster.now _ _ c.floors_of_member.result _ c.in-Named.is c.floors_of_member.ensures

@@ -1,0 +1,6 @@
+pub mod FaultLemmas
+pub mod FilesLemmas
+pub mod NamedLemmas
+pub mod RemadeLemmas
+pub mod RowsLemmas
+pub mod ToldLemmas

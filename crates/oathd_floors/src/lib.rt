@@ -1,0 +1,23 @@
+//! The commands of `oathd` over floors files by names: `floors`, `init --lost`, `init --anew` and `level`, and the one
+//! that gives a store of version 2 names, `migrate`.
+//!
+//! Each is over any [`Database`](oathd_database::Database). A floor is the first free factor of a token at a node. A
+//! floors file by names has a row for each row of a store, also for a retired token, and its last line is a MAC under
+//! the own key of the cluster. So the commands that read such files or write one need no users file for them.
+#![tactic(auto)]
+
+mod fault;
+mod files;
+mod laws;
+mod levelling;
+mod naming;
+mod remaking;
+mod rows;
+mod telling;
+
+pub use fault::NamedFloorsFault;
+pub use laws::{faults_are_worked, files_are_worked, floors_can_be_broken};
+pub use levelling::level_named_store;
+pub use naming::name_store;
+pub use remaking::{Former, remake_named_store};
+pub use telling::tell_named_floors;
