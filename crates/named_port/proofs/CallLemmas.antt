@@ -34,60 +34,65 @@ below_more t (event ∷ calls) call =
     ap (λ (l : List PortEvent). below_event t event ++ l) (below_more (after_event t event) calls call)
     ∙ sym (append_assoc (below_event t event) (below_events (after_event t event) calls) (below_event (after_events (after_event t event) calls) call))
 
--- ---- a translator, but for what was dropped last
+-- ---- a translator, but for what it tells a log
 
-abbrev with_older : TranslatorRecord → Option Older → TranslatorRecord
-with_older t older = record t { older = older }
+abbrev with_told : TranslatorRecord → Option Older → List Bool → TranslatorRecord
+with_told t older differing = record t { older = older; differing = differing }
 
-abbrev made : List ℕ → List (List ℕ) → ℕ → ℕ → List ℕ → Option Older → TranslatorRecord
-made key names me boot heard older = record { key = key; names = names; me = me; boot = boot; heard = heard; older = older }
+abbrev made : List ℕ → List (List ℕ) → ℕ → ℕ → List ℕ → Option Older → List Bool → TranslatorRecord
+made key names me boot heard older differing =
+    record { key = key; names = names; me = me; boot = boot; heard = heard; older = older; differing = differing }
 
-is_with : (t w : TranslatorRecord) → w.key ≡ t.key → w.names ≡ t.names → w.me ≡ t.me → w.boot ≡ t.boot → t.heard ≡ w.heard → t ≡ with_older w t.older
+is_with : (t w : TranslatorRecord) → w.key ≡ t.key → w.names ≡ t.names → w.me ≡ t.me → w.boot ≡ t.boot → t.heard ≡ w.heard → t ≡ with_told w t.older t.differing
 is_with t w key names me boot heard =
-    ap (λ (x : List ℕ). made x t.names t.me t.boot t.heard t.older) (sym key)
-    ∙ ap (λ (x : List (List ℕ)). made w.key x t.me t.boot t.heard t.older) (sym names)
-    ∙ ap (λ (x : ℕ). made w.key w.names x t.boot t.heard t.older) (sym me)
-    ∙ ap (λ (x : ℕ). made w.key w.names w.me x t.heard t.older) (sym boot)
-    ∙ ap (λ (x : List ℕ). made w.key w.names w.me w.boot x t.older) heard
+    ap (λ (x : List ℕ). made x t.names t.me t.boot t.heard t.older t.differing) (sym key)
+    ∙ ap (λ (x : List (List ℕ)). made w.key x t.me t.boot t.heard t.older t.differing) (sym names)
+    ∙ ap (λ (x : ℕ). made w.key w.names x t.boot t.heard t.older t.differing) (sym me)
+    ∙ ap (λ (x : ℕ). made w.key w.names w.me x t.heard t.older t.differing) (sym boot)
+    ∙ ap (λ (x : List ℕ). made w.key w.names w.me w.boot x t.older t.differing) heard
 
-read_with : (w : TranslatorRecord) (older : Option Older) (read : Option (Head × List ℕ)) → (after_read (with_older w older) read).heard ≡ (after_read w read).heard
-read_with w older None = refl
-read_with w older (Some read) = go (is_older w.heard read.0)
+read_with : (w : TranslatorRecord) (older : Option Older) (differing : List Bool) (read : Option (Head × List ℕ))
+    → (after_read (with_told w older differing) read).heard ≡ (after_read w read).heard
+read_with w older differing None = refl
+read_with w older differing (Some read) = go (is_older w.heard read.0)
   where
-    go : (b : Bool) → (cond b (record (with_older w older) { older = Some (record { member = read.0.from; boot = read.0.boot }) }) (record (with_older w older) { heard = slice_set w.heard read.0.from read.0.boot })).heard
+    go : (b : Bool) → (cond b (record (with_told w older differing) { older = Some (record { member = read.0.from; boot = read.0.boot }) })
+        (record (with_told w older differing) { heard = slice_set w.heard read.0.from read.0.boot })).heard
         ≡ (cond b (record w { older = Some (record { member = read.0.from; boot = read.0.boot }) }) (record w { heard = slice_set w.heard read.0.from read.0.boot })).heard
     go true = refl
     go false = refl
 
-event_with : (w : TranslatorRecord) (older : Option Older) (event : PortEvent) → (after_event (with_older w older) event).heard ≡ (after_event w event).heard
-event_with w older (Received (Peer number) bytes) = read_with w older (sent_by w number bytes)
-event_with w older (Received (Client number) bytes) = refl
-event_with w older Quiet = refl
-event_with w older Faulted = refl
-event_with w older (Offered to bytes) = refl
+event_with : (w : TranslatorRecord) (older : Option Older) (differing : List Bool) (event : PortEvent)
+    → (after_event (with_told w older differing) event).heard ≡ (after_event w event).heard
+event_with w older differing (Received (Peer number) bytes) = read_with w older differing (sent_by w number bytes)
+event_with w older differing (Received (Client number) bytes) = refl
+event_with w older differing Quiet = refl
+event_with w older differing Faulted = refl
+event_with w older differing (Offered to bytes) = refl
 
-handed_with : (w : TranslatorRecord) (older : Option Older) (event : PortEvent) → handed_in (with_older w older) event ≡ handed_in w event
-handed_with w older (Received (Peer number) bytes) = go (sent_by w number bytes)
+handed_with : (w : TranslatorRecord) (older : Option Older) (differing : List Bool) (event : PortEvent) → handed_in (with_told w older differing) event ≡ handed_in w event
+handed_with w older differing (Received (Peer number) bytes) = go (sent_by w number bytes)
   where
-    go : (read : Option (Head × List ℕ)) → Received (Peer number) (bytes_or_none (translated (with_older w older) read)) ≡ Received (Peer number) (bytes_or_none (translated w read))
+    go : (read : Option (Head × List ℕ))
+        → Received (Peer number) (bytes_or_none (translated (with_told w older differing) read)) ≡ Received (Peer number) (bytes_or_none (translated w read))
     go None = refl
     go (Some read) = refl
-handed_with w older (Received (Client number) bytes) = refl
-handed_with w older Quiet = refl
-handed_with w older Faulted = refl
-handed_with w older (Offered to bytes) = refl
+handed_with w older differing (Received (Client number) bytes) = refl
+handed_with w older differing Quiet = refl
+handed_with w older differing Faulted = refl
+handed_with w older differing (Offered to bytes) = refl
 
-below_with : (w : TranslatorRecord) (older : Option Older) (event : PortEvent) → below_event (with_older w older) event ≡ below_event w event
-below_with w older (Received sender bytes) = refl
-below_with w older Quiet = refl
-below_with w older Faulted = refl
-below_with w older (Offered (Peer member) bytes) = refl
-below_with w older (Offered (Client number) bytes) = refl
+below_with : (w : TranslatorRecord) (older : Option Older) (differing : List Bool) (event : PortEvent) → below_event (with_told w older differing) event ≡ below_event w event
+below_with w older differing (Received sender bytes) = refl
+below_with w older differing Quiet = refl
+below_with w older differing Faulted = refl
+below_with w older differing (Offered (Peer member) bytes) = refl
+below_with w older differing (Offered (Client number) bytes) = refl
 
 -- ---- a port after calls
 
--- the translator is that after the calls, but for what was dropped last
-is_after : (below : Option (List PortEvent)) (t : TranslatorRecord) (calls : List PortEvent) → IsAfter below t calls → t ≡ with_older (after_events (at_start t) calls) t.older
+-- the translator is that after the calls, but for what it tells a log
+is_after : (below : Option (List PortEvent)) (t : TranslatorRecord) (calls : List PortEvent) → IsAfter below t calls → t ≡ with_told (after_events (at_start t) calls) t.older t.differing
 is_after below t calls a =
     let k = keeps_events (at_start t) calls in
     is_with t (after_events (at_start t) calls) k.key k.names k.me k.boot a.heard_is
@@ -116,7 +121,7 @@ after_call old new t u calls call a is grows = subst (λ (x : TranslatorRecord).
     heard : (after_event t call).heard ≡ (after_events (at_start (after_event t call)) (calls ++ call ∷ [])).heard
     heard =
         ap (λ (x : TranslatorRecord). (after_event x call).heard) (is_after old t calls a)
-        ∙ event_with (after_events (at_start t) calls) t.older call
+        ∙ event_with (after_events (at_start t) calls) t.older t.differing call
         ∙ ap (λ (x : TranslatorRecord). x.heard) (sym (after_more (at_start t) calls call))
         ∙ ap (λ (x : TranslatorRecord). (after_events x (calls ++ call ∷ [])).heard) (sym (same_start t call))
 
@@ -126,7 +131,7 @@ after_call old new t u calls call a is grows = subst (λ (x : TranslatorRecord).
         sym g.2
         ∙ ap (λ (x : List PortEvent). x ++ below_event t call) (a.below_is g.0 g.1)
         ∙ ap (λ (x : TranslatorRecord). below_events (at_start t) calls ++ below_event x call) (is_after old t calls a)
-        ∙ ap (λ (x : List PortEvent). below_events (at_start t) calls ++ x) (below_with (after_events (at_start t) calls) t.older call)
+        ∙ ap (λ (x : List PortEvent). below_events (at_start t) calls ++ x) (below_with (after_events (at_start t) calls) t.older t.differing call)
         ∙ sym (below_more (at_start t) calls call)
         ∙ ap (λ (x : TranslatorRecord). below_events x (calls ++ call ∷ [])) (sym (same_start t call))
 
@@ -137,7 +142,7 @@ told_call below t u calls call a is =
     subst (λ (x : TranslatorRecord). present (handed_events (at_start t) calls ++ handed_in t call ∷ []) ≡ Some (handed_events (at_start x) (calls ++ call ∷ []))) (sym is)
     (ap present
     (ap (λ (x : TranslatorRecord). handed_events (at_start t) calls ++ handed_in x call ∷ []) (is_after below t calls a)
-    ∙ ap (λ (x : PortEvent). handed_events (at_start t) calls ++ x ∷ []) (handed_with (after_events (at_start t) calls) t.older call)
+    ∙ ap (λ (x : PortEvent). handed_events (at_start t) calls ++ x ∷ []) (handed_with (after_events (at_start t) calls) t.older t.differing call)
     ∙ sym (handed_more (at_start t) calls call)
     ∙ ap (λ (x : TranslatorRecord). handed_events x (calls ++ call ∷ [])) (sym (same_start t call))))
 

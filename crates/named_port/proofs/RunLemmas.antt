@@ -68,7 +68,9 @@ keeps_read t (Some read) = go (is_older t.heard read.0)
     go false = record { key = refl; names = refl; me = refl; boot = refl; places = length-set t.heard read.0.from read.0.boot }
 
 pub keeps_event : (t : TranslatorRecord) (event : PortEvent) → Keeps t (after_event t event)
-keeps_event t (Received (Peer number) bytes) = keeps_read t (sent_by t number bytes)
+keeps_event t (Received (Peer number) bytes) =
+    let k = keeps_read t (sent_by t number bytes) in
+    record { key = k.key; names = k.names; me = k.me; boot = k.boot; places = k.places }
 keeps_event t (Received (Client number) bytes) = keeps_all t
 keeps_event t Quiet = keeps_all t
 keeps_event t Faulted = keeps_all t

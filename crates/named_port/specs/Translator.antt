@@ -1,15 +1,16 @@
--- The translation of members' datagrams, and the boots that a member was heard in.
-use Rattle.std.specs.Prelude.{ℕ, ◌&&◌, Bool, nat_lt, ◌==◌, if◌then◌else◌, List, [], ◌∷◌, Option, Some, None, slice_index, slice_set, replicate}
+-- The translation of members' datagrams, the boots that a member was heard in, and the members that differ.
+use Rattle.std.specs.Prelude.{ℕ, ◌&&◌, Bool, true, not, nat_lt, ◌==◌, if◌then◌else◌, List, [], ◌∷◌, length, Option, Some, None, is_none, slice_index, slice_set, replicate}
 use Rattle.datagram_port.specs.Port.{PortEvent, Received, Quiet, Faulted, Offered}
 use Rattle.datagram_port.specs.declared.port.Sender.{Sender}
 use Rattle.datagram_port.specs.declared.port.Sender.TheVariants.{Client, Peer}
 use Rattle.named_wire.specs.Datagram.{datagram_at}
 use Rattle.named_wire.specs.declared.head.Head.{Head}
-use Rattle.named_port.specs.Wire.{named_at, numbered_of}
+use Rattle.named_port.specs.Wire.{is_of_one_token, named_at, numbered_of}
+use Rattle.node_log.specs.Differing.{nobody}
 use Rattle.node_log.specs.declared.gatekeeper.Older.{Older}
 
 -- A translator of a node: its key, the names of its book, its number and boot, the greatest boot of each member that it
--- heard, from member 0 to 9, and the last dropped datagram of an older boot.
+-- heard, from member 0 to 9, the last dropped datagram of an older boot, and whether each member differs, from 0 to 9.
 pub record TranslatorRecord : Type 0 where
   pub key : List ℕ
   pub names : List (List ℕ)
@@ -17,11 +18,20 @@ pub record TranslatorRecord : Type 0 where
   pub boot : ℕ
   pub heard : List ℕ
   pub older : Option Older
+  pub differing : List Bool
 
 -- a translator that has heard nobody
 abbrev pub new_translator : List ℕ → List (List ℕ) → ℕ → ℕ → TranslatorRecord
 new_translator key names me boot =
-    record { key = key; names = names; me = me; boot = boot; heard = replicate 10 0; older = None }
+    record {
+      key = key;
+      names = names;
+      me = me;
+      boot = boot;
+      heard = replicate 10 0;
+      older = None;
+      differing = nobody;
+    }
 
 -- the head and the body of a datagram, if its head is from `member` to `me`
 abbrev pub between : ℕ → ℕ → Option (Head × List ℕ) → Option (Head × List ℕ)
@@ -52,6 +62,26 @@ after_read translator (Some read) =
     then record translator { older = Some (record { member = read.0.from; boot = read.0.boot }) }
     else record translator { heard = slice_set translator.heard read.0.from read.0.boot }
 
+-- Whether a datagram from a member's address shows that the member differs, by its bytes and by the head and the body
+-- that the member sent. The member didn't send it under the node's key. Or it is of one token whose name the book
+-- hasn't, and of no older boot.
+abbrev pub differs : TranslatorRecord → List ℕ → Option (Head × List ℕ) → Bool
+differs translator bytes None = nat_lt 0 (length bytes)
+differs translator bytes (Some read) =
+    is_of_one_token read.0.kind && not (is_older translator.heard read.0)
+    && is_none (numbered_of translator.key translator.names read.0 read.1)
+
+-- whether each member differs, after a datagram from one of them that shows it or doesn't
+abbrev pub marked : Bool → ℕ → List Bool → List Bool
+marked is_shown member differing = if is_shown then slice_set differing member true else differing
+
+-- the translator after a datagram from a member's address, by the head and the body that the member sent
+abbrev pub after_datagram : TranslatorRecord → ℕ → List ℕ → Option (Head × List ℕ) → TranslatorRecord
+after_datagram translator member bytes read =
+    record (after_read translator read) {
+      differing = marked (differs translator bytes read) member translator.differing;
+    }
+
 -- the bytes, or none
 abbrev pub bytes_or_none : Option (List ℕ) → List ℕ
 bytes_or_none None = []
@@ -69,7 +99,8 @@ handed_in translator (Offered to bytes) = Offered to bytes
 
 -- the translator after an event of the port below
 abbrev pub after_event : TranslatorRecord → PortEvent → TranslatorRecord
-after_event translator (Received (Peer member) bytes) = after_read translator (sent_by translator member bytes)
+after_event translator (Received (Peer member) bytes) =
+    after_datagram translator member bytes (sent_by translator member bytes)
 after_event translator (Received (Client number) bytes) = translator
 after_event translator Quiet = translator
 after_event translator Faulted = translator

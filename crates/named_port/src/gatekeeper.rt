@@ -1,7 +1,7 @@
 //! What a port by names tells a log of the datagrams that it passed over.
 
 use crate::port::NamedPort;
-use node_log::{Gatekeeper, Older};
+use node_log::{Gatekeeper, Older, PLACES};
 use sealed_port::Unopened;
 
 impl<P: Gatekeeper + Drop> Gatekeeper for NamedPort<'_, P> {
@@ -9,11 +9,17 @@ impl<P: Gatekeeper + Drop> Gatekeeper for NamedPort<'_, P> {
 
     ghost older = { λ named. named.translator.older };
 
+    ghost differing = { λ named. named.translator.differing };
+
     fn take_unopened(&mut self) -> Unopened {
         self.port.take_unopened()
     }
 
     fn take_older(&mut self) -> Option<Older> {
         NamedPort::take_older(self)
+    }
+
+    fn take_differing(&mut self) -> [bool; PLACES] {
+        NamedPort::take_differing(self)
     }
 }

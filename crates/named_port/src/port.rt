@@ -4,6 +4,7 @@ ghost use Rattle.std.specs.Option.{option_map};
 ghost use Rattle.std.specs.Prelude.{◌≡◌, ◌≤◌, ◌∷◌, [], ◌≢◌, Some, None, IfSome, take};
 ghost use Rattle.datagram_port.specs.Port.{Grows, IsWithin, Offered, entries_of_poll, event_of_receive};
 ghost use Rattle.datagram_port.specs.declared.port.Received.TheVariants.{Quiet};
+ghost use Rattle.node_log.specs.Differing.{nobody};
 ghost use Rattle.named_port.specs.Port.{Polls, Receives};
 ghost use Rattle.named_port.specs.Runs.{IsAfter, at_start, handed_events};
 ghost use Rattle.named_port.specs.Setup.{named_setup};
@@ -13,7 +14,7 @@ use crate::names::Names;
 use crate::record::Record;
 use crate::translator::Translator;
 use datagram_port::{Port, Received, Sender};
-use node_log::Older;
+use node_log::{Older, PLACES};
 use vote_wire::ClusterKey;
 
 /// A node's port over another one. It translates members' datagrams, and passes on those of clients unchanged. It keeps
@@ -94,6 +95,16 @@ impl<'k, P: Port + Drop> NamedPort<'k, P> {
         ensures same { (self.new.port ≡ self.old.port) × (self.new.calls ≡ self.old.calls) }
     {
         self.translator.take_older()
+    }
+
+    /// Returns whether a datagram that the port can't read came from each member since the last call, from member 0
+    /// to 9.
+    pub fn take_differing(&mut self) -> [bool; PLACES]
+        ensures members { result ≡ self.old.translator.differing }
+        ensures translator { self.new.translator ≡ record self.old.translator { differing = nobody } }
+        ensures same { (self.new.port ≡ self.old.port) × (self.new.calls ≡ self.old.calls) }
+    {
+        self.translator.take_differing()
     }
 
     /// Returns the greatest boot in which each member was heard, from member 0 to 9, or 0.

@@ -85,6 +85,13 @@ fn len_of(received: Received) -> Result<usize, Fail>
     }
 }
 
+/// Member 1 alone differs.
+fn only_1() -> [bool; 10] {
+    let mut differing = [false; 10];
+    differing[1] = true;
+    differing
+}
+
 /// Node 2 reads an Ask of node 1 with the number of the token in its own book.
 #[test]
 fn other_orders_are_understood(rt: HostRuntime) -> Result<(), Fail> {
@@ -98,10 +105,11 @@ fn other_orders_are_understood(rt: HostRuntime) -> Result<(), Fail> {
     let len = len_of(port.receive(&mut buffer))?;
     assert!(rt; read_message(&key, &buffer[..len]) == Some((1, 2, ask(0)?)));
     assert!(rt; port.heard()[1] == 5 && port.take_older().is_none());
+    assert!(rt; port.take_differing() == [false; 10]);
     Ok(())
 }
 
-/// A token that node 2 hasn't and a datagram of an older boot are handed in without bytes. The latter is noted.
+/// A token that node 2 hasn't and a datagram of an older boot are handed in without bytes. Both are noted once.
 #[test]
 fn strange_names_and_older_boots(rt: HostRuntime) -> Result<(), Fail> {
     let key = key()?;
@@ -113,11 +121,35 @@ fn strange_names_and_older_boots(rt: HostRuntime) -> Result<(), Fail> {
     let mut port = NamedPort::new(ListPort::new(rt.alloc(), &comings), &key, &names, 2, 9);
     let mut buffer = [0; 512];
     assert!(rt; len_of(port.receive(&mut buffer))? == 0);
+    assert!(rt; port.take_differing() == only_1());
     assert!(rt; len_of(port.receive(&mut buffer))? == 0);
+    assert!(rt; port.take_differing() == [false; 10]);
     assert!(rt; port.take_older() == Some(Older { member: 1, boot: 4 }));
     assert!(rt; port.take_older().is_none());
     assert!(rt; len_of(port.receive(&mut buffer))? == 59);
     assert!(rt; port.receive(&mut buffer) == Received::Quiet);
+    Ok(())
+}
+
+/// A datagram of version 2 and one under another key show that member 1 differs. One without bytes doesn't.
+#[test]
+fn unread_datagrams_differ(rt: HostRuntime) -> Result<(), Fail> {
+    let key = key()?;
+    let other = ClusterKey::new(&[8; 32]).ok_or_else(|| Fail::new("no key"))?;
+    let numbered = write_message(&key, 1, 2, &ask(0)?);
+    let named = offered(rt.alloc(), 5, 0)?;
+    let names = names(rt.alloc(), ROWS_OF_2)?;
+    let comings = [from_1(&numbered), from_1(&[])];
+    let mut port = NamedPort::new(ListPort::new(rt.alloc(), &comings), &key, &names, 2, 9);
+    let mut buffer = [0; 512];
+    assert!(rt; len_of(port.receive(&mut buffer))? == 0);
+    assert!(rt; port.take_differing() == only_1());
+    assert!(rt; len_of(port.receive(&mut buffer))? == 0);
+    assert!(rt; port.take_differing() == [false; 10]);
+    let comings = [from_1(&named)];
+    let mut port = NamedPort::new(ListPort::new(rt.alloc(), &comings), &other, &names, 2, 9);
+    assert!(rt; len_of(port.receive(&mut buffer))? == 0);
+    assert!(rt; port.take_differing() == only_1());
     Ok(())
 }
 

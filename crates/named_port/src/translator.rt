@@ -1,20 +1,18 @@
 //! The translation of members' datagrams, by the book of a node.
 
 ghost use Rattle.std.specs.Option.{option_map};
-ghost use Rattle.std.specs.Prelude.{◌≡◌, ◌<◌, None, IfSome};
-ghost use Rattle.named_port.specs.Translator.{after_read, new_translator, sent_by, translated};
+ghost use Rattle.std.specs.Prelude.{◌≡◌, ◌<◌, None, IfSome, slice_set, true};
+ghost use Rattle.node_log.specs.Differing.{nobody};
+ghost use Rattle.named_port.specs.Translator.{after_datagram, new_translator, sent_by, translated};
 ghost use Rattle.named_port.specs.Wire.{named_at};
 
 use crate::names::Names;
-use crate::wire::{MAX_NUMBERED_LEN, named, numbered};
+use crate::wire::{MAX_NUMBERED_LEN, is_of_one_token, named, numbered};
 use arrayvec::ArrayVec;
 use named_wire::{Head, MAX_DATAGRAM_LEN, read_datagram};
-use node_log::Older;
+use node_log::{Older, PLACES};
 use std::marker::Model;
 use vote_wire::ClusterKey;
-
-/// The number of places for the boots of members: member 0, which there is not, to member 9.
-const PLACES: usize = 10;
 
 /// The translation of a node's datagrams to the other members, and of theirs to the node.
 #[derive(Drop)]
@@ -25,6 +23,7 @@ pub(crate) struct Translator<'k> {
     boot: u64,
     heard: [u64; PLACES],
     older: Option<Older>,
+    differing: [bool; PLACES],
 }
 
 impl<'k> Model for Translator<'k> {
@@ -40,6 +39,7 @@ impl<'k> Model for Translator<'k> {
       boot = translator.boot;
       heard = translator.heard;
       older = translator.older;
+      differing = translator.differing;
     } };
 }
 
@@ -55,6 +55,7 @@ impl<'k> Translator<'k> {
             boot,
             heard: [0; PLACES],
             older: None,
+            differing: [false; PLACES],
         }
     }
 
@@ -64,6 +65,27 @@ impl<'k> Translator<'k> {
         ensures others { self.new ≡ record self.old { older = None } }
     {
         self.older.take()
+    }
+
+    /// Returns whether each member differs, from member 0 to 9: a datagram came from its address since the last call
+    /// that the translator can't read.
+    pub(crate) fn take_differing(&mut self) -> [bool; PLACES]
+        ensures members { result ≡ self.old.differing }
+        ensures others { self.new ≡ record self.old { differing = nobody } }
+    {
+        let differing = self.differing;
+        self.differing = [false; PLACES];
+        differing
+    }
+
+    /// Notes that `member` differs.
+    fn mark(&mut self, member: u8)
+        ensures { self.new ≡ record self.old { differing = slice_set self.old.differing member true } }
+    {
+        let place = usize::from(member);
+        if place < PLACES {
+            self.differing[place] = true;
+        }
     }
 
     /// Returns the greatest boot of each member that the translator heard, from member 0 to 9. A member that it didn't
@@ -97,7 +119,8 @@ impl<'k> Translator<'k> {
     /// Returns the numbered datagram of a datagram that came from `member`, and remembers the boot of its head.
     ///
     /// Returns None if it is no datagram of one token that the member sent to the node, if its boot is below the
-    /// greatest one that the member was heard in, or if the book has no token with its name.
+    /// greatest one that the member was heard in, or if the book has no token with its name. Notes that the member
+    /// differs in the first and the last case, unless the datagram is empty or one of several tokens.
     pub(crate) fn numbered(
         &mut self,
         member: u8,
@@ -105,9 +128,14 @@ impl<'k> Translator<'k> {
     ) -> Option<ArrayVec<u8, MAX_NUMBERED_LEN>>
         ensures translated { option_map (λ out. out.items) result
             ≡ translated self.old (sent_by self.old member bytes.now) }
-        ensures after { self.new ≡ after_read self.old (sent_by self.old member bytes.now) }
+        ensures after { self.new ≡ after_datagram self.old member bytes.now (sent_by self.old member bytes.now) }
     {
-        let (head, body) = self.sent_by(member, bytes)?;
+        let Some((head, body)) = self.sent_by(member, bytes) else {
+            if !bytes.is_empty() {
+                self.mark(member);
+            }
+            return None;
+        };
         let place = usize::from(head.from);
         if head.boot < self.heard[place] {
             self.older = Some(Older {
@@ -117,6 +145,10 @@ impl<'k> Translator<'k> {
             return None;
         }
         self.heard[place] = head.boot;
-        numbered(self.key, self.names, head, body)
+        let out = numbered(self.key, self.names, head, body);
+        if out.is_none() && is_of_one_token(head.kind) {
+            self.mark(member);
+        }
+        out
     }
 }

@@ -45,6 +45,16 @@ fn token_kind_of(byte: u8) -> Option<Kind>
     }
 }
 
+/// Returns whether the datagrams of a kind are of one token.
+pub(crate) fn is_of_one_token(kind: Kind) -> bool
+    ensures { result ≡ spec.is_of_one_token kind }
+{
+    match kind {
+        Kind::Ask | Kind::Grant | Kind::Deny | Kind::Floor => true,
+        Kind::Floors => false,
+    }
+}
+
 /// Returns the byte of a kind of datagrams of one token, or None.
 fn token_kind_byte(kind: Kind) -> Option<u8>
     ensures { result ≡ (if spec.is_of_one_token kind then Some (kind_byte kind) else None) }

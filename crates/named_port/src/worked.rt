@@ -4,12 +4,13 @@ ghost use Rattle.datagram_port.specs.declared.port.Sender.TheVariants.{Client, P
 ghost use Rattle.named_wire.specs.declared.head.Head.{Head};
 ghost use Rattle.named_wire.specs.declared.head.Kind.TheVariants.{Floor, Floors};
 ghost use Rattle.vote_wire.specs.Examples.{ask_body};
+ghost use Rattle.node_log.specs.Examples.{only};
 ghost use Rattle.named_port.specs.Examples.{bare_setup, floor_6, floor_7, floor_from, floor_head, from_3, name_with, named_ask, names_of_1, names_of_2, node_1, node_2, node_2_after, numbered_ask, older, renumbered_ask, short_names, zeros};
 ghost use Rattle.named_port.specs.Names.{number_of};
 ghost use Rattle.named_port.specs.Port.{Polls, Receives};
 ghost use Rattle.named_port.specs.Runs.{Has, IsAfter, after_events, at_start, below_events, boot_told, greatest_boot, handed_events};
 ghost use Rattle.named_port.specs.Setup.{named_setup};
-ghost use Rattle.named_port.specs.Translator.{after_event, after_read, between, handed_in, new_translator, offered, translated};
+ghost use Rattle.named_port.specs.Translator.{after_event, after_read, between, differs, handed_in, marked, new_translator, offered, translated};
 ghost use Rattle.named_port.specs.Wire.{is_named, is_numbered, named_at, numbered_at, numbered_of};
 
 /// Worked cases. An Ask of node 1 with the number of its token, with the name, and with the number at node 2.
@@ -63,7 +64,8 @@ pub fn events_are_worked()
     ensures older_is_noted { after_event (node_2_after 3 0) (Received (Peer 1) named_ask)
         ≡ record (node_2_after 3 0) { older = older 1 2 } }
     ensures by_another { handed_in node_2 (Received (Peer 3) named_ask) ≡ Received (Peer 3) [] }
-    ensures by_another_is_unheard { after_event node_2 (Received (Peer 3) named_ask) ≡ node_2 }
+    ensures by_another_is_unheard { after_event node_2 (Received (Peer 3) named_ask)
+        ≡ record node_2 { differing = only 3 } }
     ensures version_2 { handed_in node_2 (Received (Peer 1) numbered_ask) ≡ Received (Peer 1) [] }
     ensures unchanged { map (handed_in node_2)
         (Received (Client 1) named_ask ∷ Quiet ∷ Faulted ∷ Offered (Peer 1) named_ask ∷ [])
@@ -86,6 +88,34 @@ pub fn events_are_worked()
         ∷ Offered (Peer 3) floor_7 ∷ Received (Peer 1) floor_7 ∷ []) ≡ replicate 5 0 }
 {}
 
+/// Worked cases. The members that differ: their datagrams are under another key, of another version, or of a name that
+/// the book hasn't. Those without bytes, of an older boot or of several tokens don't show it.
+pub fn differing_is_worked()
+    ensures known { differs node_2 named_ask (floor_from 3 7) ≡ false }
+    ensures unread { map (λ bytes. differs node_2 bytes None) ([] ∷ (0 ∷ []) ∷ (0 ∷ 0 ∷ []) ∷ [])
+        ≡ false ∷ true ∷ true ∷ [] }
+    ensures no_name { differs (record node_2 { names = [] }) named_ask (floor_from 3 7) ≡ true }
+    ensures older { differs (record (node_2_after 0 7) { names = [] }) named_ask (floor_from 3 6) ≡ false }
+    ensures several { differs node_2 named_ask (Some (floor_head Floors 3 7, name_with 0xbb)) ≡ false }
+    ensures no_fields { differs node_2 named_ask (Some (floor_head Floor 3 7, name_with 0xbb)) ≡ true }
+
+    ensures unshown { marked false 3 (only 1) ≡ only 1 }
+    ensures second { marked true 3 (only 1) ≡ slice_set (only 1) 3 true }
+    ensures again { marked true 1 (only 1) ≡ only 1 }
+    ensures stranger { marked true 10 (only 1) ≡ only 1 }
+
+    ensures by_name { after_event (record node_2 { names = name_with 0xbb ∷ [] }) (Received (Peer 1) named_ask)
+        ≡ record (node_2_after 2 0) { names = name_with 0xbb ∷ []; differing = only 1 } }
+    ensures version_2 { after_event node_2 (Received (Peer 1) numbered_ask) ≡ record node_2 { differing = only 1 } }
+    ensures key { after_event (record node_2 { key = replicate 32 1 }) (Received (Peer 1) named_ask)
+        ≡ record node_2 { key = replicate 32 1; differing = only 1 } }
+    ensures without_bytes { after_event node_2 (Received (Peer 1) []) ≡ node_2 }
+    ensures stays { after_event (record node_2 { differing = only 3 }) (Received (Peer 1) named_ask)
+        ≡ record (node_2_after 2 0) { differing = only 3 } }
+    ensures both { after_events node_2 (Received (Peer 1) numbered_ask ∷ from_3 numbered_ask ∷ [])
+        ≡ record node_2 { differing = slice_set (only 1) 3 true } }
+{}
+
 /// Worked cases. The events of a node's port and of the port below for some calls.
 pub fn calls_are_worked()
     ensures handed { handed_events (node_2_after 0 7) (from_3 floor_6 ∷ Quiet ∷ Offered (Client 1) [] ∷ [])
@@ -93,7 +123,7 @@ pub fn calls_are_worked()
     ensures below { below_events node_1 (Offered (Peer 2) numbered_ask ∷ Quiet ∷ Offered (Peer 2) [] ∷ Faulted
         ∷ Received (Client 1) [] ∷ Offered (Client 1) [] ∷ [])
         ≡ Offered (Peer 2) named_ask ∷ Quiet ∷ Faulted ∷ Received (Client 1) [] ∷ Offered (Client 1) [] ∷ [] }
-    ensures start { at_start (record (node_2_after 0 7) { older = older 3 6 }) ≡ node_2 }
+    ensures start { at_start (record (node_2_after 0 7) { older = older 3 6; differing = only 1 }) ≡ node_2 }
 {}
 
 /// Counterexamples: each promise of a port after calls fails for a minimal one.
@@ -135,7 +165,7 @@ pub fn setups_are_worked()
               ∷ record { key = 7 ∷ []; names = short_names; me = 3; boot = 5 } ∷ [];
         }) }
     ensures over_none { named_setup (new_translator (7 ∷ []) short_names 3 5) None ≡ None }
-    ensures heard { named_setup (record (node_2_after 3 7) { older = older 3 6 }) (Some bare_setup)
+    ensures heard { named_setup (record (node_2_after 3 7) { older = older 3 6; differing = only 1 }) (Some bare_setup)
         ≡ named_setup node_2 (Some bare_setup) }
 {}
 

@@ -1,6 +1,7 @@
 -- Worked cases: lines, members, minutes and seconds.
-use Rattle.std.specs.Prelude.{ℕ, Bool, List, [], ◌∷◌, codes}
+use Rattle.std.specs.Prelude.{ℕ, Bool, true, List, [], ◌∷◌, slice_set, codes}
 use Rattle.node_log.specs.Asked.{AskedLine}
+use Rattle.node_log.specs.Differing.{nobody}
 use Rattle.node_log.specs.declared.bad_lines.BadLines.{BadLines}
 use Rattle.node_log.specs.declared.members.Member.{Member}
 use Rattle.node_log.specs.declared.minute.Minute.{Minute}
@@ -24,6 +25,10 @@ member number heard quiets = record { number = number; is_heard = heard; quiets 
 -- a minute by its number of quiet turns
 abbrev pub minute : ℕ → Minute
 minute quiets = record { quiets = quiets }
+
+-- one member differs
+abbrev pub only : ℕ → List Bool
+only number = slice_set nobody number true
 
 -- a second by its number of quiet turns, and of answers `NO - BADLINE`
 abbrev pub second : ℕ → ℕ → BadLines

@@ -1,8 +1,10 @@
--- The minutes of a log: after each one it says which datagrams were not opened, and which one had an older boot.
+-- The minutes of a log: after each one it says which datagrams were not opened, which one had an older boot, and which
+-- members differ.
 use Rattle.std.specs.Prelude.{ℕ, ◌+◌, ◌==◌, ◌&&◌, nat_lt, not, Bool, if◌then◌else◌, List, [], ◌++◌, Option, Some, None, codes}
 use Rattle.std.specs.Fmt.{decimal}
 use Rattle.datagram_port.specs.Port.{PortEvent, Received, Quiet, Faulted, Offered}
 use Rattle.sealed_port.specs.declared.cause.Unopened.{Unopened}
+use Rattle.node_log.specs.Differing.{differing_text}
 use Rattle.node_log.specs.Text.{valued}
 use Rattle.node_log.specs.declared.gatekeeper.Older.{Older}
 use Rattle.node_log.specs.declared.minute.Minute.{Minute}
@@ -58,9 +60,10 @@ older_text None = []
 older_text (Some older) = older_line older
 
 -- the lines of the datagrams that a port passed over
-abbrev pub passed_over_text : Unopened → Option Older → List ℕ
-passed_over_text unopened older = unopened_line unopened ++ older_text older
+abbrev pub passed_over_text : Unopened → Option Older → List Bool → List ℕ
+passed_over_text unopened older differing = unopened_line unopened ++ older_text older ++ differing_text differing
 
 -- the text at the beginning of a receive: the lines of a minute that is over
-abbrev pub minute_text : Minute → Unopened → Option Older → List ℕ
-minute_text minute unopened older = if is_over minute then passed_over_text unopened older else []
+abbrev pub minute_text : Minute → Unopened → Option Older → List Bool → List ℕ
+minute_text minute unopened older differing =
+    if is_over minute then passed_over_text unopened older differing else []

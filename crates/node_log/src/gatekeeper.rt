@@ -1,6 +1,7 @@
 //! The trait of a port that tells which datagrams it passed over.
 
 ghost use Rattle.std.specs.Prelude.{◌≡◌, None};
+ghost use Rattle.node_log.specs.Differing.{nobody};
 ghost use Rattle.sealed_port.specs.Causes.{nothing};
 
 use datagram_port::{Clock, ListPort, Port};
@@ -17,9 +18,13 @@ pub struct Older {
     pub boot: u64,
 }
 
+/// The number of places for members: member 0, which there is not, to member 9.
+pub const PLACES: usize = 10;
+
 /// A port that may pass over datagrams, and counts them.
 pub trait Gatekeeper: Port {
-    ghost use Rattle.std.specs.Prelude.{◌≡◌, Option, None};
+    ghost use Rattle.std.specs.Prelude.{◌≡◌, Bool, List, Option, None};
+    ghost use Rattle.node_log.specs.Differing.{nobody};
     ghost use Rattle.node_log.specs.declared.gatekeeper.Older.{Older as OlderDatagram};
     ghost use Rattle.sealed_port.specs.Causes.{nothing};
     ghost use Rattle.sealed_port.specs.declared.cause.Unopened.{Unopened as UnopenedCounts};
@@ -30,11 +35,16 @@ pub trait Gatekeeper: Port {
     // The last datagram of an older boot since it was last taken. By default the port drops none.
     ghost older: { Self → Option OlderDatagram } = { λ _. None };
 
+    // Whether it passed over a datagram of each member that it can't read since they were last taken, from member 0 to
+    // 9. By default the port reads everything.
+    ghost differing: { Self → List Bool } = { λ _. nobody };
+
     /// Returns the numbers of datagrams that the port didn't open since the last call, and sets them to zero.
     fn take_unopened(&mut self) -> Unopened
         ensures numbers { result ≡ unopened self.old }
         ensures zero { unopened self.new ≡ nothing }
         ensures older { older self.new ≡ older self.old }
+        ensures differing { differing self.new ≡ differing self.old }
         ensures events { Self.events self.new ≡ Self.events self.old }
         ensures stays { Self.setup self.new ≡ Self.setup self.old };
 
@@ -43,6 +53,17 @@ pub trait Gatekeeper: Port {
         ensures last { result ≡ older self.old }
         ensures none { older self.new ≡ None }
         ensures unopened { unopened self.new ≡ unopened self.old }
+        ensures differing { differing self.new ≡ differing self.old }
+        ensures events { Self.events self.new ≡ Self.events self.old }
+        ensures stays { Self.setup self.new ≡ Self.setup self.old };
+
+    /// Returns whether a datagram that the port can't read came from each member since the last call, from member 0
+    /// to 9.
+    fn take_differing(&mut self) -> [bool; PLACES]
+        ensures members { result ≡ differing self.old }
+        ensures nobody { differing self.new ≡ nobody }
+        ensures unopened { unopened self.new ≡ unopened self.old }
+        ensures older { older self.new ≡ older self.old }
         ensures events { Self.events self.new ≡ Self.events self.old }
         ensures stays { Self.setup self.new ≡ Self.setup self.old };
 }
@@ -55,6 +76,10 @@ impl Gatekeeper for ListPort<'_> {
     fn take_older(&mut self) -> Option<Older> {
         None
     }
+
+    fn take_differing(&mut self) -> [bool; PLACES] {
+        [false; PLACES]
+    }
 }
 
 impl<R: TimeSource + Drop> Gatekeeper for UdpPort<R> {
@@ -64,6 +89,10 @@ impl<R: TimeSource + Drop> Gatekeeper for UdpPort<R> {
 
     fn take_older(&mut self) -> Option<Older> {
         None
+    }
+
+    fn take_differing(&mut self) -> [bool; PLACES] {
+        [false; PLACES]
     }
 }
 
@@ -76,5 +105,9 @@ impl<P: Port + Drop, C: Clock + Drop> Gatekeeper for SealedPort<P, C> {
 
     fn take_older(&mut self) -> Option<Older> {
         None
+    }
+
+    fn take_differing(&mut self) -> [bool; PLACES] {
+        [false; PLACES]
     }
 }

@@ -1,11 +1,13 @@
-ghost use Rattle.std.specs.Prelude.{◌≡◌, ℕ, ◌-◌, ◌^◌, ◌∷◌, ◌++◌, [], List, None, Some, codes, false, map, replicate, true};
+ghost use Rattle.std.specs.Prelude.{◌≡◌, ℕ, ◌-◌, ◌^◌, ◌∷◌, ◌++◌, [], List, None, Some, codes, false, flat_map, map, replicate, slice_set, true};
 ghost use Rattle.datagram_port.specs.Port.{Faulted, Offered, Quiet, Received};
 ghost use Rattle.datagram_port.specs.declared.port.Sender.TheVariants.{Client, Peer};
 ghost use Rattle.client_lines.specs.Request.{Request, request_at};
 ghost use Rattle.node_log.specs.Asked.{AskedLine, nonce_of, place_of, user_at, with_line, with_one, without};
-ghost use Rattle.node_log.specs.Examples.{ann, bob, member, minute, second, two_lines};
+ghost use Rattle.node_log.specs.Examples.{ann, bob, member, minute, only, second, two_lines};
 ghost use Rattle.sealed_port.specs.Causes.{nothing};
 ghost use Rattle.node_log.specs.BadLines.{bad_lines_after, new_second};
+ghost use Rattle.node_log.specs.Differing.{differing_text, nobody};
+ghost use Rattle.node_log.specs.Members.{member_line};
 ghost use Rattle.node_log.specs.Minute.{minute_after, minute_at_receive, minute_text, new_minute, older_line, unopened_line};
 ghost use Rattle.node_log.specs.Log.{Remembers, Tells, asked_after, asked_after_all, members_after, told_of};
 ghost use Rattle.node_log.specs.Text.{answered_line, client_text, end_line, roster_line, shown_user, start_line};
@@ -95,11 +97,23 @@ pub fn minutes_are_worked()
         ∷ record nothing { early = 1 } ∷ record nothing { again = 10 } ∷ record nothing { limited = 1 } ∷ nothing ∷ [])
         ≡ codes "unopened tag=12 late=3\n" ∷ codes "unopened form=1\n" ∷ codes "unopened early=1\n"
         ∷ codes "unopened again=10\n" ∷ codes "unopened limited=1\n" ∷ [] ∷ [] }
-    ensures told { map (λ quiets. minute_text (minute quiets) (record nothing { tag = 1 }) None) (299 ∷ 300 ∷ [])
+    ensures told { map (λ quiets. minute_text (minute quiets) (record nothing { tag = 1 }) None nobody)
+        (299 ∷ 300 ∷ [])
         ≡ [] ∷ codes "unopened tag=1\n" ∷ [] }
     ensures older { older_line (record { member = 3; boot = 12 }) ≡ codes "older member=3 boot=12\n" }
-    ensures both { minute_text (minute 300) (record nothing { tag = 1 }) (Some (record { member = 2; boot = 7 }))
+    ensures both { minute_text (minute 300) (record nothing { tag = 1 }) (Some (record { member = 2; boot = 7 })) nobody
         ≡ codes "unopened tag=1\nolder member=2 boot=7\n" }
+    ensures nobody_differs { differing_text nobody ≡ [] }
+    ensures differs { map differing_text (only 1 ∷ only 3 ∷ only 9 ∷ [])
+        ≡ codes "differs member=1\n" ∷ codes "differs member=3\n" ∷ codes "differs member=9\n" ∷ [] }
+    ensures no_member { map differing_text (only 0 ∷ replicate 11 true ∷ [])
+        ≡ [] ∷ flat_map (member_line (codes "differs")) (1 ∷ 2 ∷ 3 ∷ 4 ∷ 5 ∷ 6 ∷ 7 ∷ 8 ∷ 9 ∷ []) ∷ [] }
+    ensures two_differ { differing_text (slice_set (only 4) 2 true) ≡ codes "differs member=2\ndiffers member=4\n" }
+    ensures all { minute_text (minute 300) (record nothing { tag = 1 }) (Some (record { member = 2; boot = 7 }))
+        (slice_set (only 4) 2 true)
+        ≡ codes "unopened tag=1\nolder member=2 boot=7\ndiffers member=2\ndiffers member=4\n" }
+    ensures differs_alone { map (λ quiets. minute_text (minute quiets) nothing None (only 3)) (299 ∷ 300 ∷ [])
+        ≡ [] ∷ codes "differs member=3\n" ∷ [] }
     ensures begins { map (λ quiets. minute_at_receive (minute quiets)) (299 ∷ 300 ∷ []) ≡ minute 299 ∷ minute 0 ∷ [] }
     ensures quiet { map (λ quiets. minute_after Quiet (minute quiets)) (0 ∷ 299 ∷ 300 ∷ [])
         ≡ minute 1 ∷ minute 300 ∷ minute 300 ∷ [] }

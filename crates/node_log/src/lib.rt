@@ -20,7 +20,7 @@ mod text;
 
 pub use asked::{Asked, AskedLines, MAX_ASKED};
 pub use bad_lines::BadLines;
-pub use gatekeeper::{Gatekeeper, Older};
+pub use gatekeeper::{Gatekeeper, Older, PLACES};
 pub use laws::{
     bad_lines_are_worked, codes_are_not_told, lines_are_worked, logs_can_be_broken,
     minutes_are_worked, records_are_worked, texts_are_worked,

@@ -12,7 +12,7 @@ ghost use Rattle.node_log.specs.Text.{end_line};
 
 use crate::asked::AskedLines;
 use crate::bad_lines::BadLines;
-use crate::gatekeeper::Older;
+use crate::gatekeeper::{Older, PLACES};
 use crate::members::{Member, hear, rest, write_heard, write_silent};
 use crate::minute::{Minute, write_passed_over};
 use crate::text::{write_answered, write_end};
@@ -150,18 +150,25 @@ impl<W: Write + Drop> Log<W> {
         self.minute.is_over()
     }
 
-    /// Writes the line of the datagrams that were not opened, and that of one of an older boot, if there are any.
-    /// Begins another minute.
-    pub fn passed_over(&mut self, unopened: Unopened, older: Option<Older>)
+    /// Writes the line of the datagrams that were not opened, that of one of an older boot, and those of the members
+    /// that differ, if there are any. Begins another minute.
+    pub fn passed_over(
+        &mut self,
+        unopened: Unopened,
+        older: Option<Older>,
+        differing: [bool; PLACES],
+    )
         ensures asked { self.new.asked ≡ self.old.asked }
         ensures members { self.new.members.items ≡ self.old.members.items }
         ensures minute { self.new.minute ≡ new_minute }
         ensures bad_lines { self.new.bad_lines ≡ self.old.bad_lines }
         ensures told { Tells self.old.is_over self.new.is_over (W.contents self.old.writer) (W.contents self.new.writer)
-            (passed_over_text unopened older) }
+            (passed_over_text unopened older differing) }
     {
         self.minute = Minute::new();
-        if !self.is_over && write_passed_over(&mut self.writer, &unopened, older).is_err() {
+        if !self.is_over
+            && write_passed_over(&mut self.writer, &unopened, older, &differing).is_err()
+        {
             self.is_over = true;
         }
     }

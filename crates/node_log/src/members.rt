@@ -82,7 +82,7 @@ pub(crate) fn rest(members: &mut [Member])
 
 /// Writes the line of a member.
 #[tactic(auto, unfolding(crate::specs::Members::member_line))]
-fn write_member<W: Write>(writer: &mut W, word: &[u8], number: u8) -> io::Result<()>
+pub(crate) fn write_member<W: Write>(writer: &mut W, word: &[u8], number: u8) -> io::Result<()>
     ensures { OnOk result (Appends (W.contents writer.old) (W.contents writer.new) (member_line word.now number)) }
 {
     writer.write_all(word)?;

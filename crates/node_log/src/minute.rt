@@ -2,10 +2,13 @@
 
 ghost use Rattle.std.specs.Prelude.{◌≡◌, OnOk};
 ghost use Rattle.std.specs.Io.KnownBytes.{Appends};
+ghost use Rattle.std.specs.List.{flat_map};
 ghost use Rattle.datagram_port.specs.Port.{Quiet};
+ghost use Rattle.node_log.specs.Differing.{differing_text, differs_text};
 ghost use Rattle.node_log.specs.Minute.{causes_text, has_none, is_over, minute_after, new_minute, numbered, older_line, older_text, passed_over_text, unopened_line};
 
-use crate::gatekeeper::Older;
+use crate::gatekeeper::{Older, PLACES};
+use crate::members::write_member;
 use crate::text::{write_small, write_value};
 use sealed_port::Unopened;
 use std::io::{self, Write};
@@ -114,15 +117,54 @@ fn write_last_older<W: Write>(writer: &mut W, older: Option<Older>) -> io::Resul
     }
 }
 
+/// Writes the line of a member, or nothing if it doesn't differ.
+fn write_if_differs<W: Write>(
+    writer: &mut W,
+    differing: &[bool; PLACES],
+    number: u8,
+) -> io::Result<()>
+    ensures { OnOk result (Appends (W.contents writer.old) (W.contents writer.new) (differs_text differing.now number)) }
+{
+    if differing.get(usize::from(number)).copied().unwrap_or(false) {
+        return write_member(writer, b"differs", number);
+    }
+    Ok(())
+}
+
+/// Writes the lines of those of the members with the given numbers that differ.
+fn write_those<W: Write>(
+    writer: &mut W,
+    differing: &[bool; PLACES],
+    numbers: &[u8],
+) -> io::Result<()>
+    ensures { OnOk result (Appends (W.contents writer.old) (W.contents writer.new)
+        (flat_map (differs_text differing.now) numbers.now)) }
+{
+    for number in numbers {
+        write_if_differs(writer, differing, *number)?;
+    }
+    Ok(())
+}
+
+/// Writes a line for each member that differs.
+#[tactic(auto, unfolding(crate::specs::Differing::differing_text))]
+fn write_differing<W: Write>(writer: &mut W, differing: &[bool; PLACES]) -> io::Result<()>
+    ensures { OnOk result (Appends (W.contents writer.old) (W.contents writer.new) (differing_text differing.now)) }
+{
+    write_those(writer, differing, &[1, 2, 3, 4, 5, 6, 7, 8, 9])
+}
+
 /// Writes the lines of the datagrams that a port passed over.
 pub(crate) fn write_passed_over<W: Write>(
     writer: &mut W,
     unopened: &Unopened,
     older: Option<Older>,
+    differing: &[bool; PLACES],
 ) -> io::Result<()>
     ensures { OnOk result (Appends (W.contents writer.old) (W.contents writer.new)
-        (passed_over_text unopened.now older)) }
+        (passed_over_text unopened.now older differing.now)) }
 {
     write_unopened(writer, unopened)?;
-    write_last_older(writer, older)
+    write_last_older(writer, older)?;
+    write_differing(writer, differing)
 }

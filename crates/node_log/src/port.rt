@@ -19,7 +19,8 @@ use std::io::Write;
 /// silent.
 ///
 /// It writes a line after the node offered the answer, and flushes the log before the next wait. Once a minute it
-/// writes how many datagrams the port below didn't open, and the last one of an older boot, if there are any.
+/// writes how many datagrams the port below didn't open, the last one of an older boot, and the members whose datagrams
+/// it can't read, if there are any.
 #[derive(Drop)]
 pub struct LogPort<P: Gatekeeper + Drop, W: Write + Drop> {
     port: P,
@@ -63,12 +64,14 @@ impl<P: Gatekeeper + Drop, W: Write + Drop> LogPort<P, W> {
         ensures bad_lines { self.new.log.bad_lines ≡ self.old.log.bad_lines }
         ensures told { Tells self.old.log.is_over self.new.log.is_over (W.contents self.old.log.writer)
             (W.contents self.new.log.writer)
-            (minute_text self.old.log.minute (P.unopened self.old.port) (P.older self.old.port)) }
+            (minute_text self.old.log.minute (P.unopened self.old.port) (P.older self.old.port)
+            (P.differing self.old.port)) }
     {
         if self.log.is_minute_over() {
             let unopened = self.port.take_unopened();
             let older = self.port.take_older();
-            self.log.passed_over(unopened, older);
+            let differing = self.port.take_differing();
+            self.log.passed_over(unopened, older, differing);
         }
     }
 
@@ -131,6 +134,7 @@ impl<P: Gatekeeper + Drop, W: Write + Drop> Port for LogPort<P, W> {
         ensures told { Tells self.old.log.is_over self.new.log.is_over (W.contents self.old.log.writer)
             (W.contents self.new.log.writer)
             (minute_text self.old.log.minute (P.unopened self.old.port) (P.older self.old.port)
+            (P.differing self.old.port)
             ++ told_of (event_of_receive result buffer.new) self.old.log.asked self.old.log.members.items
             self.old.log.bad_lines) }
         ensures minute { self.new.log.minute

@@ -1,9 +1,9 @@
 //! Logs over ports in memory.
 
-use crate::LogPort;
+use crate::{Log, LogPort, Older};
 use arrayvec::ArrayVec;
 use datagram_port::{Coming, ListClock, ListPort, Port, Sender};
-use sealed_port::{Failures, Gate, SealedPort};
+use sealed_port::{Failures, Gate, SealedPort, Unopened};
 use std::alloc::Global;
 use std::test::Fail;
 
@@ -70,5 +70,28 @@ fn tells_the_unopened_once(rt: HostRuntime) -> Result<(), Fail> {
     assert!(rt; text.as_slice() == b"unopened form=2\n".as_slice());
     let text = log_of_gate(rt.alloc(), &[junk, junk], 901)?;
     assert!(rt; text.as_slice() == b"unopened form=2\n".as_slice());
+    Ok(())
+}
+
+/// Returns the log of a minute in which the members 2 and 4 differ, after a datagram of an older boot if there was any.
+fn log_of_differing(alloc: Global, older: Option<Older>) -> Result<Vec<u8>, Fail> {
+    let mut text = Vec::new(alloc);
+    let mut log = Log::new(&mut text, ArrayVec::new());
+    let mut differing = [false; 10];
+    differing[2] = true;
+    differing[4] = true;
+    log.passed_over(Unopened::new(), older, differing);
+    log.passed_over(Unopened::new(), None, [false; 10]);
+    drop(log);
+    Ok(text)
+}
+
+/// Each member that differs has a line, after that of an older boot.
+#[test]
+fn tells_who_differs(rt: HostRuntime) -> Result<(), Fail> {
+    let text = log_of_differing(rt.alloc(), None)?;
+    assert!(rt; text.as_slice() == b"differs member=2\ndiffers member=4\n".as_slice());
+    let text = log_of_differing(rt.alloc(), Some(Older { member: 3, boot: 7 }))?;
+    assert!(rt; text.starts_with(b"older member=3 boot=7\ndiffers member=2\n"));
     Ok(())
 }
