@@ -3,13 +3,13 @@ use Rattle.std.specs.Prelude.{ℕ, ◌==◌, not, Bool, if◌then◌else◌, Lis
 use Rattle.std.specs.Char.{is_ascii_alphabetic}
 use Rattle.std.specs.List.{list_any}
 use Rattle.std.specs.declared.io.ErrorKind.{ErrorKind}
-use Rattle.std.specs.declared.io.ErrorKind.TheVariants.{NotFound, NotADirectory, IsADirectory, PermissionDenied, ReadOnlyFilesystem, StorageFull, QuotaExceeded, AddrInUse, AddrNotAvailable}
+use Rattle.std.specs.declared.io.ErrorKind.TheVariants.{NotFound, NotADirectory, IsADirectory, PermissionDenied, ReadOnlyFilesystem, StorageFull, QuotaExceeded, FileTooLarge, AddrInUse, AddrNotAvailable}
 use Rattle.secret_text.specs.declared.fault.SecretFault.{SecretFault}
 use Rattle.secret_text.specs.declared.fault.SecretFault.TheVariants.{BadCharacter, BadLength, TooLong, Empty}
 use Rattle.oathd_causes.specs.declared.address.AddressCause.{AddressCause}
 use Rattle.oathd_causes.specs.declared.address.AddressCause.TheVariants.{HostName, Ipv6, NoPort, Other}
 use Rattle.oathd_causes.specs.declared.file.FileCause.{FileCause}
-use Rattle.oathd_causes.specs.declared.file.FileCause.TheVariants.{Missing, Folder, Denied, ReadOnly, Full}
+use Rattle.oathd_causes.specs.declared.file.FileCause.TheVariants.{Missing, Folder, Denied, ReadOnly, Full, TooLarge}
 use Rattle.oathd_causes.specs.declared.key.KeyCause.{KeyCause}
 use Rattle.oathd_causes.specs.declared.key.KeyCause.TheVariants.{Character, Length}
 use Rattle.oathd_causes.specs.declared.socket.SocketCause.{SocketCause}
@@ -24,6 +24,7 @@ file_cause_of PermissionDenied = Some Denied
 file_cause_of ReadOnlyFilesystem = Some ReadOnly
 file_cause_of StorageFull = Some Full
 file_cause_of QuotaExceeded = Some Full
+file_cause_of FileTooLarge = Some TooLarge
 file_cause_of kind = None
 
 -- the cause of a kind of error of an address

@@ -1,4 +1,5 @@
 pub mod Causes
 pub mod Floors
 pub mod Named
+pub mod Remedies
 pub mod Roster

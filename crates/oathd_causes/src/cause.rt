@@ -7,24 +7,44 @@ use crate::floors::FloorsAdvice;
 use crate::key::{KeyCause, key_cause};
 use crate::named::StoreCause;
 use crate::names::Names;
+use crate::remedy::{FileRemedy, FileRole, file_remedy, role_among};
 use crate::roster::NamesAdvice;
 use crate::socket::{SocketCause, socket_cause};
+use crate::user::User;
 use cluster_file::{ClusterFault, LineFault, read_cluster};
 use floor_store::StoreFault;
 use oathd_database::read_users;
+use oathd_tasks::{PATH_ADVICE, RowAdvice, clients_advice, cluster_advice, file_text, row_advice};
 use otp_core::Settings;
 use std::alloc::Global;
 use std::fs;
 use std::net::SocketAddrV4;
 use thiserror::Error;
 
-/// The path or the address of a fault, and what was found there afterwards, or what to do.
+/// The longest users file, in bytes.
+const MAX_USERS_LEN: u32 = 16_777_216;
+
+/// The path or the address of a fault, what was found there afterwards, and what to do.
 #[derive(Clone, Copy, Debug, PartialEq, Eq, Error)]
 pub enum Cause<'a> {
     #[error("{0}")]
     Path(&'a str),
+    #[error("{0}: {1}: {2}")]
+    File(&'a str, FileCause, FileRemedy),
+    /// What to do about a file.
     #[error("{0}: {1}")]
-    File(&'a str, FileCause),
+    Advice(&'a str, &'static str),
+    /// The number of a line of a file, and what to do.
+    #[error("{0} line {1}: {2}")]
+    Line(&'a str, u64, &'static str),
+    /// The number of a line of a users file, the user of its row, and what to do.
+    #[error("{0} line {1}, user {2}: {3}")]
+    Row(&'a str, u64, User, &'static str),
+    /// The number of the member that a cluster file lacks.
+    #[error("{0}: give --node the number of a member in it, or add member {1} to the file of all members")]
+    NoMember(&'a str, u8),
+    #[error("{0}: no row has this user: give the name as it stands there, byte for byte")]
+    NoUser(&'a str),
     #[error("{0}: {1}")]
     Key(&'a str, KeyCause),
     #[error("{0}: {1}")]
@@ -92,11 +112,18 @@ fn of_socket<'a>(rt: &HostRuntime, address: SocketAddrV4) -> Cause<'a> {
     }
 }
 
-/// Returns the cause of a fault of the file at `path`.
-fn of_file<'a>(rt: &HostRuntime, path: &'a str) -> Cause<'a> {
-    match file_cause(rt, path) {
-        Some(cause) => Cause::File(path, cause),
-        None => Cause::Path(path),
+/// Returns the cause for which the file at `path` cannot be read, or None if it can be read now.
+fn of_file<'a>(rt: &HostRuntime, role: FileRole, path: &'a str) -> Option<Cause<'a>> {
+    let cause = file_cause(rt, path)?;
+    Some(Cause::File(path, cause, file_remedy(role, cause)))
+}
+
+/// Returns what to say of a fault at a line of the users file at `path`.
+fn of_row<'a>(path: &'a str, line: u32, row: RowAdvice<'_>) -> Cause<'a> {
+    let number = u64::from(line);
+    match row.user {
+        Some(user) => Cause::Row(path, number, User::new(user), row.advice),
+        None => Cause::Line(path, number, row.advice),
     }
 }
 
@@ -104,7 +131,7 @@ fn of_file<'a>(rt: &HostRuntime, path: &'a str) -> Cause<'a> {
 fn of_cluster<'a>(path: &'a str, text: &[u8], fault: ClusterFault) -> Cause<'a> {
     match (fault.kind, address_in(text, fault.line)) {
         (LineFault::BadAddress, Some(address)) => Cause::Member(path, address_cause(address)),
-        _ => Cause::Path(path),
+        _ => Cause::Line(path, fault.line, cluster_advice(fault.kind)),
     }
 }
 
@@ -119,19 +146,22 @@ pub fn task_cause<'a>(
     fault: oathd_tasks::Fault<'a>,
 ) -> Option<Cause<'a>> {
     match fault {
-        oathd_tasks::Fault::CannotReadFile(path) => match file_cause(rt, path) {
-            Some(cause) => Some(Cause::File(path, cause)),
-            None => None,
-        },
+        oathd_tasks::Fault::CannotReadFile(path) => {
+            let key = names.key_path(alloc, text);
+            let role = role_among(names.cluster, key, names.clients, names.users, path);
+            of_file(rt, role, path)
+        }
         oathd_tasks::Fault::Run(oathd_lines::Fault::BadKey(fault)) => {
             let path = names.key_path(alloc, text)?;
             Some(Cause::Key(path, key_cause(fault)))
         }
         oathd_tasks::Fault::ClusterFile(fault) => Some(of_cluster(names.cluster?, text, fault)),
-        oathd_tasks::Fault::NoMember(_) | oathd_tasks::Fault::KeyPath => {
-            Some(Cause::Path(names.cluster?))
+        oathd_tasks::Fault::NoMember(number) => Some(Cause::NoMember(names.cluster?, number)),
+        oathd_tasks::Fault::KeyPath => Some(Cause::Advice(names.cluster?, PATH_ADVICE)),
+        oathd_tasks::Fault::ClientsFile(fault) => {
+            let advice = clients_advice(fault.kind);
+            Some(Cause::Line(names.clients?, fault.line, advice))
         }
-        oathd_tasks::Fault::ClientsFile(_) => Some(Cause::Path(names.clients?)),
         _ => None,
     }
 }
@@ -151,7 +181,12 @@ pub fn database_cause<'a>(
             let is_named = has_names(alloc, text) && !names.is_naming;
             Some(of_store(alloc, rt, names, is_named, fault))
         }
-        oathd_database::Fault::Users(_) => Some(of_file(rt, names.users)),
+        oathd_database::Fault::Users(fault) => {
+            let unread = of_file(rt, FileRole::Users, names.users);
+            let rows = file_text(alloc, rt, names.users, MAX_USERS_LEN).unwrap_or(Vec::new(alloc));
+            let row = of_row(names.users, fault.line, row_advice(&rows, fault));
+            unread.or(Some(row))
+        }
         oathd_database::Fault::Socket => {
             let address = names.own_address(alloc, text)?;
             Some(of_socket(rt, address))

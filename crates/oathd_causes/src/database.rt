@@ -4,7 +4,8 @@
 //! is written and removed, to see whether the disk has room.
 
 use crate::file::{FileCause, file_cause_of};
-use crate::named::{Named, StoreCause, named_cause};
+use crate::named::{Named, StoreCause, named_cause, unfound_cause};
+use crate::remedy::{FileRole, file_remedy};
 use crate::space::space_cause;
 use floor_store::StoreFault;
 use sqlite::{Connection, Error, ErrorCode, Row};
@@ -47,11 +48,16 @@ fn is_database(rt: &HostRuntime, path: &str) -> bool {
     file.read_exact(&mut first).is_ok() && &first == MAGIC
 }
 
+/// Returns a reason for the file of a database, with what to do.
+fn of_file(cause: FileCause) -> StoreCause {
+    StoreCause::File(cause, file_remedy(FileRole::Database, cause))
+}
+
 /// Returns the reason why the database at `path` cannot be opened now, or None without a known reason.
 fn open_cause(rt: &HostRuntime, path: &str, is_new: bool) -> Option<StoreCause> {
     match access_cause(rt, path) {
         Some(FileCause::Missing) if is_new => return Some(StoreCause::NotMade),
-        Some(cause) => return Some(StoreCause::File(cause)),
+        Some(cause) => return Some(of_file(cause)),
         None => {}
     }
     let opened = Connection::open(rt, path);
@@ -59,7 +65,7 @@ fn open_cause(rt: &HostRuntime, path: &str, is_new: bool) -> Option<StoreCause> 
         return Some(StoreCause::Held);
     }
     match space_cause(rt, path) {
-        Some(cause) => Some(StoreCause::File(cause)),
+        Some(cause) => Some(of_file(cause)),
         None if opened.is_err() && !is_database(rt, path) => Some(StoreCause::NoDatabase),
         None => None,
     }
@@ -99,10 +105,8 @@ pub(crate) fn cluster_in(rt: &HostRuntime, path: &str) -> Option<StoreCause> {
     Some(StoreCause::OtherCluster(number_at(&row, 0)?))
 }
 
-/// Returns the reason why the store in the file at `path` cannot be used now, or `None` without a known reason.
-///
-/// Called after the fault of a store has ended a command.
-pub fn store_cause(
+/// Returns what is found at `path` after the fault of a store, or None.
+fn found_cause(
     rt: &HostRuntime,
     path: &str,
     fault: StoreFault,
@@ -118,4 +122,16 @@ pub fn store_cause(
         },
         StoreFault::Memory | StoreFault::Spent => None,
     }
+}
+
+/// Returns the reason why the store in the file at `path` cannot be used now, or `None` if there is nothing to say.
+///
+/// Called after the fault of a store has ended a command.
+pub fn store_cause(
+    rt: &HostRuntime,
+    path: &str,
+    fault: StoreFault,
+    expected: Expected,
+) -> Option<StoreCause> {
+    found_cause(rt, path, fault, expected).or(unfound_cause(fault))
 }

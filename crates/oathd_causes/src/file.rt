@@ -19,6 +19,8 @@ pub enum FileCause {
     ReadOnly,
     #[error("its disk is full")]
     Full,
+    #[error("a limit on the size of files is reached")]
+    TooLarge,
 }
 
 /// Returns the reason for a kind of error, or None for other kinds.
@@ -31,6 +33,7 @@ pub fn file_cause_of(kind: ErrorKind) -> Option<FileCause>
         ErrorKind::PermissionDenied => Some(FileCause::Denied),
         ErrorKind::ReadOnlyFilesystem => Some(FileCause::ReadOnly),
         ErrorKind::StorageFull | ErrorKind::QuotaExceeded => Some(FileCause::Full),
+        ErrorKind::FileTooLarge => Some(FileCause::TooLarge),
         _ => None,
     }
 }

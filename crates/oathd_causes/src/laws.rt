@@ -1,16 +1,20 @@
 ghost use Rattle.std.specs.Prelude.{◌≡◌, ◌∷◌, [], map, codes, Some, None, false, true};
-ghost use Rattle.std.specs.declared.io.ErrorKind.TheVariants.{AddrInUse, AddrNotAvailable, IsADirectory, NotADirectory, NotFound, PermissionDenied, QuotaExceeded, ReadOnlyFilesystem, StorageFull, TimedOut};
+ghost use Rattle.std.specs.declared.io.ErrorKind.TheVariants.{AddrInUse, AddrNotAvailable, FileTooLarge, IsADirectory, NotADirectory, NotFound, PermissionDenied, QuotaExceeded, ReadOnlyFilesystem, StorageFull, TimedOut};
+ghost use Rattle.floor_store.specs.declared.fault.StoreFault.{StoreFault};
 ghost use Rattle.secret_text.specs.declared.fault.SecretFault.{SecretFault};
 ghost use Rattle.oathd_causes.specs.Causes.{address_cause, file_cause_of, key_cause, socket_cause_of};
 ghost use Rattle.floors_file.specs.declared.gathered.FileFault.{FileFault};
 ghost use Rattle.floors_file.specs.declared.gathered.FilesFault.{FilesFault};
 ghost use Rattle.oathd_causes.specs.Floors.{file_advice, floors_advice};
 ghost use Rattle.oathd_causes.specs.Named.{named_cause};
+ghost use Rattle.oathd_causes.specs.Remedies.{file_remedy, role_among, unfound_cause};
 ghost use Rattle.oathd_causes.specs.declared.address.AddressCause.{AddressCause};
 ghost use Rattle.oathd_causes.specs.declared.file.FileCause.{FileCause};
 ghost use Rattle.oathd_causes.specs.declared.floors.FloorsAdvice.{FloorsAdvice};
 ghost use Rattle.oathd_causes.specs.declared.key.KeyCause.{KeyCause};
 ghost use Rattle.oathd_causes.specs.declared.named.StoreCause.{StoreCause};
+ghost use Rattle.oathd_causes.specs.declared.remedy.FileRemedy.{FileRemedy};
+ghost use Rattle.oathd_causes.specs.declared.remedy.FileRole.{FileRole};
 ghost use Rattle.oathd_causes.specs.Roster.{names_advice};
 ghost use Rattle.oathd_causes.specs.declared.roster.NamesAdvice.{NamesAdvice};
 ghost use Rattle.oathd_causes.specs.declared.roster.NamesFault.{NamesFault};
@@ -19,9 +23,9 @@ ghost use Rattle.oathd_causes.specs.declared.socket.SocketCause.{SocketCause};
 /// Worked cases. The cause of each error.
 pub fn causes_are_worked()
     ensures files { map file_cause_of (NotFound ∷ NotADirectory ∷ IsADirectory ∷ PermissionDenied ∷ ReadOnlyFilesystem
-        ∷ StorageFull ∷ QuotaExceeded ∷ TimedOut ∷ []) ≡ Some FileCause.Missing ∷ Some FileCause.Missing
+        ∷ StorageFull ∷ QuotaExceeded ∷ FileTooLarge ∷ TimedOut ∷ []) ≡ Some FileCause.Missing ∷ Some FileCause.Missing
         ∷ Some FileCause.Folder ∷ Some FileCause.Denied ∷ Some FileCause.ReadOnly ∷ Some FileCause.Full
-        ∷ Some FileCause.Full ∷ None ∷ [] }
+        ∷ Some FileCause.Full ∷ Some FileCause.TooLarge ∷ None ∷ [] }
     ensures sockets { map socket_cause_of (AddrInUse ∷ AddrNotAvailable ∷ PermissionDenied ∷ NotFound ∷ [])
         ≡ Some SocketCause.InUse ∷ Some SocketCause.Elsewhere ∷ Some SocketCause.Denied ∷ None ∷ [] }
     ensures keys { map key_cause (SecretFault.BadCharacter 4 ∷ SecretFault.BadLength ∷ SecretFault.TooLong
@@ -51,6 +55,30 @@ pub fn store_causes_are_worked()
         ≡ Some (StoreCause.OtherRows 51 50) }
 {}
 
+/// Worked cases. What to do about a file for each reason, what a file is for, and what to say if no cause was found.
+pub fn remedies_are_worked()
+    ensures missing { map (λ role. file_remedy role FileCause.Missing) (FileRole.Database ∷ FileRole.Users
+        ∷ FileRole.Cluster ∷ FileRole.Key ∷ FileRole.Clients ∷ FileRole.Floors ∷ []) ≡ FileRemedy.FindDatabase
+        ∷ FileRemedy.MendPath ∷ FileRemedy.MendPath ∷ FileRemedy.FindKey ∷ FileRemedy.WriteClients
+        ∷ FileRemedy.TakeFloors ∷ [] }
+    ensures database { map (file_remedy FileRole.Database) (FileCause.Folder ∷ FileCause.Denied ∷ FileCause.ReadOnly
+        ∷ FileCause.Full ∷ FileCause.TooLarge ∷ []) ≡ FileRemedy.NameFile ∷ FileRemedy.RunAsOwner
+        ∷ FileRemedy.MountToWrite ∷ FileRemedy.MakeRoom ∷ FileRemedy.RaiseLimit ∷ [] }
+    ensures others { map (file_remedy FileRole.Key) (FileCause.Folder ∷ FileCause.Denied ∷ [])
+        ≡ FileRemedy.NameFile ∷ FileRemedy.LetRead ∷ [] }
+    ensures roles { map (role_among (Some (codes "c")) (Some (codes "k")) (Some (codes "l")) (codes "u"))
+        (codes "c" ∷ codes "k" ∷ codes "l" ∷ codes "u" ∷ codes "f" ∷ []) ≡ FileRole.Cluster ∷ FileRole.Key
+        ∷ FileRole.Clients ∷ FileRole.Users ∷ FileRole.Floors ∷ [] }
+    ensures first_role { role_among (Some (codes "a")) (Some (codes "a")) None (codes "a") (codes "a")
+        ≡ FileRole.Cluster }
+    ensures second_role { role_among None (Some (codes "a")) (Some (codes "a")) (codes "a") (codes "a")
+        ≡ FileRole.Key }
+    ensures third_role { role_among None None (Some (codes "a")) (codes "a") (codes "a") ≡ FileRole.Clients }
+    ensures unfound { map unfound_cause (StoreFault.Disk ∷ StoreFault.Unusable ∷ StoreFault.Memory ∷ StoreFault.Spent
+        ∷ StoreFault.AlreadyThere ∷ []) ≡ Some StoreCause.Failed ∷ Some StoreCause.Damaged ∷ None ∷ None ∷ None
+        ∷ [] }
+{}
+
 /// Worked cases. What to do about each fault of floors files.
 pub fn advice_is_worked()
     ensures files { map file_advice (FileFault.IsLost ∷ FileFault.SameNode ∷ FileFault.Members ∷ FileFault.Older
@@ -65,7 +93,6 @@ pub fn advice_is_worked()
 
 /// Worked cases. What to do about each fault of names.
 pub fn names_are_worked()
-    ensures faults { map names_advice (NamesFault.PlainInit ∷ NamesFault.NoNames ∷ NamesFault.NewTokens
-        ∷ NamesFault.NoSince ∷ []) ≡ NamesAdvice.Begin ∷ NamesAdvice.GiveNames ∷ NamesAdvice.LeaveOut
-        ∷ NamesAdvice.GiveSince ∷ [] }
+    ensures faults { map names_advice (NamesFault.PlainInit ∷ NamesFault.NoNames ∷ NamesFault.NoSince ∷ [])
+        ≡ NamesAdvice.Begin ∷ NamesAdvice.GiveNames ∷ NamesAdvice.GiveSince ∷ [] }
 {}

@@ -4,8 +4,9 @@
 //! address changed in between, it may not be what made the command fail. Looking keeps nothing: a file is opened and
 //! its first bytes are read, a socket is bound and closed, or a database is opened, which locks it meanwhile. A file is
 //! written beside a database and removed, to see whether the disk is full. The
-//! causes of the kinds of errors, and those in the row that names a store's node, are defined (`causes_are_worked`,
-//! `store_causes_are_worked`); no contract says that a file really has its cause.
+//! causes of the kinds of errors, those in the row that names a store's node, and what to do about a file are defined
+//! (`causes_are_worked`, `store_causes_are_worked`, `remedies_are_worked`); no contract says that a file really has its
+//! cause.
 #![tactic(auto)]
 
 mod address;
@@ -17,9 +18,11 @@ mod key;
 mod laws;
 mod named;
 mod names;
+mod remedy;
 mod roster;
 mod socket;
 mod space;
+mod user;
 
 pub use address::{AddressCause, address_cause, address_in};
 pub use cause::{Cause, database_cause, task_cause};
@@ -27,8 +30,15 @@ pub use database::{Expected, store_cause};
 pub use file::{FileCause, file_cause, file_cause_of};
 pub use floors::{FloorsAdvice, file_advice, floors_advice};
 pub use key::{KeyCause, key_cause};
-pub use laws::{advice_is_worked, causes_are_worked, names_are_worked, store_causes_are_worked};
+pub use laws::{
+    advice_is_worked, causes_are_worked, names_are_worked, remedies_are_worked,
+    store_causes_are_worked,
+};
 pub use named::{Named, StoreCause, named_cause};
 pub use names::Names;
-pub use roster::{NamesAdvice, NamesFault, names_advice, names_cause, roster_cause, seats_cause};
+pub use remedy::{FileRemedy, FileRole, file_remedy};
+pub use roster::{
+    NamesAdvice, NamesFault, names_advice, names_cause, no_user_cause, roster_cause, seats_cause,
+};
 pub use socket::{SocketCause, socket_cause};
+pub use user::User;

@@ -1,25 +1,34 @@
 ghost use Rattle.std.specs.Prelude.{◌≡◌};
 ghost use Rattle.oathd_causes.specs.Named.{named_cause, node_cause, tokens_cause, version_cause};
+ghost use Rattle.oathd_causes.specs.Remedies.{unfound_cause};
 
 use crate::file::FileCause;
+use crate::remedy::FileRemedy;
+use floor_store::StoreFault;
 use thiserror::Error;
 
-/// The reason why the store of a database cannot be used.
+/// The reason why the store of a database cannot be used, and what to do.
 #[derive(Clone, Copy, Debug, PartialEq, Eq, Error)]
 pub enum StoreCause {
-    #[error("{0}")]
-    File(FileCause),
-    #[error("can't be made there")]
+    #[error("{0}: {1}")]
+    File(FileCause, FileRemedy),
+    #[error("can't be made there: make its folder, with the right to write in it")]
     NotMade,
-    #[error("held by another process")]
+    #[error("held by another process: stop that process, or wait for it")]
     Held,
-    #[error("not a database")]
+    #[error("not a database: mend the path, or replace a damaged database by oathd init --lost")]
     NoDatabase,
+    /// The disk failed, and nothing shows why.
+    #[error("no cause was found: look at the disk and at ulimit -f, and try again: nothing that got OK is lost")]
+    Failed,
+    /// The store is unusable, and nothing shows why.
+    #[error("no cause was found: if a table of it is damaged, replace it by oathd init --lost")]
+    Damaged,
     #[error("holds no store: oathd init makes one")]
     NoStore,
-    #[error("holds tables of a store already")]
+    #[error("holds tables of a store already: serve it, or name another file; never delete a database that served")]
     HasStore,
-    #[error("holds other tables than a store's")]
+    #[error("holds other tables than a store's: name another file")]
     OtherTables,
     #[error("a store of version 1: oathd migrate makes version 2 of it")]
     VersionOne,
@@ -28,20 +37,31 @@ pub enum StoreCause {
     #[error("a store of version 3, by names: give --cluster with its cluster file, which has a line names")]
     ByNames,
     /// The number of members of the cluster that the store is bound to.
-    #[error("the store of another cluster: its life, its names or its {0} members differ")]
+    #[error("the store of another cluster: its life, its names or its {0} members differ: mend the file or the path")]
     OtherCluster(u64),
     /// The store has no room for the new tokens.
     #[error("the users file has new tokens, and a store has at most 10000 rows, those of retired tokens included")]
     Full,
     /// The store has a version that this program doesn't know.
-    #[error("a store of version {0}")]
+    #[error("a store of version {0}: use the oathd that made it, or a newer one")]
     Version(u64),
     /// The node of the store, and the node that the command needs.
-    #[error("the store of node {0}, not {1}")]
+    #[error("the store of node {0}, not {1}: give --node {0}, or the database of node {1}")]
     OtherNode(u64, u64),
     /// The number of the store's tokens, and the number of the users file's rows.
-    #[error("{0} rows, {1} in the users file")]
+    #[error("{0} rows, {1} in the users file: give the file with which it was made; to change users use init --anew")]
     OtherRows(u64, u64),
+}
+
+/// Returns what to say of a store of which no cause was found, by its fault, or None.
+pub(crate) fn unfound_cause(fault: StoreFault) -> Option<StoreCause>
+    ensures { result ≡ unfound_cause fault }
+{
+    match fault {
+        StoreFault::Disk => Some(StoreCause::Failed),
+        StoreFault::Unusable => Some(StoreCause::Damaged),
+        StoreFault::Memory | StoreFault::Spent | StoreFault::AlreadyThere => None,
+    }
 }
 
 /// What the tables of a store say of it: its version, the number of its node, and its number of tokens.

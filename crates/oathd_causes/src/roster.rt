@@ -20,9 +20,6 @@ pub enum NamesFault {
     /// The file gives no names, and the command is for stores by names.
     #[error("cluster: NoNames")]
     NoNames,
-    /// The file gives `new-tokens`, which no command takes yet.
-    #[error("cluster: NewTokens")]
-    NewTokens,
     /// The file gives names, and the command takes floors files without saying since when they were read.
     #[error("cluster: NoSince")]
     NoSince,
@@ -35,8 +32,6 @@ pub enum NamesAdvice {
     Begin,
     #[error("give names WORD in it, or leave --begins and --cluster out")]
     GiveNames,
-    #[error("leave the line new-tokens out: tokens are imported as before")]
-    LeaveOut,
     #[error("it gives names: give --since SECONDS, a time after the last node that is lost or replaced had stopped")]
     GiveSince,
 }
@@ -48,7 +43,6 @@ pub fn names_advice(fault: NamesFault) -> NamesAdvice
     match fault {
         NamesFault::PlainInit => NamesAdvice::Begin,
         NamesFault::NoNames => NamesAdvice::GiveNames,
-        NamesFault::NewTokens => NamesAdvice::LeaveOut,
         NamesFault::NoSince => NamesAdvice::GiveSince,
     }
 }
@@ -71,10 +65,16 @@ pub fn roster_cause<'a>(rt: &HostRuntime, names: Names<'a>, fault: RosterFault) 
     }
 }
 
+/// Returns what to say of a user who is in no row of the users file.
+pub fn no_user_cause(names: Names<'_>) -> Cause<'_> {
+    Cause::NoUser(names.users)
+}
+
 /// Returns the cause of a fault of a command that looks at a store by names, or None if the fault has none.
 pub fn seats_cause<'a>(names: Names<'a>, fault: SeatsFault<'_>) -> Option<Cause<'a>> {
     match fault {
         SeatsFault::NotEnrolled(_) => Some(Cause::Enrol(names.users)),
-        SeatsFault::Roster(_) | SeatsFault::NoUser(_) => None,
+        SeatsFault::NoUser(_) => Some(no_user_cause(names)),
+        SeatsFault::Roster(_) => None,
     }
 }

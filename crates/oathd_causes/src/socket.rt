@@ -5,14 +5,14 @@ use std::io::ErrorKind;
 use std::net::{Net, SocketAddr, SocketAddrV4, UdpSocket};
 use thiserror::Error;
 
-/// The reason why a socket cannot be bound to an address.
+/// The reason why a socket cannot be bound to an address, and what to do.
 #[derive(Clone, Copy, Debug, PartialEq, Eq, Error)]
 pub enum SocketCause {
-    #[error("in use")]
+    #[error("in use: stop the process that has it (ss -lunp), or change the member's address at all members")]
     InUse,
-    #[error("not an address of this machine")]
+    #[error("not an address of this machine: mend --node or the member's address, or give the machine the address")]
     Elsewhere,
-    #[error("no right to it")]
+    #[error("no right to it: take a port from 1024 on, or give the process CAP_NET_BIND_SERVICE")]
     Denied,
 }
 

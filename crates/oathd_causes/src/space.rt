@@ -23,7 +23,8 @@ fn fill(rt: &HostRuntime, path: &str) -> io::Result<()> {
     file.sync_all()
 }
 
-/// Returns `Full` if a file of 64 KiB cannot be written beside the database at `path` for want of room, else None.
+/// Returns `Full` if a file of 64 KiB cannot be written beside the database at `path` for want of room, `TooLarge` if a
+/// file of this process may not be so long, and else None.
 ///
 /// The file is removed. A file with its name, `PATH-room`, is left as it is.
 pub(crate) fn space_cause(rt: &HostRuntime, path: &str) -> Option<FileCause> {
@@ -36,7 +37,7 @@ pub(crate) fn space_cause(rt: &HostRuntime, path: &str) -> Option<FileCause> {
     };
     let _removed = fs::remove_file(rt, room.as_str());
     match file_cause_of(error?) {
-        Some(FileCause::Full) => Some(FileCause::Full),
+        Some(cause @ (FileCause::Full | FileCause::TooLarge)) => Some(cause),
         _ => None,
     }
 }

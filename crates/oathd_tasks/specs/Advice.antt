@@ -1,4 +1,4 @@
--- Where the fault of a check is, and what to do.
+-- Where the fault of a check is, and what to do about it and about a clients file.
 use Rattle.std.specs.Prelude.{ℕ, ◌-◌, Bool, true, false, List, [], ◌∷◌, ◌++◌, Option, Some, None, is_none, slice_get, unwrap_or, codes}
 use Rattle.std.specs.Fmt.{decimal}
 use Rattle.secret_text.specs.Base32.{refusal_of}
@@ -6,6 +6,8 @@ use Rattle.token_file.specs.Fields.{fields_of, lines_of}
 use Rattle.token_file.specs.declared.fault.FileFault.{FileFault}
 use Rattle.token_file.specs.declared.fault.LineFault as users_line
 use Rattle.token_file.specs.declared.fault.LineFault.TheVariants as users
+use Rattle.clients_file.specs.declared.fault.LineFault as clients_line
+use Rattle.clients_file.specs.declared.fault.LineFault.TheVariants as clients
 use Rattle.cluster_file.specs.declared.fault.LineFault.{LineFault}
 use Rattle.cluster_file.specs.declared.fault.LineFault.TheVariants.{UnknownWord, MissingField, SurplusField, TooManyMembers, MemberNumber, BadAddress, TwiceAddress, Twice, BadNumber, BadKey, BadLife, NoMember, NoKey, NoLife, TooLong, Memory, BadNames, BadNewTokens, NoNames}
 use Rattle.oathd_lines.specs.declared.fault.Fault.TheVariants as lines
@@ -56,6 +58,27 @@ cluster_advice BadNames = codes "names has 12 to 64 bytes, and is the same word 
 cluster_advice BadNewTokens = codes "new-tokens is fresh, or the line is left out"
 cluster_advice NoNames = codes "new-tokens stands beside a line names WORD"
 
+-- the advice for a fault of a clients file
+abbrev pub clients_advice : clients_line.LineFault → List ℕ
+clients_advice clients.UnknownWord = codes "a line begins with client, plain, ahead or failures, and a space"
+clients_advice clients.MissingField =
+    codes "a line has a word and its value, and that of a client a number and a key"
+clients_advice clients.SurplusField =
+    codes "a line has a word and its value, and that of a client a number and a key"
+clients_advice clients.BadNumber = codes "client is 0 to 65535, ahead 1 to 60, failures 1 to 65535"
+clients_advice clients.Twice = codes "each client has its own number, and ahead and failures are given once"
+clients_advice clients.BadKey =
+    codes "a key has 32 to 128 hexadecimal digits, two for each byte: oathd new-key prints one"
+clients_advice clients.SameKey = codes "each client has its own key: oathd new-key prints one"
+clients_advice clients.BadAddress = codes "an address is an IPv4 address without a port, as 127.0.0.1"
+clients_advice clients.NotLoopback =
+    codes "plain takes addresses of 127.0.0.0/8 alone: give others a line client NUMBER KEY"
+clients_advice clients.TooMany = codes "a clients file has at most 64 clients and 16 plain addresses"
+clients_advice clients.NoClient =
+    codes "add a line client NUMBER KEY, with a key of oathd new-key, or a line plain 127.0.0.1"
+clients_advice clients.TooLong = codes "a clients file has at most 65536 bytes"
+clients_advice clients.Memory = codes "the allocator refused memory"
+
 -- the advice for a key
 abbrev pub key_advice : List ℕ
 key_advice = codes "a key has 32 to 128 hexadecimal digits, two for each byte: oathd new-key prints one"
@@ -83,6 +106,13 @@ is_base32_in fields = false
 -- a line of a text by its number, from 1
 abbrev pub line_at : List ℕ → ℕ → List ℕ
 line_at text number = unwrap_or (slice_get (lines_of text) (number - 1)) []
+
+-- the fields of the row of a fault, and the advice for it
+abbrev pub row_fields : List ℕ → FileFault → List (List ℕ)
+row_fields rows fault = fields_of (line_at rows fault.line)
+
+abbrev pub row_advice : List ℕ → FileFault → List ℕ
+row_advice rows fault = users_advice fault.kind (is_base32_in (row_fields rows fault))
 
 -- a place in a file: its path, a line and a user
 abbrev pub line_part : Option ℕ → List ℕ
@@ -121,8 +151,8 @@ sources_value sources =
 -- the advice for a fault at a line of the users file
 abbrev pub users_text : Sources → FileFault → List ℕ
 users_text sources fault =
-    let fields = fields_of (line_at sources.rows fault.line) in
-    advice_line sources.users (Some fault.line) (user_in fields) (users_advice fault.kind (is_base32_in fields))
+    advice_line sources.users (Some fault.line) (user_in (row_fields sources.rows fault))
+    (row_advice sources.rows fault)
 
 -- the advice for the fault of a check: none for a fault of the output, the memory or another command
 abbrev pub advice_text : Sources → Fault → List ℕ

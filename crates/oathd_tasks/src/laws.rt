@@ -13,7 +13,7 @@ ghost use Rattle.oathd_words.specs.declared.store_words.Action.TheVariants.{Expo
 ghost use Rattle.oathd_words.specs.declared.words.Task.TheVariants as tasks;
 ghost use Rattle.oathd_tasks.specs.Broken.{EndsGiven, EndsNamed, checked, clients_fault, done, ended_by, file_fault, found_at, given_nodes, given_row, keyed, keyed_cluster, keyed_text, marked, named_nodes, narrow_limits, no_path, nodes_with_key, one_token, run_ended_by, setup_of, small_text, told_sources, users_fault, usual_setup, word};
 ghost use Rattle.clients_file.specs.declared.fault.LineFault.TheVariants.{NoClient, UnknownWord};
-ghost use Rattle.oathd_tasks.specs.Advice.{advice_text, is_base32_in, line_at, user_in};
+ghost use Rattle.oathd_tasks.specs.Advice.{advice_text, clients_advice, is_base32_in, line_at, row_advice, user_in};
 ghost use Rattle.oathd_tasks.specs.Check.{CheckEndsSo, HasChecked, HasTokens, IsKeyIn, IsOfClusterFile, has_mark};
 ghost use Rattle.oathd_tasks.specs.Clients.{IsOfClients, IsOfClientsFile};
 ghost use Rattle.oathd_tasks.specs.File.{IsOfFile};
@@ -161,6 +161,13 @@ pub fn advice_is_worked()
         (users_fault 2 users.BadSecret)
         ≡ codes "  u line 2, user eve: the secret is base32, and oathd reads hexadecimal: "
         ++ codes "oathtool -v -b SECRET of OATH Toolkit prints it so\n" }
+    ensures row { map (row_advice (codes "HOTP a - 31\nHOTP eve - MZXW6==="))
+        (fault_at 1 users.BadSecret ∷ fault_at 2 users.DuplicateUser ∷ [])
+        ≡ codes "a secret has 2 to 256 hexadecimal digits, two for each byte"
+        ∷ codes "one token for each user, and an earlier row has this one" ∷ [] }
+    ensures clients { map clients_advice (UnknownWord ∷ NoClient ∷ [])
+        ≡ codes "a line begins with client, plain, ahead or failures, and a space"
+        ∷ codes "add a line client NUMBER KEY, with a key of oathd new-key, or a line plain 127.0.0.1" ∷ [] }
     ensures no_user { advice_text (told_sources (codes "HOTP")) (users_fault 1 users.MissingField)
         ≡ codes "  u line 1: a row has a type, a user, a password column (- for none) and a secret\n" }
     ensures cluster { advice_text (told_sources []) (file_fault 3 NoKey)

@@ -22,6 +22,7 @@ mod setup;
 mod tally;
 mod told_check;
 
+pub use advice::{PATH_ADVICE, RowAdvice, clients_advice, cluster_advice, row_advice};
 pub use clients::clients_at;
 pub use cluster::{cluster_in, cluster_key, cluster_text, member_place};
 pub use commands::perform;
@@ -31,4 +32,5 @@ pub use laws::{
     advice_is_worked, checks_can_be_broken, clients_can_be_broken, ends_can_be_broken,
     keys_can_be_broken, notes_are_worked, setups_can_be_broken, tasks_can_be_broken,
 };
+pub use notes::printed;
 pub use program::{PROGRAM, TaskFault, run};

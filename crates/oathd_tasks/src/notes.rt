@@ -13,8 +13,8 @@ use std::io::{self, ErrorKind, Write};
 /// The most bytes of a word that are printed.
 const MAX_SHOWN_LEN: usize = 64;
 
-/// Returns a byte of a word as it is printed.
-fn printed(byte: u8) -> u8
+/// Returns a byte of a word as it is printed: a graphic byte of ASCII, or `?`.
+pub fn printed(byte: u8) -> u8
     ensures { result ≡ printed byte }
 {
     if 33 <= byte && byte <= 126 {

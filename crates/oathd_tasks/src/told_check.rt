@@ -28,11 +28,11 @@ pub(crate) struct CheckWords<'a> {
 }
 
 /// Returns why the file at `path` cannot be read now, and what to do.
-fn reason_at<F: Files>(files: &F, path: &str) -> &'static [u8] {
+fn reason_at<F: Files>(files: &F, path: &str) -> &'static str {
     let mut first = [0];
     match fs::open(files, path) {
         Ok(mut file) => match file.read(&mut first) {
-            Ok(_) => b"it can be read now: try again",
+            Ok(_) => "it can be read now: try again",
             Err(error) => reason_of(error.kind()),
         },
         Err(error) => reason_of(error.kind()),
@@ -84,9 +84,9 @@ pub(crate) fn advise<F: Files, E: Write>(
     fault: Fault<'_>,
     errors: &mut E,
 ) {
-    let reason: &[u8] = match fault {
+    let reason = match fault {
         Fault::CannotReadFile(path) => reason_at(files, path),
-        _ => b"",
+        _ => "",
     };
     let sources = Sources {
         users: words.users.as_bytes(),

@@ -279,16 +279,22 @@ pub(crate) const CHECK_HELP: &str = "\
 FILE is the cluster file of oathd serve, and USERS its users file. Reads both as
 oathd serve does, with the file of the key, and prints these lines:
     life TEXT
+    names TEXT                      if FILE gives names
     member NUMBER ADDRESS           for each member
     look-ahead COUNT
     skew COUNT
     range COUNT
     drift COUNT
     tokens TYPE COUNT               for HOTP/E, HOTP/T30 and HOTP/T60
+    rows COUNT                      all tokens, if FILE gives names
     fingerprint DIGITS
+    book DIGITS                     if FILE gives names
 Members that print the same fingerprint hear each other: their files say the
 same members, settings and life, and they have the same users and the same key.
 Members that print different ones ignore each other.
+
+If FILE gives names, the fingerprint says nothing of the users. Members that
+print the same book have the same rows in their users files, in any order.
 
 It notes on standard error which rows of the users file are ignored, a file
 without tokens, and an even number of members.";

@@ -34,3 +34,9 @@ returns-clause-path c = refl
 pub returns-clause-mark : goal.returns-clause-mark
 unfolding advice_line digits
 returns-clause-mark c = refl
+
+pub returns-clause-row : goal.returns-clause-row
+returns-clause-row c = refl
+
+pub returns-clause-clients : goal.returns-clause-clients
+returns-clause-clients c = refl
