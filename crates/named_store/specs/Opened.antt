@@ -24,6 +24,7 @@ use Rattle.named_store.specs.Floors.{seeded_floors}
 use Rattle.named_store.specs.Seating.{AreDistinct, AreSeatsOf, new_entries, new_places, rows_after}
 use Rattle.named_store.specs.declared.fault.NamedFault.{NamedFault}
 use Rattle.named_store.specs.declared.fault.NamedFault.TheVariants.{AnotherCluster, Full, Store}
+use Rattle.named_store.specs.declared.opening.RowCounts.{RowCounts}
 
 -- ---- what a store says of its tokens
 
@@ -95,6 +96,15 @@ pub record EnrolsNames (node : ℕ) (names : List Entry) (floors : List ℕ) (ow
   pub roster : List Entry
   pub has : HasNames old node roster own
   pub enrols : EnrolsNew node roster names floors old new
+
+-- The tables are of a store of `node` that is bound to `own`. So many rows are there after the tokens without one were
+-- enrolled, and so many of the tokens had none.
+pub record AreCounts (db : Database) (node : ℕ) (names : List Entry) (own : BondRecord) (counts : RowCounts)
+    : Type 0 where
+  pub roster : List Entry
+  pub has : HasNames db node roster own
+  pub all_rows : counts.all ≡ length (rows_after roster names)
+  pub new_rows : counts.enrolled ≡ length (new_entries roster names)
 
 -- The tables `old` are of a store of `node` that is bound to `own`. The tables `new` hold it with the new tokens
 -- behind. Each token has a seat, the row with its name.

@@ -26,5 +26,5 @@ pub use laws::{
     entries_are_worked, floors_are_kept, floors_are_worked, looks_are_worked, seats_are_worked,
 };
 pub use looking::{Looked, look_named};
-pub use opening::open_named;
+pub use opening::{RowCounts, enrol_and_count, open_named};
 pub use seats::{Seating, find_seats};

@@ -8,7 +8,7 @@ ghost use Rattle.floor_sql.specs.Calls.{HandsBack, IsOpenedAs};
 ghost use Rattle.floor_sql.specs.declared.schema.Format.TheVariants.{Named};
 ghost use Rattle.roster_sql.specs.Enrolled.{Enrols};
 ghost use Rattle.named_store.specs.Floors.{seeded_floors as spec_seeded_floors};
-ghost use Rattle.named_store.specs.Opened.{EnrolsNames, EnrolsNew, HasSeated, IsCause, IsEnrolled, IsGrown, IsRefused, floors_in};
+ghost use Rattle.named_store.specs.Opened.{AreCounts, EnrolsNames, EnrolsNew, HasSeated, IsCause, IsEnrolled, IsGrown, IsRefused, floors_in};
 ghost use Rattle.named_store.specs.Seating.{AreNew};
 
 use crate::fault::NamedFault;
@@ -22,6 +22,15 @@ use roster_sql::{Bond, Entry, enrol};
 use seated_store::SeatedStore;
 use sqlite::{Alter, Connection};
 use std::alloc::Global;
+
+/// The numbers of rows of a store that was opened for the tokens of a users file.
+#[derive(Clone, Copy, Debug, PartialEq, Eq)]
+pub struct RowCounts {
+    /// The number of all rows.
+    pub all: u32,
+    /// The number of rows that the opening enrolled.
+    pub enrolled: u32,
+}
 
 /// Opens the store of `node` with `tokens` tokens as it is. Its content has a row for each of them.
 pub(crate) fn open_counted<S: Alter>(
@@ -145,7 +154,8 @@ fn open_grown<S: Alter>(
     enrol_and_open(alloc, store.close(), node, rows, &fresh, &seating.entries)
 }
 
-/// Opens the store of `node` for the tokens with the entries `names` and the floors `floors`.
+/// Opens the store of `node` for the tokens with the entries `names` and the floors `floors`. Returns it with
+/// the numbers of its rows.
 ///
 /// The seat of a token is the row with its name. A token without one is enrolled: it gets a row behind the others, in
 /// one transaction for all. Its floor is the greatest of its own one and of those of all rows with its seed. The other
@@ -160,9 +170,49 @@ fn open_grown<S: Alter>(
 /// - Returns `Store` with `Unusable` if the tables are not of version 3 or of another node, or a value is out of range.
 ///   So it does if two rows have one name, or two tokens do.
 /// - Returns `Store` with `Memory` or `Disk` if the allocator or the database fails.
-pub fn open_named<S: Alter>(
+pub fn enrol_and_count<S: Alter>(
     alloc: Global,
     mut conn: Connection<S>,
+    node: u8,
+    names: &[Entry],
+    floors: &[Next],
+    own: &Bond,
+) -> Result<(SeatedStore<SqlStore<S>>, RowCounts), (Connection<S>, NamedFault)>
+    requires idle { conn.in_transaction ≡ false }
+    requires tokens { length names.now ≤ 10000 }
+    requires counted { length floors.now ≡ length names.now }
+    ensures opened { IfOk result (λ opened. HasSeated S.Store conn node names.now floors.now own.now opened.0) }
+    ensures counts { IfOk result (λ opened. HasCleanDisk (state S.Store opened.0.inner.conn)
+        → AreCounts (state S.Store conn).now node names.now own.now opened.1) }
+    ensures fault { IfErr result (λ e. HasCleanDisk (state S.Store e.0)
+        → IsCause (state S.Store conn).now node names.now own.now e.1) }
+    ensures refused { IfErr result (λ e.
+        IsRefused S.Store (EnrolsNames node names.now floors.now own.now) conn e.0) }
+{
+    // For the proof: outside a transaction the connection shows the last commit.
+    let _ = conn.is_autocommit();
+    let (roster, seating) = match seat_tokens(alloc, &mut conn, node, names, own) {
+        Ok(seated) => seated,
+        Err(fault) => return Err((conn, fault)),
+    };
+    let enrolled = seating.entries.len() as u32;
+    let all = roster.len() as u32 + enrolled;
+    match open_grown(alloc, conn, node, &roster, names, floors, &seating) {
+        Ok(store) => Ok((
+            SeatedStore::new(store, seating.seats),
+            RowCounts { all, enrolled },
+        )),
+        Err((conn, fault)) => Err((conn, NamedFault::Store(fault))),
+    }
+}
+
+/// Opens a store as [`enrol_and_count`] does, and returns it alone.
+///
+/// # Errors
+/// Returns the errors of [`enrol_and_count`].
+pub fn open_named<S: Alter>(
+    alloc: Global,
+    conn: Connection<S>,
     node: u8,
     names: &[Entry],
     floors: &[Next],
@@ -177,14 +227,6 @@ pub fn open_named<S: Alter>(
     ensures refused { IfErr result (λ e.
         IsRefused S.Store (EnrolsNames node names.now floors.now own.now) conn e.0) }
 {
-    // For the proof: outside a transaction the connection shows the last commit.
-    let _ = conn.is_autocommit();
-    let (roster, seating) = match seat_tokens(alloc, &mut conn, node, names, own) {
-        Ok(seated) => seated,
-        Err(fault) => return Err((conn, fault)),
-    };
-    match open_grown(alloc, conn, node, &roster, names, floors, &seating) {
-        Ok(store) => Ok(SeatedStore::new(store, seating.seats)),
-        Err((conn, fault)) => Err((conn, NamedFault::Store(fault))),
-    }
+    let (store, _counts) = enrol_and_count(alloc, conn, node, names, floors, own)?;
+    Ok(store)
 }

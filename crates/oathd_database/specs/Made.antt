@@ -67,15 +67,21 @@ step_words step = codes "time tokens with steps of " ++ decimal step ++ codes " 
 unfoldable pub ready_line : ℕ → ℕ → List ℕ
 ready_line step from = step_words step ++ time_text from ++ codes " UTC on\n"
 
--- the line of such tokens in a book after its import, or nothing if there is none
-unfoldable pub step_text : Limits → ℕ → List Credential → ℕ → List ℕ
-step_text limits moment book step =
-    if list_any (has_step step) book then ready_line step (ready_at limits moment step) else []
+-- the line that such tokens of a book are accepted from a moment on, or nothing if there is none
+unfoldable pub step_text : List Credential → ℕ → ℕ → List ℕ
+step_text book step from = if list_any (has_step step) book then ready_line step from else []
 
--- the line of the member, and a line for each kind of time token that the book has
+-- a line for each kind of time token that a book has; `from` gives the moment for steps of so many seconds
+abbrev pub steps_text : List Credential → (ℕ → ℕ) → List ℕ
+steps_text book from = step_text book 30 (from 30) ++ step_text book 60 (from 60)
+
+-- the line of the member, and the lines of the time tokens that were imported at a moment
 abbrev pub made_text : PlaceRecord → Content → List Credential → Limits → ℕ → List ℕ
-made_text place content book limits moment =
-    store_line place content ++ step_text limits moment book 30 ++ step_text limits moment book 60
+made_text place content book limits moment = store_line place content ++ steps_text book (ready_at limits moment)
+
+-- the same for tokens whose secrets are new: the time tokens are accepted from the moment on
+abbrev pub fresh_text : PlaceRecord → Content → List Credential → ℕ → List ℕ
+fresh_text place content book moment = store_line place content ++ steps_text book (λ step. moment)
 
 -- ---- The store
 

@@ -47,7 +47,9 @@ pub use laws::{
 };
 pub use level::{level_rows, level_store};
 pub use lost::{LostNode, init_lost_store};
-pub use made::{init_member_store, made_is_worked, time_tokens_are_ready, write_made, write_store};
+pub use made::{
+    init_member_store, made_is_worked, time_tokens_are_ready, write_fresh, write_made, write_store,
+};
 pub use migrate::migrate_store;
 pub use node_key::{NodeKey, node_keys_tell, tag_key};
 pub use serve::{

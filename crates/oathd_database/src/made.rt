@@ -17,7 +17,7 @@ ghost use Rattle.floor_store.specs.declared.fault.StoreFault.TheVariants.{Disk};
 ghost use Rattle.oathd_database.specs.Broken.{IsOfClock, drifting, fallen, new_store, no_users, shows_any, shows_none, still, users_fault};
 ghost use Rattle.oathd_database.specs.Examples.{store_with, two_closed};
 ghost use Rattle.oathd_database.specs.Fault.{IsOutputFault};
-ghost use Rattle.oathd_database.specs.Made.{HasMadeMember, IsMadeAt, IsNotTold, has_step, made_text, member_line, ready_at, ready_line, step_text, step_words, store_line, time_text};
+ghost use Rattle.oathd_database.specs.Made.{HasMadeMember, IsMadeAt, IsNotTold, fresh_text, has_step, made_text, member_line, ready_at, ready_line, step_text, step_words, store_line, time_text};
 ghost use Rattle.oathd_database.specs.Users.{IsImported, drifted_floors};
 ghost use Rattle.oathd_database.specs.declared.fault.Fault.TheVariants.{CannotWrite, Memory, NoClock, Socket, Store};
 
@@ -99,23 +99,13 @@ fn has_steps(book: &Book, step: u64) -> bool
     false
 }
 
-/// Writes when time tokens with steps of `step` seconds are accepted, if `book` has one.
+/// Writes that time tokens with steps of `step` seconds are accepted from the moment `from` on, if `book` has one.
 #[tactic(auto, unfolding(crate::specs::Made::step_text))]
-fn write_step<W: Write>(
-    writer: &mut W,
-    settings: Settings,
-    moment: u64,
-    book: &Book,
-    step: u64,
-) -> io::Result<()>
-    requires moment { IsMoment moment }
-    requires first { 1 ≤ step }
-    requires last { step ≤ 60 }
-    ensures { OnOk result (Appends (W.contents writer.old) (W.contents writer.new)
-        (step_text settings moment book.now step)) }
+fn write_step<W: Write>(writer: &mut W, book: &Book, step: u64, from: u64) -> io::Result<()>
+    ensures { OnOk result (Appends (W.contents writer.old) (W.contents writer.new) (step_text book.now step from)) }
 {
     if has_steps(book, step) {
-        return write_ready(writer, step, ready_at(settings, moment, step));
+        return write_ready(writer, step, from);
     }
     Ok(())
 }
@@ -146,19 +136,13 @@ fn write_member<S: FloorStore, W: Write>(
     write_numbers(writer, place, boot, store.tokens()).map_err(|_| Fault::CannotWrite)
 }
 
-/// Writes a line for each kind of time token that `book` has.
-fn write_steps<W: Write>(
-    writer: &mut W,
-    settings: Settings,
-    moment: u64,
-    book: &Book,
-) -> io::Result<()>
-    requires { IsMoment moment }
+/// Writes a line for each kind of time token that `book` has, with the moment from which on it is accepted.
+fn write_steps<W: Write>(writer: &mut W, book: &Book, short: u64, long: u64) -> io::Result<()>
     ensures { OnOk result (Appends (W.contents writer.old) (W.contents writer.new)
-        (step_text settings moment book.now 30 ++ step_text settings moment book.now 60)) }
+        (step_text book.now 30 short ++ step_text book.now 60 long)) }
 {
-    write_step(writer, settings, moment, book, 30)?;
-    write_step(writer, settings, moment, book, 60)
+    write_step(writer, book, 30, short)?;
+    write_step(writer, book, 60, long)
 }
 
 /// Writes what a new store is: the node's number, the number of members, the boot and the number of tokens. Flushes.
@@ -199,8 +183,33 @@ pub fn write_made<S: FloorStore, W: Write>(
         (W.contents writer.new) (made_text place (S.held store.now).content book.now settings moment)) }
     ensures fault { IfErr result (IsOutputFault (S.held store.now).fault) }
 {
+    let short = ready_at(settings, moment, 30);
+    let long = ready_at(settings, moment, 60);
     write_member(writer, place, store)?;
-    write_steps(writer, settings, moment, book).map_err(|_| Fault::CannotWrite)?;
+    write_steps(writer, book, short, long).map_err(|_| Fault::CannotWrite)?;
+    writer.flush().map_err(|_| Fault::CannotWrite)
+}
+
+/// Writes what a new store is, as [`write_store`] does, and that its time tokens are accepted from the moment on. Flushes.
+///
+/// The tokens of `book` have new secrets. A line follows for each kind of time token among them, with the clock's time
+/// in UTC.
+///
+/// # Errors
+/// Returns the errors of [`write_store`].
+pub fn write_fresh<S: FloorStore, W: Write>(
+    place: Place,
+    store: &S,
+    book: &Book,
+    moment: u64,
+    writer: &mut W,
+) -> Result<(), Fault>
+    ensures written { (S.held store.now).is_clean → OnOk result (Appends (W.contents writer.old)
+        (W.contents writer.new) (fresh_text place (S.held store.now).content book.now moment)) }
+    ensures fault { IfErr result (IsOutputFault (S.held store.now).fault) }
+{
+    write_member(writer, place, store)?;
+    write_steps(writer, book, moment, moment).map_err(|_| Fault::CannotWrite)?;
     writer.flush().map_err(|_| Fault::CannotWrite)
 }
 
@@ -254,16 +263,21 @@ pub fn made_is_worked()
     ensures store { store_line (record { me = 1; n = 1 }) (store_with two_closed)
         ≡ codes "made node 1 of 1: boot 5, tokens 2\n" }
     ensures ready { ready_line 30 34260 ≡ codes "time tokens with steps of 30 s are accepted from 09:31:00 UTC on\n" }
-    ensures no_time { step_text default_limits 34217 (event_token (codes "a") ∷ []) 30 ≡ [] }
-    ensures no_such_step { step_text default_limits 34217 (time_token Time60 ∷ []) 30 ≡ [] }
-    ensures second_token { step_text default_limits 34217 (event_token (codes "a") ∷ time_token Time60 ∷ []) 60
+    ensures no_time { step_text (event_token (codes "a") ∷ []) 30 34260 ≡ [] }
+    ensures no_such_step { step_text (time_token Time60 ∷ []) 30 34260 ≡ [] }
+    ensures second_token { step_text (event_token (codes "a") ∷ time_token Time60 ∷ []) 60 34320
         ≡ codes "time tokens with steps of 60 s are accepted from 09:32:00 UTC on\n" }
-    ensures no_token { step_text default_limits 34217 [] 60 ≡ [] }
+    ensures no_token { step_text [] 60 34320 ≡ [] }
     ensures order { made_text (record { me = 2; n = 3 }) (store_with two_closed)
         (time_token Time60 ∷ time_token Time30 ∷ []) default_limits 34217
         ≡ codes "made node 2 of 3: boot 5, tokens 2\n"
         ++ codes "time tokens with steps of 30 s are accepted from 09:31:00 UTC on\n"
         ++ codes "time tokens with steps of 60 s are accepted from 09:32:00 UTC on\n" }
+    ensures fresh { fresh_text (record { me = 2; n = 3 }) (store_with two_closed)
+        (time_token Time60 ∷ time_token Time30 ∷ []) 34217
+        ≡ codes "made node 2 of 3: boot 5, tokens 2\n"
+        ++ codes "time tokens with steps of 30 s are accepted from 09:30:17 UTC on\n"
+        ++ codes "time tokens with steps of 60 s are accepted from 09:30:17 UTC on\n" }
 {}
 
 /// Counterexamples: each promise of a member's store, and of a fault, fails for a minimal one.

@@ -1,6 +1,7 @@
 //! The command `serve`: runs a node over a store and a socket.
 
-ghost use Rattle.std.specs.Prelude.{◌≡◌, ◌<◌, ◌^◌, [], None, false, true, length, Result, Ok, IfErr, IfOk, IfSome, IsSome};
+ghost use Rattle.std.specs.Prelude.{◌≡◌, ◌<◌, ◌^◌, [], None, false, true, length, Result, Ok, IfErr, IfOk, IfSome, IsSome, OnOk};
+ghost use Rattle.std.specs.Io.KnownBytes.{Appends};
 ghost use Rattle.oath_node.specs.TurnServing.{Serves};
 ghost use Rattle.oath_node.specs.declared.serve_fault.ServeFault.{ServeFault};
 ghost use Rattle.oath_node.specs.declared.turns.Served.{Served};
@@ -8,7 +9,7 @@ ghost use Rattle.oath_node.specs.Calls.{IsOpened};
 ghost use Rattle.oathd_database.specs.Commands.{EndsServing, HasServed, IsServed};
 ghost use Rattle.oathd_database.specs.Fault.{IsOpenFault, serve_end};
 ghost use Rattle.floor_store.specs.Range.{IsCount};
-ghost use Rattle.oathd_database.specs.Log.{start_at};
+ghost use Rattle.oathd_database.specs.Log.{first_lines, start_at};
 ghost use Rattle.oathd_database.specs.Setup.{setup_behind};
 
 use crate::database::{Database, open_store};
@@ -20,13 +21,13 @@ use arrayvec::ArrayVec;
 use cluster_file::fingerprint;
 use datagram_port::{Clock, Port};
 use floor_store::FloorStore;
-use node_log::{Gatekeeper, LogPort, MAX_OTHERS, Member, Start, write_start};
+use node_log::{Gatekeeper, LogPort, MAX_OTHERS, Member, Roster, Start, write_roster, write_start};
 use oath_node::{Node, Served, run_turns};
 use otp_core::Settings;
 use sealed_port::SealedPort;
 use sqlite::Alter;
 use std::alloc::Global;
-use std::io::{Read, Write};
+use std::io::{self, Read, Write};
 use std::net::{Net, SocketAddr, SocketAddrV4, UdpSocket};
 use std::time::{Clock as TimeSource, Duration};
 use token_file::Book;
@@ -109,6 +110,8 @@ pub fn socket_at<N: Net>(net: &N, address: SocketAddrV4) -> Result<UdpSocket, Fa
 pub struct ServeLog {
     /// The content of its first line.
     pub start: Start,
+    /// The content of the line after it, for a store by names.
+    pub roster: Option<Roster>,
     /// The other members of the node's cluster.
     pub members: ArrayVec<Member, MAX_OTHERS>,
 }
@@ -122,6 +125,17 @@ fn other_members(place: Place) -> ArrayVec<Member, MAX_OTHERS> {
         }
     }
     others
+}
+
+/// Writes the first lines of a log.
+fn write_first_lines<W: Write>(writer: &mut W, log: &ServeLog) -> io::Result<()>
+    ensures { OnOk result (Appends (W.contents writer.old) (W.contents writer.new) (first_lines log.now)) }
+{
+    write_start(writer, log.start)?;
+    match log.roster {
+        Some(roster) => write_roster(writer, roster),
+        None => Ok(()),
+    }
 }
 
 /// Serves a node over a port, as [`serve_node`] does, with a log. A failed write ends the log, but not the node.
@@ -139,7 +153,7 @@ fn serve_logged<S: FloorStore, P: Gatekeeper + Drop, N: TimeSource, W: Write>(
         × Serves S.held node.old node.new (P.events port) (P.events last) None None turns end
         × (P.setup last ≡ P.setup port) × (result ≡ serve_end end) }
 {
-    let _written = write_start(writer, log.start);
+    let _written = write_first_lines(writer, &log);
     let mut clock = SystemClock::new(outside);
     let mut port = LogPort::new(port, writer, log.members);
     let served = serve_node(node, &mut port, &mut clock, turns)?;
@@ -227,16 +241,23 @@ pub fn start_of(
     }
 }
 
-/// Returns the log of a node, or None if `is_logged` is false.
-pub fn log_of(is_logged: bool, start: Start, place: Place) -> Option<ServeLog>
+/// Returns the log of a node with the content of its first lines, or None if `is_logged` is false.
+pub fn log_of(
+    is_logged: bool,
+    start: Start,
+    roster: Option<Roster>,
+    place: Place,
+) -> Option<ServeLog>
     ensures none { is_logged ≡ false → result ≡ None }
-    ensures start { is_logged ≡ true → IfSome result (λ log. log.start ≡ start) × IsSome result }
+    ensures lines { is_logged ≡ true
+        → IfSome result (λ log. (log.start ≡ start) × (log.roster ≡ roster)) × IsSome result }
 {
     if !is_logged {
         return None;
     }
     Some(ServeLog {
         start,
+        roster,
         members: other_members(place),
     })
 }
@@ -284,6 +305,6 @@ pub fn serve_store<R: Read + Drop, S: Alter + Drop, D: Database<S>, N: Net + Tim
     let mut node = open_node(alloc, &users.book, settings, place, &key, store)?;
     let port = UdpPort::new(socket_at(outside, address)?, members, outside);
     let front = front_of(alloc, place.me(), lines, outside)?;
-    let log = log_of(is_logged, start, place);
+    let log = log_of(is_logged, start, None, place);
     serve_front(&mut node, port, outside, front, turns, log, writer)
 }

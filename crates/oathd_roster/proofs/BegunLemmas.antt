@@ -24,11 +24,10 @@ use Rattle.seated_store.specs.Seated.{SeatedRecord, seated_held}
 use Rattle.seated_store.specs.Seats.{seated_content}
 use Rattle.vote_core.specs.NodeSet.{PlaceRecord}
 use Rattle.oathd_database.specs.Fault.{IsOutputFault}
-use Rattle.oathd_database.specs.Made.{made_text}
-use Rattle.oathd_database.specs.Users.{IsImported, IsUnread, drifted_floors}
+use Rattle.oathd_database.specs.Users.{IsImported, IsUnread}
 use Rattle.oathd_database.specs.declared.fault.Fault.{Fault}
 use Rattle.oathd_database.specs.declared.fault.Fault.TheVariants.{Memory, CannotWrite, NoClock, Users, Store, Socket}
-use Rattle.oathd_roster.specs.Begun.{HasBegun, IsBegun, IsBegunAt, IsNotBegun, IsNotCreated}
+use Rattle.oathd_roster.specs.Begun.{HasBegun, IsBegun, IsBegunAt, IsNotBegun, IsNotCreated, begun_text}
 use Rattle.oathd_roster.specs.Users.{IsUnnamed}
 use Rattle.oathd_roster.specs.declared.cluster.NamedCluster.{NamedCluster}
 use Rattle.oathd_roster.specs.declared.fault.RosterFault.{RosterFault}
@@ -143,7 +142,7 @@ module _ (cluster : NamedCluster) (limits : Limits) (moment longest : ℕ) where
       pub has_begun : (a old new : Option (List ℕ)) (place : PlaceRecord) → IfSome a (IsImported limits moment longest book floors)
           → IsBegun g finds cluster limits moment place.me book floors store
           → (HasCleanDisk (sql.state g store.inner.conn)
-          → Appends old new (made_text place (seated_content store.seats store.inner.mirror) book limits moment))
+          → Appends old new (begun_text cluster limits moment place (seated_content store.seats store.inner.mirror) book))
           → IfSome a (HasBegun g finds cluster limits moment longest place store old new)
       has_begun None old new place h begun written = tt
       has_begun (Some text) old new place h begun written =

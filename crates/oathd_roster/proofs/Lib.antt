@@ -1,3 +1,4 @@
+mod EnrolmentLemmas
 mod UsersLemmas
 mod OpenedLemmas
 mod BegunLemmas

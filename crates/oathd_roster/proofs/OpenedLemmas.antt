@@ -8,15 +8,17 @@ use Rattle.token_file.specs.Credential.{Credential}
 use Rattle.floor_sql.specs.Held.{SqlHeld}
 use Rattle.floor_store.specs.declared.fault.StoreFault.{StoreFault}
 use Rattle.named_store.specs.Entries.{entries_of}
-use Rattle.named_store.specs.Opened.{EnrolsNames, HasSeated, IsCause, IsRefused as HandsBackNamed}
+use Rattle.named_store.specs.Opened.{AreCounts, EnrolsNames, HasSeated, IsCause, IsRefused as HandsBackNamed}
 use Rattle.named_store.specs.declared.fault.NamedFault.{NamedFault}
 use Rattle.named_store.specs.declared.fault.NamedFault.TheVariants as named
+use Rattle.named_store.specs.declared.opening.RowCounts.{RowCounts}
 use Rattle.roster_sql.specs.declared.entry.Entry.{Entry}
 use Rattle.seated_store.specs.Seated.{SeatedRecord}
 use Rattle.oathd_database.specs.Commands.{IsRefused}
-use Rattle.oathd_database.specs.Users.{IsImported, IsUnread, drifted_floors}
+use Rattle.oathd_database.specs.Users.{IsImported, IsUnread}
 use Rattle.oathd_database.specs.declared.fault.Fault.{Fault}
 use Rattle.oathd_database.specs.declared.fault.Fault.TheVariants.{Memory, CannotWrite, NoClock, Users, Store, Socket}
+use Rattle.oathd_roster.specs.Enrolment.{enrolment_floors}
 use Rattle.oathd_roster.specs.Fault.{named_fault_of}
 use Rattle.oathd_roster.specs.Opened.{HasOpenedNamed, IsKeptOut, IsNotOpened}
 use Rattle.oathd_roster.specs.Users.{IsUnnamed}
@@ -34,8 +36,8 @@ refused_text limits moment longest (Users fault) text h = h
 refused_text limits moment longest (Store fault) text h = absurd h
 refused_text limits moment longest Socket text h = h
 
-module _ {S : Type 0} (g : Ghosts S) (finds : sql.Held S → Type 0) (cluster : NamedCluster) (limits : Limits) where
-  module _ (moment longest node : ℕ) where
+module _ {S : Type 0} (g : Ghosts S) (finds : sql.Held S → Type 0) (cluster : NamedCluster) (limits : Limits) (moment : ℕ) where
+  module _ (longest node : ℕ) where
     -- the users file is not imported, or has no names
     pub unopened : (a : Option (List ℕ)) (fault : RosterFault) → IfSome a (IsUnnamed cluster.salt limits moment longest fault)
         → IfSome a (IsNotOpened g finds cluster limits moment longest node fault)
@@ -59,7 +61,7 @@ module _ {S : Type 0} (g : Ghosts S) (finds : sql.Held S → Type 0) (cluster : 
 
       turned_away : (fault : NamedFault) (conn left : sql.Held S) (text : List ℕ) → (HasCleanDisk (sql.state g conn) → finds conn)
           → (HasCleanDisk (sql.state g left) → IsCause (sql.state g conn).now node (entries_of cluster.salt book) cluster.bond fault)
-          → HandsBackNamed g (EnrolsNames node (entries_of cluster.salt book) (drifted_floors limits.drift book floors) cluster.bond) conn left
+          → HandsBackNamed g (EnrolsNames node (entries_of cluster.salt book) (enrolment_floors cluster limits moment book floors) cluster.bond) conn left
           → IsImported limits moment longest book floors text → IsKeptOut g finds cluster limits moment longest node fault text
       turned_away fault conn left text found cause kept h = record {
         import = record { book = book; floors = floors; imported = h };
@@ -72,7 +74,7 @@ module _ {S : Type 0} (g : Ghosts S) (finds : sql.Held S → Type 0) (cluster : 
 
       refused_so : (a : Option (List ℕ)) (fault : NamedFault) (conn left : sql.Held S) → (HasCleanDisk (sql.state g conn) → finds conn)
           → (HasCleanDisk (sql.state g left) → IsCause (sql.state g conn).now node (entries_of cluster.salt book) cluster.bond fault)
-          → HandsBackNamed g (EnrolsNames node (entries_of cluster.salt book) (drifted_floors limits.drift book floors) cluster.bond) conn left
+          → HandsBackNamed g (EnrolsNames node (entries_of cluster.salt book) (enrolment_floors cluster limits moment book floors) cluster.bond) conn left
           → IfSome a (IsImported limits moment longest book floors)
           → IfSome a (IsNotOpened g finds cluster limits moment longest node (named_fault_of fault))
       refused_so None fault conn left found cause kept h = tt
@@ -82,7 +84,7 @@ module _ {S : Type 0} (g : Ghosts S) (finds : sql.Held S → Type 0) (cluster : 
 
       -- the tables give the reason
       pub kept_out : (a : Option (List ℕ)) (fault : NamedFault) (names : List Entry) (given : List ℕ) (conn left : sql.Held S)
-          → names ≡ entries_of cluster.salt book → given ≡ drifted_floors limits.drift book floors
+          → names ≡ entries_of cluster.salt book → given ≡ enrolment_floors cluster limits moment book floors
           → (HasCleanDisk (sql.state g conn) → finds conn)
           → (HasCleanDisk (sql.state g left) → IsCause (sql.state g conn).now node names cluster.bond fault)
           → HandsBackNamed g (EnrolsNames node names given cluster.bond) conn left
@@ -96,16 +98,18 @@ module _ {S : Type 0} (g : Ghosts S) (finds : sql.Held S → Type 0) (cluster : 
 
   -- the store is opened
   pub opened_named : (node : ℕ) (book : List Credential) (floors : List ℕ) (names : List Entry) (given : List ℕ) (conn : sql.Held S)
-      (store : SeatedRecord (SqlHeld S))
-      → names ≡ entries_of cluster.salt book → given ≡ drifted_floors limits.drift book floors
+      (store : SeatedRecord (SqlHeld S)) (counts : RowCounts)
+      → names ≡ entries_of cluster.salt book → given ≡ enrolment_floors cluster limits moment book floors
       → (HasCleanDisk (sql.state g conn) → finds conn)
-      → HasSeated g conn node names given cluster.bond store → length store.seats ≡ length book
-      → HasOpenedNamed g finds cluster limits node book floors store
-  opened_named node book floors names given conn store same drifted found seated each = record {
+      → HasSeated g conn node names given cluster.bond store
+      → (HasCleanDisk (sql.state g store.inner.conn) → AreCounts (sql.state g conn).now node names cluster.bond counts)
+      → length store.seats ≡ length book → HasOpenedNamed g finds cluster limits moment node book floors store counts
+  opened_named node book floors names given conn store counts same drifted found seated counted each = record {
     conn = conn;
     found = found;
     seated =
         subst (λ (f : List ℕ). HasSeated g conn node (entries_of cluster.salt book) f cluster.bond store) drifted
         (subst (λ (l : List Entry). HasSeated g conn node l given cluster.bond store) same seated);
+    counted = λ clean. subst (λ (l : List Entry). AreCounts (sql.state g conn).now node l cluster.bond counts) same (counted clean);
     each = each;
   }

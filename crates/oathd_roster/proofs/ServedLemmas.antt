@@ -13,6 +13,7 @@ use Rattle.floor_store.specs.Held.{Held}
 use Rattle.named_port.specs.Runs.{IsAfter, at_start, below_events, handed_events}
 use Rattle.named_port.specs.Setup.{named_setup}
 use Rattle.named_port.specs.Translator.{TranslatorRecord, new_translator}
+use Rattle.named_store.specs.declared.opening.RowCounts.{RowCounts}
 use Rattle.oath_node.specs.Calls.{IsOpened}
 use Rattle.oath_node.specs.Hosted.{Hosted}
 use Rattle.oath_node.specs.TurnServing.{Serves}
@@ -224,8 +225,8 @@ module _ {S : Type 0} (g : Ghosts S) (finds : sql.Held S → Type 0) (cluster : 
     ends_memory fault is =
         subst (λ (x : Fault). IfSome a (EndsServingNamed g finds cluster moment serving (Command x))) (sym is) (ends_before Memory (λ text h. tt))
 
-    module _ (found : SeatedRecord (SqlHeld S)) (first last : Hosted (SeatedRecord (SqlHeld S))) (boot : ℕ)
-        (opened : HasOpenedNamed g finds cluster serving.settings serving.place.me book floors found)
+    module _ (found : SeatedRecord (SqlHeld S)) (counts : RowCounts) (first last : Hosted (SeatedRecord (SqlHeld S))) (boot : ℕ)
+        (opened : HasOpenedNamed g finds cluster serving.settings moment serving.place.me book floors found counts)
         (in_boot : IsOpened (seated_held (sql_held g)) found first) (of_book : first.book ≡ book)
         (of_limits : first.limits ≡ serving.settings) (of_key : first.key ≡ tag_key serving.key book) (of_place : first.voter.place ≡ serving.place)
         (boot_is : HasCleanDisk (sql.state g found.inner.conn) → boot ≡ found.inner.mirror.boot + 1) where
@@ -238,6 +239,7 @@ module _ {S : Type 0} (g : Ghosts S) (finds : sql.Held S → Type 0) (cluster : 
           IfSome_then a imported (λ text i. record {
             import = record { book = book; floors = floors; imported = i };
             found = found;
+            counts = counts;
             opened = opened;
             first = first;
             in_boot = in_boot;

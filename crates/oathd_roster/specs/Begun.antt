@@ -1,6 +1,6 @@
 -- The new store of a member that never served, by the names of the tokens of a users file. Floor: the first free factor
 -- of a token at a node.
-use Rattle.std.specs.Prelude.{◌≡◌, ℕ, List, length, Option}
+use Rattle.std.specs.Prelude.{◌≡◌, ℕ, List, length, Option, if◌then◌else◌}
 use Rattle.std.specs.Io.KnownBytes.{Appends}
 use Rattle.sqlite.specs.Store.{Ghosts}
 use Rattle.sqlite.specs.Held as sql
@@ -8,6 +8,7 @@ use Rattle.sqlite.specs.State.{HasCleanDisk, Survives}
 use Rattle.otp_core.specs.Limits.{Limits}
 use Rattle.token_file.specs.Credential.{Credential}
 use Rattle.floor_sql.specs.Held.{SqlHeld}
+use Rattle.floor_store.specs.Content.{Content}
 use Rattle.floor_sql.specs.Stored.{Commits, MayCommit}
 use Rattle.named_store.specs.Entries.{entries_of}
 use Rattle.named_store.specs.Opened.{HasSeated}
@@ -19,10 +20,11 @@ use Rattle.seated_store.specs.Seats.{seated_content}
 use Rattle.vote_core.specs.NodeSet.{PlaceRecord}
 use Rattle.oathd_database.specs.Commands.{HasImport, IsRefused}
 use Rattle.oathd_database.specs.Lost.{boot_at}
-use Rattle.oathd_database.specs.Made.{made_text}
-use Rattle.oathd_database.specs.Users.{IsUnread, drifted_floors}
+use Rattle.oathd_database.specs.Made.{fresh_text, made_text}
+use Rattle.oathd_database.specs.Users.{IsUnread}
 use Rattle.oathd_database.specs.declared.fault.Fault.{Fault}
 use Rattle.oathd_database.specs.declared.fault.Fault.TheVariants.{Memory, CannotWrite, NoClock, Users, Store, Socket}
+use Rattle.oathd_roster.specs.Enrolment.{enrolment_floors}
 use Rattle.oathd_roster.specs.Users.{HasSameName}
 use Rattle.oathd_roster.specs.declared.cluster.NamedCluster.{NamedCluster}
 use Rattle.oathd_roster.specs.declared.fault.RosterFault.{RosterFault}
@@ -36,6 +38,11 @@ IsNotCreated cluster limits moment longest (SameName row) text =
     HasSameName cluster.salt limits moment longest row text
 IsNotCreated cluster limits moment longest AnotherCluster text = ⊥
 IsNotCreated cluster limits moment longest Full text = ⊥
+
+-- what is said of the new store of a member: from when on its time tokens are accepted is as new tokens are enrolled
+abbrev pub begun_text : NamedCluster → Limits → ℕ → PlaceRecord → Content → List Credential → List ℕ
+begun_text cluster limits moment place content book =
+    if cluster.is_fresh then fresh_text place content book moment else made_text place content book limits moment
 
 module _ {S : Type 0} (g : Ghosts S) (finds : sql.Held S → Type 0) where
   -- The store of `node` at `boot`, with the given entries, floors and bond, is created by one commit in the tables of
@@ -57,7 +64,7 @@ module _ {S : Type 0} (g : Ghosts S) (finds : sql.Held S → Type 0) where
     -- the store of `node` begins with the tokens of the book, at the boot of the moment
     abbrev pub IsBegun : ℕ → List Credential → List ℕ → SeatedRecord (SqlHeld S) → Type 0
     IsBegun node book floors store = IsBegunAt node (boot_at moment) (entries_of cluster.salt book)
-        (drifted_floors limits.drift book floors) cluster.bond store
+        (enrolment_floors cluster limits moment book floors) cluster.bond store
 
     -- The store of the member at `place` begins with the tokens of a users file, and its text is written.
     pub record HasBegun (longest : ℕ) (place : PlaceRecord) (store : SeatedRecord (SqlHeld S))
@@ -65,7 +72,7 @@ module _ {S : Type 0} (g : Ghosts S) (finds : sql.Held S → Type 0) where
       pub import : HasImport limits moment longest text
       pub begun : IsBegun place.me import.book import.floors store
       pub written : HasCleanDisk (sql.state g store.inner.conn) → Appends old new
-          (made_text place (seated_content store.seats store.inner.mirror) import.book limits moment)
+          (begun_text cluster limits moment place (seated_content store.seats store.inner.mirror) import.book)
 
     -- the store of `node` begins with the tokens of a users file
     pub record HasBegunStore (longest node : ℕ) (text : List ℕ) : Type 0 where

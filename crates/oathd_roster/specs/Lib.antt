@@ -1,5 +1,7 @@
 pub mod Begun
+pub mod Enrolment
 pub mod Fault
+pub mod Log
 pub mod Opened
 pub mod Served
 pub mod Users

@@ -14,6 +14,7 @@ use Rattle.oath_node.specs.Hosted.{Hosted}
 use Rattle.oath_node.specs.TurnServing.{Serves}
 use Rattle.oath_node.specs.declared.serve_fault.ServeFault.{ServeFault}
 use Rattle.oath_node.specs.declared.turns.Served.{Served}
+use Rattle.named_store.specs.declared.opening.RowCounts.{RowCounts}
 use Rattle.seated_store.specs.Seated.{SeatedRecord, seated_held}
 use Rattle.token_names.specs.Names.{names_of}
 use Rattle.udp_port.specs.Calls.{SocketCalls}
@@ -63,7 +64,10 @@ module _ {S : Type 0} (g : Ghosts S) (finds : sql.Held S → Type 0) (cluster : 
   pub record HasServedNamed (result : Result Served Fault) (text : List ℕ) : Type 0 where
     pub import : HasImport serving.settings moment 16777216 text
     pub found : SeatedRecord (SqlHeld S)
-    pub opened : HasOpenedNamed g finds cluster serving.settings serving.place.me import.book import.floors found
+    -- the numbers of its rows, which the log has
+    pub counts : RowCounts
+    pub opened :
+        HasOpenedNamed g finds cluster serving.settings moment serving.place.me import.book import.floors found counts
     pub first : Hosted (SeatedRecord (SqlHeld S))
     pub in_boot : IsOpened (seated_held (sql_held g)) found first
     pub of_book : first.book ≡ import.book

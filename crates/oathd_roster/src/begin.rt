@@ -2,29 +2,33 @@
 //!
 //! Floor: the first free factor of a token at a node.
 
-ghost use Rattle.std.specs.Prelude.{◌≡◌, ◌≢◌, ◌≤◌, false, length, IfErr, IfOk, IfSome};
+ghost use Rattle.std.specs.Io.KnownBytes.{Appends};
+ghost use Rattle.std.specs.Prelude.{◌≡◌, ◌≢◌, ◌≤◌, false, length, IfErr, IfOk, IfSome, OnOk};
 ghost use Rattle.otp_core.specs.Range.{IsMoment};
 ghost use Rattle.floor_store.specs.Range.{IsCount};
 ghost use Rattle.floor_sql.specs.Usable.{IsNode};
 ghost use Rattle.named_store.specs.Opened.{HasSeated};
 ghost use Rattle.oathd_database.specs.Users.{IsImported};
 ghost use Rattle.oathd_database.specs.declared.fault.Fault.TheVariants.{CannotWrite};
-ghost use Rattle.oathd_roster.specs.Begun.{HasBegun, IsBegun, IsBegunAt, IsNotBegun, IsNotCreated};
+ghost use Rattle.oathd_database.specs.Fault.{IsOutputFault};
+ghost use Rattle.oathd_roster.specs.Begun.{HasBegun, IsBegun, IsBegunAt, IsNotBegun, IsNotCreated, begun_text};
 ghost use Rattle.oathd_roster.specs.declared.fault.RosterFault.TheVariants.{Command};
 
 use crate::cluster::NamedCluster;
+use crate::enrolment::enrolment_floors;
 use crate::fault::RosterFault;
 use crate::users::{NamedUsers, read_named_users};
 use floor_sql::{Refusal, SqlStore};
 use floor_store::{FloorStore, StoreFault};
 use named_store::{NamedFault, open_named};
-use oathd_database::{Database, Fault, drifted_floors, write_made};
+use oathd_database::{Database, Fault, write_fresh, write_made};
 use otp_core::{Next, Settings};
 use roster_sql::{Bond, Entry, make_named};
 use seated_store::SeatedStore;
 use sqlite::{Alter, Connection};
 use std::alloc::Global;
 use std::io::{Read, Write};
+use token_file::Book;
 use vote_core::Place;
 
 /// The number of boots for each second.
@@ -108,7 +112,7 @@ fn create_named<R: Read + Drop, S: Alter + Drop, D: Database<S>>(
         (IsNotCreated cluster.now settings moment 16777216 fault)) }
 {
     let named = read_named_users(alloc, users, settings, moment, &cluster.salt)?;
-    let Ok(floors) = drifted_floors(alloc, &named.users, settings.drift()) else {
+    let Ok(floors) = enrolment_floors(alloc, cluster, &named.users, settings, moment) else {
         return Err(RosterFault::Command(Fault::Memory));
     };
     let boot = moment * BOOTS;
@@ -127,10 +131,36 @@ fn create_named<R: Read + Drop, S: Alter + Drop, D: Database<S>>(
     }
 }
 
-/// Creates the store of the member at `place`, which never served, and writes what was made, as [`write_made`] does.
+/// Writes what the new store of a member is, as [`write_made`] does. If the secrets of the cluster's new tokens are new,
+/// it writes as [`write_fresh`] does.
+fn write_begun<S: FloorStore, W: Write>(
+    cluster: &NamedCluster,
+    place: Place,
+    store: &S,
+    book: &Book,
+    settings: Settings,
+    moment: u64,
+    writer: &mut W,
+) -> Result<(), Fault>
+    requires { IsMoment moment }
+    ensures written { (S.held store.now).is_clean → OnOk result (Appends (W.contents writer.old)
+        (W.contents writer.new)
+        (begun_text cluster.now settings moment place (S.held store.now).content book.now)) }
+    ensures fault { IfErr result (IsOutputFault (S.held store.now).fault) }
+{
+    if cluster.is_fresh {
+        write_fresh(place, store, book, moment, writer)
+    } else {
+        write_made(place, store, book, settings, moment, writer)
+    }
+}
+
+/// Creates the store of the member at `place`, which never served, and writes what was made: a line of the member, and
+/// from when on its time tokens are accepted.
 ///
-/// The tokens of the users file are imported at the given moment, in seconds since 1970-01-01 00:00:00 UTC, 0 to
-/// 1099511627775. The store has 2^20 boots behind it for each second up to the moment. It is bound to the cluster.
+/// The tokens of the users file are enrolled at the given moment, in seconds since 1970-01-01 00:00:00 UTC, 0 to
+/// 1099511627775, as [`open_named_store`](crate::open_named_store) enrols new ones. The store has 2^20 boots behind it
+/// for each second up to the moment. It is bound to the cluster.
 ///
 /// # Errors
 /// - Returns the errors of [`read_named_users`]. The database is not opened.
@@ -158,6 +188,7 @@ pub fn begin_store<R: Read + Drop, S: Alter + Drop, D: Database<S>, W: Write>(
 {
     let node = place.me();
     let (named, store) = create_named(alloc, users, settings, moment, node, cluster, database)?;
-    write_made(place, &store, &named.users.book, settings, moment, writer)?;
+    let book = &named.users.book;
+    write_begun(cluster, place, &store, book, settings, moment, writer)?;
     Ok(store)
 }

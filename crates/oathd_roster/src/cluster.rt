@@ -10,5 +10,7 @@ pub struct NamedCluster {
     pub salt: Salt,
     /// The bond of its members' stores.
     pub bond: Bond,
+    /// Whether the secrets of new tokens are new.
+    pub is_fresh: bool,
     ghost bound: { bond.names ≡ salt },
 }

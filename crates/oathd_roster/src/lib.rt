@@ -7,6 +7,7 @@
 
 mod begin;
 mod cluster;
+mod enrolment;
 mod fault;
 mod laws;
 mod names;
@@ -18,6 +19,7 @@ mod users;
 
 pub use begin::{begin_store, open_created};
 pub use cluster::NamedCluster;
+pub use enrolment::{enrolments_are_worked, fresh_tokens_are_ready};
 pub use fault::RosterFault;
 pub use laws::faults_are_worked;
 pub use opening::open_named_store;

@@ -1,12 +1,13 @@
 //! The command `serve` over a store by names: runs a node over the store and a socket.
 
-ghost use Rattle.std.specs.Prelude.{◌≡◌, ◌<◌, ◌^◌, [], None, false, true, map, Result, Ok, IfErr, IfOk, IfSome, IsSome};
+ghost use Rattle.std.specs.Prelude.{◌≡◌, ◌<◌, ◌^◌, [], None, Some, false, true, if◌then◌else◌, map, Result, Ok, IfErr, IfOk, IfSome, IsSome};
 ghost use Rattle.otp_core.specs.Range.{IsMoment};
 ghost use Rattle.oath_node.specs.declared.serve_fault.ServeFault.{ServeFault};
 ghost use Rattle.oath_node.specs.declared.turns.Served.{Served};
 ghost use Rattle.named_port.specs.Translator.{new_translator};
 ghost use Rattle.oathd_database.specs.Fault.{serve_end};
 ghost use Rattle.oathd_database.specs.Setup.{setup_behind};
+ghost use Rattle.oathd_roster.specs.Log.{roster_at};
 ghost use Rattle.oathd_roster.specs.Served.{EndsServingNamed, HasServedNamed, IsServedNamed, ServesNamed};
 
 use crate::cluster::NamedCluster;
@@ -14,9 +15,11 @@ use crate::fault::RosterFault;
 use crate::names::names_in;
 use crate::opening::open_named_store;
 use crate::users::NamedUsers;
+use cluster_file::book_print;
 use floor_store::FloorStore;
 use named_port::{NamedPort, Names};
-use node_log::Gatekeeper;
+use named_store::RowCounts;
+use node_log::{Gatekeeper, Roster};
 use oath_node::{Node, Served};
 use oathd_database::{
     Database, Fault, Front, ServeLog, Serving, front_of, log_of, open_node, serve_port, socket_at,
@@ -28,6 +31,7 @@ use std::alloc::Global;
 use std::io::{Read, Write};
 use std::net::Net;
 use std::time::Clock as TimeSource;
+use token_file::Book;
 use udp_port::{SystemClock, UdpPort};
 use vote_wire::ClusterKey;
 
@@ -98,6 +102,36 @@ fn serve_front<S: FloorStore, N: TimeSource, W: Write>(
     }
 }
 
+/// Returns the content of the log's line of a store's rows, or None if there is no log.
+///
+/// The store was opened for the tokens of `book`.
+fn roster_of(
+    alloc: Global,
+    is_logged: bool,
+    counts: RowCounts,
+    book: &Book,
+    key: &ClusterKey,
+) -> Result<Option<Roster>, Fault>
+    ensures roster { IfOk result (λ roster.
+        roster ≡ (if is_logged then Some (roster_at counts book.now key.now) else None)) }
+    ensures fault { IfErr result (λ fault. fault ≡ Fault.Memory) }
+{
+    if !is_logged {
+        return Ok(None);
+    }
+    // At most 10,000.
+    let tokens = book.len() as u32;
+    let Ok(print) = book_print(alloc, key, book) else {
+        return Err(Fault::Memory);
+    };
+    Ok(Some(Roster {
+        rows: counts.all,
+        enrolled: counts.enrolled,
+        retired: counts.all.saturating_sub(tokens),
+        book: print,
+    }))
+}
+
 /// Returns the names of the tokens of a users file, with their index.
 fn indexed_names(alloc: Global, named: &NamedUsers) -> Result<Names, Fault>
     ensures names { IfOk result (λ names. names ≡ map (λ entry. entry.name) named.now.entries.items) }
@@ -118,11 +152,13 @@ fn indexed_names(alloc: Global, named: &NamedUsers) -> Result<Names, Fault>
 /// turns.
 ///
 /// The store is opened as [`open_named_store`] does. The node speaks to the other members by the names of its tokens.
-/// All else is as in [`serve_store`](oathd_database::serve_store).
+/// A log has a line of the store's rows after its first one. All else is as in
+/// [`serve_store`](oathd_database::serve_store).
 ///
 /// # Errors
 /// - Returns the errors of [`open_named_store`].
 /// - Returns `Command` with the errors of [`open_node`].
+/// - Returns `Command(Memory)` if the allocator refuses the memory for the log's line of rows.
 /// - Returns `Command(Socket)` if the socket cannot be bound.
 /// - Returns `Command` with the errors of [`front_of`].
 /// - Returns `Command` with the errors of [`serve_port`].
@@ -159,7 +195,9 @@ pub fn serve_named_store<
         lines,
     } = serving;
     let node = place.me();
-    let (named, store) = open_named_store(alloc, users, settings, moment, node, cluster, database)?;
+    let (named, store, counts) = open_named_store(
+        alloc, users, settings, moment, node, cluster, database,
+    )?;
     let book = &named.users.book;
     let key = tag_key(alloc, key, book)?;
     let names = indexed_names(alloc, &named)?;
@@ -174,7 +212,8 @@ pub fn serve_named_store<
     let mut node = open_node(alloc, book, settings, place, &naming.key, store)?;
     let port = UdpPort::new(socket_at(outside, address)?, members, outside);
     let front = front_of(alloc, place.me(), lines, outside)?;
-    let log = log_of(is_logged, start, place);
+    let roster = roster_of(alloc, is_logged, counts, book, &naming.key)?;
+    let log = log_of(is_logged, start, roster, place);
     let served = serve_front(&mut node, port, &naming, outside, front, turns, log, writer)?;
     Ok(served)
 }

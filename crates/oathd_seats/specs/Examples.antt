@@ -21,7 +21,7 @@ nobody name = NoUser (record { ref_ptr = (0, 0); now = name })
 
 -- a cluster of three members
 abbrev pub small_cluster : NamedCluster
-small_cluster = record { salt = codes "a-public-word"; bond = small_bond; bound = refl }
+small_cluster = record { salt = codes "a-public-word"; bond = small_bond; is_fresh = false; bound = refl }
 
 -- a store without a row, seen by no token
 abbrev pub nothing_seen : SeatedRecord (SqlHeld ℕ)

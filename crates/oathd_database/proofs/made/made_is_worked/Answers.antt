@@ -56,3 +56,7 @@ returns-clause-no_token c = refl
 pub returns-clause-order : goal.returns-clause-order
 unfolding digits time_text step_words ready_line step_text member_line
 returns-clause-order c = refl
+
+pub returns-clause-fresh : goal.returns-clause-fresh
+unfolding digits time_text step_words ready_line step_text member_line
+returns-clause-fresh c = refl

@@ -1,6 +1,5 @@
 use Rattle.std.proofs.Common.{◌≡◌, ◌∙◌, IfSome, ap, rules, subst, sym}
 use Rattle.std.proofs.lemmas.List.{length-map}
-use Rattle.oathd_database.specs.Users.{drifted_floors}
 use Rattle.oathd_database.specs.declared.fault.Fault.TheVariants.{Store}
 use Rattle.oathd_roster.specs.Opened.{IsNotOpened}
 use Rattle.oathd_roster.specs.declared.fault.RosterFault.{RosterFault}
@@ -33,7 +32,7 @@ pub returns-in-Err-clause-fault : goal.returns-in-Err-clause-fault
 returns-in-Err-clause-fault g c =
     let a = g.R.Read.remaining c.args.users in
     let users = c.in_ok-named.named.users in
-    let drifted = c.deref-2.ensures.value ∙ c.in-Ok.ensures.floors ∙ ap (λ d. drifted_floors d users.book users.floors.items) c.drift.ensures.value in
+    let drifted = c.deref-2.ensures.value ∙ c.in-Ok.ensures.floors in
     subst (λ (x : RosterFault). IfSome a (IsNotOpened g.S.Store g.D.Database.finds c.args.cluster.now c.args.settings c.args.moment 16777216 c.args.node x))
     (sym c.from.ensures)
     (kept_out g.S.Store g.D.Database.finds c.args.cluster.now c.args.settings c.args.moment 16777216 c.args.node users.book users.floors.items a c.in-Err.fault
@@ -43,9 +42,10 @@ returns-in-Err-clause-fault g c =
 pub returns-clause-opened : goal.returns-clause-opened
 returns-clause-opened g c =
     let users = c.in_ok-named.named.users in
-    let store = c.in-Ok-open_named.store in
-    let drifted = c.deref-2.ensures.value ∙ c.in-Ok.ensures.floors ∙ ap (λ d. drifted_floors d users.book users.floors.items) c.drift.ensures.value in
+    let store = c.in-Ok-enrol_and_count.opened.0 in
+    let counts = c.in-Ok-enrol_and_count.opened.1 in
+    let drifted = c.deref-2.ensures.value ∙ c.in-Ok.ensures.floors in
     let same : c.tokens.result ≡ c.len-tokens.result = search rules in
     let each = sym (c.tokens.ensures.value ∙ length-map store.seats _) ∙ same ∙ c.len-tokens.ensures.value in
-    opened_named g.S.Store g.D.Database.finds c.args.cluster.now c.args.settings c.args.node users.book users.floors.items c.deref.result.now c.deref-2.result.now
-    c.in_ok-conn.conn store (c.deref.ensures.value ∙ c.in_ok-named.ensures.entries) drifted c.in_ok-conn.ensures.found c.in-Ok-open_named.ensures.opened each
+    opened_named g.S.Store g.D.Database.finds c.args.cluster.now c.args.settings c.args.moment c.args.node users.book users.floors.items c.deref.result.now c.deref-2.result.now
+    c.in_ok-conn.conn store counts (c.deref.ensures.value ∙ c.in_ok-named.ensures.entries) drifted c.in_ok-conn.ensures.found c.in-Ok-enrol_and_count.ensures.opened c.in-Ok-enrol_and_count.ensures.counts each

@@ -16,14 +16,15 @@ returns-clause-served g c =
     let cluster = c.args.cluster.now in
     let users = c.in_ok-named.named.users in
     let found = c.in_ok-named.store in
+    let counts = c.in_ok-named.counts in
     let me = c.me-node.ensures.value in
-    let opened = subst (λ n. HasOpenedNamed g.S.Store g.D.Database.finds cluster serving.settings n users.book users.floors.items found) me c.in_ok-named.ensures.opened in
+    let opened = subst (λ n. HasOpenedNamed g.S.Store g.D.Database.finds cluster serving.settings c.args.moment n users.book users.floors.items found counts) me c.in_ok-named.ensures.opened in
     let boot = c.start_of-start.result.boot in
     let key = c.in_ok-key.ensures.key in
     let names = c.in_ok-names.ensures.names ∙ ap (map name_in) c.in_ok-named.ensures.entries ∙ names_are cluster.salt users.book in
     let members = ap (λ (all : Vec SocketAddrV4). all.items) c.new-port.ensures.members in
     has_served g.S.Store g.D.Database.finds cluster c.args.moment serving (g.R.Read.remaining c.args.users) users.book users.floors.items
-    c.in_ok-named.ensures.users found c.in_ok-node.node c.serve_front.new.node boot opened c.in_ok-node.ensures.opened c.in_ok-node.ensures.book
+    c.in_ok-named.ensures.users found counts c.in_ok-node.node c.serve_front.new.node boot opened c.in_ok-node.ensures.opened c.in_ok-node.ensures.book
     c.in_ok-node.ensures.limits (c.in_ok-node.ensures.key ∙ key) c.in_ok-node.ensures.place
     (λ clean. ap (λ (start : Start). start.boot) c.start_of-start.ensures ∙ ap (λ (b : ℕ). b + 1) (c.in_ok-boot.ensures.reads.ok clean))
     c.in_ok-served.served
@@ -35,8 +36,9 @@ returns-in_err-served-clause-fault g c =
     let cluster = c.args.cluster.now in
     let users = c.in_ok-named.named.users in
     let found = c.in_ok-named.store in
+    let counts = c.in_ok-named.counts in
     let me = c.me-node.ensures.value in
-    let opened = subst (λ n. HasOpenedNamed g.S.Store g.D.Database.finds cluster serving.settings n users.book users.floors.items found) me c.in_ok-named.ensures.opened in
+    let opened = subst (λ n. HasOpenedNamed g.S.Store g.D.Database.finds cluster serving.settings c.args.moment n users.book users.floors.items found counts) me c.in_ok-named.ensures.opened in
     let boot = c.start_of-start.result.boot in
     let key = c.in_ok-key.ensures.key in
     let names = c.in_ok-names.ensures.names ∙ ap (map name_in) c.in_ok-named.ensures.entries ∙ names_are cluster.salt users.book in
@@ -46,7 +48,7 @@ returns-in_err-served-clause-fault g c =
     (λ (x : RosterFault). IfSome (g.R.Read.remaining c.args.users) (EndsServingNamed g.S.Store g.D.Database.finds cluster c.args.moment serving x))
     c.from_residual-in_err-served.ensures.1
     (ends_served g.S.Store g.D.Database.finds cluster c.args.moment serving (g.R.Read.remaining c.args.users) users.book users.floors.items
-    c.in_ok-named.ensures.users found c.in_ok-node.node c.serve_front.new.node boot opened c.in_ok-node.ensures.opened c.in_ok-node.ensures.book
+    c.in_ok-named.ensures.users found counts c.in_ok-node.node c.serve_front.new.node boot opened c.in_ok-node.ensures.opened c.in_ok-node.ensures.book
     c.in_ok-node.ensures.limits (c.in_ok-node.ensures.key ∙ key) c.in_ok-node.ensures.place
     (λ clean. ap (λ (start : Start). start.boot) c.start_of-start.ensures ∙ ap (λ (b : ℕ). b + 1) (c.in_ok-boot.ensures.reads.ok clean))
     fault
@@ -73,6 +75,17 @@ returns-in_err-names-clause-fault g c =
     (λ (x : RosterFault). IfSome a (EndsServingNamed g.S.Store g.D.Database.finds cluster c.args.moment c.args.serving x))
     c.from_residual-in_err-names.ensures.1
     (ends_memory g.S.Store g.D.Database.finds cluster c.args.moment c.args.serving a users.book users.floors.items c.in_ok-named.ensures.users fault c.in_err-names.ensures.fault)
+
+pub returns-in_err-roster-clause-fault : goal.returns-in_err-roster-clause-fault
+returns-in_err-roster-clause-fault g c =
+    let a = g.R.Read.remaining c.args.users in
+    let cluster = c.args.cluster.now in
+    let users = c.in_ok-named.named.users in
+    let fault = c.in_err-roster.field-0.0 in
+    err_is c.from_residual-in_err-roster.result (Command fault)
+    (λ (x : RosterFault). IfSome a (EndsServingNamed g.S.Store g.D.Database.finds cluster c.args.moment c.args.serving x))
+    c.from_residual-in_err-roster.ensures.1
+    (ends_memory g.S.Store g.D.Database.finds cluster c.args.moment c.args.serving a users.book users.floors.items c.in_ok-named.ensures.users fault c.in_err-roster.ensures.fault)
 
 pub returns-in_err-node-clause-fault : goal.returns-in_err-node-clause-fault
 returns-in_err-node-clause-fault g c =
@@ -106,3 +119,9 @@ returns-in_err-front-clause-fault g c =
     (λ (x : RosterFault). IfSome a (EndsServingNamed g.S.Store g.D.Database.finds cluster c.args.moment c.args.serving x))
     c.from_residual-in_err-front.ensures.1
     (ends_front g.S.Store g.D.Database.finds cluster c.args.moment c.args.serving a users.book users.floors.items c.in_ok-named.ensures.users fault c.in_err-front.ensures.fault)
+
+pub returns-in_err-served-clause-unlogged : goal.returns-in_err-served-clause-unlogged
+returns-in_err-served-clause-unlogged g c = λ off. c.in_err-served.ensures.unlogged (c.log_of-log.ensures.none off)
+
+pub returns-clause-unlogged : goal.returns-clause-unlogged
+returns-clause-unlogged g c = λ off. c.in_ok-served.ensures.unlogged (c.log_of-log.ensures.none off)

@@ -1,9 +1,11 @@
-use Rattle.std.proofs.Common.{List, sym, subst}
+use Rattle.std.proofs.Common.{◌≡◌, List, length, ap, sym, subst, ◌∙◌, arith}
+use Rattle.sqlite.specs.Held.{state}
+use Rattle.sqlite.specs.State.{HasCleanDisk}
 use Rattle.floor_sql.specs.Calls.{KeepsTables}
 use Rattle.roster_sql.specs.declared.entry.Entry.{Entry}
 use Rattle.named_store.specs.Opened.{HasSeated, IsGrown}
 use Rattle.named_store.proofs.OpenLemmas.{has_seated}
-use Rattle.named_store.proofs.opening.open_named.Goals as goal
+use Rattle.named_store.proofs.opening.enrol_and_count.Goals as goal
 
 pub returns-in-Ok-open_grown-clause-opened : goal.returns-in-Ok-open_grown-clause-opened
 returns-in-Ok-open_grown-clause-opened g c =
