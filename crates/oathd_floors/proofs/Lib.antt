@@ -1,3 +1,4 @@
+pub mod BrokenLemmas
 pub mod FaultLemmas
 pub mod FilesLemmas
 pub mod NamedLemmas

@@ -35,7 +35,7 @@ use Rattle.oathd_roster.specs.declared.cluster.NamedCluster.{NamedCluster}
 use Rattle.oathd_roster.specs.declared.fault.RosterFault.{RosterFault}
 use Rattle.oathd_roster.specs.declared.fault.RosterFault.TheVariants.{Command, SameName, AnotherCluster, Full}
 use Rattle.oathd_floors.specs.Files.{IsUntaken}
-use Rattle.oathd_floors.specs.Remade.{HasRemade, IsGathered, IsInsufficient, IsMadeAgain, IsNotMadeAgain, IsNotRemade, taking_of, texts_of}
+use Rattle.oathd_floors.specs.Remade.{HasGathered, HasRemade, IsGathered, IsInsufficient, IsMadeAgain, IsNotMadeAgain, IsNotRemade, taking_of, texts_of}
 use Rattle.oathd_floors.specs.declared.fault.NamedFloorsFault.{NamedFloorsFault}
 use Rattle.oathd_floors.specs.declared.fault.NamedFloorsFault.TheVariants as floors
 use Rattle.oathd_floors.specs.declared.remaking.Former.{Former}
@@ -139,11 +139,16 @@ module _ (cluster : NamedCluster) (key : List ℕ) (limits : Limits) (moment lon
         → IfSome a (IsNotRemade g finds cluster key limits moment longest place former fault)
     insufficient fault is = IfSome_then a h (λ text i. insufficient_at fault text i is)
 
-    -- the store fails
-    pub store_fails : (fault : StoreFault) → IfSome a (IsNotRemade g finds cluster key limits moment longest place former (floors.Roster (Command (Store fault))))
-    store_fails fault = IfSome_then a h (λ text i. record { book = book; floors = next; imported = i })
-
     module _ (files : List NamedFloorsRecord) (gathered : IsGathered key cluster.bond place.me former files) where
+      abbrev has_gathered : (text : List ℕ) → IsImported limits moment longest book next text
+          → HasGathered cluster key limits moment longest place.me former text
+      has_gathered text i = record { import = record { book = book; floors = next; imported = i }; files = files; gathered = gathered }
+
+      -- the store fails
+      pub store_fails : (fault : StoreFault)
+          → IfSome a (IsNotRemade g finds cluster key limits moment longest place former (floors.Roster (Command (Store fault))))
+      store_fails fault = IfSome_then a h has_gathered
+
       unmade_at : (fault : RosterFault) (text : List ℕ) → IsImported limits moment longest book next text
           → IsNotMadeAgain files (entries_of cluster.salt book) fault
           → IsNotRemade g finds cluster key limits moment longest place former (floors.Roster fault) text
@@ -151,12 +156,11 @@ module _ (cluster : NamedCluster) (key : List ℕ) (limits : Limits) (moment lon
       unmade_at (Command CannotWrite) text i is = absurd is
       unmade_at (Command NoClock) text i is = is
       unmade_at (Command (Users fault)) text i is = absurd is
-      unmade_at (Command (Store fault)) text i is = record { book = book; floors = next; imported = i }
+      unmade_at (Command (Store fault)) text i is = has_gathered text i
       unmade_at (Command Socket) text i is = is
       unmade_at (SameName row) text i is = absurd is
       unmade_at AnotherCluster text i is = is
-      unmade_at Full text i is =
-          record { import = record { book = book; floors = next; imported = i }; files = files; gathered = gathered; full = is }
+      unmade_at Full text i is = record { has = has_gathered text i; full = is }
 
       -- no store is made
       pub unmade : (entries : List Entry) (fault : RosterFault) → entries ≡ entries_of cluster.salt book → IsNotMadeAgain files entries fault
@@ -173,7 +177,7 @@ module _ (cluster : NamedCluster) (key : List ℕ) (limits : Limits) (moment lon
             record { import = record { book = book; floors = next; imported = i }; files = files; gathered = gathered; store = store; made = made }
         untold_at NoClock broken text i works is = is
         untold_at (Users fault) broken text i works is = absurd is
-        untold_at (Store fault) broken text i works is = record { book = book; floors = next; imported = i }
+        untold_at (Store fault) broken text i works is = has_gathered text i
         untold_at Socket broken text i works is = is
 
         -- the output failed after the store was made

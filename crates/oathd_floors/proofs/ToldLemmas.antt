@@ -15,9 +15,12 @@ use Rattle.named_floors.specs.Level.{Levels, told_by}
 use Rattle.named_floors.specs.Told.{TellingRecord, told_named}
 use Rattle.roster_sql.specs.Roster.{BondRecord}
 use Rattle.roster_sql.specs.declared.entry.Entry.{Entry}
+use Rattle.oathd_database.specs.declared.fault.Fault.TheVariants.{Memory, CannotWrite, NoClock, Users, Store, Socket}
+use Rattle.oathd_roster.specs.declared.fault.RosterFault.{RosterFault}
+use Rattle.oathd_roster.specs.declared.fault.RosterFault.TheVariants.{Command, SameName, AnotherCluster, Full}
 use Rattle.oathd_floors.specs.Files.{TakingRecord, files_after}
-use Rattle.oathd_floors.specs.Levelled.{HasLevelled}
-use Rattle.oathd_floors.specs.Rows.{HasRows}
+use Rattle.oathd_floors.specs.Levelled.{HasLevelled, IsNotRaised}
+use Rattle.oathd_floors.specs.Rows.{HasRows, IsNotRead}
 use Rattle.oathd_floors.specs.Told.{telling_of}
 
 -- the node of a cluster, by the parts of its bond
@@ -34,6 +37,19 @@ pub told_text : (key : List ℕ) (telling told : TellingRecord) (roster entries 
 told_text key telling told roster entries heard content floors old new of_node of_rows is written =
     subst (λ (f : NamedFloorsRecord). Appends old new (named_floors_text key f))
     (is ∙ ap (λ t. told_named t entries heard content) of_node ∙ ap (λ r. told_named telling r heard content) of_rows) written
+
+-- the store fails or is another cluster's, after the texts were taken
+pub not_raised : {S : Type 0} (g : Ghosts S) (finds : sql.Held S → Type 0) (taking : TakingRecord) (texts : List (List ℕ)) (files : List NamedFloorsRecord)
+    (fault : RosterFault) → files_after taking [] texts ≡ Ok files → IsNotRead g finds taking.own fault → IsNotRaised g finds taking texts fault
+not_raised g finds taking texts files (Command Memory) taken is = tt
+not_raised g finds taking texts files (Command CannotWrite) taken is = absurd is
+not_raised g finds taking texts files (Command NoClock) taken is = absurd is
+not_raised g finds taking texts files (Command (Users fault)) taken is = absurd is
+not_raised g finds taking texts files (Command (Store fault)) taken is = (files, taken)
+not_raised g finds taking texts files (Command Socket) taken is = absurd is
+not_raised g finds taking texts files (SameName row) taken is = absurd is
+not_raised g finds taking texts files AnotherCluster taken is = ((files, taken), is)
+not_raised g finds taking texts files Full taken is = absurd is
 
 -- the floors of a store are raised by files
 pub has_levelled : {S : Type 0} (g : Ghosts S) (finds : sql.Held S → Type 0) (taking : TakingRecord) (node : ℕ) (texts : List (List ℕ))

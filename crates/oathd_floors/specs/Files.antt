@@ -70,6 +70,10 @@ files_after taking files (text ∷ texts) = do
   file ← file_of taking (length files + 1) text
   files_after taking (files ++ file ∷ []) texts
 
+-- all texts are taken
+abbrev pub AreTaken : TakingRecord → List (List ℕ) → Type 0
+AreTaken taking texts = (files : List NamedFloorsRecord) × (files_after taking [] texts ≡ Ok files)
+
 -- the fault is one of a file
 abbrev pub IsOfFile : NamedFloorsFault → Type 0
 IsOfFile (Roster fault) = ⊥

@@ -10,12 +10,12 @@ use Rattle.floors_file.specs.Named.{NamedFloorsRecord}
 use Rattle.floors_file.specs.NamedGathered.{gathered_rows}
 use Rattle.named_floors.specs.Level.{Levels, told_by}
 use Rattle.roster_sql.specs.declared.entry.Entry.{Entry}
+use Rattle.oathd_database.specs.declared.fault.Fault.TheVariants.{Memory, CannotWrite, NoClock, Users, Store, Socket}
 use Rattle.oathd_roster.specs.declared.fault.RosterFault.{RosterFault}
 use Rattle.oathd_roster.specs.declared.fault.RosterFault.TheVariants.{Command, SameName, AnotherCluster, Full}
-use Rattle.oathd_database.specs.Fault.{IsOpenFault}
 use Rattle.oathd_floors.specs.declared.fault.NamedFloorsFault.{NamedFloorsFault}
 use Rattle.oathd_floors.specs.declared.fault.NamedFloorsFault.TheVariants.{Roster, Floors, Ahead, Files}
-use Rattle.oathd_floors.specs.Files.{IsFirstUntaken, TakingRecord, files_after}
+use Rattle.oathd_floors.specs.Files.{AreTaken, IsFirstUntaken, TakingRecord, files_after}
 use Rattle.oathd_floors.specs.Rows.{HasRows, IsUnbound}
 
 module _ {S : Type 0} (g : Ghosts S) (finds : sql.Held S → Type 0) (taking : TakingRecord) where
@@ -29,16 +29,22 @@ module _ {S : Type 0} (g : Ghosts S) (finds : sql.Held S → Type 0) (taking : T
     pub levels : Levels {A = Unit {0}} {E = StoreFault} (sql_held g) found store
         (told_by (gathered_rows files) roster) (Ok tt)
 
-  -- a fault of the store
-  abbrev pub IsNotRaised : RosterFault → Type 0
-  IsNotRaised (Command fault) = IsOpenFault fault
-  IsNotRaised (SameName row) = ⊥
-  IsNotRaised AnotherCluster = IsUnbound g finds taking.own
-  IsNotRaised Full = ⊥
+  -- The store fails or is another cluster's, after all texts were taken. Or the allocator refused the memory.
+  abbrev pub IsNotRaised : List (List ℕ) → RosterFault → Type 0
+  IsNotRaised texts (Command Memory) = Unit {0}
+  IsNotRaised texts (Command CannotWrite) = ⊥
+  IsNotRaised texts (Command NoClock) = ⊥
+  IsNotRaised texts (Command (Users fault)) = ⊥
+  IsNotRaised texts (Command (Store fault)) = AreTaken taking texts
+  IsNotRaised texts (Command Socket) = ⊥
+  IsNotRaised texts (SameName row) = ⊥
+  IsNotRaised texts AnotherCluster = AreTaken taking texts × IsUnbound g finds taking.own
+  IsNotRaised texts Full = ⊥
 
-  -- Not all floors are raised: a text is not taken, or the store fails or is another cluster's.
+  -- Not all floors are raised: a text is not taken, or the store fails or is another cluster's. A fault of the
+  -- store says that all texts are taken, and a fault of a text says nothing of a connection.
   abbrev pub IsNotLevelled : List (List ℕ) → NamedFloorsFault → Type 0
-  IsNotLevelled texts (Roster fault) = IsNotRaised fault
+  IsNotLevelled texts (Roster fault) = IsNotRaised texts fault
   IsNotLevelled texts (Floors number fault) = IsFirstUntaken taking texts (Floors number fault)
   IsNotLevelled texts (Ahead number) = IsFirstUntaken taking texts (Ahead number)
   IsNotLevelled texts (Files fault) = IsFirstUntaken taking texts (Files fault)

@@ -89,13 +89,18 @@ IsNotMadeAgain files entries (SameName row) = ⊥
 IsNotMadeAgain files entries AnotherCluster = ⊥
 IsNotMadeAgain files entries Full = 10000 < length (remade_entries (gathered_rows files) entries)
 
--- there are more rows than a store takes
-pub record IsTooFull (cluster : NamedCluster) (key : List ℕ) (limits : Limits) (moment longest node : ℕ)
+-- The users file is imported, and the texts are floors files of the cluster that together are sufficient.
+pub record HasGathered (cluster : NamedCluster) (key : List ℕ) (limits : Limits) (moment longest node : ℕ)
     (former : Former) (text : List ℕ) : Type 0 where
   pub import : HasImport limits moment longest text
   pub files : List NamedFloorsRecord
   pub gathered : IsGathered key cluster.bond node former files
-  pub full : 10000 < length (remade_entries (gathered_rows files) (entries_of cluster.salt import.book))
+
+-- there are more rows than a store takes
+pub record IsTooFull (cluster : NamedCluster) (key : List ℕ) (limits : Limits) (moment longest node : ℕ)
+    (former : Former) (text : List ℕ) : Type 0 where
+  pub has : HasGathered cluster key limits moment longest node former text
+  pub full : 10000 < length (remade_entries (gathered_rows has.files) (entries_of cluster.salt has.import.book))
 
 -- ---- the store
 
@@ -144,13 +149,14 @@ module _ {S : Type 0} (g : Ghosts S) (finds : sql.Held S → Type 0) where
     IsNotRemadeBy (Command CannotWrite) text = HasRemadeStore text
     IsNotRemadeBy (Command NoClock) text = ⊥
     IsNotRemadeBy (Command (Users fault)) text = IsUnread limits moment longest (Users fault) text
-    IsNotRemadeBy (Command (Store fault)) text = HasImport limits moment longest text
+    IsNotRemadeBy (Command (Store fault)) text = HasGathered cluster key limits moment longest place.me former text
     IsNotRemadeBy (Command Socket) text = ⊥
     IsNotRemadeBy (SameName row) text = HasSameName cluster.salt limits moment longest row text
     IsNotRemadeBy AnotherCluster text = ⊥
     IsNotRemadeBy Full text = IsTooFull cluster key limits moment longest place.me former text
 
-    -- No store is replaced, or the output failed after it was. The floors files are looked at after the import.
+    -- No store is replaced, or the output failed after it was. A fault of the files is one after the
+    -- import, and says nothing of a connection. A fault of the store says that the files are sufficient.
     abbrev pub IsNotRemade : NamedFloorsFault → List ℕ → Type 0
     IsNotRemade (Roster fault) text = IsNotRemadeBy fault text
     IsNotRemade (Floors number fault) text =

@@ -1,30 +1,40 @@
 ghost use Rattle.std.specs.Prelude.{◌≡◌, ℕ, List, [], ◌∷◌, None, Some, Ok, Err, codes, false, map, true, replicate};
 ghost use Rattle.floors_file.specs.Named.{NamedFloorsRecord};
+ghost use Rattle.floors_file.specs.NamedExamples.{named_row};
 ghost use Rattle.floors_file.specs.declared.fault.LineFault.TheVariants as lines;
 ghost use Rattle.floors_file.specs.declared.gathered.FileFault.TheVariants.{Cluster};
 ghost use Rattle.floors_file.specs.declared.gathered.FilesFault.TheVariants.{File, NotLost};
-ghost use Rattle.floor_store.specs.declared.fault.StoreFault.TheVariants.{Disk};
-ghost use Rattle.oathd_database.specs.Broken.{fallen, shows_any, shows_none};
-ghost use Rattle.oathd_database.specs.declared.fault.Fault.TheVariants.{CannotWrite, Memory, Socket, Store};
-ghost use Rattle.oathd_floors.specs.Examples.{at_line, heads, own_head, head_of, taking_at};
+ghost use Rattle.floor_sql.specs.Broken.{small_content, tables_at};
+ghost use Rattle.floor_store.specs.declared.fault.StoreFault.TheVariants.{Disk, Unusable};
+ghost use Rattle.named_store.specs.declared.fault.LookFault.TheVariants as look;
+ghost use Rattle.named_store.specs.declared.fault.NamedFault.TheVariants as named;
+ghost use Rattle.oathd_database.specs.Broken.{IsOfOne, fallen, new_store, no_users, shows_any, shows_none, small_conn, still, users_fault};
+ghost use Rattle.oathd_database.specs.declared.fault.Fault.TheVariants.{CannotWrite, Memory, NoClock, Socket, Store};
+ghost use Rattle.oathd_floors.specs.Examples.{at_line, file_with, heads, head_of, named_store, one_entry, one_named, own_head, small_cluster, taking_at, told_text};
 ghost use Rattle.oathd_floors.specs.Fault.{floors_status};
-ghost use Rattle.oathd_floors.specs.Files.{IsUntaken, TakingRecord, file_of, files_after, is_kin, is_memory_of, refusal_of, taken_of};
-ghost use Rattle.oathd_floors.specs.Levelled.{IsNotLevelled};
-ghost use Rattle.oathd_floors.specs.Rows.{IsNotRead};
-ghost use Rattle.oathd_floors.specs.Told.{EndsTold};
+ghost use Rattle.oathd_floors.specs.Files.{AreTaken, IsUntaken, TakingRecord, file_of, files_after, is_kin, is_memory_of, refusal_of, taken_of};
+ghost use Rattle.oathd_floors.specs.Levelled.{HasLevelled, IsNotLevelled};
+ghost use Rattle.oathd_floors.specs.Named.{HasNamed, IsUnnamed};
+ghost use Rattle.oathd_floors.specs.Rows.{HasRows, IsNotRead, IsUnbound, rows_fault_of};
+ghost use Rattle.oathd_floors.specs.Told.{EndsTold, HasTold, told_file};
 ghost use Rattle.oathd_floors.specs.declared.fault.NamedFloorsFault.{NamedFloorsFault};
 ghost use Rattle.oathd_floors.specs.declared.fault.NamedFloorsFault.TheVariants.{Roster, Floors, Ahead, Files};
 ghost use Rattle.oathd_roster.specs.declared.fault.RosterFault.TheVariants.{AnotherCluster, Command, Full, SameName};
-ghost use Rattle.roster_sql.specs.Examples.{small_bond};
+ghost use Rattle.otp_core.specs.Limits.{default_limits};
+ghost use Rattle.roster_sql.specs.Examples.{entry_of, first_content, other_bond, small_bond};
+ghost use Rattle.token_file.specs.declared.fault.LineFault.TheVariants.{MissingField};
 
 /// Worked cases. The exit status for each fault.
 pub fn faults_are_worked()
-    ensures statuses { map floors_status (Roster (Command Memory) ∷ Roster (Command Socket) ∷ Roster AnotherCluster ∷ [])
-        ≡ 1 ∷ 4 ∷ 3 ∷ [] }
+    ensures statuses { map floors_status (Roster (Command Memory) ∷ Roster (Command Socket) ∷ Roster AnotherCluster
+        ∷ []) ≡ 1 ∷ 4 ∷ 3 ∷ [] }
     ensures of_files { map floors_status (Floors 1 (at_line 2 lines.TooMany) ∷ Ahead 1 ∷ Files NotLost ∷ [])
         ≡ replicate 3 1 }
     ensures memory { map is_memory_of (Floors 1 (at_line 2 lines.Memory) ∷ Floors 1 (at_line 2 lines.TooMany)
         ∷ Roster (Command Memory) ∷ Ahead 1 ∷ Files NotLost ∷ []) ≡ true ∷ replicate 4 false }
+    ensures of_rows { map rows_fault_of (look.NotEnrolled 0 ∷ look.Named named.AnotherCluster
+        ∷ look.Named (named.Store Disk) ∷ [])
+        ≡ Command (Store Unusable) ∷ AnotherCluster ∷ Command (Store Disk) ∷ [] }
 {}
 
 /// Worked cases. Which floors files a command takes.
@@ -47,24 +57,143 @@ pub fn files_are_worked()
         → file_of taking 1 one ≡ Err fault → files_after taking [] (one ∷ two ∷ []) ≡ Err fault }
 {}
 
-/// Counterexamples: promises of the commands fail for a minimal one.
+/// Worked cases. The floors file of a stopped node has a row for each row of its store, and no boot.
+pub fn told_are_worked()
+    ensures file { told_file 2 100 small_bond one_entry first_content ≡ record {
+      head = record {
+        node = 2;
+        members = 3;
+        boot = 4;
+        moment = 100;
+        names = codes "a-public-word";
+        life = codes "1";
+      };
+      rows = named_row (replicate 16 1) 9 ∷ [];
+      heard = [];
+    } }
+{}
+
+/// Counterexamples: each promise about texts that are not taken fails for a minimal one.
 pub fn floors_can_be_broken()
     ensures memory { IsUntaken (taking_at false) [] (Roster (Command Memory)) }
     ensures of_a_store { IsUntaken (taking_at false) [] (Roster (Command (Store Disk))) → ⊥ }
     ensures no_text { IsUntaken (taking_at false) [] (Ahead 1) → ⊥ }
     ensures none_strange { IsUntaken (taking_at false) [] (Files NotLost) → ⊥ }
+    ensures taken { AreTaken (taking_at false) [] }
+    ensures untaken { (text : List ℕ) (fault : NamedFloorsFault) → file_of (taking_at false) 1 text ≡ Err fault
+        → AreTaken (taking_at false) (text ∷ []) → ⊥ }
+{}
+
+/// Counterexamples: each promise of a store that is opened with its rows, or is not, fails for a minimal one.
+pub fn rows_can_be_broken()
+    ensures rows { HasRows one_named shows_any small_bond 1 one_entry (named_store first_content) }
+    ensures rows_found { HasRows one_named shows_none small_bond 1 one_entry (named_store first_content) → ⊥ }
+    ensures rows_node { HasRows one_named shows_any small_bond 2 one_entry (named_store first_content) → ⊥ }
+    ensures rows_bond { HasRows one_named shows_any other_bond 1 one_entry (named_store first_content) → ⊥ }
+    ensures rows_roster { HasRows one_named shows_any small_bond 1 (entry_of 3 2 ∷ []) (named_store first_content)
+        → ⊥ }
+    ensures rows_content { HasRows one_named shows_any small_bond 1 one_entry (named_store (small_content 4)) → ⊥ }
+    ensures rows_passes { HasRows one_named shows_any small_bond 1 one_entry
+        (record (named_store first_content) { passes = 1 }) → ⊥ }
+    ensures rows_kept { HasRows fallen shows_any small_bond 1 []
+        (record (new_store 4 []) { conn = record small_conn { in_transaction = true } }) → ⊥ }
+    ensures rows_distinct { HasRows fallen shows_any small_bond 1 (entry_of 1 2 ∷ entry_of 1 4 ∷ []) (new_store 4 [])
+        → ⊥ }
+    ensures rows_sound { HasRows fallen shows_any small_bond 1 [] (record (new_store 4 []) { fault = Some Disk }) → ⊥ }
+
+    ensures unbound { IsUnbound one_named shows_any other_bond }
+    ensures unbound_found { IsUnbound one_named shows_none other_bond → ⊥ }
+    ensures unbound_bond { IsUnbound one_named shows_any small_bond → ⊥ }
 
     ensures read_fault { IsNotRead fallen shows_any small_bond (Command (Store Disk)) }
+    ensures read_bond { IsNotRead one_named shows_any small_bond AnotherCluster → ⊥ }
     ensures read_socket { IsNotRead fallen shows_any small_bond (Command Socket) → ⊥ }
     ensures read_same { IsNotRead fallen shows_any small_bond (SameName 1) → ⊥ }
     ensures read_full { IsNotRead fallen shows_any small_bond Full → ⊥ }
+{}
 
-    ensures told_output { EndsTold fallen shows_none small_bond (Command CannotWrite) }
-    ensures told_socket { EndsTold fallen shows_any small_bond (Command Socket) → ⊥ }
-    ensures told_full { EndsTold fallen shows_any small_bond Full → ⊥ }
+/// Counterexamples: each promise of a floors file that is written, or is not, fails for a minimal one.
+pub fn told_can_be_broken()
+    ensures told { (key : List ℕ)
+        → HasTold one_named shows_any small_bond key 1 100 (Some []) (Some (told_text key 1)) }
+    ensures told_found { (key : List ℕ)
+        → HasTold one_named shows_none small_bond key 1 100 (Some []) (Some (told_text key 1)) → ⊥ }
+    ensures told_node { (key : List ℕ)
+        → HasTold one_named shows_any small_bond key 2 100 (Some []) (Some (told_text key 2)) → ⊥ }
+    ensures told_bond { (key text : List ℕ)
+        → HasTold one_named shows_any other_bond key 1 100 (Some []) (Some text) → ⊥ }
+    ensures told_written { (key text : List ℕ)
+        → HasTold one_named shows_any small_bond key 1 100 (Some []) (Some text) → text ≡ told_text key 1 }
 
-    ensures levelled_memory { IsNotLevelled fallen shows_none (taking_at false) [] (Roster (Command Memory)) }
-    ensures levelled_output { IsNotLevelled fallen shows_any (taking_at false) [] (Roster (Command CannotWrite)) → ⊥ }
-    ensures levelled_full { IsNotLevelled fallen shows_any (taking_at false) [] (Roster Full) → ⊥ }
-    ensures levelled_none { IsNotLevelled fallen shows_any (taking_at false) [] (Ahead 1) → ⊥ }
+    ensures output { EndsTold fallen shows_none small_bond (Command CannotWrite) }
+    ensures memory { EndsTold fallen shows_none small_bond (Command Memory) }
+    ensures store { EndsTold fallen shows_none small_bond (Command (Store Disk)) }
+    ensures another { EndsTold one_named shows_any other_bond AnotherCluster }
+    ensures same_bond { EndsTold one_named shows_any small_bond AnotherCluster → ⊥ }
+    ensures clock { EndsTold fallen shows_any small_bond (Command NoClock) → ⊥ }
+    ensures users { EndsTold fallen shows_any small_bond (Command (users_fault 1 MissingField)) → ⊥ }
+    ensures socket { EndsTold fallen shows_any small_bond (Command Socket) → ⊥ }
+    ensures same_name { EndsTold fallen shows_any small_bond (SameName 1) → ⊥ }
+    ensures full { EndsTold fallen shows_any small_bond Full → ⊥ }
+{}
+
+/// Counterexamples: each promise of a store whose floors are raised, or are not, fails for a minimal one.
+pub fn levels_can_be_broken()
+    ensures levelled { HasLevelled one_named shows_any (taking_at false) 1 [] (named_store first_content) }
+    ensures levelled_taken { (text : List ℕ) (fault : NamedFloorsFault) → file_of (taking_at false) 1 text ≡ Err fault
+        → HasLevelled one_named shows_any (taking_at false) 1 (text ∷ []) (named_store first_content) → ⊥ }
+    ensures levelled_found { HasLevelled one_named shows_none (taking_at false) 1 [] (named_store first_content) → ⊥ }
+    ensures levelled_node { HasLevelled one_named shows_any (taking_at false) 2 [] (named_store first_content) → ⊥ }
+    ensures levelled_lower { (text : List ℕ)
+        → file_of (taking_at false) 1 text ≡ Ok (file_with (named_row (replicate 16 1) 7 ∷ []))
+        → HasLevelled one_named shows_any (taking_at false) 1 (text ∷ []) (named_store first_content) }
+    ensures levelled_greater { (text : List ℕ)
+        → file_of (taking_at false) 1 text ≡ Ok (file_with (named_row (replicate 16 1) 12 ∷ []))
+        → HasLevelled one_named shows_any (taking_at false) 1 (text ∷ []) (named_store first_content) → ⊥ }
+    ensures levelled_rows { HasLevelled one_named shows_any (taking_at false) 1 [] (named_store (small_content 4)) → ⊥ }
+
+    ensures memory { IsNotLevelled fallen shows_none (taking_at false) [] (Roster (Command Memory)) }
+    ensures store { IsNotLevelled fallen shows_none (taking_at false) [] (Roster (Command (Store Disk))) }
+    ensures store_untaken { (text : List ℕ) (fault : NamedFloorsFault) → file_of (taking_at false) 1 text ≡ Err fault
+        → IsNotLevelled fallen shows_any (taking_at false) (text ∷ []) (Roster (Command (Store Disk))) → ⊥ }
+    ensures another { IsNotLevelled one_named shows_any (record (taking_at false) { own = other_bond }) []
+        (Roster AnotherCluster) }
+    ensures same_bond { IsNotLevelled one_named shows_any (taking_at false) [] (Roster AnotherCluster) → ⊥ }
+    ensures another_untaken { (text : List ℕ) (fault : NamedFloorsFault) → file_of (taking_at false) 1 text ≡ Err fault
+        → IsNotLevelled fallen shows_any (taking_at false) (text ∷ []) (Roster AnotherCluster) → ⊥ }
+    ensures output { IsNotLevelled fallen shows_any (taking_at false) [] (Roster (Command CannotWrite)) → ⊥ }
+    ensures clock { IsNotLevelled fallen shows_any (taking_at false) [] (Roster (Command NoClock)) → ⊥ }
+    ensures users { IsNotLevelled fallen shows_any (taking_at false) []
+        (Roster (Command (users_fault 1 MissingField))) → ⊥ }
+    ensures socket { IsNotLevelled fallen shows_any (taking_at false) [] (Roster (Command Socket)) → ⊥ }
+    ensures same_name { IsNotLevelled fallen shows_any (taking_at false) [] (Roster (SameName 1)) → ⊥ }
+    ensures full { IsNotLevelled fallen shows_any (taking_at false) [] (Roster Full) → ⊥ }
+    ensures none { IsNotLevelled fallen shows_any (taking_at false) [] (Ahead 1) → ⊥ }
+{}
+
+/// Counterexamples: each promise of a store whose tokens get names, or do not, fails for a minimal one.
+pub fn names_can_be_broken()
+    ensures named { HasNamed fallen shows_any small_cluster default_limits 11 1 small_conn [] }
+    ensures named_import { HasNamed fallen shows_any small_cluster default_limits 11 1 small_conn no_users → ⊥ }
+    ensures named_found { HasNamed (still (tables_at 4 [])) shows_none small_cluster default_limits 11 1 small_conn []
+        → ⊥ }
+    ensures named_idle { HasNamed fallen shows_any small_cluster default_limits 11 1
+        (record small_conn { in_transaction = true }) [] → ⊥ }
+    ensures named_node { HasNamed (still (tables_at 4 [])) shows_any small_cluster default_limits 11 2 small_conn []
+        → ⊥ }
+    ensures named_tokens { (users : List ℕ) → IsOfOne 0 11 users
+        → HasNamed (still (tables_at 4 [])) shows_any small_cluster default_limits 11 1 small_conn users → ⊥ }
+    ensures named_tables { HasNamed (still (tables_at 4 [])) shows_any small_cluster default_limits 11 1 small_conn []
+        → ⊥ }
+
+    ensures memory { IsUnnamed small_cluster default_limits 6 (Command Memory) no_users }
+    ensures store { IsUnnamed small_cluster default_limits 6 (Command (Store Disk)) (codes "# none") }
+    ensures before_import { IsUnnamed small_cluster default_limits 6 (Command (Store Disk)) no_users → ⊥ }
+    ensures users { IsUnnamed small_cluster default_limits 6 (Command (users_fault 1 MissingField)) no_users }
+    ensures wrong_users { IsUnnamed small_cluster default_limits 6 (Command (users_fault 1 MissingField))
+        (codes "# none") → ⊥ }
+    ensures output { IsUnnamed small_cluster default_limits 6 (Command CannotWrite) (codes "# none") → ⊥ }
+    ensures same_name { IsUnnamed small_cluster default_limits 6 (SameName 1) (codes "# none") → ⊥ }
+    ensures another { IsUnnamed small_cluster default_limits 6 AnotherCluster (codes "# none") → ⊥ }
+    ensures full { IsUnnamed small_cluster default_limits 6 Full (codes "# none") → ⊥ }
 {}

@@ -33,7 +33,8 @@ fn gathered_of(alloc: Global, files: &[NamedFloors<'_>]) -> Result<Vec<NamedFloo
 ///
 /// Each file must be of the cluster, and its MAC under `key`, the own key of the cluster. `now` is the present time, in
 /// seconds since 1970-01-01 00:00:00 UTC. A row whose name is in no file keeps its floor, and a name without a row is
-/// passed over. The rest of a row stays. Messages of other members with these floors would have the same effect.
+/// passed over. The rest of a row stays. Messages of other members with these floors would have the same effect. The
+/// database is opened after every text is taken.
 ///
 /// # Errors
 /// - Returns `Floors` with the first text that is not such a floors file. The database is not opened.

@@ -11,13 +11,21 @@ mod files;
 mod laws;
 mod levelling;
 mod naming;
+mod remade_laws;
 mod remaking;
 mod rows;
 mod telling;
 
 pub use fault::NamedFloorsFault;
-pub use laws::{faults_are_worked, files_are_worked, floors_can_be_broken};
+pub use laws::{
+    faults_are_worked, files_are_worked, floors_can_be_broken, levels_can_be_broken,
+    names_can_be_broken, rows_can_be_broken, told_are_worked, told_can_be_broken,
+};
 pub use levelling::level_named_store;
 pub use naming::name_store;
+pub use remade_laws::{
+    gatherings_can_be_broken, makings_can_be_broken, remaking_faults_can_be_broken,
+    replacements_can_be_broken,
+};
 pub use remaking::{Former, remake_named_store};
 pub use telling::tell_named_floors;

@@ -1,13 +1,16 @@
 //! The commands `init --lost` and `init --anew` by names: creates a replacement store from floors files.
 
-ghost use Rattle.std.specs.Prelude.{◌≡◌, ◌≤◌, ◌<◌, ◌^◌, false, length, map, IfErr, IfOk, IfSome};
+ghost use Rattle.std.specs.Prelude.{◌≡◌, ◌≢◌, ◌≤◌, ◌<◌, ◌^◌, false, length, map, IfErr, IfOk, IfSome};
 ghost use Rattle.otp_core.specs.Range.{IsMoment};
 ghost use Rattle.floor_store.specs.Range.{IsCount};
 ghost use Rattle.floor_sql.specs.Usable.{IsNode};
 ghost use Rattle.floors_file.specs.Gathered.{fault_of};
 ghost use Rattle.floors_file.specs.Named.{named_value};
 ghost use Rattle.named_store.specs.Seating.{AreDistinct};
+ghost use Rattle.oathd_database.specs.declared.fault.Fault.TheVariants.{CannotWrite};
 ghost use Rattle.oathd_floors.specs.Remade.{HasRemade, IsGathered, IsInsufficient, IsMadeAgain, IsNotMadeAgain, IsNotRemade, gather_fault};
+ghost use Rattle.oathd_floors.specs.declared.fault.NamedFloorsFault.TheVariants.{Roster};
+ghost use Rattle.oathd_roster.specs.declared.fault.RosterFault.TheVariants.{Command};
 
 use crate::fault::NamedFloorsFault;
 use crate::files::{Taking, read_files};
@@ -129,7 +132,8 @@ fn make_seated<S: Alter + Drop>(
 /// Each file must have its MAC under `key`, the own key of the cluster, and be read after `former.since`. If
 /// `former.lost` is a list, the files are of the cluster, it and the nodes of the files are all members, and fewer than
 /// a majority are lost. If it is `None`, the whole cluster is replaced. Then the files are of the cluster's names, may
-/// be of another life and another number of members, and each majority of the former members has a file.
+/// be of another life and another number of members, and each majority of the former members has a file. The database is
+/// opened after the files are found sufficient.
 ///
 /// # Errors
 /// - Returns `Roster` with the errors of [`read_named_users`]. The database is not opened.
@@ -158,6 +162,8 @@ pub fn remake_named_store<R: Read + Drop, S: Alter + Drop, D: Database<S>, W: Wr
         settings moment 16777216 place former.entry store (W.contents writer.old) (W.contents writer.new))) }
     ensures fault { IfErr result (λ fault. IfSome (R.remaining users)
         (IsNotRemade S.Store D.finds cluster.now key.now settings moment 16777216 place former.entry fault)) }
+    ensures quiet { IfErr result (λ fault. fault ≢ Roster (Command CannotWrite)
+        → W.contents writer.new ≡ W.contents writer.old) }
 {
     let named = read_named_users(alloc, users, settings, moment, &cluster.salt)?;
     let Ok(floors) = drifted_floors(alloc, &named.users, settings.drift()) else {

@@ -1,11 +1,12 @@
 //! The command `floors` by names: prints the floors file of a stopped node.
 
-ghost use Rattle.std.specs.Prelude.{◌≡◌, IfErr, IfOk, OnOk};
+ghost use Rattle.std.specs.Prelude.{◌≡◌, ◌≢◌, IfErr, IfOk, OnOk};
 ghost use Rattle.std.specs.Io.KnownBytes.{Appends};
 ghost use Rattle.floors_file.specs.Named.{named_value};
 ghost use Rattle.floors_file.specs.NamedWriting.{named_floors_text};
 ghost use Rattle.oathd_database.specs.declared.fault.Fault.TheVariants.{CannotWrite};
 ghost use Rattle.oathd_floors.specs.Told.{EndsTold, HasTold};
+ghost use Rattle.oathd_roster.specs.declared.fault.RosterFault.TheVariants.{Command};
 
 use crate::rows::open_rows;
 use floors_file::{NamedFloors, write_named_floors};
@@ -59,6 +60,8 @@ pub fn tell_named_floors<S: Alter + Drop, D: Database<S>, W: Write>(
     ensures told { IfOk result (λ _. HasTold S.Store D.finds cluster.now.bond key.now node moment
         (W.contents writer.old) (W.contents writer.new)) }
     ensures fault { IfErr result (EndsTold S.Store D.finds cluster.now.bond) }
+    ensures quiet { IfErr result (λ fault. fault ≢ Command CannotWrite
+        → W.contents writer.new ≡ W.contents writer.old) }
 {
     let (roster, store) = open_rows(alloc, node, cluster, database)?;
     let own = &cluster.bond;
