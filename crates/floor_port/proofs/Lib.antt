@@ -1,0 +1,7 @@
+pub mod FloorLemmas
+pub mod RowLemmas
+pub mod OfferLemmas
+pub mod CallLemmas
+pub mod HandLemmas
+pub mod ToldLemmas
+pub mod SpellingLemmas

@@ -1,0 +1,110 @@
+-- The floors of rows, told and raised floor by floor.
+use Rattle.std.proofs.Common.{◌≡◌, ℕ, zero, suc, ◌+◌, ◌-◌, ◌<◌, ◌≤◌, Bool, true, false, cond, List, [], ◌∷◌, ◌++◌, length, take, drop, get_or, ltb, Option, Some, None, refl, sym, ap, ◌∙◌, arith, append_assoc}
+use Rattle.std.specs.Prelude.{slice_get, slice_index, slice_set, IfSome}
+use Rattle.std.proofs.lemmas.List.{drop_more, get_or-drop, length-drop, length-set, take_all, take_more}
+use Rattle.std.proofs.lemmas.Option.{slice_get_within}
+use Rattle.floor_port.specs.Rows.{after_floor, after_floors, is_news, named_floors, news, raised}
+use Rattle.floor_port.specs.declared.floor.NamedFloor.{NamedFloor}
+
+-- a row of a name is within the names
+pub row_within : (names : List (List ℕ)) (name : List ℕ) (row : Option ℕ) → IfSome row (λ n. slice_get names n ≡ Some name)
+    → IfSome row (λ n. n < length names)
+row_within names name None at = tt
+row_within names name (Some n) at = slice_get_within names n name at
+
+-- ---- news
+
+pub raised_len : (floors : List ℕ) (row : Option ℕ) (next : ℕ) → length (raised floors row next) ≡ length floors
+raised_len floors None next = refl
+raised_len floors (Some row) next = go (ltb (slice_index floors row) next)
+  where
+    go : (above : Bool) → length (cond above (slice_set floors row next) floors) ≡ length floors
+    go true = length-set floors row next
+    go false = refl
+
+left : (floors : List NamedFloor) (place : ℕ) (floor : NamedFloor) → place < length floors → get_or floors place floor ≡ floor
+    → drop place floors ≡ floor ∷ drop (place + 1) floors
+left floors place floor low at = drop_more floors place floor low ∙ ap (λ (f : NamedFloor). f ∷ drop (place + 1) floors) at
+
+-- one more floor is told
+pub raised_more : (names : List (List ℕ)) (known : List ℕ) (floors : List NamedFloor) (place : ℕ) (floor : NamedFloor) → place < length floors → get_or floors place floor ≡ floor
+    → after_floors names known (drop place floors) ≡ after_floors names (after_floor names known floor) (drop (place + 1) floors)
+raised_more names known floors place floor low at = ap (after_floors names known) (left floors place floor low at)
+
+-- it is news
+pub news_more : (names : List (List ℕ)) (known : List ℕ) (floors : List NamedFloor) (place : ℕ) (floor : NamedFloor) (out : List NamedFloor) → place < length floors → get_or floors place floor ≡ floor
+    → is_news names known floor ≡ true
+    → out ++ news names known (drop place floors) ≡ (out ++ floor ∷ []) ++ news names (after_floor names known floor) (drop (place + 1) floors)
+news_more names known floors place floor out low at new =
+    let rest = news names (after_floor names known floor) (drop (place + 1) floors) in
+    ap (λ (l : List NamedFloor). out ++ news names known l) (left floors place floor low at)
+    ∙ ap (λ (t : Bool). out ++ cond t (floor ∷ rest) rest) new
+    ∙ sym (append_assoc out (floor ∷ []) rest)
+
+-- it is no news
+pub news_less : (names : List (List ℕ)) (known : List ℕ) (floors : List NamedFloor) (place : ℕ) (floor : NamedFloor) (out : List NamedFloor) → place < length floors → get_or floors place floor ≡ floor
+    → is_news names known floor ≡ false
+    → out ++ news names known (drop place floors) ≡ out ++ news names (after_floor names known floor) (drop (place + 1) floors)
+news_less names known floors place floor out low at old =
+    let rest = news names (after_floor names known floor) (drop (place + 1) floors) in
+    ap (λ (l : List NamedFloor). out ++ news names known l) (left floors place floor low at)
+    ∙ ap (λ (t : Bool). out ++ cond t (floor ∷ rest) rest) old
+
+-- ---- rows in turn
+
+abbrev pub named : List ℕ → ℕ → NamedFloor
+named name next = record { name = name; next = next }
+
+named_len : (names : List (List ℕ)) (told : List ℕ) → length told ≡ length names → length (named_floors names told) ≡ length names
+named_len [] told len = refl
+named_len (name ∷ names) [] len = absurd (omega (arith, len))
+named_len (name ∷ names) (next ∷ told) len =
+    let rest = named_len names told (omega (arith, len)) in omega (arith, rest)
+
+named_at : (names : List (List ℕ)) (told : List ℕ) (row : ℕ) (name : List ℕ) (d : NamedFloor) → slice_get names row ≡ Some name → row < length told
+    → get_or (named_floors names told) row d ≡ named name (get_or told row 0)
+named_at [] told row name d at low = absurd cc
+named_at (one ∷ names) [] row name d at low = absurd (omega (arith, low))
+named_at (one ∷ names) (next ∷ told) zero name d at low = cc
+named_at (one ∷ names) (next ∷ told) (suc row) name d at low = named_at names told row name d at (omega (arith, low))
+
+-- the floor of one more row
+pub turn_more : (names : List (List ℕ)) (told : List ℕ) (first row : ℕ) (name : List ℕ) → length told ≡ length names → first ≤ row → row < length told
+    → slice_get names row ≡ Some name
+    → take (row + 1 - first) (drop first (named_floors names told))
+    ≡ take (row - first) (drop first (named_floors names told)) ++ named name (get_or told row 0) ∷ []
+turn_more names told first row name len from low at =
+    let d = named name 0 in
+    let all = named_floors names told in
+    let k = row - first in
+    let next : row + 1 - first ≡ k + 1 = omega (arith, from) in
+    let place : first + k ≡ row = omega (arith, from) in
+    let whole = named_len names told len in
+    let within : k < length (drop first all) = omega (arith, length-drop first all, whole, len, from, low) in
+    ap (λ (n : ℕ). take n (drop first all)) next
+    ∙ take_more (drop first all) k d within
+    ∙ ap (λ (f : NamedFloor). take k (drop first all) ++ f ∷ []) (get_or-drop first all k d ∙ ap (λ (n : ℕ). get_or all n d) place ∙ named_at names told row name d at low)
+
+-- the floors of the last rows
+pub turn_last : (names : List (List ℕ)) (told : List ℕ) (turn : ℕ) → length told ≡ length names → length told ≤ turn + 20
+    → take (length told - turn) (drop turn (named_floors names told)) ≡ take 20 (drop turn (named_floors names told))
+turn_last names told turn len end =
+    let all = named_floors names told in
+    let whole = named_len names told len in
+    let rest = length-drop turn all in
+    take_all (length told - turn) (drop turn all) (omega (arith, rest, whole, len))
+    ∙ sym (take_all 20 (drop turn all) (omega (arith, rest, whole, len, end)))
+
+-- ---- the number of names
+
+none_past : (names : List (List ℕ)) (row : ℕ) → slice_get names row ≡ None → length names ≤ row
+none_past [] row none = omega arith
+none_past (name ∷ names) zero none = absurd cc
+none_past (name ∷ names) (suc row) none = let rest = none_past names row none in omega (arith, rest)
+
+-- the last row has a name, and the next has none
+pub rows_are : (names : List (List ℕ)) (rows : ℕ) (name : List ℕ) → 1 ≤ rows → slice_get names (rows - 1) ≡ Some name → slice_get names rows ≡ None → length names ≡ rows
+rows_are names rows name some last none =
+    let within = slice_get_within names (rows - 1) name last in
+    let past = none_past names rows none in
+    omega (arith, some, within, past)

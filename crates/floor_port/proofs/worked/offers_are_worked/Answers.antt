@@ -1,0 +1,21 @@
+-- Each case is computed.
+use Rattle.std.proofs.Common.{refl}
+use Rattle.floor_port.proofs.worked.offers_are_worked.Goals as goal
+
+pub returns-clause-members : goal.returns-clause-members
+returns-clause-members c = refl
+
+pub returns-clause-quiet : goal.returns-clause-quiet
+returns-clause-quiet c = refl
+
+pub returns-clause-quiet_turn : goal.returns-clause-quiet_turn
+returns-clause-quiet_turn c = refl
+
+pub returns-clause-no_rows : goal.returns-clause-no_rows
+returns-clause-no_rows c = refl
+
+pub returns-clause-turns : goal.returns-clause-turns
+returns-clause-turns c = refl
+
+pub returns-clause-others : goal.returns-clause-others
+returns-clause-others c = refl

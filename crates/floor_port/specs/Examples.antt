@@ -1,0 +1,90 @@
+-- A node with a book of three tokens, and what a member tells it. The tags are by Python's hmac.
+use Rattle.std.specs.Prelude.{ℕ, List, [], ◌∷◌, ◌++◌, replicate}
+use Rattle.datagram_port.specs.Port.{PortEvent, Received}
+use Rattle.datagram_port.specs.declared.port.Sender.TheVariants.{Peer}
+use Rattle.named_wire.specs.declared.head.Head.{Head}
+use Rattle.named_wire.specs.declared.head.Kind.{Kind}
+use Rattle.named_wire.specs.declared.head.Kind.TheVariants.{Floor}
+use Rattle.vote_wire.specs.Examples.{eight_bytes}
+use Rattle.floor_port.specs.Pace.{PaceRecord}
+use Rattle.floor_port.specs.Packer.{PackerRecord, PendingRecord, new_packer}
+use Rattle.floor_port.specs.Rows.{RowsRecord}
+use Rattle.floor_port.specs.declared.floor.NamedFloor.{NamedFloor}
+
+-- a key of 32 zeros
+abbrev pub zeros : List ℕ
+zeros = replicate 32 0
+
+-- the name of a token: sixteen times the byte
+abbrev pub name_with : ℕ → List ℕ
+name_with byte = replicate 16 byte
+
+-- a floor of the token with this name
+abbrev pub floor_of : ℕ → ℕ → NamedFloor
+floor_of byte next = record { name = name_with byte; next = next }
+
+-- the names of the book
+abbrev pub book : List (List ℕ)
+book = name_with 0xaa ∷ name_with 0xbb ∷ name_with 0xcc ∷ []
+
+-- node 2 of three in its boot 5, whose store has the floor 5 of each token
+abbrev pub node_2 : PackerRecord
+node_2 = new_packer zeros book 2 5 3 (replicate 3 5)
+
+-- a row of the book, with floors of its tokens that the node bears witness to and that it knows
+abbrev pub rows_with : List ℕ → List ℕ → ℕ → RowsRecord
+rows_with told known turn = record { names = book; told = told; known = known; turn = turn }
+
+-- a pace with a number of quiet turns until member 1 is silent, and of a fast round
+abbrev pub pace_with : ℕ → ℕ → PaceRecord
+pace_with until fast = record { until_silent = 0 ∷ until ∷ replicate 8 0; fast = fast }
+
+-- the head of a datagram of a kind from node 1 in its boot 4 to node 2
+abbrev pub head_with : Kind → Head
+head_with kind = record { kind = kind; from = 1; to = 2; boot = 4 }
+
+-- floors that are left of a datagram of node 1
+abbrev pub left_of_1 : List NamedFloor → PendingRecord
+left_of_1 floors = record { head = head_with Floor; floors = floors }
+
+-- node 2 with a floor that is left
+abbrev pub node_2_with : NamedFloor → PackerRecord
+node_2_with floor = record node_2 { pending = left_of_1 (floor ∷ []) }
+
+-- a body of two floors
+abbrev pub body_of_two : List ℕ
+body_of_two = 2 ∷ name_with 0xaa ++ eight_bytes 6 ++ name_with 0xcc ++ eight_bytes 9
+
+-- the head of a datagram of node 1 for node 2, of a kind, as bytes
+abbrev pub head_bytes_of : ℕ → List ℕ
+head_bytes_of kind = 0x4f ∷ 0x56 ∷ 3 ∷ kind ∷ 1 ∷ 2 ∷ eight_bytes 4
+
+-- the tag of the datagram of two floors
+abbrev pub two_tag : List ℕ
+two_tag =
+    0x55 ∷ 0x8e ∷ 0xa3 ∷ 0xe9 ∷ 0x51 ∷ 0x57 ∷ 0xde ∷ 0x7b ∷ 0x53 ∷ 0x4e ∷ 0x09 ∷ 0xe8 ∷ 0xbd ∷ 0xeb ∷ 0xec ∷ 0x1d ∷ []
+
+-- the datagram of two floors
+abbrev pub two_floors : List ℕ
+two_floors = head_bytes_of 5 ++ body_of_two ++ two_tag
+
+-- the tag of the datagram of the first of them
+abbrev pub one_tag : List ℕ
+one_tag =
+    0x8f ∷ 0xb4 ∷ 0x9e ∷ 0x0b ∷ 0x03 ∷ 0x30 ∷ 0xa5 ∷ 0x4e ∷ 0x2b ∷ 0x76 ∷ 0x3a ∷ 0x00 ∷ 0xf2 ∷ 0x78 ∷ 0xde ∷ 0xa8 ∷ []
+
+-- the datagram of the first of them
+abbrev pub one_floor : List ℕ
+one_floor = head_bytes_of 4 ++ name_with 0xaa ++ eight_bytes 6 ++ one_tag
+
+-- a Deny with the floor 9 of the first token
+abbrev pub deny_of_9 : List ℕ
+deny_of_9 = head_bytes_of 3 ++ name_with 0xaa ++ replicate 17 0 ++ eight_bytes 9 ++ replicate 16 0
+
+-- an Ask of the first token, whose span ends with a factor that is written so
+abbrev pub ask_upto : List ℕ → List ℕ
+ask_upto last = head_bytes_of 1 ++ name_with 0xaa ++ replicate 25 0 ++ last ++ replicate 16 0
+
+-- a datagram comes from member 1
+abbrev pub from_1 : List ℕ → PortEvent
+from_1 bytes = Received (Peer 1) bytes

@@ -1,0 +1,174 @@
+-- What a port makes of the datagrams that tell floors, and the floors that it tells.
+use Rattle.std.specs.Prelude.{ℕ, zero, suc, ◌+◌, ◌==◌, ◌||◌, Bool, if◌then◌else◌, List, [], ◌∷◌, ◌++◌, length, drop, Option, Some, None}
+use Rattle.datagram_port.specs.Port.{PortEvent, Received, Quiet, Faulted, Offered}
+use Rattle.datagram_port.specs.declared.port.Sender.{Sender}
+use Rattle.datagram_port.specs.declared.port.Sender.TheVariants.{Client, Peer}
+use Rattle.named_wire.specs.Bytes.{byte_at}
+use Rattle.named_wire.specs.Datagram.{datagram_at, datagram_bytes}
+use Rattle.named_wire.specs.declared.head.Head.{Head}
+use Rattle.named_wire.specs.declared.head.Kind.TheVariants.{Floor, Floors}
+use Rattle.named_port.specs.Translator.{between}
+use Rattle.floor_port.specs.Floors.{floor_bytes, floors_body, told_in}
+use Rattle.floor_port.specs.Pace.{PaceRecord, after_heard, after_quiet, due, new_pace}
+use Rattle.floor_port.specs.Rows.{RowsRecord, after_news, after_turn, after_turns, after_witness, new_rows, news, next_floors, turns_of}
+use Rattle.floor_port.specs.Witness.{witness_of}
+use Rattle.floor_port.specs.declared.floor.NamedFloor.{NamedFloor}
+
+-- the floors of a datagram that are left to hand in, and the head of the datagram of each
+pub record PendingRecord : Type 0 where
+  pub head : Head
+  pub floors : List NamedFloor
+
+-- A packer of a node: the key of the tags, the node with its boot, the number of members, the rows of its book, its
+-- pace, and the floors that are left to hand in.
+pub record PackerRecord : Type 0 where
+  pub key : List ℕ
+  pub me : ℕ
+  pub boot : ℕ
+  pub members : ℕ
+  pub rows : RowsRecord
+  pub pace : PaceRecord
+  pub pending : PendingRecord
+
+-- no floor is left to hand in to the node
+abbrev pub nothing_pending : ℕ → PendingRecord
+nothing_pending me = record { head = record { kind = Floor; from = 0; to = me; boot = 0 }; floors = [] }
+
+-- a packer that was told nothing, of a node whose store has the given floors
+abbrev pub new_packer : List ℕ → List (List ℕ) → ℕ → ℕ → ℕ → List ℕ → PackerRecord
+new_packer key names me boot members floors = record {
+  key = key;
+  me = me;
+  boot = boot;
+  members = members;
+  rows = new_rows names floors;
+  pace = new_pace (length floors);
+  pending = nothing_pending me;
+}
+
+-- ---- floors that the node is told
+
+-- whether a datagram tells floors, by its kind
+abbrev pub tells_floors : List ℕ → Bool
+tells_floors bytes = (byte_at bytes 3 == 4) || (byte_at bytes 3 == 5)
+
+-- a head with floors, if there are floors
+abbrev pub with_head : Head → Option (List NamedFloor) → Option (Head × List NamedFloor)
+with_head head None = None
+with_head head (Some floors) = Some (head, floors)
+
+-- the head of a datagram and the floors that it tells
+abbrev pub floors_read : Option (Head × List ℕ) → Option (Head × List NamedFloor)
+floors_read None = None
+floors_read (Some read) = with_head read.0 (told_in read.0.kind read.1)
+
+-- the head and the floors of a datagram that `member` sent to the node, if its tag is right
+abbrev pub told_by : PackerRecord → ℕ → List ℕ → Option (Head × List NamedFloor)
+told_by packer member bytes = floors_read (between member packer.me (datagram_at packer.key bytes))
+
+-- the head of the datagram of one floor
+abbrev pub floor_head : Head → Head
+floor_head head = record head { kind = Floor }
+
+-- the packer with the news of a datagram to hand in
+abbrev pub unpacked : PackerRecord → Option (Head × List NamedFloor) → PackerRecord
+unpacked packer None = record packer { pending = record packer.pending { floors = [] } }
+unpacked packer (Some told) = record packer {
+  rows = after_news packer.rows told.1;
+  pending = record { head = floor_head told.0; floors = news packer.rows.names packer.rows.known told.1 };
+}
+
+-- the datagram of the first of the floors, or no bytes if there is none
+abbrev pub first_bytes : List ℕ → Head → List NamedFloor → List ℕ
+first_bytes key head [] = []
+first_bytes key head (floor ∷ floors) = datagram_bytes key head (floor_bytes floor)
+
+-- the bytes that are handed in next
+abbrev pub next_bytes : PackerRecord → List ℕ
+next_bytes packer = first_bytes packer.key packer.pending.head packer.pending.floors
+
+-- the packer after they were handed in
+abbrev pub after_next : PackerRecord → PackerRecord
+after_next packer = record packer { pending = record packer.pending { floors = drop 1 packer.pending.floors } }
+
+-- the packer after a datagram of a member came, if it has bytes
+abbrev pub after_member : PackerRecord → ℕ → List ℕ → PackerRecord
+after_member packer member bytes =
+    if length bytes == 0 then packer
+    else record packer { pace = after_heard packer.pace member (length packer.rows.told) }
+
+-- the packer with the news of a member's datagram
+abbrev pub unpacked_from : PackerRecord → ℕ → List ℕ → PackerRecord
+unpacked_from packer member bytes =
+    unpacked (after_member packer member bytes) (told_by packer member bytes)
+
+-- the bytes that are handed in for a member's datagram
+abbrev pub member_bytes : PackerRecord → ℕ → List ℕ → List ℕ
+member_bytes packer member bytes =
+    if tells_floors bytes then next_bytes (unpacked_from packer member bytes) else bytes
+
+-- the event that is handed to the node for an event of the port below
+abbrev pub handed_in : PackerRecord → PortEvent → PortEvent
+handed_in packer (Received (Peer member) bytes) = Received (Peer member) (member_bytes packer member bytes)
+handed_in packer (Received (Client number) bytes) = Received (Client number) bytes
+handed_in packer Quiet = Quiet
+handed_in packer Faulted = Faulted
+handed_in packer (Offered to bytes) = Offered to bytes
+
+-- ---- floors that the node tells
+
+-- the datagram for a member with a body of floors
+abbrev pub floors_datagram : PackerRecord → ℕ → List ℕ → List ℕ
+floors_datagram packer to body =
+    datagram_bytes packer.key (record { kind = Floors; from = packer.me; to = to; boot = packer.boot }) body
+
+-- the offer of a body to a member, if it is not the node itself
+abbrev pub member_offer : PackerRecord → List ℕ → ℕ → List PortEvent
+member_offer packer body to =
+    if to == packer.me then [] else Offered (Peer to) (floors_datagram packer to body) ∷ []
+
+-- the offers of a body to a number of members from a first one on
+abbrev pub body_offers : PackerRecord → List ℕ → ℕ → ℕ → List PortEvent
+body_offers packer body first zero = []
+body_offers packer body first (suc count) =
+    member_offer packer body first ++ body_offers packer body (first + 1) count
+
+-- the offers of the floors of a number of turns
+abbrev pub turn_offers : PackerRecord → RowsRecord → ℕ → List PortEvent
+turn_offers packer rows zero = []
+turn_offers packer rows (suc turns) =
+    body_offers packer (floors_body (next_floors rows)) 1 packer.members
+    ++ turn_offers packer (after_turn rows) turns
+
+-- the number of turns at a quiet turn of the port
+abbrev pub turns_due : PackerRecord → ℕ
+turns_due packer = due packer.pace (turns_of packer.rows)
+
+-- the offers for an event of the port below
+abbrev pub told_at : PackerRecord → PortEvent → List PortEvent
+told_at packer (Received sender bytes) = []
+told_at packer Quiet = turn_offers packer packer.rows (turns_due packer)
+told_at packer Faulted = []
+told_at packer (Offered to bytes) = []
+
+-- the packer after a quiet turn
+abbrev pub after_quiet_turn : PackerRecord → PackerRecord
+after_quiet_turn packer = record packer {
+  rows = after_turns packer.rows (turns_due packer);
+  pace = after_quiet packer.pace;
+}
+
+-- the packer after an event of the port below
+abbrev pub after_event : PackerRecord → PortEvent → PackerRecord
+after_event packer (Received (Peer member) bytes) =
+    if tells_floors bytes then after_next (unpacked_from packer member bytes) else after_member packer member bytes
+after_event packer (Received (Client number) bytes) = packer
+after_event packer Quiet = after_quiet_turn packer
+after_event packer Faulted = packer
+after_event packer (Offered to bytes) = packer
+
+-- the packer after an offer of the node
+abbrev pub after_offer : PackerRecord → Sender → List ℕ → PackerRecord
+after_offer packer (Peer member) bytes =
+    record packer { rows = after_witness packer.rows (witness_of bytes) }
+after_offer packer (Client number) bytes = packer

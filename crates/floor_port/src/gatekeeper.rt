@@ -1,0 +1,25 @@
+//! What a port that tells floors tells a log of the datagrams that it passed over: what the port below tells.
+
+use crate::port::FloorPort;
+use node_log::{Gatekeeper, Older, PLACES};
+use sealed_port::Unopened;
+
+impl<P: Gatekeeper + Drop> Gatekeeper for FloorPort<'_, P> {
+    ghost unopened = { λ floors. P.unopened floors.port };
+
+    ghost older = { λ floors. P.older floors.port };
+
+    ghost differing = { λ floors. P.differing floors.port };
+
+    fn take_unopened(&mut self) -> Unopened {
+        self.port.take_unopened()
+    }
+
+    fn take_older(&mut self) -> Option<Older> {
+        self.port.take_older()
+    }
+
+    fn take_differing(&mut self) -> [bool; PLACES] {
+        self.port.take_differing()
+    }
+}

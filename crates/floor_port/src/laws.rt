@@ -1,0 +1,44 @@
+ghost use Rattle.std.specs.Prelude.{◌≡◌, ◌⊎◌, ◌↔◌, ◌+◌, ◌≤◌, ℕ, List, Some, length, slice_index, true};
+ghost use Rattle.datagram_port.specs.Port.{Offered, PortEvent};
+ghost use Rattle.datagram_port.specs.declared.port.Sender.{Sender};
+ghost use Rattle.named_wire.specs.Bytes.{AreBytes};
+ghost use Rattle.floor_port.specs.Floors.{IsBodyOf, floors_at};
+ghost use Rattle.floor_port.specs.Packer.{PackerRecord, new_packer};
+ghost use Rattle.floor_port.specs.Promises.{Among, HandsIn, TellsFloors};
+ghost use Rattle.floor_port.specs.Runs.{Call, Offer, after_calls, below_events, handed_events, may_make};
+ghost use Rattle.floor_port.specs.declared.floor.NamedFloor.{NamedFloor};
+
+/// One spelling: floors have one body, and a body one reading.
+pub fn floors_one_spelling()
+    ensures { (floors : List NamedFloor) (body : List ℕ) → AreBytes body →
+        IsBodyOf floors body ↔ (floors_at body ≡ Some floors) }
+{}
+
+/// Floors that are handed in: each event that the port hands in is one that the port below received, an offer of the
+/// node, a datagram without bytes of a member that was received from, or a floor that a member told under the key.
+pub fn what_is_handed_in_was_told()
+    ensures { (key : List ℕ) (names : List (List ℕ)) (me boot members : ℕ) (floors : List ℕ) (calls : List Call)
+        (event : PortEvent) → may_make (new_packer key names me boot members floors) calls ≡ true →
+        Among (handed_events (new_packer key names me boot members floors) calls) event →
+        HandsIn key me calls event }
+{}
+
+/// Floors that are told: each offer to the port below is one of the node, or tells floors of the node.
+pub fn what_is_told_is_the_nodes()
+    ensures { (key : List ℕ) (names : List (List ℕ)) (me boot members : ℕ) (floors : List ℕ) (calls : List Call)
+        (to : Sender) (bytes : List ℕ) → may_make (new_packer key names me boot members floors) calls ≡ true →
+        Among (below_events (new_packer key names me boot members floors) calls) (Offered to bytes) →
+        Among calls (Offer to bytes) ⊎ TellsFloors key names me boot floors calls to bytes }
+{}
+
+/// Floors rise: no call lowers a floor that the port tells, or one that it knows.
+pub fn floors_rise()
+    ensures told { (packer : PackerRecord) (calls : List Call) (row : ℕ) →
+        slice_index packer.rows.told row ≤ slice_index (after_calls packer calls).rows.told row }
+    ensures known { (packer : PackerRecord) (calls : List Call) (row : ℕ) →
+        slice_index packer.rows.known row ≤ slice_index (after_calls packer calls).rows.known row }
+    ensures from_the_start { (key : List ℕ) (names : List (List ℕ)) (me boot members : ℕ) (floors : List ℕ)
+        (calls : List Call) (row : ℕ) →
+        slice_index floors row
+        ≤ slice_index (after_calls (new_packer key names me boot members floors) calls).rows.told row }
+{}

@@ -1,0 +1,34 @@
+//! A port that tells floors in bulk: up to 20 in a datagram, and all of a node's floors in turn.
+//!
+//! A [`FloorPort`] is a node's port over another one. On both sides the datagrams of members are of version 3, under
+//! the cluster's key. At each quiet turn the port tells the other members floors that its node bears witness to. It
+//! unpacks what members tell: it hands in each floor that is news as one datagram. If none of the floors of a datagram
+//! is news, the datagram is handed in without bytes, and the node drops it. All other datagrams pass unchanged.
+#![tactic(auto)]
+
+mod body;
+mod floor;
+mod gatekeeper;
+mod laws;
+mod pace;
+mod packer;
+mod port;
+mod record;
+mod rows;
+#[cfg(test)]
+mod tests;
+mod witness;
+mod worked;
+
+pub use body::{MAX_FLOORS, floors_body, floors_told};
+pub use floor::NamedFloor;
+pub use laws::{
+    floors_one_spelling, floors_rise, what_is_handed_in_was_told, what_is_told_is_the_nodes,
+};
+pub use packer::Membership;
+pub use port::FloorPort;
+pub use witness::witness_of;
+pub use worked::{
+    bodies_are_worked, calls_are_worked, calls_can_be_broken, offers_are_worked, paces_are_worked,
+    packers_are_worked, promises_can_be_broken, rows_are_worked, witnesses_are_worked,
+};

@@ -1,0 +1,285 @@
+//! What becomes of datagrams that tell floors, and the floors that a node tells.
+
+ghost use Rattle.std.specs.Option.{option_map};
+ghost use Rattle.std.specs.Prelude.{◌≡◌, ◌≢◌, ◌≤◌, ◌==◌, if◌then◌else◌, length, take, drop, Some, None, IfOk};
+ghost use Rattle.datagram_port.specs.Port.{IsWithin, Received as ReceivedEvent, event_of_receive};
+ghost use Rattle.datagram_port.specs.declared.port.Received.TheVariants.{Quiet};
+ghost use Rattle.datagram_port.specs.declared.port.Sender.TheVariants.{Peer};
+ghost use Rattle.floor_port.specs.Floors.{floors_body};
+ghost use Rattle.floor_port.specs.Pace.{after_quiet};
+ghost use Rattle.floor_port.specs.Packer as spec;
+ghost use Rattle.floor_port.specs.Rows.{after_turn, next_floors};
+
+use crate::body::{MAX_FLOORS, floor_body, floors_body, floors_told};
+use crate::floor::NamedFloor;
+use crate::pace::Pace;
+use crate::rows::Rows;
+use crate::witness::witness_of;
+use arrayvec::ArrayVec;
+use datagram_port::{Received, Sender};
+use named_port::Names;
+use named_wire::{Head, Kind, MAX_BODY_LEN, MAX_DATAGRAM_LEN, read_datagram, write_datagram};
+use otp_core::Next;
+use std::alloc::{AllocError, Global};
+use std::marker::Model;
+use vote_wire::ClusterKey;
+
+/// A node in its cluster.
+#[derive(Clone, Copy, Debug, PartialEq, Eq)]
+pub struct Membership {
+    /// The number of the node.
+    pub me: u8,
+    /// The boot of the node.
+    pub boot: u64,
+    /// The number of members of the cluster.
+    pub members: u8,
+}
+
+/// The floors of a datagram that are left to hand in.
+#[derive(Drop)]
+pub(crate) struct Pending {
+    head: Head,
+    floors: ArrayVec<NamedFloor, MAX_FLOORS>,
+}
+
+impl Model for Pending {
+    ghost use Rattle.floor_port.specs.Packer.{PendingRecord};
+
+    ghost Value = { PendingRecord };
+
+    ghost view = { λ pending. record { head = pending.head; floors = pending.floors.items } };
+}
+
+/// Packs the floors of a node into datagrams to the other members, and unpacks theirs.
+#[derive(Drop)]
+pub(crate) struct Packer<'k> {
+    key: &'k ClusterKey,
+    me: u8,
+    boot: u64,
+    members: u8,
+    rows: Rows<'k>,
+    pace: Pace,
+    pending: Pending,
+}
+
+impl<'k> Model for Packer<'k> {
+    ghost use Rattle.floor_port.specs.Packer.{PackerRecord};
+
+    ghost Value = { PackerRecord };
+
+    ghost view = { λ packer. record {
+      key = packer.key.now;
+      me = packer.me;
+      boot = packer.boot;
+      members = packer.members;
+      rows = packer.rows;
+      pace = packer.pace;
+      pending = packer.pending;
+    } };
+}
+
+/// Returns whether a datagram tells floors, by its kind.
+fn tells_floors(bytes: &[u8]) -> bool
+    ensures { result ≡ spec.tells_floors bytes.now }
+{
+    match bytes.get(3) {
+        Some(kind) => *kind == 4 || *kind == 5,
+        None => false,
+    }
+}
+
+impl Pending {
+    /// Returns that no floor is left to hand in to the node `me`.
+    fn new(me: u8) -> Self
+        ensures { result ≡ spec.nothing_pending me }
+    {
+        let head = Head {
+            kind: Kind::Floor,
+            from: 0,
+            to: me,
+            boot: 0,
+        };
+        Pending {
+            head,
+            floors: ArrayVec::new(),
+        }
+    }
+
+    /// Takes the datagram of the first floor that is left. It has no bytes if there is none.
+    fn take_first(&mut self, key: &ClusterKey) -> ArrayVec<u8, MAX_DATAGRAM_LEN>
+        ensures bytes { result.items ≡ spec.first_bytes key.now self.old.head self.old.floors }
+        ensures rest { self.new ≡ record self.old { floors = drop 1 self.old.floors } }
+    {
+        match self.floors.pop_at(0) {
+            Some(floor) => write_datagram(key, self.head, &floor_body(floor)),
+            None => ArrayVec::new(),
+        }
+    }
+}
+
+impl<'k> Packer<'k> {
+    /// Returns a packer for a node whose store has `floors`, in the order of the names.
+    pub(crate) fn new(
+        alloc: Global,
+        key: &'k ClusterKey,
+        names: &'k Names,
+        node: Membership,
+        floors: &[Next],
+    ) -> Result<Self, AllocError>
+        requires few { length floors.now ≤ 10000 }
+        requires each { length floors.now ≡ length names.now }
+        ensures { IfOk result (λ packer. packer
+            ≡ spec.new_packer key.now names.now node.me node.boot node.members floors.now) }
+    {
+        Ok(Packer {
+            key,
+            me: node.me,
+            boot: node.boot,
+            members: node.members,
+            rows: Rows::new(alloc, names, floors)?,
+            pace: Pace::new(floors.len()),
+            pending: Pending::new(node.me),
+        })
+    }
+
+    /// Returns the floors that the node bears witness to.
+    pub(crate) fn told(&self) -> &[u64]
+        ensures { result.now ≡ self.now.rows.told }
+    {
+        self.rows.told()
+    }
+
+    /// Returns the sender of the floors that are left to hand in, or None if there is none.
+    pub(crate) fn pending_from(&self) -> Option<Sender>
+        ensures { result ≡ (if length self.now.pending.floors == 0 then None
+            else Some (Peer self.now.pending.head.from)) }
+    {
+        if self.pending.floors.is_empty() {
+            return None;
+        }
+        Some(Sender::Peer(self.pending.head.from))
+    }
+
+    /// Hands in the datagram of the next floor from `sender`. It has no bytes if no floor is left.
+    pub(crate) fn hand_in(&mut self, sender: Sender, buffer: &mut [u8; 512]) -> Received
+        ensures within { IsWithin result }
+        ensures datagram { result ≢ Quiet }
+        ensures handed { event_of_receive result buffer.new ≡ ReceivedEvent sender (spec.next_bytes self.old) }
+        ensures after { self.new ≡ spec.after_next self.old }
+    {
+        let bytes = self.pending.take_first(self.key);
+        let len = bytes.len();
+        buffer[..len].copy_from_slice(&bytes);
+        Received::Datagram { sender, len }
+    }
+
+    /// Returns the head of a datagram that `member` sent to the node, and the floors that it tells, or None.
+    fn told_by(&self, member: u8, bytes: &[u8]) -> Option<(Head, ArrayVec<NamedFloor, MAX_FLOORS>)>
+        ensures { option_map (λ told. (told.0, told.1.items)) result ≡ spec.told_by self.now member bytes.now }
+    {
+        let (head, body) = read_datagram(self.key, bytes)?;
+        if head.from != member || head.to != self.me {
+            return None;
+        }
+        let floors = floors_told(head.kind, body)?;
+        Some((head, floors))
+    }
+
+    /// Replaces the floors that are left by the news of a member's datagram.
+    fn unpack(&mut self, member: u8, bytes: &[u8])
+        ensures { self.new ≡ spec.unpacked self.old (spec.told_by self.old member bytes.now) }
+    {
+        let Some((head, floors)) = self.told_by(member, bytes) else {
+            self.pending.floors.clear();
+            return;
+        };
+        self.pending = Pending {
+            head: Head {
+                kind: Kind::Floor,
+                ..head
+            },
+            floors: self.rows.take_news(&floors),
+        };
+    }
+
+    /// Takes a datagram of a member, and hands in what becomes of it.
+    pub(crate) fn take(&mut self, member: u8, len: usize, buffer: &mut [u8; 512]) -> Received
+        requires { len ≤ 512 }
+        ensures within { IsWithin result }
+        ensures datagram { result ≢ Quiet }
+        ensures handed { event_of_receive result buffer.new
+            ≡ spec.handed_in self.old (ReceivedEvent (Peer member) (take len buffer.old)) }
+        ensures after { self.new ≡ spec.after_event self.old (ReceivedEvent (Peer member) (take len buffer.old)) }
+    {
+        let sender = Sender::Peer(member);
+        if len > 0 {
+            self.pace.note_heard(member, self.rows.len());
+        }
+        if !tells_floors(&buffer[..len]) {
+            return Received::Datagram { sender, len };
+        }
+        self.unpack(member, &buffer[..len]);
+        self.hand_in(sender, buffer)
+    }
+
+    /// Notes what the node bears witness to by an offer.
+    pub(crate) fn note_offer(&mut self, to: Sender, bytes: &[u8])
+        ensures { self.new ≡ spec.after_offer self.old to bytes.now }
+    {
+        match to {
+            Sender::Peer(_) => {
+                if let Some(floor) = witness_of(bytes) {
+                    self.rows.note_witness(floor);
+                }
+            }
+            Sender::Client(_) => {}
+        }
+    }
+
+    /// Returns the number of bodies that are due at a quiet turn.
+    pub(crate) fn turns_due(&self) -> usize
+        ensures { result ≡ spec.turns_due self.now }
+    {
+        self.pace.due(self.rows.turns())
+    }
+
+    /// Returns the body of the floors that are told next, and goes on to those after them.
+    pub(crate) fn take_turn(&mut self) -> ArrayVec<u8, MAX_BODY_LEN>
+        ensures body { result.items ≡ floors_body (next_floors self.old.rows) }
+        ensures after { self.new ≡ record self.old { rows = after_turn self.old.rows } }
+    {
+        floors_body(&self.rows.take_turn())
+    }
+
+    /// Notes a quiet turn.
+    pub(crate) fn note_quiet(&mut self)
+        ensures { self.new ≡ record self.old { pace = after_quiet self.old.pace } }
+    {
+        self.pace.note_quiet();
+    }
+
+    /// Returns the number of members.
+    pub(crate) fn members(&self) -> u8
+        ensures { result ≡ self.now.members }
+    {
+        self.members
+    }
+
+    /// Returns the datagram of a body of floors for a member, or None if the member is the node itself.
+    pub(crate) fn datagram_to(&self, to: u8, body: &[u8]) -> Option<ArrayVec<u8, MAX_DATAGRAM_LEN>>
+        requires { length body.now ≤ 481 }
+        ensures { option_map (λ bytes. bytes.items) result
+            ≡ (if to == self.now.me then None else Some (spec.floors_datagram self.now to body.now)) }
+    {
+        if to == self.me {
+            return None;
+        }
+        let head = Head {
+            kind: Kind::Floors,
+            from: self.me,
+            to,
+            boot: self.boot,
+        };
+        Some(write_datagram(self.key, head, body))
+    }
+}

@@ -1,0 +1,314 @@
+//! A port over a port in memory, for the node 2 of three with a book of three rows.
+
+ghost use Rattle.std.specs.Prelude.{◌≡◌, ◌≤◌, length, true, IfOk};
+ghost use Rattle.datagram_port.specs.Port.{IsWithin};
+
+use crate::{FloorPort, Membership, NamedFloor, floors_body, floors_told};
+use datagram_port::{Coming, ListPort, Port, PortEntry, Received, Sender};
+use named_port::Names;
+use named_wire::{Head, Kind, read_datagram, write_datagram};
+use otp_core::{MAX_TOKENS, Next, Settings};
+use std::alloc::Global;
+use std::test::Fail;
+use token_file::{FromRead, read_book};
+use token_names::{Name, Salt, names_of};
+use vote_wire::ClusterKey;
+
+/// The book.
+const ROWS: &[u8] = b"HOTP/E/6 ann - 31\nHOTP/E/6 bob - 32\nHOTP/E/6 cid - 33\n";
+
+/// A book of 21 rows.
+const MORE_ROWS: &[u8] = b"\
+    HOTP/E/6 u00 - 31\n\
+    HOTP/E/6 u01 - 32\n\
+    HOTP/E/6 u02 - 33\n\
+    HOTP/E/6 u03 - 34\n\
+    HOTP/E/6 u04 - 35\n\
+    HOTP/E/6 u05 - 36\n\
+    HOTP/E/6 u06 - 37\n\
+    HOTP/E/6 u07 - 38\n\
+    HOTP/E/6 u08 - 39\n\
+    HOTP/E/6 u09 - 3a\n\
+    HOTP/E/6 u10 - 3b\n\
+    HOTP/E/6 u11 - 3c\n\
+    HOTP/E/6 u12 - 3d\n\
+    HOTP/E/6 u13 - 3e\n\
+    HOTP/E/6 u14 - 3f\n\
+    HOTP/E/6 u15 - 40\n\
+    HOTP/E/6 u16 - 41\n\
+    HOTP/E/6 u17 - 42\n\
+    HOTP/E/6 u18 - 43\n\
+    HOTP/E/6 u19 - 44\n\
+    HOTP/E/6 u20 - 45\n";
+
+/// The node.
+const NODE: Membership = Membership {
+    me: 2,
+    boot: 5,
+    members: 3,
+};
+
+/// Returns the names of the book in its order.
+fn list(alloc: Global) -> Result<Vec<Name>, Fail> {
+    let salt = Salt::new(b"names-of-site-1").ok_or_else(|| Fail::new("no salt"))?;
+    let settings = Settings::new(10, 1, 100).unwrap();
+    let (book, _) = read_book(alloc, &mut FromRead::new(ROWS), settings, 59)?;
+    Ok(names_of(alloc, &salt, &book)?)
+}
+
+/// Returns the names of a book with their index.
+fn names(alloc: Global, rows: &[u8]) -> Result<Names, Fail> {
+    let salt = Salt::new(b"names-of-site-1").ok_or_else(|| Fail::new("no salt"))?;
+    let settings = Settings::new(10, 1, 100).unwrap();
+    let (book, _) = read_book(alloc, &mut FromRead::new(rows), settings, 59)?;
+    let names = names_of(alloc, &salt, &book)?;
+    if names.len() > MAX_TOKENS {
+        return Err(Fail::new("too many names"));
+    }
+    Ok(Names::new(alloc, names)?)
+}
+
+/// Returns whether a book has the given number of rows, at least one.
+#[tactic(auto, using(crate::proofs::RowLemmas::rows_are))]
+fn has_rows(names: &Names, rows: u32) -> bool
+    requires { 1 ≤ rows }
+    ensures { result ≡ true → length names.now ≡ rows }
+{
+    let Some(_last) = names.name(rows - 1) else {
+        return false;
+    };
+    match names.name(rows) {
+        Some(_) => false,
+        None => true,
+    }
+}
+
+/// Returns a port of the node over a port in memory. Its store has the given floor for each of the rows.
+fn port_over<'k>(
+    alloc: Global,
+    comings: &'k [Coming<'k>],
+    key: &'k ClusterKey,
+    names: &'k Names,
+    floors: &[Next],
+) -> Result<FloorPort<'k, ListPort<'k>>, Fail> {
+    let rows = floors.len();
+    if rows < 1 || rows > MAX_TOKENS || !has_rows(names, rows as u32) {
+        return Err(Fail::new("another number of rows"));
+    }
+    let below = ListPort::new(alloc, comings);
+    Ok(FloorPort::new(alloc, below, key, names, NODE, floors)?)
+}
+
+/// Returns the cluster's key.
+fn key() -> Result<ClusterKey, Fail> {
+    ClusterKey::new(&[7; 32]).ok_or_else(|| Fail::new("no key"))
+}
+
+/// Returns the head of a datagram of node 1 for node 2.
+fn head(kind: Kind) -> Head {
+    Head {
+        kind,
+        from: 1,
+        to: 2,
+        boot: 4,
+    }
+}
+
+/// Returns the name at a place of a list.
+fn name_at(list: &[Name], place: usize) -> Result<Name, Fail> {
+    list.get(place).copied().ok_or_else(|| Fail::new("no name"))
+}
+
+/// Returns a datagram of node 1 that tells the floors of the three rows.
+fn floors(alloc: Global, nexts: [u64; 3]) -> Result<Vec<u8>, Fail> {
+    let list = list(alloc)?;
+    let mut floors = [NamedFloor::default(); 3];
+    for place in 0..3 {
+        floors[place] = NamedFloor {
+            name: name_at(&list, place)?,
+            next: nexts[place],
+        };
+    }
+    let body = floors_body(&floors);
+    Ok(write_datagram(&key()?, head(Kind::Floors), &body).to_vec(alloc)?)
+}
+
+/// A datagram from member 1.
+fn from_1<'a>(bytes: &'a [u8]) -> Coming<'a> {
+    Coming::Datagram {
+        sender: Sender::Peer(1),
+        bytes,
+    }
+}
+
+/// Returns the length of a received datagram of member 1.
+fn len_of(received: Received) -> Result<usize, Fail>
+    requires { IsWithin received }
+    ensures { IfOk result (λ len. len ≤ 512) }
+{
+    match received {
+        Received::Datagram {
+            sender: Sender::Peer(1),
+            len,
+        } => Ok(len),
+        _ => Err(Fail::new("no datagram of member 1")),
+    }
+}
+
+/// Returns the floor of a datagram of one floor.
+fn told(bytes: &[u8]) -> Result<NamedFloor, Fail> {
+    let key = key()?;
+    let (read, body) = read_datagram(&key, bytes).ok_or_else(|| Fail::new("no datagram"))?;
+    if read != head(Kind::Floor) {
+        return Err(Fail::new("another head"));
+    }
+    let floors = floors_told(Kind::Floor, body).ok_or_else(|| Fail::new("no floor"))?;
+    Ok(floors[0])
+}
+
+/// The news of a datagram of floors are handed in one by one, in order, and once.
+#[test]
+fn news_are_handed_in(rt: HostRuntime) -> Result<(), Fail> {
+    let alloc = rt.alloc();
+    let key = key()?;
+    let names = names(alloc, ROWS)?;
+    let list = list(alloc)?;
+    let floor = Next::new(5).ok_or("a floor")?;
+    let datagram = floors(alloc, [6, 5, 9])?;
+    let comings = [from_1(&datagram), from_1(&datagram)];
+    let mut port = port_over(alloc, &comings, &key, &names, &[floor; 3])?;
+    let mut buffer = [0; 512];
+    let first = NamedFloor {
+        name: name_at(&list, 0)?,
+        next: 6,
+    };
+    let third = NamedFloor {
+        name: name_at(&list, 2)?,
+        next: 9,
+    };
+    let len = len_of(port.receive(&mut buffer))?;
+    assert!(rt; told(&buffer[..len])? == first);
+    let len = len_of(port.poll(&mut buffer).ok_or("a floor is left")?)?;
+    assert!(rt; told(&buffer[..len])? == third);
+    let len = len_of(port.receive(&mut buffer))?;
+    assert!(rt; len == 0);
+    assert!(rt; port.poll(&mut buffer).is_none());
+    Ok(())
+}
+
+/// A Floor is handed in where it is news, and without bytes where it isn't, or has another sender.
+#[test]
+fn single_floors(rt: HostRuntime) -> Result<(), Fail> {
+    let alloc = rt.alloc();
+    let key = key()?;
+    let names = names(alloc, ROWS)?;
+    let list = list(alloc)?;
+    let floor = Next::new(5).ok_or("a floor")?;
+    let mut body = [0; 24];
+    body[..16].copy_from_slice(&name_at(&list, 1)?.bytes());
+    body[23] = 7;
+    let told_7 = write_datagram(&key, head(Kind::Floor), &body).to_vec(alloc)?;
+    body[23] = 5;
+    let told_5 = write_datagram(&key, head(Kind::Floor), &body).to_vec(alloc)?;
+    let comings = [
+        from_1(&told_5),
+        from_1(&told_7),
+        Coming::Datagram {
+            sender: Sender::Peer(3),
+            bytes: &told_7,
+        },
+        from_1(&told_7),
+    ];
+    let mut port = port_over(alloc, &comings, &key, &names, &[floor; 3])?;
+    let mut buffer = [0; 512];
+    assert!(rt; len_of(port.receive(&mut buffer))? == 0);
+    let len = len_of(port.receive(&mut buffer))?;
+    assert!(rt; &buffer[..len] == told_7.as_slice());
+    let without = Received::Datagram {
+        sender: Sender::Peer(3),
+        len: 0,
+    };
+    assert!(rt; port.receive(&mut buffer) == without);
+    assert!(rt; len_of(port.receive(&mut buffer))? == 0);
+    Ok(())
+}
+
+/// At a quiet turn each other member is told the floors, with those that the node bore witness to.
+#[test]
+fn floors_are_told(rt: HostRuntime) -> Result<(), Fail> {
+    let alloc = rt.alloc();
+    let key = key()?;
+    let names = names(alloc, ROWS)?;
+    let list = list(alloc)?;
+    let floor = Next::new(5).ok_or("a floor")?;
+    let mut port = port_over(alloc, &[], &key, &names, &[floor; 3])?;
+    let mut body = [0; 24];
+    body[..16].copy_from_slice(&name_at(&list, 1)?.bytes());
+    body[23] = 8;
+    let own = Head {
+        kind: Kind::Floor,
+        from: 2,
+        to: 3,
+        boot: 5,
+    };
+    assert!(rt; port.send(Sender::Peer(3), &write_datagram(&key, own, &body)));
+    let mut buffer = [0; 512];
+    assert!(rt; port.receive(&mut buffer) == Received::Quiet);
+    let below = port.into_inner();
+    let entries = below.record().ok_or("a record")?;
+    assert!(rt; entries.len() == 4);
+    let PortEntry::Offered { to, bytes } = &entries[3] else {
+        return Err(Fail::new("no offer"));
+    };
+    assert!(rt; *to == Sender::Peer(3));
+    let (read, body) = read_datagram(&key, bytes).ok_or_else(|| Fail::new("no datagram"))?;
+    assert!(rt;
+        read == Head {
+            kind: Kind::Floors,
+            ..own
+        }
+    );
+    let floors = floors_told(read.kind, body).ok_or_else(|| Fail::new("no floors"))?;
+    let third = NamedFloor {
+        name: name_at(&list, 2)?,
+        next: 5,
+    };
+    assert!(rt;
+        floors.len() == 3 && floors[0].next == 5 && floors[1].next == 8 && floors[2] == third
+    );
+    Ok(())
+}
+
+/// Returns the number of offers of a port after some receives.
+fn offers_after(alloc: Global, comings: &[Coming<'_>]) -> Result<usize, Fail> {
+    let key = key()?;
+    let names = names(alloc, MORE_ROWS)?;
+    let floor = Next::new(5).ok_or("a floor")?;
+    let mut port = port_over(alloc, comings, &key, &names, &[floor; 21])?;
+    let mut buffer = [0; 512];
+    for _ in 0..comings.len() {
+        port.receive(&mut buffer);
+    }
+    let below = port.into_inner();
+    let entries = below.record().ok_or("a record")?;
+    let mut offers = 0usize;
+    for place in 0..entries.len() {
+        if let PortEntry::Offered { .. } = entries[place] {
+            offers = offers.saturating_add(1);
+        }
+    }
+    Ok(offers)
+}
+
+/// In a fast round all 21 floors are told at once: at the start, and after a silent member was heard.
+#[test]
+fn rounds_are_fast_at_the_start(rt: HostRuntime) -> Result<(), Fail> {
+    let alloc = rt.alloc();
+    let quiet = Coming::Quiet;
+    let heard = from_1(b"OV");
+    assert!(rt; offers_after(alloc, &[quiet])? == 4);
+    assert!(rt; offers_after(alloc, &[quiet, quiet])? == 6);
+    assert!(rt; offers_after(alloc, &[quiet, heard, quiet, quiet])? == 10);
+    assert!(rt; offers_after(alloc, &[quiet, heard, quiet, heard, quiet])? == 10);
+    Ok(())
+}

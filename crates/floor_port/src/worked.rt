@@ -1,0 +1,184 @@
+ghost use Rattle.std.specs.Prelude.{◌≡◌, ◌^◌, ◌+◌, [], ◌∷◌, ◌++◌, Some, None, drop, false, map, replicate, slice_set, take, true};
+ghost use Rattle.datagram_port.specs.Port.{Faulted, Offered, Quiet, Received};
+ghost use Rattle.datagram_port.specs.declared.port.Sender.TheVariants.{Client, Peer};
+ghost use Rattle.named_wire.specs.declared.head.Kind.TheVariants.{Ask, Deny, Floor, Floors, Grant};
+ghost use Rattle.vote_wire.specs.Examples.{eight_bytes};
+ghost use Rattle.floor_port.specs.Examples.{ask_upto, body_of_two, book, deny_of_9, floor_of, from_1, head_with, left_of_1, name_with, node_2, node_2_with, one_floor, pace_with, rows_with, two_floors, zeros};
+ghost use Rattle.floor_port.specs.Floors.{IsBodyOf, floors_at, floors_body, is_body, told_in};
+ghost use Rattle.floor_port.specs.Pace.{after_heard, after_quiet, due, new_pace, round_of};
+ghost use Rattle.floor_port.specs.Packer.{after_event, after_next, after_offer, body_offers, floors_datagram, handed_in, next_bytes, told_at, told_by, turn_offers, unpacked};
+ghost use Rattle.floor_port.specs.Promises.{HandsIn, IsOwnFloor, TellsFloors};
+ghost use Rattle.floor_port.specs.Rows.{after_floor, after_floors, after_turn, is_news, new_rows, news, next_floors, turns_of};
+ghost use Rattle.floor_port.specs.Runs.{Came, IsAfter, Left, Offer, at_start, below_events, handed_events, may_call, may_make};
+ghost use Rattle.floor_port.specs.Witness.{witness_of};
+
+/// Worked cases. Bodies of floors, and bytes that are none.
+pub fn bodies_are_worked()
+    ensures written { floors_body (floor_of 0xaa 6 ∷ floor_of 0xcc 9 ∷ []) ≡ body_of_two }
+    ensures read { floors_at body_of_two ≡ Some (floor_of 0xaa 6 ∷ floor_of 0xcc 9 ∷ []) }
+    ensures none { floors_at (0 ∷ []) ≡ None }
+    ensures no_bytes { floors_at [] ≡ None }
+    ensures shorter { floors_at (take 48 body_of_two) ≡ None }
+    ensures longer { floors_at (body_of_two ++ 0 ∷ []) ≡ None }
+    ensures counts { map (λ count. is_body (count ∷ replicate 480 0)) (19 ∷ 20 ∷ 21 ∷ [])
+        ≡ false ∷ true ∷ false ∷ [] }
+    ensures too_many { is_body (21 ∷ replicate 504 0) ≡ false }
+    ensures last { floors_at (1 ∷ name_with 1 ++ 0x40 ∷ replicate 7 0) ≡ Some (floor_of 1 (2 ^ 62) ∷ []) }
+    ensures above { floors_at (1 ∷ name_with 1 ++ 0x40 ∷ replicate 6 0 ++ 1 ∷ []) ≡ None }
+    ensures one_of_two_above { floors_at (2 ∷ name_with 1 ++ eight_bytes 1 ++ name_with 1 ++ 0x80 ∷ replicate 7 0)
+        ≡ None }
+    ensures several { told_in Floors body_of_two ≡ Some (floor_of 0xaa 6 ∷ floor_of 0xcc 9 ∷ []) }
+    ensures one { told_in Floor (name_with 0xaa ++ eight_bytes 6) ≡ Some (floor_of 0xaa 6 ∷ []) }
+    ensures one_longer { told_in Floor (name_with 0xaa ++ eight_bytes 6 ++ 0 ∷ []) ≡ None }
+    ensures votes { map (λ kind. told_in kind body_of_two) (Ask ∷ Grant ∷ Deny ∷ Floor ∷ []) ≡ replicate 4 None }
+{}
+
+/// Worked cases. What datagrams of one token bear witness to.
+pub fn witnesses_are_worked()
+    ensures ask { witness_of (ask_upto (eight_bytes 1)) ≡ Some (floor_of 0xaa 2) }
+    ensures grant { witness_of (slice_set (ask_upto (eight_bytes 1)) 3 2) ≡ Some (floor_of 0xaa 2) }
+    ensures deny { witness_of deny_of_9 ≡ Some (floor_of 0xaa 9) }
+    ensures floor { witness_of one_floor ≡ Some (floor_of 0xaa 6) }
+    ensures last { witness_of (ask_upto (0x3f ∷ replicate 7 0xff)) ≡ Some (floor_of 0xaa (2 ^ 62)) }
+    ensures no_factor { witness_of (ask_upto (0x40 ∷ replicate 7 0)) ≡ None }
+    ensures kinds { map (λ kind. witness_of (slice_set (ask_upto (eight_bytes 1)) 3 kind)) (0 ∷ 3 ∷ 4 ∷ 5 ∷ [])
+        ≡ replicate 4 None }
+    ensures shorter { map witness_of
+        (take 53 one_floor ∷ take 70 deny_of_9 ∷ take 78 (ask_upto (eight_bytes 1)) ∷ [] ∷ [])
+        ≡ replicate 4 None }
+    ensures floors { witness_of two_floors ≡ None }
+{}
+
+/// Worked cases. Floors of rows, what is news, and the rows whose floors are told in turn.
+pub fn rows_are_worked()
+    ensures news { map (is_news book (replicate 3 5))
+        (floor_of 0xbb 4 ∷ floor_of 0xbb 5 ∷ floor_of 0xbb 6 ∷ floor_of 0xdd 9 ∷ [])
+        ≡ false ∷ false ∷ true ∷ false ∷ [] }
+    ensures raised { map (after_floor book (5 ∷ 6 ∷ 7 ∷ [])) (floor_of 0xbb 5 ∷ floor_of 0xbb 9 ∷ floor_of 0xdd 9 ∷ [])
+        ≡ (5 ∷ 6 ∷ 7 ∷ []) ∷ (5 ∷ 9 ∷ 7 ∷ []) ∷ (5 ∷ 6 ∷ 7 ∷ []) ∷ [] }
+    ensures some { news book (replicate 3 5)
+        (floor_of 0xaa 6 ∷ floor_of 0xbb 5 ∷ floor_of 0xdd 9 ∷ floor_of 0xcc 9 ∷ [])
+        ≡ floor_of 0xaa 6 ∷ floor_of 0xcc 9 ∷ [] }
+    ensures known { after_floors book (replicate 3 5)
+        (floor_of 0xaa 6 ∷ floor_of 0xbb 5 ∷ floor_of 0xdd 9 ∷ floor_of 0xcc 9 ∷ [])
+        ≡ 6 ∷ 5 ∷ 9 ∷ [] }
+    ensures same_twice { news book (replicate 3 5) (floor_of 0xaa 6 ∷ floor_of 0xaa 6 ∷ []) ≡ floor_of 0xaa 6 ∷ [] }
+    ensures greater_after { news book (replicate 3 5) (floor_of 0xaa 6 ∷ floor_of 0xaa 7 ∷ [])
+        ≡ floor_of 0xaa 6 ∷ floor_of 0xaa 7 ∷ [] }
+    ensures smaller_after { news book (replicate 3 5) (floor_of 0xaa 7 ∷ floor_of 0xaa 6 ∷ []) ≡ floor_of 0xaa 7 ∷ [] }
+    ensures next { next_floors (rows_with (5 ∷ 6 ∷ 7 ∷ []) (8 ∷ 8 ∷ 8 ∷ []) 0)
+        ≡ floor_of 0xaa 5 ∷ floor_of 0xbb 6 ∷ floor_of 0xcc 7 ∷ [] }
+    ensures next_from { next_floors (rows_with (5 ∷ 6 ∷ 7 ∷ []) (8 ∷ 8 ∷ 8 ∷ []) 1)
+        ≡ floor_of 0xbb 6 ∷ floor_of 0xcc 7 ∷ [] }
+    ensures most { next_floors (new_rows (replicate 21 (name_with 1)) (replicate 20 1 ++ 2 ∷ []))
+        ≡ replicate 20 (floor_of 1 1) }
+    ensures rest { next_floors (after_turn (new_rows (replicate 21 (name_with 1)) (replicate 20 1 ++ 2 ∷ [])))
+        ≡ floor_of 1 2 ∷ [] }
+    ensures turns { map (λ rows. (after_turn (new_rows [] (replicate rows 1))).turn) (0 ∷ 20 ∷ 21 ∷ [])
+        ≡ 0 ∷ 0 ∷ 20 ∷ [] }
+    ensures around { (after_turn (after_turn (new_rows [] (replicate 21 1)))).turn ≡ 0 }
+    ensures all { map (λ rows. turns_of (new_rows [] (replicate rows 1))) (0 ∷ 1 ∷ 20 ∷ 21 ∷ []) ≡ 0 ∷ 1 ∷ 1 ∷ 2 ∷ [] }
+{}
+
+/// Worked cases. Fast rounds, and the datagrams that are due.
+pub fn paces_are_worked()
+    ensures rounds { map round_of (0 ∷ 199 ∷ 200 ∷ 10000 ∷ []) ≡ 1 ∷ 1 ∷ 2 ∷ 51 ∷ [] }
+    ensures start { new_pace 3 ≡ pace_with 0 1 }
+    ensures silent { after_heard (pace_with 0 0) 1 200 ≡ pace_with 25 2 }
+    ensures silent_in_a_round { after_heard (pace_with 0 9) 1 200 ≡ pace_with 25 2 }
+    ensures not_silent { after_heard (pace_with 1 0) 1 200 ≡ pace_with 25 0 }
+    ensures no_member { after_heard (pace_with 1 0) 10 200 ≡ pace_with 1 0 }
+    ensures quiet { after_quiet (pace_with 25 2) ≡ pace_with 24 1 }
+    ensures quiet_for_long { after_quiet (pace_with 0 0) ≡ pace_with 0 0 }
+    ensures due { map (due (pace_with 0 0)) (0 ∷ 1 ∷ 11 ∷ []) ≡ 0 ∷ 1 ∷ 1 ∷ [] }
+    ensures due_in_a_round { map (due (pace_with 0 1)) (0 ∷ 1 ∷ 11 ∷ []) ≡ 0 ∷ 1 ∷ 10 ∷ [] }
+{}
+
+/// Worked cases. The floors of a datagram of node 1, handed in one by one.
+pub fn packers_are_worked()
+    ensures told { told_by node_2 1 two_floors ≡ Some (head_with Floors, floor_of 0xaa 6 ∷ floor_of 0xcc 9 ∷ []) }
+    ensures told_by_another { told_by node_2 3 two_floors ≡ None }
+    ensures told_to_another { told_by (record node_2 { me = 3 }) 1 two_floors ≡ None }
+    ensures another_key { told_by (record node_2 { key = replicate 32 1 }) 1 two_floors ≡ None }
+    ensures first { handed_in node_2 (from_1 two_floors) ≡ from_1 one_floor }
+    ensures left { after_event node_2 (from_1 two_floors) ≡ record node_2 {
+      rows = rows_with (replicate 3 5) (6 ∷ 5 ∷ 9 ∷ []) 0;
+      pace = pace_with 25 1;
+      pending = left_of_1 (floor_of 0xcc 9 ∷ []);
+    } }
+    ensures single { handed_in node_2 (from_1 one_floor) ≡ from_1 one_floor }
+    ensures no_news { handed_in (after_next (after_event node_2 (from_1 two_floors))) (from_1 one_floor) ≡ from_1 [] }
+    ensures no_news_of_two { handed_in (after_next (after_event node_2 (from_1 two_floors))) (from_1 two_floors)
+        ≡ from_1 [] }
+    ensures next { next_bytes (record node_2 { pending = left_of_1 [] }) ≡ [] }
+    ensures after_next { after_next (record node_2 { pending = left_of_1 (floor_of 0xaa 6 ∷ floor_of 0xcc 9 ∷ []) })
+        ≡ record node_2 { pending = left_of_1 (floor_of 0xcc 9 ∷ []) } }
+    ensures untold { unpacked (node_2_with (floor_of 0xcc 9)) None
+        ≡ record node_2 { pending = left_of_1 [] } }
+    ensures votes { map (handed_in node_2) (from_1 deny_of_9 ∷ from_1 [] ∷ []) ≡ from_1 deny_of_9 ∷ from_1 [] ∷ [] }
+    ensures unchanged { map (handed_in node_2)
+        (Received (Client 1) one_floor ∷ Quiet ∷ Faulted ∷ Offered (Peer 1) one_floor ∷ [])
+        ≡ Received (Client 1) one_floor ∷ Quiet ∷ Faulted ∷ Offered (Peer 1) one_floor ∷ [] }
+    ensures heard { after_event node_2 (from_1 deny_of_9) ≡ record node_2 { pace = pace_with 25 1 } }
+    ensures unheard { map (after_event node_2)
+        (from_1 [] ∷ Received (Client 1) one_floor ∷ Faulted ∷ Offered (Peer 1) [] ∷ [])
+        ≡ replicate 4 node_2 }
+    ensures witness { after_offer node_2 (Peer 1) deny_of_9
+        ≡ record node_2 { rows = rows_with (9 ∷ 5 ∷ 5 ∷ []) (9 ∷ 5 ∷ 5 ∷ []) 0 } }
+    ensures no_witness { after_offer node_2 (Peer 1) two_floors ≡ node_2 }
+    ensures answer { after_offer node_2 (Client 1) deny_of_9 ≡ node_2 }
+{}
+
+/// Worked cases. What is offered at a quiet turn.
+pub fn offers_are_worked()
+    ensures members { body_offers node_2 body_of_two 1 3
+        ≡ Offered (Peer 1) (floors_datagram node_2 1 body_of_two)
+        ∷ Offered (Peer 3) (floors_datagram node_2 3 body_of_two) ∷ [] }
+    ensures quiet { told_at node_2 Quiet ≡ body_offers node_2 (floors_body (next_floors node_2.rows)) 1 3 }
+    ensures quiet_turn { after_event node_2 Quiet ≡ record node_2 { pace = pace_with 0 0 } }
+    ensures no_rows { told_at (record node_2 { rows = new_rows [] [] }) Quiet ≡ [] }
+    ensures turns { turn_offers node_2 (new_rows (replicate 21 (name_with 1)) (replicate 21 2)) 2
+        ≡ body_offers node_2 (floors_body (replicate 20 (floor_of 1 2))) 1 3
+        ++ body_offers node_2 (floors_body (floor_of 1 2 ∷ [])) 1 3 }
+    ensures others { map (told_at node_2) (from_1 two_floors ∷ Faulted ∷ Offered (Peer 1) [] ∷ []) ≡ replicate 3 [] }
+{}
+
+/// Worked cases. The events of a node's port and of the port below for some calls.
+pub fn calls_are_worked()
+    ensures handed { handed_events node_2
+        (Came (from_1 two_floors) ∷ Offer (Client 1) [] ∷ Left ∷ Came (from_1 two_floors) ∷ Came Quiet ∷ [])
+        ≡ from_1 one_floor ∷ Offered (Client 1) [] ∷ from_1 (next_bytes (node_2_with (floor_of 0xcc 9)))
+        ∷ from_1 [] ∷ Quiet ∷ [] }
+    ensures below { below_events node_2 (Came Faulted ∷ Left ∷ Offer (Peer 1) [] ∷ Came (from_1 []) ∷ [])
+        ≡ Faulted ∷ Offered (Peer 1) [] ∷ from_1 [] ∷ [] }
+    ensures below_quiet { below_events node_2 (Came Quiet ∷ []) ≡ Quiet ∷ told_at node_2 Quiet }
+    ensures start { at_start (record node_2 { pending = left_of_1 []; pace = pace_with 3 4 }) (replicate 3 5) ≡ node_2 }
+{}
+
+/// Counterexamples: each promise of a port after calls fails for a minimal one.
+pub fn calls_can_be_broken()
+    ensures after { IsAfter (Some (Faulted ∷ from_1 [] ∷ [])) node_2 node_2 (Came Faulted ∷ Came (from_1 []) ∷ []) }
+    ensures no_record { IsAfter None node_2 node_2 (Came Faulted ∷ []) }
+    ensures unrecorded { IsAfter (Some []) node_2 node_2 (Came Faulted ∷ []) → ⊥ }
+    ensures second_unrecorded { IsAfter (Some (Faulted ∷ [])) node_2 node_2 (Came Faulted ∷ Came (from_1 []) ∷ []) → ⊥ }
+    ensures another_packer { IsAfter (Some (Faulted ∷ [])) (record node_2 { me = 3 }) node_2 (Came Faulted ∷ []) → ⊥ }
+    ensures left { may_make (node_2_with (floor_of 0xcc 9)) (Left ∷ Came Quiet ∷ []) ≡ true }
+    ensures nothing_left { may_call node_2 Left ≡ false }
+    ensures second_not_left { may_make (node_2_with (floor_of 0xcc 9)) (Left ∷ Left ∷ []) ≡ false }
+    ensures asked_too_early { may_call (node_2_with (floor_of 0xcc 9)) (Came Quiet) ≡ false }
+    ensures offer_came { may_call node_2 (Came (Offered (Peer 1) [])) ≡ false }
+{}
+
+/// Counterexamples: each promise of what is handed in and of what is told fails for a minimal one.
+pub fn promises_can_be_broken()
+    ensures received { HandsIn zeros 2 (Came Quiet ∷ Came Faulted ∷ []) Faulted }
+    ensures offered { HandsIn zeros 2 (Offer (Peer 1) [] ∷ []) (Offered (Peer 1) []) }
+    ensures emptied { HandsIn zeros 2 (Came (from_1 one_floor) ∷ []) (from_1 []) }
+    ensures not_received { HandsIn zeros 2 [] (from_1 one_floor) → ⊥ }
+    ensures emptied_for_another { HandsIn zeros 2 (Came (from_1 one_floor) ∷ []) (Received (Peer 3) []) → ⊥ }
+    ensures to_itself { TellsFloors zeros book 2 5 (replicate 3 5) [] (Peer 2) [] → ⊥ }
+    ensures to_a_client { TellsFloors zeros book 2 5 (replicate 3 5) [] (Client 1) [] → ⊥ }
+    ensures own { IsOwnFloor book (5 ∷ 6 ∷ 7 ∷ []) [] (floor_of 0xbb 6) }
+    ensures another_row { IsOwnFloor book (5 ∷ 6 ∷ 7 ∷ []) [] (floor_of 0xbb 5) → ⊥ }
+    ensures bodies { IsBodyOf [] (0 ∷ []) → ⊥ }
+{}
