@@ -27,7 +27,7 @@ use Rattle.oathd_roster.specs.declared.cluster.NamedCluster.{NamedCluster}
 use Rattle.oathd_roster.specs.declared.fault.RosterFault.{RosterFault}
 use Rattle.oathd_roster.specs.declared.fault.RosterFault.TheVariants.{Command, SameName, AnotherCluster, Full}
 use Rattle.oathd.specs.Done.{IsServedSo}
-use Rattle.oathd.specs.Named.{ActsFor, AreNamedFloorsTold, AreNamesIn, EndsBy, EndsByNames, EndsSo, IsActDone, IsFormerOf, IsKeyOf, IsMemberByNames, IsNamedOf, IsRemadeByNames, IsServedByNames, IsUntaken, NamedEndsSo, fault_of, names_in}
+use Rattle.oathd.specs.Named.{ActsFor, AreNamedFloorsTold, AreNamesIn, EndsBy, EndsByNames, EndsSo, IsActDone, IsFormerOf, IsKeyOf, IsMemberByNames, IsNamedOf, IsRemadeByNames, IsServedByNames, NamedEndsSo, fault_of, names_in}
 use Rattle.oathd_floors.specs.Levelled.{HasLevelled}
 use Rattle.oathd_floors.specs.Named.{HasNamed}
 use Rattle.oathd_floors.specs.Remade.{HasRemade}
@@ -259,29 +259,6 @@ module _ {S : Type 0} (g : Ghosts S) (finds : sql.Held S → Type 0) where
   ends_by_files IsAsked text (Some names) (Unlock fault) is = absurd is
   ends_by_files IsAsked text (Some names) (Roster fault) is = absurd is
   ends_by_files IsAsked text (Some names) (Seats fault) is = absurd is
-
-  -- names that are not taken
-  ends_by_cluster : (IsAsked : Serving → Type 0) (text : List ℕ) (cluster : ClusterRecord) (names : Option (List ℕ)) (fault : Fault)
-      → cluster.names ≡ names → IsUntaken cluster fault → EndsSo g finds IsAsked text names (Err fault)
-  ends_by_cluster IsAsked text cluster None (Task fault) same is = tt
-  ends_by_cluster IsAsked text cluster None (Names fault) same is = absurd (is.2 same)
-  ends_by_cluster IsAsked text cluster None (Database fault) same is = absurd is
-  ends_by_cluster IsAsked text cluster None (Floors fault) same is = absurd is
-  ends_by_cluster IsAsked text cluster None (Unlock fault) same is = absurd is
-  ends_by_cluster IsAsked text cluster None (Roster fault) same is = absurd is
-  ends_by_cluster IsAsked text cluster None (Seats fault) same is = absurd is
-  ends_by_cluster IsAsked text cluster (Some names) (Task fault) same is = tt
-  ends_by_cluster IsAsked text cluster (Some names) (Names fault) same is = is.0
-  ends_by_cluster IsAsked text cluster (Some names) (Database fault) same is = absurd is
-  ends_by_cluster IsAsked text cluster (Some names) (Floors fault) same is = absurd is
-  ends_by_cluster IsAsked text cluster (Some names) (Unlock fault) same is = absurd is
-  ends_by_cluster IsAsked text cluster (Some names) (Roster fault) same is = absurd is
-  ends_by_cluster IsAsked text cluster (Some names) (Seats fault) same is = absurd is
-
-  pub ends_untaken : (IsAsked : Serving → Type 0) (text : List ℕ) (cluster : ClusterRecord) (fault : Fault) → cluster_of text ≡ Ok cluster
-      → IsUntaken cluster fault → EndsSo g finds IsAsked text (names_in (cluster_of text)) (Err fault)
-  ends_untaken IsAsked text cluster fault said is =
-      ends_by_cluster IsAsked text cluster (names_in (cluster_of text)) fault (sym (ap names_in said)) is
 
   module _ (IsAsked : Serving → Type 0) (text : List ℕ) (cluster : ClusterRecord) (said : cluster_of text ≡ Ok cluster) (serving : Serving)
       (asked : IsAsked serving) (result : Result Unit Fault) where

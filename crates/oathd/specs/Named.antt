@@ -1,5 +1,5 @@
 -- The commands over a store by names: what they do, and the ends of `serve`.
-use Rattle.std.specs.Prelude.{◌≡◌, ◌≢◌, ◌<◌, ℕ, false, true, List, length, Option, Some, None, Result, Ok, Err, min}
+use Rattle.std.specs.Prelude.{◌≡◌, ◌<◌, ℕ, false, List, length, Option, Some, None, Result, Ok, Err, min}
 use Rattle.std.specs.Option.{option_map, unwrap_or}
 use Rattle.sqlite.specs.Store.{Ghosts}
 use Rattle.sqlite.specs.Held as sql
@@ -18,7 +18,6 @@ use Rattle.oathd_database.specs.declared.fault.Fault.TheVariants.{Memory, Cannot
 use Rattle.oathd_database.specs.declared.serving.Serving.{Serving}
 use Rattle.oathd_words.specs.declared.store_words.NamedAct.{NamedAct}
 use Rattle.oathd_words.specs.declared.store_words.NamedAct.TheVariants as acts
-use Rattle.oathd_causes.specs.declared.roster.NamesFault.TheVariants.{NewTokens}
 use Rattle.oathd_floors.specs.Levelled.{HasLevelled}
 use Rattle.oathd_floors.specs.Named.{HasNamed}
 use Rattle.oathd_floors.specs.Remade.{HasRemade}
@@ -50,22 +49,17 @@ abbrev pub names_asked : ClusterWords → List ℕ → Option (List ℕ)
 names_asked (Given settings place members key) text = None
 names_asked (Named node path) text = names_in (cluster_of text)
 
--- The cluster has the names, the life and the number of members of a cluster file.
+-- The cluster has the names, the life and the number of members of a cluster file, and enrols new tokens as it says.
 pub record IsNamedIn (cluster : ClusterRecord) (named : NamedCluster) : Type 0 where
   pub of_names : cluster.names ≡ Some named.salt
   pub of_bond : named.bond
       ≡ record { names = named.salt; life = cluster.life; members = length cluster.members }
+  pub of_fresh : named.is_fresh ≡ cluster.fresh
 
 -- the cluster of a cluster file, if it gives names
 abbrev pub AreNamesIn : ClusterRecord → Option NamedCluster → Type 0
 AreNamesIn cluster None = cluster.names ≡ None
 AreNamesIn cluster (Some named) = IsNamedIn cluster named
-
--- the fault is one of a task, or the cluster file gives names and a line that no command takes
-abbrev pub IsUntaken : ClusterRecord → Fault → Type 0
-IsUntaken cluster (Task fault) = Unit {0}
-IsUntaken cluster (Names fault) = (fault ≡ NewTokens) × (cluster.fresh ≡ true) × (cluster.names ≢ None)
-IsUntaken cluster fault = ⊥
 
 -- the own key of the cluster that the text of a cluster file describes
 pub record IsKeyOf (text key : List ℕ) : Type 0 where
@@ -211,8 +205,8 @@ module _ {S : Type 0} (g : Ghosts S) (finds : sql.Held S → Type 0) where
       pub users : List ℕ
       pub ends : EndsServingNamed g finds named moment serving fault users
 
-    -- The end of a command that serves by names. A fault of a task is one of the files that give the parameters, one of
-    -- names is a line that no command takes, and the clock may fail before anything else.
+    -- The end of a command that serves by names. A fault of a task is one of the files that give the parameters, and the
+    -- clock may fail before anything else.
     abbrev pub NamedEndsSo : Result Unit Fault → Type 0
     NamedEndsSo (Ok done) = IsServedByNames
     NamedEndsSo (Err (Task fault)) = Unit {0}
@@ -226,7 +220,7 @@ module _ {S : Type 0} (g : Ghosts S) (finds : sql.Held S → Type 0) where
     NamedEndsSo (Err (Floors fault)) = ⊥
     NamedEndsSo (Err (Unlock fault)) = ⊥
     NamedEndsSo (Err (Seats fault)) = ⊥
-    NamedEndsSo (Err (Names fault)) = fault ≡ NewTokens
+    NamedEndsSo (Err (Names fault)) = ⊥
 
   -- the end of a command that serves, by names if there are names
   abbrev pub EndsSo : (Serving → Type 0) → List ℕ → Option (List ℕ) → Result Unit Fault → Type 0

@@ -8,7 +8,8 @@ ghost use Rattle.floor_sql.specs.Usable.{IsNode};
 ghost use Rattle.oathd_database.specs.File.{FindsFiles};
 ghost use Rattle.oathd_words.specs.declared.store_words.NamedAct.TheVariants as acts;
 ghost use Rattle.otp_core.specs.Range.{IsMoment};
-ghost use Rattle.oathd.specs.Named.{ActsFor, AreNamedFloorsTold, AreNamesIn, IsActDone, IsKeyOf, IsMemberByNames, IsRemadeByNames, IsUntaken, NamedEndsSo};
+ghost use Rattle.oathd.specs.Named.{ActsFor, AreNamedFloorsTold, AreNamesIn, IsActDone, IsKeyOf, IsMemberByNames, IsRemadeByNames, NamedEndsSo};
+ghost use Rattle.oathd.specs.Serve.{IsOfTask};
 
 use crate::databases::{Site, present_moment};
 use crate::fault::Fault;
@@ -41,16 +42,17 @@ pub(crate) fn named_cluster<'a>(
 ) -> Result<Option<NamedCluster>, Fault<'a>>
     requires { members ≡ length cluster.now.members.items }
     ensures names { IfOk result (AreNamesIn (cluster_value cluster.now)) }
-    ensures fault { IfErr result (IsUntaken (cluster_value cluster.now)) }
+    ensures fault { IfErr result IsOfTask }
 {
     let Some(word) = cluster.names else {
         return Ok(None);
     };
-    if cluster.fresh {
-        return Err(Fault::Names(NamesFault::NewTokens));
-    }
     match (Salt::new(word), Bond::new(word, cluster.life, members)) {
-        (Some(salt), Some(bond)) => Ok(Some(NamedCluster { salt, bond })),
+        (Some(salt), Some(bond)) => Ok(Some(NamedCluster {
+            salt,
+            bond,
+            is_fresh: cluster.fresh,
+        })),
         // A cluster file with such a word isn't read.
         _ => {
             let (line, kind) = (0, LineFault::BadNames);

@@ -3,7 +3,7 @@
 use crate::databases::Site;
 use crate::fault::{Fault, ToldFault};
 use oathd_causes::{
-    Cause, Names, database_cause, names_cause, roster_cause, seats_cause, task_cause,
+    Cause, Names, database_cause, names_cause, no_user_cause, roster_cause, seats_cause, task_cause,
 };
 use oathd_database::UnlockFault;
 use oathd_tasks::{PROGRAM, TaskFault, perform};
@@ -29,7 +29,7 @@ fn cause_of<'a>(
             database_cause(alloc, rt, names, text, fault)
         }
         Fault::Floors(fault) => Some(Cause::Floors(fault.advice())),
-        Fault::Unlock(UnlockFault::NoUser(_)) => None,
+        Fault::Unlock(UnlockFault::NoUser(_)) => Some(no_user_cause(names)),
         Fault::Roster(fault) => Some(roster_cause(rt, names, fault)),
         Fault::Seats(fault) => seats_cause(names, fault),
         Fault::Names(fault) => names_cause(names, fault),

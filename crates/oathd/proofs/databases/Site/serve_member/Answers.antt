@@ -4,7 +4,7 @@ use Rattle.oathd.specs.Named.{EndsSo, names_in}
 use Rattle.oathd.specs.Serve.{IsMemberOf, IsRunOf}
 use Rattle.oathd.specs.declared.fault.Fault.TheVariants.{Task}
 use Rattle.oathd.proofs.FaultLemmas.{failed_so}
-use Rattle.oathd.proofs.NamedLemmas.{ends_by_files, ends_by_names, ends_untaken}
+use Rattle.oathd.proofs.NamedLemmas.{ends_by_files, ends_by_names}
 use Rattle.oathd.proofs.WordsLemmas.{member_asked}
 use Rattle.oathd.proofs.databases.Site.serve_member.Goals as goal
 
@@ -41,4 +41,4 @@ pub returns-in_err-named : goal.returns-in_err-named
 returns-in_err-named g c =
     let fault = c.in_err-named.field-0.0 in
     failed_so c.from_residual-in_err-named.result fault (EndsSo _ _ (λ (serving : Serving). IsMemberOf c.args.node c.args.self.now.cluster.now serving × IsRunOf c.args.turns c.args.is_logged c.args.clients serving) c.args.self.now.cluster.now (names_in (cluster_of c.args.self.now.cluster.now)))
-    c.from_residual-in_err-named.ensures.1 (ends_untaken _ _ (λ (serving : Serving). IsMemberOf c.args.node c.args.self.now.cluster.now serving × IsRunOf c.args.turns c.args.is_logged c.args.clients serving) c.args.self.now.cluster.now (cluster_value c.in_ok-cluster.cluster) fault c.in_ok-cluster.ensures.cluster c.in_err-named.ensures.fault)
+    c.from_residual-in_err-named.ensures.1 (ends_by_files _ _ (λ (serving : Serving). IsMemberOf c.args.node c.args.self.now.cluster.now serving × IsRunOf c.args.turns c.args.is_logged c.args.clients serving) c.args.self.now.cluster.now (names_in (cluster_of c.args.self.now.cluster.now)) fault c.in_err-named.ensures.fault)
