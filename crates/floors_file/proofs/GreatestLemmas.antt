@@ -1,13 +1,14 @@
 -- Gathered rows are the greatest.
-use Rattle.std.proofs.Common.{◌≡◌, ℕ, ◌+◌, ◌≤◌, Bool, true, false, cond, List, [], ◌∷◌, ◌++◌, Option, Some, None, refl, sym, ap, subst, ◌∙◌, arith, append_assoc, true≢false}
+use Rattle.std.proofs.Common.{◌≡◌, ℕ, ◌+◌, ◌≤◌, Bool, true, false, cond, List, [], ◌∷◌, ◌++◌, Option, Some, None, refl, sym, ap, subst, ◌∙◌, arith, append_assoc, append-nil, true≢false}
 use Rattle.std.specs.Prelude.{◌&&◌, ◌||◌, ◌==◌, nat_le, is_some, IsSomeAnd}
-use Rattle.std.specs.List.{AllByRecursion}
+use Rattle.std.specs.List.{AllByRecursion, list_any}
+use Rattle.std.specs.Option.{option_or}
 use Rattle.std.specs.Str.{bytes_eq}
 use Rattle.std.proofs.lemmas.Slice.Eq.{bytes_eq-Decides}
 use Rattle.floors_file.specs.declared.named.NamedFloor.{NamedFloor}
 use Rattle.floors_file.specs.Gathered.{greater}
 use Rattle.floors_file.specs.Named.{NamedFloorsRecord}
-use Rattle.floors_file.specs.NamedGathered.{AreDifferent, AreGreatest, floor_of_name, gathered_rows, is_row_of, rows_of, with_files, with_rows}
+use Rattle.floors_file.specs.NamedGathered.{AreDifferent, AreGreatest, floor_of_name, gathered_rows, is_row_of, rows_of, seed_of_name, with_files, with_rows}
 use Rattle.floors_file.specs.NamedRows.{has_name, place_from, place_of_name, raised, with_row}
 use Rattle.floors_file.proofs.RoundLemmas.{and_both}
 
@@ -57,24 +58,26 @@ all_added : (rows more : List NamedFloor) → AllByRecursion (λ row. HasAtLeast
 all_added rows [] = tt
 all_added rows (row ∷ more) = (kept_rows row.name row.next (with_row rows row) more (added rows row), all_added (with_row rows row) more)
 
--- what holds of the rows before and of those that are added holds of all
-module _ (P : NamedFloor → Type 0) where
-  one_of_both : (x row : NamedFloor) (test : Bool) → x.name ≡ row.name → P x → P row
-      → P (record { name = x.name; next = cond test row.next x.next })
-  one_of_both x row true is p q = subst (λ (name : List ℕ). P (record { name = name; next = row.next })) (sym is) q
+-- what holds of the names and floors of the rows before, and of the rows that are added, holds of all
+module _ (P : List ℕ → ℕ → Type 0) where
+  abbrev AllHold : List NamedFloor → Type 0
+  AllHold rows = AllByRecursion (λ row. P row.name row.next) rows
+
+  one_of_both : (x row : NamedFloor) (test : Bool) → x.name ≡ row.name → P x.name x.next → P row.name row.next → P x.name (cond test row.next x.next)
+  one_of_both x row true is p q = subst (λ (name : List ℕ). P name row.next) (sym is) q
   one_of_both x row false is p q = p
 
-  one_holds : (x row : NamedFloor) (rows more : List NamedFloor) (same : Bool) → bytes_eq x.name row.name ≡ same → P x → P row → AllByRecursion P rows
-      → AllByRecursion P more → AllByRecursion P (cond same (raised x row.next ∷ rows) (x ∷ more))
+  one_holds : (x row : NamedFloor) (rows more : List NamedFloor) (same : Bool) → bytes_eq x.name row.name ≡ same → P x.name x.next → P row.name row.next
+      → AllHold rows → AllHold more → AllHold (cond same (raised x row.next ∷ rows) (x ∷ more))
   one_holds x row rows more true is p q rest all = (one_of_both x row (nat_le x.next row.next) ((bytes_eq-Decides x.name row.name).0 is) p q, rest)
   one_holds x row rows more false is p q rest all = (p, all)
 
-  row_holds : (rows : List NamedFloor) (row : NamedFloor) → AllByRecursion P rows → P row → AllByRecursion P (with_row rows row)
+  row_holds : (rows : List NamedFloor) (row : NamedFloor) → AllHold rows → P row.name row.next → AllHold (with_row rows row)
   row_holds [] row all q = (q, tt)
   row_holds (x ∷ rows) row all q =
       one_holds x row rows (with_row rows row) (bytes_eq x.name row.name) refl all.0 q all.1 (row_holds rows row all.1 q)
 
-  rows_hold : (rows more : List NamedFloor) → AllByRecursion P rows → AllByRecursion P more → AllByRecursion P (with_rows rows more)
+  rows_hold : (rows more : List NamedFloor) → AllHold rows → AllHold more → AllHold (with_rows rows more)
   rows_hold rows [] all new = all
   rows_hold rows (row ∷ more) all new = rows_hold (with_row rows row) more (row_holds rows row all new.0) new.1
 
@@ -92,6 +95,53 @@ all_own : (all before rows : List NamedFloor) → before ++ rows ≡ all → All
 all_own all before [] is = tt
 all_own all before (row ∷ rows) is =
     (ap (λ (l : List NamedFloor). is_row_of l row) (sym is) ∙ any_here row before rows, all_own all (before ++ row ∷ []) rows (append_assoc before (row ∷ []) rows ∙ is))
+
+-- ---- seeds
+
+-- a row with another name at the end
+seed_before : (name : List ℕ) (rows : List NamedFloor) (row : NamedFloor) → bytes_eq row.name name ≡ false
+    → seed_of_name name rows ≡ seed_of_name name (rows ++ row ∷ [])
+seed_before name [] row other = rw other refl
+seed_before name (x ∷ rows) row other = ap (cond (bytes_eq x.name name) (Some x.seed)) (seed_before name rows row other)
+
+other_name : (x row : NamedFloor) (name : List ℕ) (test : Bool) → bytes_eq row.name name ≡ test → bytes_eq x.name row.name ≡ true
+    → bytes_eq x.name name ≡ false → test ≡ false
+other_name x row name false is same other = refl
+other_name x row name true is same other =
+    absurd (true≢false (sym ((bytes_eq-Decides x.name name).1 ((bytes_eq-Decides x.name row.name).0 same ∙ (bytes_eq-Decides row.name name).0 is)) ∙ other))
+
+seed_here : (name : List ℕ) (x row : NamedFloor) (rows more : List NamedFloor) (same here : Bool) → bytes_eq x.name row.name ≡ same
+    → bytes_eq x.name name ≡ here → seed_of_name name more ≡ seed_of_name name (rows ++ row ∷ [])
+    → seed_of_name name (cond same (raised x row.next ∷ rows) (x ∷ more)) ≡ seed_of_name name (x ∷ rows ++ row ∷ [])
+seed_here name x row rows more true true same here rest = rw here refl
+seed_here name x row rows more true false same here rest =
+    rw here (seed_before name rows row (other_name x row name (bytes_eq row.name name) refl same here))
+seed_here name x row rows more false here same is rest = ap (cond (bytes_eq x.name name) (Some x.seed)) rest
+
+-- a row that is added is the last
+seed_added : (name : List ℕ) (rows : List NamedFloor) (row : NamedFloor) → seed_of_name name (with_row rows row) ≡ seed_of_name name (rows ++ row ∷ [])
+seed_added name [] row = refl
+seed_added name (x ∷ rows) row =
+    seed_here name x row rows (with_row rows row) (bytes_eq x.name row.name) (bytes_eq x.name name) refl refl (seed_added name rows row)
+
+seed_first : (seed : List ℕ) (whole rest other : Option (List ℕ)) (here : Bool) → whole ≡ option_or rest other
+    → cond here (Some seed) whole ≡ option_or (cond here (Some seed) rest) other
+seed_first seed whole rest other true is = refl
+seed_first seed whole rest other false is = is
+
+seed_append : (name : List ℕ) (rows more : List NamedFloor) → seed_of_name name (rows ++ more) ≡ option_or (seed_of_name name rows) (seed_of_name name more)
+seed_append name [] more = refl
+seed_append name (x ∷ rows) more =
+    seed_first x.seed (seed_of_name name (rows ++ more)) (seed_of_name name rows) (seed_of_name name more) (bytes_eq x.name name) (seed_append name rows more)
+
+all_seeds : (name : List ℕ) (rows more : List NamedFloor) → seed_of_name name (with_rows rows more) ≡ seed_of_name name (rows ++ more)
+all_seeds name rows [] = ap (seed_of_name name) (sym (append-nil rows))
+all_seeds name rows (row ∷ more) =
+    all_seeds name (with_row rows row) more
+    ∙ seed_append name (with_row rows row) more
+    ∙ ap (λ (o : Option (List ℕ)). option_or o (seed_of_name name more)) (seed_added name rows row)
+    ∙ sym (seed_append name (rows ++ row ∷ []) more)
+    ∙ ap (seed_of_name name) (append_assoc rows (row ∷ []) more)
 
 -- ---- names that differ
 
@@ -152,6 +202,7 @@ greatest_gathered files =
     subst (AreGreatest rows) (sym (files_are_rows [] files))
     (record {
       each = all_added [] rows;
-      own = rows_hold (λ row. is_row_of rows row ≡ true) [] rows tt (all_own rows [] rows refl);
+      own = rows_hold (λ name next. list_any (λ other. bytes_eq other.name name && other.next == next) rows ≡ true) [] rows tt (all_own rows [] rows refl);
+      seeds = λ name. all_seeds name [] rows;
       different = rows_different [] rows tt;
     })

@@ -34,16 +34,17 @@ head_short line word of_life is =
     let life = word_short line.head.life of_life in
     simp length-append (omega (arith, node, members, boot, moment, rows, names, life))
 
-row_short : (before : List NamedFloor) (row : NamedFloor) → IsNamedRow before row → length (named_row_text row) ≤ 53
+row_short : (before : List NamedFloor) (row : NamedFloor) → IsNamedRow before row → length (named_row_text row) ≤ 86
 unfolding named_row_text
 row_short before row is =
     let wide : 2 ^ 62 < 10 ^ 19 = lit< tt in
     let fits = is.next in
     let digits = few_digits 19 row.next (omega arith) (omega arith) (omega (arith, fits, wide)) (omega (arith, fits)) in
     let name : length (encode_lower row.name) ≡ 32 = (let len = is.len in omega (arith, length-encode_with lower_digits row.name, len)) in
-    simp length-append (omega (arith, name, digits))
+    let seed : length (encode_lower row.seed) ≡ 32 = (let len = is.seed_len in omega (arith, length-encode_with lower_digits row.seed, len)) in
+    simp length-append (omega (arith, name, seed, digits))
 
-rows_short : (before rows : List NamedFloor) → AreNamedRows before rows → length (flat_map named_row_text rows) ≤ 53 * length rows
+rows_short : (before rows : List NamedFloor) → AreNamedRows before rows → length (flat_map named_row_text rows) ≤ 86 * length rows
 rows_short before [] are = omega arith
 rows_short before (row ∷ rows) are =
     let first = row_short before row are.0 in
@@ -88,7 +89,7 @@ heard_few head before (one ∷ heard) low nine many high is are =
     ltb-true one.member k (and_parts (nat_lt one.member k) true both.1).0) are.2 in
     omega (arith, rest, length-append before (one ∷ []))
 
-pub named_floors_short : (key : List ℕ) (floors : NamedFloorsRecord) → AreNamedFloors floors → length (named_floors_text key floors) ≤ 530504
+pub named_floors_short : (key : List ℕ) (floors : NamedFloorsRecord) → AreNamedFloors floors → length (named_floors_text key floors) ≤ 860504
 named_floors_short key floors are =
     let line : NamedLineRecord = record { head = floors.head; rows = length floors.rows } in
     let is = named_ranges_of line are.head in

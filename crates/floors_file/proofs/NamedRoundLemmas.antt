@@ -17,7 +17,7 @@ use Rattle.floors_file.specs.NamedReading.{NamedLineRecord, heard_from, heard_of
 use Rattle.floors_file.specs.NamedWriting.{AreHeard, AreNamedFloors, AreNamedRows, IsNamedRow, body_text, heard_text, named_floors_text, named_row_text}
 use Rattle.floors_file.specs.Reading.{at_line}
 use Rattle.floors_file.proofs.NamedReadingLemmas.{heard_then, named_read, named_row_then}
-use Rattle.floors_file.proofs.NamedSpellingLemmas.{body_back, boot_line_is, head_line_is, heard_fields, name_back, name_visible, named_fields, named_ranges_of, plain_line, row_fields, row_line_is}
+use Rattle.floors_file.proofs.NamedSpellingLemmas.{body_back, boot_line_is, bytes_back, bytes_visible, head_line_is, heard_fields, named_fields, named_ranges_of, plain_line, row_fields, row_line_is}
 use Rattle.floors_file.proofs.RoundLemmas.{IsVisible, Ranges, decimal_visible, fields_joined, le_from_test, line_joined, lt_false, lt_from_test, number_back, word_visible}
 
 -- ---- the first line
@@ -75,17 +75,25 @@ head_back line word ranged life =
 -- ---- the rows
 
 row_visible : (before : List NamedFloor) (row : NamedFloor) → IsNamedRow before row → AllByRecursion IsVisible (row_fields row)
-row_visible before row is = (name_visible row.name, (decimal_visible row.next (let fits = is.next in omega (arith, fits)), tt))
+row_visible before row is =
+    (bytes_visible row.name, (bytes_visible row.seed, (decimal_visible row.next (let fits = is.next in omega (arith, fits)), tt)))
 
 row_back : (before : List NamedFloor) (row : NamedFloor) → IsNamedRow before row → named_row_of before (row_fields row) ≡ Ok row
 row_back before row is =
     let fits = is.next in
-    rw (name_back row.name is.len is.bytes, number_back row.next (omega (arith, fits)), lt_false (2 ^ 62) row.next fits, is.new) refl
+    rw (
+      bytes_back row.name is.len is.bytes,
+      bytes_back row.seed is.seed_len is.seed_bytes,
+      number_back row.next (omega (arith, fits)),
+      lt_false (2 ^ 62) row.next fits,
+      is.new,
+    ) refl
 
 row_line_back : (before : List NamedFloor) (row : NamedFloor) → IsNamedRow before row
     → named_row_of before (fields_of (join_with_byte 32 (row_fields row))) ≡ Ok row
 row_line_back before row is =
-    ap (named_row_of before) (fields_joined (encode_lower row.name) (decimal row.next ∷ []) (row_visible before row is)) ∙ row_back before row is
+    ap (named_row_of before) (fields_joined (encode_lower row.name) (encode_lower row.seed ∷ decimal row.next ∷ []) (row_visible before row is))
+    ∙ row_back before row is
 
 rows_back : (number : ℕ) (before rows : List NamedFloor) (rest : List ℕ) → AreNamedRows before rows
     → named_rows_from number (length rows) before (lines_of (flat_map named_row_text rows ++ rest)) ≡ Ok (before ++ rows, lines_of rest)
@@ -95,7 +103,7 @@ rows_back number before (row ∷ rows) rest are =
     let line = join_with_byte 32 (row_fields row) in
     let lines : lines_of (flat_map named_row_text (row ∷ rows) ++ rest) ≡ line ∷ lines_of more =
     ap lines_of (append_assoc (named_row_text row) (flat_map named_row_text rows) rest ∙ row_line_is row more)
-    ∙ line_joined (encode_lower row.name) (decimal row.next ∷ []) more (row_visible before row are.0) in
+    ∙ line_joined (encode_lower row.name) (encode_lower row.seed ∷ decimal row.next ∷ []) more (row_visible before row are.0) in
     ap (named_rows_from number (suc (length rows)) before) lines
     ∙ named_row_then number (length rows) before line (lines_of more) _ (length-slice_split is_line_end more)
     ∙ ap (λ o. at_line number o >>= λ row. named_rows_from (number + 1) (length rows) (before ++ row ∷ []) (lines_of more)) (row_line_back before row are.0)

@@ -94,9 +94,9 @@ raised_is (other ∷ rows) (suc place) next row low is = ap (λ (l : List NamedF
 
 -- the row at a place is replaced by one with the greater floor
 pub raised_so : (rows : List NamedFloor) (place next new : ℕ) (row : NamedFloor) → place < length rows → row ≡ get_or rows place row
-    → new ≡ greater row.next next → set rows place (record { name = row.name; next = new }) ≡ raised_at place next rows
+    → new ≡ greater row.next next → set rows place (record row { next = new }) ≡ raised_at place next rows
 raised_so rows place next new row low is more =
-    ap (λ (n : ℕ). set rows place (record { name = row.name; next = n })) more ∙ raised_is rows place next row low is
+    ap (λ (n : ℕ). set rows place (record row { next = n })) more ∙ raised_is rows place next row low is
 
 -- ---- a row that is merged
 

@@ -25,7 +25,7 @@ use Rattle.floors_file.specs.declared.named.NamedFloor.{NamedFloor}
 use Rattle.floors_file.specs.declared.reading.HeadLine.{HeadLine}
 use Rattle.floors_file.specs.Fields.{◌>>=◌, fields_of, has_leading_zero, is_digits, last_field, last_number, next_field, number_field, or_most, plain_number, with_fields, with_none}
 use Rattle.floors_file.specs.Named.{NamedFloorsRecord, NamedHeadRecord, plain_head}
-use Rattle.floors_file.specs.NamedReading.{NamedLineRecord, ended_named, first_named, heard_end, heard_from, heard_numbers, heard_of, if_lower, is_heard_next, is_heard_ranged, is_named_head, is_names_word, name_of_field, named_after, named_floors_of, named_head_of, named_numbers, named_of_lines, named_of_version, named_ranged, named_row_of, named_rows_from, new_heard, new_named_row, row_of_name}
+use Rattle.floors_file.specs.NamedReading.{NamedLineRecord, bytes_before, bytes_field, bytes_of_field, ended_named, first_named, heard_end, heard_from, heard_numbers, heard_of, if_lower, is_heard_next, is_heard_ranged, is_named_head, is_names_word, named_after, named_floors_of, named_head_of, named_numbers, named_of_lines, named_of_version, named_ranged, named_row_of, named_rows_from, new_heard, new_named_row}
 use Rattle.floors_file.specs.NamedRows.{has_name}
 use Rattle.floors_file.specs.NamedWriting.{body_text, heard_text, named_floors_text, named_head_text, named_row_text}
 use Rattle.floors_file.specs.Reading.{at_line}
@@ -262,7 +262,7 @@ head_spelled fields line e =
 pub rows_few : (fields : List (List ℕ)) (line : NamedLineRecord) → named_head_of fields ≡ Ok line → line.rows ≤ 10000
 rows_few fields line e = (named_ranges_of line (head_spelled fields line e).ranged).tokens
 
--- ---- names
+-- ---- names and seeds
 
 lower_is : (field : List ℕ) (bytes : Result (List ℕ) FromHexError) (name : List ℕ) → if_lower field bytes ≡ Some name → encode_lower name ≡ field
 lower_is field (Err fault) name e = absurd cc
@@ -271,14 +271,29 @@ lower_is field (Ok bytes) name e = lower_test (bytes_eq (encode_lower bytes) fie
   lower_test true is e = ap encode_lower (sym (some_is bytes name e)) ∙ (bytes_eq-Decides (encode_lower bytes) field).0 is
   lower_test false is e = absurd cc
 
--- a name is spelled in one way
-pub name_is : (field name : List ℕ) → name_of_field field ≡ Some name → field ≡ encode_lower name
-name_is field name e = sym (lower_is field (decode_sized field 16) name e)
+-- 16 bytes are spelled in one way
+digits_are : (field bytes : List ℕ) → bytes_of_field field ≡ Some bytes → field ≡ encode_lower bytes
+digits_are field bytes e = sym (lower_is field (decode_sized field 16) bytes e)
 
-pub name_back : (name : List ℕ) → length name ≡ 16 → IsBytes name → name_of_field (encode_lower name) ≡ Some name
-name_back name len bytes =
-    ap (if_lower (encode_lower name)) (decode_sized-encode_lower name 16 len bytes)
-    ∙ ap (λ b. cond b (Some name) None) ((bytes_eq-Decides (encode_lower name) (encode_lower name)).1 refl)
+before_is : (bytes : Option (List ℕ)) (fields : List (List ℕ)) (x : List ℕ × List (List ℕ)) → bytes_before bytes fields ≡ Ok x → (bytes ≡ Some x.0) × (fields ≡ x.1)
+before_is None fields x e = absurd cc
+before_is (Some bytes) fields x e =
+    let is : (bytes, fields) ≡ x = ok_is (bytes, fields) x e in
+    (ap (λ (y : List ℕ × List (List ℕ)). present y.0) is, ap (λ (y : List ℕ × List (List ℕ)). y.1) is)
+
+-- a field of 16 bytes, before others
+bytes_are : (fields : List (List ℕ)) (x : List ℕ × List (List ℕ)) → bytes_field fields ≡ Ok x → fields ≡ encode_lower x.0 ∷ x.1
+bytes_are fields x e =
+    let b = bound (next_field fields) (λ field. bytes_before (bytes_of_field field.0) field.1) x e in
+    let w = before_is (bytes_of_field b.x.0) b.x.1 x b.then in
+    next_is fields b.x b.first
+    ∙ ap (λ (l : List (List ℕ)). b.x.0 ∷ l) w.1
+    ∙ ap (λ (l : List ℕ). l ∷ x.1) (digits_are b.x.0 x.0 w.0)
+
+pub bytes_back : (bytes : List ℕ) → length bytes ≡ 16 → IsBytes bytes → bytes_of_field (encode_lower bytes) ≡ Some bytes
+bytes_back bytes len are =
+    ap (if_lower (encode_lower bytes)) (decode_sized-encode_lower bytes 16 len are)
+    ∙ ap (λ b. cond b (Some bytes) None) ((bytes_eq-Decides (encode_lower bytes) (encode_lower bytes)).1 refl)
 
 visible_at : (t : List ℕ) (d : ℕ) → IsVisible t → is_visible (slice_index t d) ≡ true
 visible_at [] d h = refl
@@ -292,34 +307,39 @@ digits_visible t (b ∷ rest) h =
     and_both (is_visible (slice_index t (b / 16))) (is_visible (slice_index t (b % 16)) && list_all is_visible (encode_with t rest)) (visible_at t (b / 16) h)
     (and_both (is_visible (slice_index t (b % 16))) (list_all is_visible (encode_with t rest)) (visible_at t (b % 16) h) (digits_visible t rest h))
 
-pub name_visible : (name : List ℕ) → IsVisible (encode_lower name)
-name_visible name = digits_visible lower_digits name refl
+pub bytes_visible : (bytes : List ℕ) → IsVisible (encode_lower bytes)
+bytes_visible bytes = digits_visible lower_digits bytes refl
 
 -- ---- the line of a row
 
 abbrev pub row_fields : NamedFloor → List (List ℕ)
-row_fields row = encode_lower row.name ∷ decimal row.next ∷ []
+row_fields row = encode_lower row.name ∷ encode_lower row.seed ∷ decimal row.next ∷ []
+
+abbrev then_seed : List NamedFloor → List ℕ → List ℕ × List (List ℕ) → Result NamedFloor LineFault
+then_seed rows name seed = last_number seed.1 >>= new_named_row rows name seed.0
 
 abbrev then_name : List NamedFloor → List ℕ × List (List ℕ) → Result NamedFloor LineFault
-then_name rows field = row_of_name rows (name_of_field field.0) field.1
+then_name rows name = bytes_field name.1 >>= then_seed rows name.0
 
-row_named : (rows : List NamedFloor) (field : List ℕ) (name : Option (List ℕ)) (fields : List (List ℕ)) (row : NamedFloor) → name_of_field field ≡ name
-    → row_of_name rows name fields ≡ Ok row → field ∷ fields ≡ row_fields row
-row_named rows field None fields row is e = absurd cc
-row_named rows field (Some name) fields row is e =
-    let next = bound (last_number fields) (new_named_row rows name) row e in
-    let fits = test_not (nat_lt (2 ^ 62) next.x) (cond (has_name name rows) (Err Twice) (Ok (record { name = name; next = next.x }))) Range row next.then in
-    let new = test_not (has_name name rows) (Ok (record { name = name; next = next.x })) Twice row fits.1 in
-    let same = ok_is (record { name = name; next = next.x }) row new.1 in
-    let fit : next.x ≤ 2 ^ 62 = not_above (2 ^ 62) next.x fits.0 in
-    ap (λ (l : List ℕ). l ∷ fields) (name_is field name is)
-    ∙ ap (λ (l : List (List ℕ)). encode_lower name ∷ l) (spelled fields next.x [] (last_is fields next.x next.first) (omega (arith, fit)))
-    ∙ ap row_fields same
+row_is : (rows : List NamedFloor) (row other : NamedFloor) → new_named_row rows row.name row.seed row.next ≡ Ok other → (row.next ≤ 2 ^ 62) × (row ≡ other)
+row_is rows row other e =
+    let fits = test_not (nat_lt (2 ^ 62) row.next) (cond (has_name row.name rows) (Err Twice) (Ok row)) Range other e in
+    let new = test_not (has_name row.name rows) (Ok row) Twice other fits.1 in
+    (not_above (2 ^ 62) row.next fits.0, ok_is row other new.1)
 
 pub row_spelled : (rows : List NamedFloor) (fields : List (List ℕ)) (row : NamedFloor) → named_row_of rows fields ≡ Ok row → fields ≡ row_fields row
 row_spelled rows fields row e =
-    let field = bound (next_field fields) (then_name rows) row e in
-    next_is fields field.x field.first ∙ row_named rows field.x.0 (name_of_field field.x.0) field.x.1 row refl field.then
+    let name = bound (bytes_field fields) (then_name rows) row e in
+    let seed = bound (bytes_field name.x.1) (then_seed rows name.x.0) row name.then in
+    let next = bound (last_number seed.x.1) (new_named_row rows name.x.0 seed.x.0) row seed.then in
+    let read : NamedFloor = record { name = name.x.0; seed = seed.x.0; next = next.x } in
+    let is = row_is rows read row next.then in
+    bytes_are fields name.x name.first
+    ∙ ap (λ (l : List (List ℕ)). encode_lower name.x.0 ∷ l)
+    (bytes_are name.x.1 seed.x seed.first
+    ∙ ap (λ (l : List (List ℕ)). encode_lower seed.x.0 ∷ l)
+    (spelled seed.x.1 next.x [] (last_is seed.x.1 next.x next.first) (omega (arith, is.0))))
+    ∙ ap row_fields is.1
 
 -- ---- the line of a boot
 

@@ -99,7 +99,7 @@ abbrev pub with_files : List NamedFloor → List NamedFloorsRecord → List Name
 with_files rows [] = rows
 with_files rows (file ∷ files) = with_files (with_rows rows file.rows) files
 
--- each name of any file with its greatest floor, in order of first appearance
+-- each name of any file with its first seed and its greatest floor, in order of first appearance
 abbrev pub gathered_rows : List NamedFloorsRecord → List NamedFloor
 gathered_rows files = with_files [] files
 
@@ -114,7 +114,12 @@ abbrev pub floor_of_name : List ℕ → List NamedFloor → Option ℕ
 floor_of_name name [] = None
 floor_of_name name (row ∷ rows) = if bytes_eq row.name name then Some row.next else floor_of_name name rows
 
--- whether a row is one of the rows
+-- the seed of the first row with a name
+abbrev pub seed_of_name : List ℕ → List NamedFloor → Option (List ℕ)
+seed_of_name name [] = None
+seed_of_name name (row ∷ rows) = if bytes_eq row.name name then Some row.seed else seed_of_name name rows
+
+-- whether one of the rows has the name and the floor of a row
 abbrev pub is_row_of : List NamedFloor → NamedFloor → Bool
 is_row_of rows row = list_any (λ other. bytes_eq other.name row.name && other.next == row.next) rows
 
@@ -123,8 +128,10 @@ abbrev pub AreDifferent : List NamedFloor → Type 0
 AreDifferent [] = Unit {0}
 AreDifferent (row ∷ rows) = (has_name row.name rows ≡ false) × AreDifferent rows
 
--- gathered rows: the floor of each row's name is at least the row's, each is one of the rows, and their names differ
+-- Gathered rows. The gathered floor of each row's name is at least the row's. Each gathered row has the name and the
+-- floor of a row. Each name has the seed of the first row with it. The names differ.
 pub record AreGreatest (rows gathered : List NamedFloor) : Type 0 where
   pub each : AllByRecursion (λ row. IsSomeAnd (floor_of_name row.name gathered) (λ next. row.next ≤ next)) rows
   pub own : AllByRecursion (λ row. is_row_of rows row ≡ true) gathered
+  pub seeds : (name : List ℕ) → seed_of_name name gathered ≡ seed_of_name name rows
   pub different : AreDifferent gathered

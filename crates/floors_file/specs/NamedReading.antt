@@ -1,5 +1,6 @@
 -- The content of a floors file by names. The MAC is looked at first, then the first fault of the first faulty line.
 use Rattle.std.specs.Prelude.{ℕ, zero, suc, ◌+◌, ◌^◌, ◌==◌, nat_le, nat_lt, not, Bool, ◌&&◌, List, [], ◌∷◌, ◌++◌, length, Option, Some, None, Result, Ok, Err, codes, if◌then◌else◌}
+use Rattle.std.specs.Borrow.{Bor}
 use Rattle.std.specs.List.{list_all}
 use Rattle.std.specs.Str.{bytes_eq}
 use Rattle.field_text.specs.Word.{is_word}
@@ -11,7 +12,7 @@ use Rattle.floors_file.specs.declared.fault.LineFault.TheVariants.{NotFloors, Ve
 use Rattle.floors_file.specs.declared.named.HeardBoot.{HeardBoot}
 use Rattle.floors_file.specs.declared.named.NamedFloor.{NamedFloor}
 use Rattle.floors_file.specs.declared.named_reading.NamedLine.{NamedLine}
-use Rattle.floors_file.specs.Fields.{◌>>=◌, fields_of, last_field, last_number, next_field, number_field}
+use Rattle.floors_file.specs.Fields.{◌>>=◌, fields_left, fields_of, last_field, last_number, next_field, number_field}
 use Rattle.floors_file.specs.Named.{NamedFloorsRecord, NamedHeadRecord, named_head_value, plain_head}
 use Rattle.floors_file.specs.NamedRows.{has_name}
 use Rattle.floors_file.specs.Reading.{at_line, is_head}
@@ -86,29 +87,41 @@ abbrev pub if_lower : List ℕ → Result (List ℕ) FromHexError → Option (Li
 if_lower field (Ok bytes) = if bytes_eq (encode_lower bytes) field then Some bytes else None
 if_lower field (Err fault) = None
 
--- the name of a field, 16 bytes
-abbrev pub name_of_field : List ℕ → Option (List ℕ)
-name_of_field field = if_lower field (decode_sized field 16)
+-- the 16 bytes of a field
+abbrev pub bytes_of_field : List ℕ → Option (List ℕ)
+bytes_of_field field = if_lower field (decode_sized field 16)
 
--- the row of a name and its floor, after other rows
-abbrev pub new_named_row : List NamedFloor → List ℕ → ℕ → Result NamedFloor LineFault
-new_named_row rows name next =
+-- bytes that were read, with the fields after them
+abbrev pub bytes_before : Option (List ℕ) → List (List ℕ) → Result (List ℕ × List (List ℕ)) LineFault
+bytes_before None fields = Err Name
+bytes_before (Some bytes) fields = Ok (bytes, fields)
+
+-- the 16 bytes of the first field, and the fields after it
+abbrev pub bytes_field : List (List ℕ) → Result (List ℕ × List (List ℕ)) LineFault
+bytes_field fields = do
+  field ← next_field fields
+  bytes_before (bytes_of_field field.0) field.1
+
+-- the value of bytes with the rest after them, or the fault
+abbrev pub bytes_value :
+    Result (List ℕ × Option (Bor (List ℕ))) LineFault → Result (List ℕ × List (List ℕ)) LineFault
+bytes_value (Ok bytes) = Ok (bytes.0, fields_left bytes.1)
+bytes_value (Err fault) = Err fault
+
+-- the row of a name, a seed and a floor, after other rows
+abbrev pub new_named_row : List NamedFloor → List ℕ → List ℕ → ℕ → Result NamedFloor LineFault
+new_named_row rows name seed next =
     if nat_lt (2 ^ 62) next then Err Range
     else if has_name name rows then Err Twice
-    else Ok (record { name = name; next = next })
-
--- the row of a name's line, after other rows
-abbrev pub row_of_name : List NamedFloor → Option (List ℕ) → List (List ℕ) → Result NamedFloor LineFault
-row_of_name rows None fields = Err Name
-row_of_name rows (Some name) fields = do
-  next ← last_number fields
-  new_named_row rows name next
+    else Ok (record { name = name; seed = seed; next = next })
 
 -- the row of a line, after other rows
 abbrev pub named_row_of : List NamedFloor → List (List ℕ) → Result NamedFloor LineFault
 named_row_of rows fields = do
-  field ← next_field fields
-  row_of_name rows (name_of_field field.0) field.1
+  name ← bytes_field fields
+  seed ← bytes_field name.1
+  next ← last_number seed.1
+  new_named_row rows name.0 seed.0 next
 
 -- the fault of a part that has no LF, where a row should be
 abbrev pub row_fault : List ℕ → LineFault

@@ -28,7 +28,7 @@ HasPlaces rows index = (name : List ℕ) → tree.get (slice_cmp nat_cmp) index 
 
 -- a row with a floor of at least `next`
 abbrev pub raised : NamedFloor → ℕ → NamedFloor
-raised row next = record { name = row.name; next = greater row.next next }
+raised row next = record row { next = greater row.next next }
 
 -- the rows, with a floor of at least `next` at a place
 abbrev pub raised_at : ℕ → ℕ → List NamedFloor → List NamedFloor

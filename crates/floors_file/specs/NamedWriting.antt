@@ -19,7 +19,7 @@ named_head_text head rows =
 
 -- the line of a name
 unfoldable pub named_row_text : NamedFloor → List ℕ
-named_row_text row = encode_lower row.name ++ 32 ∷ decimal row.next ++ 10 ∷ []
+named_row_text row = encode_lower row.name ++ 32 ∷ encode_lower row.seed ++ 32 ∷ decimal row.next ++ 10 ∷ []
 
 -- the line of a boot that the node heard
 unfoldable pub heard_text : HeardBoot → List ℕ
@@ -35,10 +35,12 @@ body_text floors =
 abbrev pub named_floors_text : List ℕ → NamedFloorsRecord → List ℕ
 named_floors_text key floors = sealed key (body_text floors)
 
--- a row of 16 bytes, whose name is in no row before
+-- a row whose name and seed have 16 bytes, and whose name is in no row before
 pub record IsNamedRow (before : List NamedFloor) (row : NamedFloor) : Type 0 where
   pub len : length row.name ≡ 16
   pub bytes : IsBytes row.name
+  pub seed_len : length row.seed ≡ 16
+  pub seed_bytes : IsBytes row.seed
   pub next : row.next ≤ 2 ^ 62
   pub new : has_name row.name before ≡ false
 

@@ -52,7 +52,7 @@ pub enum LineFault {
     /// The names word is not a word of 12 to 64 bytes without blanks.
     #[error("NamesWord")]
     NamesWord,
-    /// The name is not 32 lower case hexadecimal digits.
+    /// The name or the seed is not 32 lower case hexadecimal digits.
     #[error("Name")]
     Name,
     /// The member is the file's node, or not above the member of the line before.

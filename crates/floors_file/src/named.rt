@@ -1,11 +1,11 @@
 use otp_core::Next;
-use token_names::Name;
+use token_names::{NAME_LEN, Name};
 
 /// The maximum length of a floors file by names, in bytes (`named_floors_fit`).
 ///
-/// The first line has 183, of which the names word and the life have 64 each. Each of 10,000 rows has 53, each of 9
+/// The first line has 183, of which the names word and the life have 64 each. Each of 10,000 rows has 86, each of 9
 /// boots 28, and the line of the MAC 69.
-pub const MAX_NAMED_FLOORS_LEN: u32 = 530_504;
+pub const MAX_NAMED_FLOORS_LEN: u32 = 860_504;
 
 /// The node whose floors were read, the time, and its cluster. Floor: the first free factor of a token at a node.
 #[derive(Clone, Copy, Debug)]
@@ -24,11 +24,13 @@ pub struct NamedHead<'a> {
     pub life: &'a [u8],
 }
 
-/// The floor of a name.
+/// The floor of a name, with the token's seed.
 #[derive(Clone, Copy, Debug, PartialEq, Eq)]
 pub struct NamedFloor {
     /// The name of the token.
     pub name: Name,
+    /// The seed of the token's secret, by which a token with another user is known again.
+    pub seed: [u8; NAME_LEN],
     /// The floor.
     pub next: Next,
 }

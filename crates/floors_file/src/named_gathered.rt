@@ -220,7 +220,7 @@ fn merge_rows(gathered: &mut NamedRows, rows: &[NamedFloor]) -> Result<(), Alloc
     Ok(())
 }
 
-/// Returns each name of any file with its greatest floor, in order of first appearance.
+/// Returns each name of any file with its first seed and its greatest floor, in order of first appearance.
 ///
 /// # Errors
 ///

@@ -2,10 +2,10 @@ ghost use Rattle.std.specs.Prelude.{◌≡◌, ◌≤◌, ◌++◌, ◌∷◌, [
 ghost use Rattle.token_file.specs.Fields.{lines_of};
 ghost use Rattle.floors_file.specs.Examples.{asked, text_of, word_of};
 ghost use Rattle.floors_file.specs.Named.{NamedFloorsRecord};
-ghost use Rattle.floors_file.specs.NamedExamples.{digits_0, digits_a, digits_b, first_named_floors, heard_boot, name_0, name_a, name_b, named_floors_at, named_head_at, named_row, named_said_by, named_said_by_first, named_said_by_heard, named_said_by_row, of_other_letters, of_other_life, of_other_members, of_other_names, second_named_floors, with_head};
-ghost use Rattle.floors_file.specs.NamedGathered.{AreGreatest, gathered_rows, named_anew_fault, named_lost_fault, rows_of};
-ghost use Rattle.floors_file.specs.NamedReading.{name_of_field, named_floors_of, named_of_lines};
-ghost use Rattle.floors_file.specs.NamedWriting.{AreHeard, AreNamedFloors, AreNamedRows, body_text, named_floors_text};
+ghost use Rattle.floors_file.specs.NamedExamples.{digits_0, digits_a, digits_c, first_named_floors, heard_boot, line_a, line_b, name_0, name_a, name_b, named_floors_at, named_head_at, named_row, named_said_by, named_said_by_first, named_said_by_heard, named_said_by_row, of_other_letters, of_other_life, of_other_members, of_other_names, row_line, second_named_floors, seed_c, seed_d, seed_e, with_head};
+ghost use Rattle.floors_file.specs.NamedGathered.{AreGreatest, floor_of_name, gathered_rows, named_anew_fault, named_lost_fault, rows_of, seed_of_name};
+ghost use Rattle.floors_file.specs.NamedReading.{bytes_of_field, named_floors_of, named_of_lines};
+ghost use Rattle.floors_file.specs.NamedWriting.{AreHeard, AreNamedFloors, AreNamedRows, body_text, named_floors_text, named_row_text};
 ghost use Rattle.floors_file.specs.Sealed.{body_of, mac_digits, sealed};
 ghost use Rattle.floors_file.specs.declared.fault.LineFault.{LineFault};
 ghost use Rattle.floors_file.specs.declared.gathered.FileFault.{FileFault};
@@ -25,14 +25,15 @@ pub fn named_floors_one_spelling()
         named_floors_text key floors ≡ text }
 {}
 
-/// Length: a text of floors by names has at most 530,504 bytes.
+/// Length: a text of floors by names has at most 860,504 bytes.
 pub fn named_floors_fit()
     ensures { (key : List ℕ) (floors : NamedFloorsRecord) → AreNamedFloors floors →
         length (named_floors_text key floors) ≤ MAX_NAMED_FLOORS_LEN }
 {}
 
-/// Greatest floors: a file's floor is at most the gathered one of its name. Each gathered row is some file's, and no
-/// two have one name.
+/// Greatest floors: a file's floor is at most the gathered one of its name. Some file has the name and the floor of each
+/// gathered row. Each name has the seed of its first row, in the order of the files. No two gathered rows have one
+/// name.
 pub fn gathered_are_greatest()
     ensures { (files : List NamedFloorsRecord) → AreGreatest (rows_of files) (gathered_rows files) }
 {}
@@ -49,10 +50,12 @@ pub fn macs_of_floors_are_worked()
 
 /// Worked cases. Floors files by names, without their MAC.
 pub fn named_files_are_worked()
-    ensures two { named_said_by (codes "floors 2 1 3 7 100 2 names-of-site-1 11a" ∷ (digits_a ++ codes " 5")
-        ∷ (digits_b ++ codes " 0") ∷ codes "heard 3 7" ∷ []) ≡ Ok first_named_floors }
+    ensures row { named_row_text (named_row name_a seed_c 5)
+        ≡ codes "aaaaaaaaaaaaaaaaaaaaaaaaaaaaaaaa cccccccccccccccccccccccccccccccc 5\n" }
+    ensures two { named_said_by (codes "floors 2 1 3 7 100 2 names-of-site-1 11a" ∷ line_a (codes "5")
+        ∷ line_b (codes "0") ∷ codes "heard 3 7" ∷ []) ≡ Ok first_named_floors }
     ensures written { body_text first_named_floors ≡ text_of (codes "floors 2 1 3 7 100 2 names-of-site-1 11a"
-        ∷ (digits_a ++ codes " 5") ∷ (digits_b ++ codes " 0") ∷ codes "heard 3 7" ∷ []) }
+        ∷ line_a (codes "5") ∷ line_b (codes "0") ∷ codes "heard 3 7" ∷ []) }
     ensures no_rows { named_said_by_first (codes "floors 2 2 3 7 100 0 names-of-site-1 11a")
         ≡ Ok (named_floors_at 2 [] []) }
     ensures ends { map named_said_by_first (codes "floors 2 1 3 7 0 0 twelve-bytes 1"
@@ -75,19 +78,31 @@ pub fn named_files_are_worked()
     ensures life { map named_said_by_first (codes "floors 2 1 3 7 5 0 names-of-site-1 "
         ∷ codes "floors 2 1 3 7 5 0 names-of-site-1 11\ta" ∷ (codes "floors 2 1 3 7 5 0 names-of-site-1 " ++ word_of 65)
         ∷ []) ≡ replicate 3 (Err (1, LineFault.Life)) }
-    ensures names { map name_of_field (digits_a ∷ replicate 31 97 ∷ replicate 33 97 ∷ replicate 34 97 ∷ replicate 32 65
-        ∷ replicate 32 103 ∷ []) ≡ Some name_a ∷ replicate 5 None }
-    ensures rows { named_said_by_row (digits_0 ++ codes " 4611686018427387904")
-        ≡ Ok (record { head = named_head_at 2 5; rows = named_row name_0 4611686018427387904 ∷ []; heard = [] }) }
-    ensures row_faults { map named_said_by_row (codes "a 1" ∷ digits_a ∷ (digits_a ++ codes " 1 2")
-        ∷ (digits_a ++ codes " 01") ∷ (digits_a ++ codes " 4611686018427387905") ∷ codes "heard 3 7" ∷ [])
-        ≡ Err (2, LineFault.Name) ∷ Err (2, LineFault.MissingField) ∷ Err (2, LineFault.SurplusField)
-        ∷ Err (2, LineFault.Number) ∷ Err (2, LineFault.Range) ∷ Err (2, LineFault.Name) ∷ [] }
-    ensures twice { named_said_by (codes "floors 2 2 3 7 5 3 names-of-site-1 11a" ∷ (digits_a ++ codes " 1")
-        ∷ (digits_b ++ codes " 1") ∷ (digits_a ++ codes " 2") ∷ []) ≡ Err (4, LineFault.Twice) }
-    ensures too_few { named_said_by (codes "floors 2 2 3 7 5 2 names-of-site-1 11a" ∷ (digits_a ++ codes " 1") ∷ [])
+    ensures names { map bytes_of_field (digits_a ∷ replicate 31 97 ∷ replicate 33 97 ∷ replicate 34 97
+        ∷ replicate 32 65 ∷ replicate 32 103 ∷ []) ≡ Some name_a ∷ replicate 5 None }
+    ensures rows { named_said_by_row (row_line digits_0 digits_c (codes "4611686018427387904")) ≡ Ok (record {
+      head = named_head_at 2 5;
+      rows = named_row name_0 seed_c 4611686018427387904 ∷ [];
+      heard = [];
+    }) }
+    ensures row_faults { map named_said_by_row (line_a (codes "1 2") ∷ line_a (codes "01")
+        ∷ line_a (codes "4611686018427387905") ∷ [])
+        ≡ Err (2, LineFault.SurplusField) ∷ Err (2, LineFault.Number) ∷ Err (2, LineFault.Range) ∷ [] }
+    ensures no_name { map named_said_by_row (codes "a" ∷ codes "a 1" ∷ codes "heard 3 7" ∷ [])
+        ≡ replicate 3 (Err (2, LineFault.Name)) }
+    ensures missing_fields { map named_said_by_row (digits_a ∷ (digits_a ++ 32 ∷ digits_c) ∷ [])
+        ≡ replicate 2 (Err (2, LineFault.MissingField)) }
+    ensures seeds { map (λ seed. named_said_by_row (row_line digits_a seed (codes "x"))) (codes "1" ∷ []
+        ∷ replicate 31 99 ∷ replicate 33 99 ∷ replicate 32 67 ∷ [])
+        ≡ replicate 5 (Err (2, LineFault.Name)) }
+    ensures no_seed { named_said_by_row (digits_a ++ codes " 1") ≡ Err (2, LineFault.Name) }
+    ensures twice { named_said_by (codes "floors 2 2 3 7 5 3 names-of-site-1 11a" ∷ line_a (codes "1")
+        ∷ line_b (codes "1") ∷ row_line digits_a digits_c (codes "2") ∷ []) ≡ Err (4, LineFault.Twice) }
+    ensures range_before_twice { named_said_by (codes "floors 2 2 3 7 5 2 names-of-site-1 11a" ∷ line_a (codes "1")
+        ∷ line_a (codes "4611686018427387905") ∷ []) ≡ Err (3, LineFault.Range) }
+    ensures too_few { named_said_by (codes "floors 2 2 3 7 5 2 names-of-site-1 11a" ∷ line_a (codes "1") ∷ [])
         ≡ Err (3, LineFault.TooFew) }
-    ensures too_many { named_said_by_heard (digits_a ++ codes " 1") ≡ Err (2, LineFault.TooMany) }
+    ensures too_many { named_said_by_heard (line_a (codes "1")) ≡ Err (2, LineFault.TooMany) }
     ensures heard { named_said_by (codes "floors 2 2 3 7 100 0 names-of-site-1 11a" ∷ codes "heard 1 0"
         ∷ codes "heard 3 4611686018427387903" ∷ [])
         ≡ Ok (named_floors_at 2 [] (heard_boot 1 0 ∷ heard_boot 3 4611686018427387903 ∷ [])) }
@@ -100,7 +115,7 @@ pub fn named_files_are_worked()
         ∷ codes "heard 3 1" ∷ line ∷ [])) (codes "heard 3 1" ∷ codes "heard 1 1" ∷ [])
         ≡ replicate 2 (Err (3, LineFault.Heard)) }
     ensures no_end { map (λ text. named_of_lines (lines_of text)) (codes "floors 2 2 3 7 5 0 names-of-site-1 11a"
-        ∷ (text_of (codes "floors 2 2 3 7 5 1 names-of-site-1 11a" ∷ []) ++ digits_a ++ codes " 1")
+        ∷ (text_of (codes "floors 2 2 3 7 5 1 names-of-site-1 11a" ∷ []) ++ line_a (codes "1"))
         ∷ (text_of (codes "floors 2 2 3 7 5 0 names-of-site-1 11a" ∷ []) ++ codes "heard 1 1") ∷ [])
         ≡ Err (1, LineFault.NoEnd) ∷ Err (2, LineFault.NoEnd) ∷ Err (2, LineFault.NoEnd) ∷ [] }
 {}
@@ -110,9 +125,13 @@ pub fn named_gathered_are_worked()
     ensures two_of_three { named_lost_fault (record asked { boot = 9 }) 3 (3 ∷ [])
         (first_named_floors ∷ second_named_floors ∷ []) ≡ None }
     ensures rows { gathered_rows (first_named_floors ∷ second_named_floors ∷ [])
-        ≡ named_row name_a 5 ∷ named_row name_b 3 ∷ named_row name_0 9 ∷ [] }
+        ≡ named_row name_a seed_c 5 ∷ named_row name_b seed_d 3 ∷ named_row name_0 seed_c 9 ∷ [] }
     ensures other_order { gathered_rows (second_named_floors ∷ first_named_floors ∷ [])
-        ≡ named_row name_b 3 ∷ named_row name_a 5 ∷ named_row name_0 9 ∷ [] }
+        ≡ named_row name_b seed_d 3 ∷ named_row name_a seed_e 5 ∷ named_row name_0 seed_c 9 ∷ [] }
+    ensures floors { map (λ name. floor_of_name name (rows_of (first_named_floors ∷ second_named_floors ∷ [])))
+        (name_a ∷ name_b ∷ name_0 ∷ seed_c ∷ []) ≡ Some 5 ∷ Some 0 ∷ Some 9 ∷ None ∷ [] }
+    ensures seeds { map (λ name. seed_of_name name (rows_of (first_named_floors ∷ second_named_floors ∷ [])))
+        (name_a ∷ name_b ∷ name_0 ∷ seed_c ∷ []) ≡ Some seed_c ∷ Some seed_d ∷ Some seed_c ∷ None ∷ [] }
     ensures no_files { gathered_rows [] ≡ [] }
     ensures not_lost { named_lost_fault asked 2 (3 ∷ []) (first_named_floors ∷ second_named_floors ∷ [])
         ≡ Some FilesFault.NotLost }
@@ -150,23 +169,35 @@ pub fn named_gathered_are_worked()
 
 /// Counterexamples: each promise of gathered rows and of a file's rows and boots fails for a minimal one.
 pub fn named_floors_can_be_broken()
-    ensures greatest { AreGreatest (named_row name_a 5 ∷ named_row name_b 3 ∷ named_row name_a 4 ∷ [])
-        (named_row name_a 5 ∷ named_row name_b 3 ∷ []) }
-    ensures name_left_out { AreGreatest (named_row name_a 5 ∷ named_row name_b 3 ∷ []) (named_row name_a 5 ∷ []) → ⊥ }
-    ensures last_floor { AreGreatest (named_row name_a 5 ∷ named_row name_a 4 ∷ []) (named_row name_a 4 ∷ []) → ⊥ }
-    ensures second_lower { AreGreatest (named_row name_a 5 ∷ named_row name_b 3 ∷ [])
-        (named_row name_a 5 ∷ named_row name_b 2 ∷ []) → ⊥ }
-    ensures second_is_no_files { AreGreatest (named_row name_a 5 ∷ named_row name_b 3 ∷ [])
-        (named_row name_a 5 ∷ named_row name_b 4 ∷ []) → ⊥ }
-    ensures one_name_twice { AreGreatest (named_row name_a 5 ∷ []) (named_row name_a 5 ∷ named_row name_a 5 ∷ []) → ⊥ }
+    ensures greatest { AreGreatest
+        (named_row name_a seed_c 4 ∷ named_row name_b seed_d 3 ∷ named_row name_a seed_e 5 ∷ [])
+        (named_row name_a seed_c 5 ∷ named_row name_b seed_d 3 ∷ []) }
+    ensures name_left_out { AreGreatest (named_row name_a seed_c 5 ∷ named_row name_b seed_d 3 ∷ [])
+        (named_row name_a seed_c 5 ∷ []) → ⊥ }
+    ensures last_floor { AreGreatest (named_row name_a seed_c 5 ∷ named_row name_a seed_c 4 ∷ [])
+        (named_row name_a seed_c 4 ∷ []) → ⊥ }
+    ensures second_lower { AreGreatest (named_row name_a seed_c 5 ∷ named_row name_b seed_d 3 ∷ [])
+        (named_row name_a seed_c 5 ∷ named_row name_b seed_d 2 ∷ []) → ⊥ }
+    ensures second_is_no_files { AreGreatest (named_row name_a seed_c 5 ∷ named_row name_b seed_d 3 ∷ [])
+        (named_row name_a seed_c 5 ∷ named_row name_b seed_d 4 ∷ []) → ⊥ }
+    ensures last_seed { AreGreatest (named_row name_a seed_c 4 ∷ named_row name_a seed_e 5 ∷ [])
+        (named_row name_a seed_e 5 ∷ []) → ⊥ }
+    ensures second_seed { AreGreatest (named_row name_a seed_c 5 ∷ named_row name_b seed_d 3 ∷ [])
+        (named_row name_a seed_c 5 ∷ named_row name_b seed_c 3 ∷ []) → ⊥ }
+    ensures one_name_twice { AreGreatest (named_row name_a seed_c 5 ∷ [])
+        (named_row name_a seed_c 5 ∷ named_row name_a seed_c 5 ∷ []) → ⊥ }
 
     ensures floors { AreNamedFloors first_named_floors }
     ensures no_life { AreNamedFloors (with_head (record (named_head_at 1 0) { life = [] })) → ⊥ }
     ensures long_life { AreNamedFloors (with_head (record (named_head_at 1 0) { life = word_of 65 })) → ⊥ }
-    ensures name_twice { AreNamedRows [] (named_row name_a 1 ∷ named_row name_a 1 ∷ []) → ⊥ }
-    ensures short_name { AreNamedRows [] (named_row name_a 1 ∷ named_row (replicate 15 1) 1 ∷ []) → ⊥ }
-    ensures no_byte { AreNamedRows [] (named_row name_a 1 ∷ named_row (replicate 16 256) 1 ∷ []) → ⊥ }
-    ensures high_floor { AreNamedRows [] (named_row name_a 1 ∷ named_row name_b 4611686018427387905 ∷ []) → ⊥ }
+    ensures name_twice { AreNamedRows [] (named_row name_a seed_c 1 ∷ named_row name_a seed_d 1 ∷ []) → ⊥ }
+    ensures short_name { AreNamedRows [] (named_row name_a seed_c 1 ∷ named_row (replicate 15 1) seed_c 1 ∷ []) → ⊥ }
+    ensures no_byte { AreNamedRows [] (named_row name_a seed_c 1 ∷ named_row (replicate 16 256) seed_c 1 ∷ []) → ⊥ }
+    ensures short_seed { AreNamedRows [] (named_row name_a seed_c 1 ∷ named_row name_b (replicate 15 1) 1 ∷ []) → ⊥ }
+    ensures no_byte_of_a_seed { AreNamedRows [] (named_row name_a seed_c 1 ∷ named_row name_b (replicate 16 256) 1
+        ∷ []) → ⊥ }
+    ensures high_floor { AreNamedRows [] (named_row name_a seed_c 1 ∷ named_row name_b seed_d 4611686018427387905 ∷ [])
+        → ⊥ }
     ensures own_boot { AreHeard (named_head_at 2 5) [] (heard_boot 1 1 ∷ heard_boot 2 1 ∷ []) → ⊥ }
     ensures member_twice { AreHeard (named_head_at 2 5) [] (heard_boot 3 1 ∷ heard_boot 3 1 ∷ []) → ⊥ }
     ensures descending { AreHeard (named_head_at 2 5) [] (heard_boot 3 1 ∷ heard_boot 1 1 ∷ []) → ⊥ }

@@ -3,7 +3,7 @@ ghost use Rattle.std.specs.List.{list_all};
 ghost use Rattle.token_file.specs.Fields.{lines_of};
 ghost use Rattle.floors_file.specs.Fields.{fields_left, fields_of};
 ghost use Rattle.floors_file.specs.Named.{named_head_value, named_value};
-ghost use Rattle.floors_file.specs.NamedReading.{first_named, heard_from, heard_of, is_heard_next, is_names_word, name_of_field, named_floors_of, named_head_of, named_line_value, named_numbers, named_of_lines, named_ranged, named_row_of, named_rows_from, new_heard, new_named_row, row_fault};
+ghost use Rattle.floors_file.specs.NamedReading.{bytes_field, bytes_of_field, bytes_value, first_named, heard_from, heard_of, is_heard_next, is_names_word, named_floors_of, named_head_of, named_line_value, named_numbers, named_of_lines, named_ranged, named_row_of, named_rows_from, new_heard, new_named_row, row_fault};
 ghost use Rattle.floors_file.specs.Reading.{is_memory};
 
 use crate::fault::{FloorsFault, LineFault};
@@ -125,24 +125,39 @@ fn read_named_head(line: &[u8]) -> Result<NamedLine<'_>, LineFault>
     named_numbers(rest)
 }
 
-/// Returns the name of a field, or None if the field is not 32 lower case hexadecimal digits.
-fn name_of_field(field: &[u8]) -> Option<Name>
-    ensures { result ≡ name_of_field field.now }
+/// Returns the 16 bytes of a field, or None if the field is not their lower case hexadecimal digits.
+fn bytes_of_field(field: &[u8]) -> Option<[u8; NAME_LEN]>
+    ensures { result ≡ bytes_of_field field.now }
 {
     let Ok(bytes) = <[u8; NAME_LEN] as FromHex>::from_hex(field) else {
         return None;
     };
-    let name = Name::new(bytes);
-    if is_same(&name.digits(), field) {
-        Some(name)
+    if is_same(&Name::new(bytes).digits(), field) {
+        Some(bytes)
     } else {
         None
     }
 }
 
-/// Returns the row of a name and its floor, after other rows.
-fn new_named_row(rows: &NamedRows, name: Name, next: u64) -> Result<NamedFloor, LineFault>
-    ensures { result ≡ new_named_row rows.now name next }
+/// Returns the 16 bytes of the first field, and the rest after it.
+fn bytes_field(rest: Option<&[u8]>) -> Result<([u8; NAME_LEN], Option<&[u8]>), LineFault>
+    ensures { bytes_value result ≡ bytes_field (fields_left rest.entry) }
+{
+    let (field, rest) = next_field(rest)?;
+    match bytes_of_field(field) {
+        Some(bytes) => Ok((bytes, rest)),
+        None => Err(LineFault::Name),
+    }
+}
+
+/// Returns the row of a name, a seed and a floor, after other rows.
+fn new_named_row(
+    rows: &NamedRows,
+    name: Name,
+    seed: [u8; NAME_LEN],
+    next: u64,
+) -> Result<NamedFloor, LineFault>
+    ensures { result ≡ new_named_row rows.now name seed next }
 {
     let Some(next) = Next::new(next) else {
         return Err(LineFault::Range);
@@ -150,19 +165,17 @@ fn new_named_row(rows: &NamedRows, name: Name, next: u64) -> Result<NamedFloor, 
     if rows.find(name).is_some() {
         return Err(LineFault::Twice);
     }
-    Ok(NamedFloor { name, next })
+    Ok(NamedFloor { name, seed, next })
 }
 
 /// Returns the row of a line, after other rows.
 fn read_named_row(rows: &NamedRows, line: &[u8]) -> Result<NamedFloor, LineFault>
     ensures { result ≡ named_row_of rows.now (fields_of line.now) }
 {
-    let (field, rest) = next_field(Some(line))?;
-    let Some(name) = name_of_field(field) else {
-        return Err(LineFault::Name);
-    };
+    let (name, rest) = bytes_field(Some(line))?;
+    let (seed, rest) = bytes_field(rest)?;
     let next = last_number(rest)?;
-    new_named_row(rows, name, next)
+    new_named_row(rows, Name::new(name), seed, next)
 }
 
 /// Returns the fault of a part that has no LF, where a row should be.

@@ -91,8 +91,10 @@ impl NamedRows {
         ensures { self.new ≡ raised_at place next self.old }
     {
         let row = self.rows[place];
+        let seed = row.seed;
         self.rows[place] = NamedFloor {
             name: row.name,
+            seed,
             next: greater(row.next, next),
         };
     }

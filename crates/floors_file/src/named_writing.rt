@@ -1,6 +1,7 @@
 ghost use Rattle.std.specs.Prelude.{◌≡◌, ◌++◌, ◌∷◌, [], IfOk, OnOk};
 ghost use Rattle.std.specs.List.{flat_map};
 ghost use Rattle.std.specs.Io.KnownBytes.{Appends};
+ghost use Rattle.hex.specs.Hex.{encode_lower};
 ghost use Rattle.floors_file.specs.Named.{named_head_value};
 ghost use Rattle.floors_file.specs.NamedWriting.{body_text, heard_text, named_floors_text, named_head_text, named_row_text};
 
@@ -8,6 +9,7 @@ use crate::named::{HeardBoot, NamedFloor, NamedHead};
 use crate::sealed::mac_line;
 use std::alloc::Global;
 use std::io::{self, Write};
+use token_names::{NAME_LEN, Name};
 
 /// Writes the life, the last field of the first line.
 fn write_life<W: Write>(writer: &mut W, life: &[u8]) -> io::Result<()>
@@ -37,12 +39,21 @@ fn write_named_head<W: Write>(writer: &mut W, head: NamedHead<'_>, rows: u64) ->
     write_life(writer, life)
 }
 
+/// Writes the seed, the second field of a name's line.
+fn write_seed<W: Write>(writer: &mut W, seed: [u8; NAME_LEN]) -> io::Result<()>
+    ensures { OnOk result (Appends (W.contents writer.old) (W.contents writer.new) (32 ∷ encode_lower seed)) }
+{
+    writer.write_all(b" ")?;
+    writer.write_all(&Name::new(seed).digits())
+}
+
 /// Writes the line of a name.
 #[tactic(auto, unfolding(crate::specs::NamedWriting::named_row_text))]
 fn write_named_row<W: Write>(writer: &mut W, row: NamedFloor) -> io::Result<()>
     ensures { OnOk result (Appends (W.contents writer.old) (W.contents writer.new) (named_row_text row)) }
 {
     writer.write_all(&row.name.digits())?;
+    write_seed(writer, row.seed)?;
     write!(writer, " {}\n", row.next.value())
 }
 

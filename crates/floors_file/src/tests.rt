@@ -6,25 +6,26 @@ use crate::{
 };
 use std::alloc::Global;
 use std::test::Fail;
+use token_names::Name;
 
 /// The key of all files here.
 const KEY: &[u8] = b"own-key-of-site-1";
 
 /// The file of node 1.
 const ONE: &[u8] = b"floors 2 1 3 7 100 2 names-of-site-1 2026-11a\n\
-    5cb0460e92720059b321966bf3ace45e 5\n\
-    e2329dda198989c3be495e9bada26a6c 0\n\
+    5cb0460e92720059b321966bf3ace45e 36481363024771233ac9437d29c9be7f 5\n\
+    e2329dda198989c3be495e9bada26a6c 00000000000000000000000000000000 0\n\
     heard 3 7\n\
-    mac b557174d8d1026e5ce7e600cb00e751487e476edded0e552c134104fb22577d9\n";
+    mac 7b536afb3dbad66be02584c68900a372b7a0da641924ca3f334dc8d6b1cd4b5f\n";
 
-/// The file of node 2, with the names in another order and one more.
+/// The file of node 2, with the names in another order, another seed of the first, and one more name.
 const TWO: &[u8] = b"floors 2 2 3 6 101 3 names-of-site-1 2026-11a\n\
-    e2329dda198989c3be495e9bada26a6c 3\n\
-    5cb0460e92720059b321966bf3ace45e 4\n\
-    a94a7035cb37132f9354055c54723721 4611686018427387904\n\
+    e2329dda198989c3be495e9bada26a6c 00000000000000000000000000000000 3\n\
+    5cb0460e92720059b321966bf3ace45e 11acba361ed553d6e50a21b85927a086 4\n\
+    a94a7035cb37132f9354055c54723721 11acba361ed553d6e50a21b85927a086 4611686018427387904\n\
     heard 1 7\n\
     heard 3 4\n\
-    mac c05dc5fcf493709207ddc0f52d6e8981cdcbc7e99cf43d6ebe618b3a293a7d21\n";
+    mac 0749dbe5eca5ea5e0fe666a3b6be7506f776dc76a2c9321f12fc3f6c5e09d38d\n";
 
 /// A file of node 2 in a life that differs by the case of a letter.
 const OTHER_LIFE: &[u8] = b"floors 2 2 3 6 101 0 names-of-site-1 2026-11A\n\
@@ -72,10 +73,16 @@ fn is_bad(alloc: Global, key: &[u8], text: &[u8]) -> bool {
     }
 }
 
-/// Returns whether the rows have the given digits and floors.
-fn are(alloc: Global, rows: &[NamedFloor], want: &[(&str, u64)]) -> Result<bool, Fail> {
-    for (row, (digits, next)) in rows.iter().zip(want) {
-        if format!(in alloc; "{}", row.name)?.as_str() != *digits || row.next.value() != *next {
+/// Returns the digits of the name and of the seed of a row, and its floor, as a row of a file has them.
+fn text_of(alloc: Global, row: &NamedFloor) -> Result<String, Fail> {
+    let seed = Name::new(row.seed);
+    Ok(format!(in alloc; "{} {} {}", row.name, seed, row.next.value())?)
+}
+
+/// Returns whether the rows have the given texts.
+fn are(alloc: Global, rows: &[NamedFloor], want: &[&str]) -> Result<bool, Fail> {
+    for (row, text) in rows.iter().zip(want) {
+        if text_of(alloc, row)?.as_str() != *text {
             return Ok(false);
         }
     }
@@ -103,12 +110,9 @@ fn content_of_a_file(rt: HostRuntime) -> Result<(), Fail> {
             rt.alloc(),
             &floors.rows,
             &[
-                ("e2329dda198989c3be495e9bada26a6c", 3),
-                ("5cb0460e92720059b321966bf3ace45e", 4),
-                (
-                    "a94a7035cb37132f9354055c54723721",
-                    4_611_686_018_427_387_904
-                ),
+                "e2329dda198989c3be495e9bada26a6c 00000000000000000000000000000000 3",
+                "5cb0460e92720059b321966bf3ace45e 11acba361ed553d6e50a21b85927a086 4",
+                "a94a7035cb37132f9354055c54723721 11acba361ed553d6e50a21b85927a086 4611686018427387904",
             ]
         )?
     );
@@ -154,7 +158,7 @@ fn fault_of_a_line(rt: HostRuntime) -> Result<(), Fail> {
     Ok(())
 }
 
-/// The greatest floors of two files, in order of first appearance.
+/// The greatest floors of two files with the first seeds, in order of first appearance.
 #[test]
 fn gathered_floors(rt: HostRuntime) -> Result<(), Fail> {
     let alloc = rt.alloc();
@@ -164,12 +168,9 @@ fn gathered_floors(rt: HostRuntime) -> Result<(), Fail> {
             alloc,
             &gather_named(alloc, &files)?,
             &[
-                ("5cb0460e92720059b321966bf3ace45e", 5),
-                ("e2329dda198989c3be495e9bada26a6c", 3),
-                (
-                    "a94a7035cb37132f9354055c54723721",
-                    4_611_686_018_427_387_904
-                ),
+                "5cb0460e92720059b321966bf3ace45e 36481363024771233ac9437d29c9be7f 5",
+                "e2329dda198989c3be495e9bada26a6c 00000000000000000000000000000000 3",
+                "a94a7035cb37132f9354055c54723721 11acba361ed553d6e50a21b85927a086 4611686018427387904",
             ]
         )?
     );

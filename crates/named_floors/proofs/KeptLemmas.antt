@@ -1,5 +1,5 @@
 -- What a remade store keeps of the gathered rows and of the tokens.
-use Rattle.std.proofs.Common.{◌≡◌, ◌≢◌, ℕ, zero, suc, ◌+◌, Bool, true, false, cond, not, List, [], ◌∷◌, ◌++◌, length, slice_get, Option, Some, is_some, All, refl, sym, ap, subst, ◌∙◌, true≢false, arith}
+use Rattle.std.proofs.Common.{◌≡◌, ◌≢◌, ℕ, zero, suc, ◌+◌, Bool, true, false, cond, not, List, [], ◌∷◌, ◌++◌, length, slice_get, Option, Some, None, ◌||◌, is_some, All, refl, sym, ap, subst, ◌∙◌, true≢false, arith}
 use Rattle.std.specs.Prelude.{option_map}
 use Rattle.std.specs.Str.{bytes_eq}
 use Rattle.std.proofs.lemmas.List.{length-map}
@@ -15,8 +15,11 @@ use Rattle.named_store.specs.Floors.{no_entry, raised_floor, seeded_floor}
 use Rattle.named_store.specs.Seating.{AreDistinct, has_name, new_entries, new_from, new_places}
 use Rattle.named_store.proofs.FloorLemmas.{own_kept, row_kept}
 use Rattle.named_store.proofs.IndexLemmas.{name_stays}
-use Rattle.named_floors.specs.Remade.{HasRemade, IsTaken, gathered_entries, gathered_entry, gathered_floors, raised_floors, remade_entries}
+use Rattle.named_floors.specs.Remade.{HasRemade, IsTaken, entry_with, gathered_entries, gathered_entry, gathered_floors, raised_floors, remade_entries, seed_in}
 use Rattle.named_floors.proofs.RemadeLemmas.{rows_distinct}
+
+abbrev present : {A : Type 0} → A → Option A
+present x = Some x
 
 -- ---- elements of a list that is followed by another
 
@@ -33,8 +36,19 @@ get_behind (x ∷ xs) ys k =
 
 -- ---- a gathered row
 
+no_seed_here : (seed : List ℕ) (rest : Option (List ℕ)) (test more : Bool) → (test || more) ≡ false → (more ≡ false → rest ≡ None)
+    → cond test (Some seed) rest ≡ None
+no_seed_here seed rest true more none is = absurd (true≢false none)
+no_seed_here seed rest false more none is = is none
+
+-- a name that no entry has
+no_seed : (name : List ℕ) (names : List Entry) → has_name names name ≡ false → seed_in name names ≡ None
+no_seed name [] none = refl
+no_seed name (e ∷ names) none =
+    no_seed_here e.seed (seed_in name names) (bytes_eq e.name name) (has_name names name) none (no_seed name names)
+
 pub row_remade : (gathered : List NamedFloor) (names : List Entry) (floors : List ℕ) (place : ℕ) (row : NamedFloor) → slice_get gathered place ≡ Some row
-    → HasRemade gathered names floors place row.name row.next
+    → HasRemade gathered names floors place row
 row_remade gathered names floors place row at =
     let roster = gathered_entries names gathered in
     let entry : slice_get roster place ≡ Some (gathered_entry names row) =
@@ -43,6 +57,8 @@ row_remade gathered names floors place row at =
     slice_get-map (λ (r : NamedFloor). r.next) gathered place ∙ ap (option_map (λ (r : NamedFloor). r.next)) at in
     record {
       named = name_stays roster (new_entries roster names) place row.name (ap (option_map (λ (e : Entry). e.name)) entry);
+      own_seed = λ none. get_stays roster (new_entries roster names) place (gathered_entry names row) entry
+          ∙ ap (λ (seed : Option (List ℕ)). present (entry_with seed row)) (no_seed row.name names none);
       floor = get_stays (gathered_floors gathered) (raised_floors gathered names floors) place row.next floor;
     }
 
@@ -65,9 +81,6 @@ new_here roster names p place x e false is it = record {
   entry = ap (λ (t : Bool). slice_get (cond (not t) (x ∷ new_entries roster names) (new_entries roster names)) (suc it.k)) is ∙ it.entry;
   here = ap (λ (t : Bool). slice_get (cond t (new_from (p + 1) roster names) (p ∷ new_from (p + 1) roster names)) (suc it.k)) is ∙ it.here;
 }
-
-abbrev present : {A : Type 0} → A → Option A
-present x = Some x
 
 pub some_is : {A : Type 0} (x y : A) → present x ≡ present y → x ≡ y
 some_is x y e = cc

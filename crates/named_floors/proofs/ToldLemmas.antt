@@ -8,31 +8,30 @@ use Rattle.floor_store.specs.Records.{RowRecord}
 use Rattle.floors_file.specs.declared.named.HeardBoot.{HeardBoot}
 use Rattle.floors_file.specs.declared.named.NamedFloor.{NamedFloor}
 use Rattle.roster_sql.specs.declared.entry.Entry.{Entry}
-use Rattle.named_floors.specs.Told.{told_boot, told_from, told_rows}
+use Rattle.named_floors.specs.Told.{told_boot, told_from, told_row, told_rows}
 
 -- ---- rows
 
 told_on : (place : ℕ) (roster : List Entry) (rows : List RowRecord) (entry : Entry) (next : ℕ) → slice_get roster place ≡ Some entry
     → IfSome (slice_get rows place) (λ row. row.next ≡ next) → place < length rows
     → told_rows (take (suc place) roster) (take (suc place) rows)
-    ≡ told_rows (take place roster) (take place rows) ++ record { name = entry.name; next = next } ∷ []
+    ≡ told_rows (take place roster) (take place rows) ++ told_row entry next ∷ []
 told_on place [] rows entry next at is within = absurd (none-some entry at)
 told_on place (first ∷ roster) [] entry next at is within = absurd (omega (arith, within))
 told_on zero (first ∷ roster) (row ∷ rows) entry next at is within =
-    ap (λ (e : Entry). record { name = e.name; next = row.next } ∷ []) (same_Some first entry at)
-    ∙ ap (λ n. record { name = entry.name; next = n } ∷ []) is
+    ap (λ (e : Entry). told_row e row.next ∷ []) (same_Some first entry at) ∙ ap (λ (n : ℕ). told_row entry n ∷ []) is
 told_on (suc place) (first ∷ roster) (row ∷ rows) entry next at is within =
-    ap (λ l. record { name = first.name; next = row.next } ∷ l) (told_on place roster rows entry next at is (omega (arith, within)))
+    ap (λ (l : List NamedFloor). told_row first row.next ∷ l) (told_on place roster rows entry next at is (omega (arith, within)))
 
 -- one row more
-pub told_next : (place : ℕ) (roster : List Entry) (rows : List RowRecord) (entry : Entry) (before after : List NamedFloor) (name : List ℕ) (next : ℕ)
+pub told_next : (place : ℕ) (roster : List Entry) (rows : List RowRecord) (entry : Entry) (before after : List NamedFloor) (told : NamedFloor) (next : ℕ)
     → slice_get roster place ≡ Some entry → place < length rows → IfSome (slice_get rows place) (λ row. row.next ≡ next)
-    → name ≡ entry.name → after ≡ before ++ record { name = name; next = next } ∷ []
+    → told ≡ told_row entry next → after ≡ before ++ told ∷ []
     → before ≡ told_rows (take place roster) (take place rows) → after ≡ told_rows (take (place + 1) roster) (take (place + 1) rows)
-told_next place roster rows entry before after name next at within is named more so_far =
+told_next place roster rows entry before after told next at within is same more so_far =
     let on : place + 1 ≡ suc place = omega arith in
-    more ∙ ap (λ (l : List NamedFloor). l ++ record { name = name; next = next } ∷ []) so_far
-    ∙ ap (λ (n : List ℕ). told_rows (take place roster) (take place rows) ++ record { name = n; next = next } ∷ []) named
+    more ∙ ap (λ (l : List NamedFloor). l ++ told ∷ []) so_far
+    ∙ ap (λ (row : NamedFloor). told_rows (take place roster) (take place rows) ++ row ∷ []) same
     ∙ sym (told_on place roster rows entry next at is within)
     ∙ sym (ap (λ (n : ℕ). told_rows (take n roster) (take n rows)) on)
 

@@ -13,11 +13,15 @@ use Rattle.named_floors.specs.Told.{TellingRecord}
 abbrev pub name_of : ℕ → List ℕ
 name_of byte = replicate 16 byte
 
+-- a gathered row, whose name and seed have 16 times a byte
+abbrev pub row_of : ℕ → ℕ → ℕ → NamedFloor
+row_of name seed next = named_row (name_of name) (name_of seed) next
+
 -- two gathered rows
 abbrev pub gathered_two : List NamedFloor
-gathered_two = named_row (name_of 1) 10 ∷ named_row (name_of 3) 20 ∷ []
+gathered_two = row_of 1 2 10 ∷ row_of 3 7 20 ∷ []
 
--- the entries of the second gathered row and of a new token
+-- the entries of the second gathered row, with another seed, and of a new token
 abbrev pub own_two : List Entry
 own_two = entry_of 3 4 ∷ entry_of 5 6 ∷ []
 

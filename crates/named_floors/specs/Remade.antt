@@ -1,5 +1,5 @@
 -- The rows of a store that is made from floors files by names. Floor: the first free factor of a token at a node.
-use Rattle.std.specs.Prelude.{◌≡◌, ℕ, ◌≤◌, List, [], ◌∷◌, ◌++◌, map, replicate, slice_get, Option, Some, None, if◌then◌else◌}
+use Rattle.std.specs.Prelude.{◌≡◌, ℕ, ◌≤◌, List, [], ◌∷◌, ◌++◌, false, map, slice_get, Option, Some, None, if◌then◌else◌}
 use Rattle.std.specs.Option.{unwrap_or}
 use Rattle.std.specs.Ordering.{nat_cmp}
 use Rattle.std.specs.Cmp.Lexicographic.{slice_cmp}
@@ -8,7 +8,7 @@ use Rattle.std.specs.BTreeMap as tree
 use Rattle.std.specs.BTreeMap.{BTreeMap}
 use Rattle.floors_file.specs.declared.named.NamedFloor.{NamedFloor}
 use Rattle.named_store.specs.Floors.{seeded_floors}
-use Rattle.named_store.specs.Seating.{name_at, new_places, rows_after}
+use Rattle.named_store.specs.Seating.{has_name, name_at, new_places, rows_after}
 use Rattle.roster_sql.specs.declared.entry.Entry.{Entry}
 
 -- ---- the seeds
@@ -18,13 +18,9 @@ abbrev pub seed_in : List ℕ → List Entry → Option (List ℕ)
 seed_in name [] = None
 seed_in name (entry ∷ names) = if bytes_eq entry.name name then Some entry.seed else seed_in name names
 
--- the seed of a token whose secret is gone
-abbrev pub no_seed : List ℕ
-no_seed = replicate 16 0
-
--- the entry of a gathered row with a seed, if there is one
+-- the entry of a gathered row, with a seed in place of its own if there is one
 abbrev pub entry_with : Option (List ℕ) → NamedFloor → Entry
-entry_with seed row = record { name = row.name; seed = unwrap_or seed no_seed }
+entry_with seed row = record { name = row.name; seed = unwrap_or seed row.seed }
 
 -- the index has the seed of each name, and no other
 abbrev pub HasSeeds : List Entry → BTreeMap (List ℕ) (List ℕ) → Type 0
@@ -36,7 +32,7 @@ pub record AddsSeed (entry : Entry) (old new : BTreeMap (List ℕ) (List ℕ)) :
 
 -- ---- the rows
 
--- the entry of a gathered row, with the seed of the token with its name
+-- the entry of a gathered row, with the seed of the token with its name, or its own if no token has the name
 abbrev pub gathered_entry : List Entry → NamedFloor → Entry
 gathered_entry names row = entry_with (seed_in row.name names) row
 
@@ -64,11 +60,14 @@ remade_floors gathered names floors = gathered_floors gathered ++ raised_floors 
 
 -- ---- the result
 
--- the row at a place has a name and a floor
-pub record HasRemade (gathered : List NamedFloor) (names : List Entry) (floors : List ℕ) (place : ℕ) (name : List ℕ)
-    (next : ℕ) : Type 0 where
-  pub named : name_at (remade_entries gathered names) place ≡ Some name
-  pub floor : slice_get (remade_floors gathered names floors) place ≡ Some next
+-- The row at a place has the name and the floor of a gathered row. It has the seed of the gathered row if no token has
+-- the name.
+pub record HasRemade (gathered : List NamedFloor) (names : List Entry) (floors : List ℕ) (place : ℕ) (row : NamedFloor)
+    : Type 0 where
+  pub named : name_at (remade_entries gathered names) place ≡ Some row.name
+  pub own_seed : has_name names row.name ≡ false
+      → slice_get (remade_entries gathered names) place ≡ Some (record { name = row.name; seed = row.seed })
+  pub floor : slice_get (remade_floors gathered names floors) place ≡ Some row.next
 
 -- A token with the floor `floor` has a row. The row's floor is at least `floor`, and at least the floor of each
 -- gathered row with the token's seed.

@@ -38,11 +38,15 @@ told_head telling boot = record {
   life = telling.life;
 }
 
--- the names of the entries in order, with the floors of their rows
+-- the row of an entry, with a floor
+abbrev pub told_row : Entry → ℕ → NamedFloor
+told_row entry next = record { name = entry.name; seed = entry.seed; next = next }
+
+-- the names and the seeds of the entries in order, with the floors of their rows
 abbrev pub told_rows : List Entry → List RowRecord → List NamedFloor
 told_rows [] rows = []
 told_rows (entry ∷ roster) [] = []
-told_rows (entry ∷ roster) (row ∷ rows) = record { name = entry.name; next = row.next } ∷ told_rows roster rows
+told_rows (entry ∷ roster) (row ∷ rows) = told_row entry row.next ∷ told_rows roster rows
 
 -- whether the file has a boot: it is above 0, and of a member other than the node
 abbrev pub is_told : ℕ → ℕ → ℕ → ℕ → Bool

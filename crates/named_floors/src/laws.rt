@@ -11,13 +11,13 @@ ghost use Rattle.floor_store.specs.Broken.{booted, broken_at, done, failed, fall
 ghost use Rattle.floor_store.specs.Examples.{content_at, free_row, granted_row, later_row, old_pass, two_rows};
 ghost use Rattle.floor_store.specs.declared.fault.StoreFault.TheVariants.{AlreadyThere, Spent, Unusable};
 ghost use Rattle.floors_file.specs.declared.named.NamedFloor.{NamedFloor};
-ghost use Rattle.floors_file.specs.NamedExamples.{heard_boot, named_row};
+ghost use Rattle.floors_file.specs.NamedExamples.{heard_boot};
 ghost use Rattle.floors_file.specs.NamedGathered.{AreDifferent};
 ghost use Rattle.named_store.specs.Seating.{AreDistinct, has_name};
 ghost use Rattle.named_store.specs.declared.fault.NamedFault.TheVariants.{AnotherCluster, Full, Store};
 ghost use Rattle.roster_sql.specs.Examples.{entry_of};
 ghost use Rattle.roster_sql.specs.declared.entry.Entry.{Entry};
-ghost use Rattle.named_floors.specs.Examples.{failing, gathered_two, name_of, own_two, telling};
+ghost use Rattle.named_floors.specs.Examples.{failing, gathered_two, name_of, own_two, row_of, telling};
 ghost use Rattle.named_floors.specs.Level.{IsPartLevelled, Levels, levelled, levelled_rows, told_by};
 ghost use Rattle.named_floors.specs.Made.{IsUnmade, Makes};
 ghost use Rattle.named_floors.specs.Remade.{HasRemade, IsTaken, gathered_entries, remade_entries, remade_floors, seed_in};
@@ -29,7 +29,7 @@ use sqlite::Alter;
 /// member, or of 0.
 pub fn told_are_worked()
     ensures rows { told_rows (entry_of 1 2 ∷ entry_of 3 4 ∷ []) (free_row 5 ∷ granted_row ∷ [])
-        ≡ named_row (name_of 1) 5 ∷ named_row (name_of 3) 6 ∷ [] }
+        ≡ row_of 1 2 5 ∷ row_of 3 4 6 ∷ [] }
     ensures no_rows { told_rows [] [] ≡ [] }
     ensures row_without_an_entry { told_rows [] (free_row 5 ∷ []) ≡ [] }
     ensures entry_without_a_row { told_rows (entry_of 1 2 ∷ []) [] ≡ [] }
@@ -39,25 +39,30 @@ pub fn told_are_worked()
     ensures file { told_named (telling 2) (entry_of 1 2 ∷ []) (0 ∷ 7 ∷ 8 ∷ 0 ∷ []) (content_at 4 (free_row 5 ∷ []))
         ≡ record {
           head = record { node = 2; members = 3; boot = 4; moment = 100; names = name_of 110; life = name_of 108 };
-          rows = named_row (name_of 1) 5 ∷ [];
+          rows = row_of 1 2 5 ∷ [];
           heard = heard_boot 1 7 ∷ [];
         } }
 {}
 
-/// Worked cases. A gathered row is first, with its own floor. A new token has the greatest floor of its seed.
+/// Worked cases. A gathered row is first, with its own floor. It has the seed of the token with its name, or its own. A
+/// new token has the greatest floor of its seed.
 pub fn remade_are_worked()
     ensures seeds { map (λ name. seed_in name own_two) (name_of 3 ∷ name_of 5 ∷ name_of 7 ∷ [])
         ≡ Some (name_of 4) ∷ Some (name_of 6) ∷ None ∷ [] }
     ensures first_of_two { seed_in (name_of 3) (entry_of 3 4 ∷ entry_of 3 6 ∷ []) ≡ Some (name_of 4) }
-    ensures entries { remade_entries gathered_two own_two ≡ entry_of 1 0 ∷ entry_of 3 4 ∷ entry_of 5 6 ∷ [] }
+    ensures entries { remade_entries gathered_two own_two ≡ entry_of 1 2 ∷ entry_of 3 4 ∷ entry_of 5 6 ∷ [] }
     ensures floors { remade_floors gathered_two own_two (40 ∷ 50 ∷ []) ≡ 10 ∷ 20 ∷ 50 ∷ [] }
     ensures seeded_entries { remade_entries gathered_two (entry_of 5 4 ∷ entry_of 3 4 ∷ [])
-        ≡ entry_of 1 0 ∷ entry_of 3 4 ∷ entry_of 5 4 ∷ [] }
+        ≡ entry_of 1 2 ∷ entry_of 3 4 ∷ entry_of 5 4 ∷ [] }
     ensures seeded { remade_floors gathered_two (entry_of 5 4 ∷ entry_of 3 4 ∷ []) (15 ∷ 0 ∷ []) ≡ 10 ∷ 20 ∷ 20 ∷ [] }
     ensures own_is_greater { remade_floors gathered_two (entry_of 5 4 ∷ entry_of 3 4 ∷ []) (25 ∷ 0 ∷ [])
         ≡ 10 ∷ 20 ∷ 25 ∷ [] }
+    ensures renamed_entries { remade_entries gathered_two (entry_of 5 2 ∷ entry_of 6 7 ∷ [])
+        ≡ entry_of 1 2 ∷ entry_of 3 7 ∷ entry_of 5 2 ∷ entry_of 6 7 ∷ [] }
+    ensures renamed { remade_floors gathered_two (entry_of 5 2 ∷ entry_of 6 7 ∷ []) (3 ∷ 4 ∷ [])
+        ≡ 10 ∷ 20 ∷ 10 ∷ 20 ∷ [] }
     ensures nothing_gathered { remade_floors [] own_two (40 ∷ 50 ∷ []) ≡ 40 ∷ 50 ∷ [] }
-    ensures no_tokens { remade_entries gathered_two [] ≡ entry_of 1 0 ∷ entry_of 3 0 ∷ [] }
+    ensures no_tokens { remade_entries gathered_two [] ≡ entry_of 1 2 ∷ entry_of 3 7 ∷ [] }
 {}
 
 /// Worked cases. A greater floor is taken, and a smaller or an equal one is ignored. Other names are passed over. The
@@ -74,13 +79,14 @@ pub fn levels_are_worked()
         ≡ two_rows (record granted_row { next = 7 }) later_row (Some old_pass) }
 {}
 
-/// Nothing is lost: each gathered row is there with its floor. Each token whose name is not gathered is there too.
+/// Nothing is lost: each gathered row is there with its floor, and with its seed if no token has its name. Each token
+/// whose name is not gathered is there too.
 ///
 /// The floor of its row is then at least its own floor, and at least the floor of each gathered row with its seed.
 pub fn remade_lose_nothing()
     ensures gathered { (gathered : List NamedFloor) (names : List Entry) (floors : List ℕ) (place : ℕ)
         (row : NamedFloor) → slice_get gathered place ≡ Some row
-        → HasRemade gathered names floors place row.name row.next }
+        → HasRemade gathered names floors place row }
     ensures tokens { (gathered : List NamedFloor) (names : List Entry) (floors : List ℕ) (token : ℕ) (e : Entry)
         (floor : ℕ) → slice_get names token ≡ Some e → slice_get floors token ≡ Some floor
         → has_name (gathered_entries names gathered) e.name ≡ false → IsTaken gathered names floors e floor }
@@ -94,9 +100,12 @@ pub fn remade_are_distinct()
 
 /// Counterexamples: each promise of raised floors and of a remade store fails for a minimal one.
 pub fn floors_can_be_broken()
-    ensures row { HasRemade gathered_two own_two (40 ∷ 50 ∷ []) 1 (name_of 3) 20 }
-    ensures row_named { HasRemade gathered_two own_two (40 ∷ 50 ∷ []) 1 (name_of 1) 20 → ⊥ }
-    ensures row_floor { HasRemade gathered_two own_two (40 ∷ 50 ∷ []) 1 (name_of 3) 10 → ⊥ }
+    ensures row { HasRemade gathered_two own_two (40 ∷ 50 ∷ []) 1 (row_of 3 7 20) }
+    ensures row_named { HasRemade gathered_two own_two (40 ∷ 50 ∷ []) 1 (row_of 1 7 20) → ⊥ }
+    ensures row_floor { HasRemade gathered_two own_two (40 ∷ 50 ∷ []) 1 (row_of 3 7 10) → ⊥ }
+    ensures row_with_its_seed { HasRemade gathered_two own_two (40 ∷ 50 ∷ []) 0 (row_of 1 2 10) }
+    ensures first_seed { HasRemade gathered_two own_two (40 ∷ 50 ∷ []) 0 (row_of 1 7 10) → ⊥ }
+    ensures second_seed { HasRemade gathered_two [] [] 1 (row_of 3 2 20) → ⊥ }
     ensures taken { IsTaken gathered_two own_two (40 ∷ 50 ∷ []) (entry_of 5 6) 50 }
     ensures taken_entry { IsTaken gathered_two own_two (40 ∷ 50 ∷ []) (entry_of 7 6) 0 → ⊥ }
     ensures taken_own { IsTaken gathered_two own_two (40 ∷ 50 ∷ []) (entry_of 5 6) 51 → ⊥ }

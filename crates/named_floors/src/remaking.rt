@@ -55,16 +55,16 @@ fn index_of(
     Ok(index)
 }
 
-/// Returns the entry of a gathered row, with the seed that the index has for its name.
+/// Returns the entry of a gathered row, with the seed that the index has for its name, or else its own.
 fn entry_of(index: &BTreeMap<[u8; NAME_LEN], [u8; NAME_LEN]>, row: NamedFloor) -> Entry
     ensures { result ≡ entry_with (tree.get (slice_cmp nat_cmp) index.now row.name) row }
 {
     let name = row.name.bytes();
-    let seed = index.get(&name).copied().unwrap_or([0; NAME_LEN]);
+    let seed = index.get(&name).copied().unwrap_or(row.seed);
     Entry { name, seed }
 }
 
-/// Returns the entry of each gathered row: its name, and the seed of the token with that name.
+/// Returns the entry of each gathered row: its name, and the seed of the token with that name, or else its own.
 fn gathered_entries(
     alloc: Global,
     gathered: &[NamedFloor],
@@ -95,9 +95,9 @@ fn gathered_floors(alloc: Global, gathered: &[NamedFloor]) -> Result<Vec<Next>, 
 
 /// Returns the rows of a store that is made from the rows `gathered` of floors files.
 ///
-/// Each gathered row keeps its floor. It gets the seed of the token with its name, or 16 zero bytes if no token has it.
-/// The tokens whose names no gathered row has follow in order. The floor of each is the greatest of its own floor and
-/// the floors of the gathered rows with its seed.
+/// Each gathered row keeps its floor. It gets the seed of the token with its name, or keeps its own if no token has the
+/// name. The tokens whose names no gathered row has follow in order. The floor of each is the greatest of its own floor
+/// and the floors of the gathered rows with its seed.
 ///
 /// # Errors
 /// - Returns `Unusable` if two gathered rows have one name, or two tokens do.

@@ -3,7 +3,7 @@
 ghost use Rattle.std.specs.Prelude.{◌≡◌, ◌<◌, ◌++◌, length, slice_get, IsTrue, IfErr, IfOk, IfSome, OnOk};
 ghost use Rattle.floor_store.specs.Fault.{is_failure};
 ghost use Rattle.floors_file.specs.Named.{named_value};
-ghost use Rattle.named_floors.specs.Told.{is_told as spec_is_told, telling_value, told_boot, told_heard, told_named, told_rows};
+ghost use Rattle.named_floors.specs.Told.{is_told as spec_is_told, telling_value, told_boot, told_heard, told_named, told_row as spec_told_row, told_rows};
 
 use crate::rows::entry_at;
 use floor_store::{FloorStore, StoreFault};
@@ -38,7 +38,16 @@ fn next_of<S: FloorStore>(store: &S, token: u32) -> Result<Next, StoreFault>
     Ok(store.row(token)?.next())
 }
 
-/// Returns the name and the floor of each row of `store`, in order.
+/// Returns the row of an entry, with a floor.
+fn told_row(entry: Entry, next: Next) -> NamedFloor
+    ensures { result ≡ spec_told_row entry next }
+{
+    let Entry { name, seed } = entry;
+    let name = Name::new(name);
+    NamedFloor { name, seed, next }
+}
+
+/// Returns the name, the seed and the floor of each row of `store`, in order.
 fn rows_of<S: FloorStore>(
     alloc: Global,
     store: &S,
@@ -52,8 +61,7 @@ fn rows_of<S: FloorStore>(
     let mut rows = Vec::new(alloc);
     for token in 0..store.tokens() {
         let next = next_of(store, token)?;
-        let name = Name::new(entry_at(roster, token).name);
-        match rows.push(NamedFloor { name, next }) {
+        match rows.push(told_row(entry_at(roster, token), next)) {
             Ok(()) => {}
             Err(_) => return Err(StoreFault::Memory),
         }
@@ -105,7 +113,7 @@ fn heard_of(
     Ok(all)
 }
 
-/// Returns the content of the floors file of a node: its boot, and the name and the floor of each row of its store.
+/// Returns the content of the floors file of a node: its boot, and the name, seed and floor of each row of its store.
 ///
 /// `roster` has the entry of each row, also of a retired token. `heard` has the greatest boot that each member was
 /// heard in, at the member's number, and 0 if it was not heard. The file has the boots of the other members.

@@ -16,10 +16,11 @@ fn entry(name: u8, seed: u8) -> Entry {
     }
 }
 
-/// Returns a row whose name has one byte.
-fn row(name: u8, next: Next) -> NamedFloor {
+/// Returns a row of one byte for its name and one for its seed.
+fn row(name: u8, seed: u8, next: Next) -> NamedFloor {
     NamedFloor {
         name: Name::new([name; NAME_LEN]),
+        seed: [seed; NAME_LEN],
         next,
     }
 }
@@ -78,7 +79,7 @@ fn is_told(alloc: Global, floors: &[Next; 5]) -> Result<bool, StoreFault> {
     }
     let heard = [9, 5, 6, 0, 8, 3, 0, 0, 0, 4];
     let told = named_floors_of(alloc, &store, &roster, telling(2, 4), &heard)?;
-    let rows = [row(1, floors[0]), row(3, floors[1])];
+    let rows = [row(1, 1, floors[0]), row(3, 4, floors[1])];
     let boots = [
         HeardBoot { member: 1, boot: 5 },
         HeardBoot { member: 4, boot: 8 },
@@ -102,22 +103,32 @@ fn is_levelled(alloc: Global, floors: &[Next; 5]) -> Result<bool, StoreFault> {
     if store.tokens() != 2 {
         return Ok(false);
     }
-    let gathered = [row(5, floors[4]), row(3, floors[2]), row(1, floors[3])];
+    let gathered = [
+        row(5, 3, floors[4]),
+        row(3, 4, floors[2]),
+        row(1, 1, floors[3]),
+    ];
     level_named(alloc, &mut store, &roster, &gathered)?;
     Ok(has(&store, &[floors[0], floors[2]]))
 }
 
 /// Returns whether gathered rows and new tokens have rows.
 fn is_remade(alloc: Global, floors: &[Next; 5]) -> Result<bool, StoreFault> {
-    let gathered = [row(1, floors[0]), row(3, floors[1])];
-    let names = [entry(8, 4), entry(3, 4), entry(9, 2)];
-    let own = [floors[3], floors[4], floors[4]];
+    let gathered = [row(1, 2, floors[0]), row(3, 4, floors[1])];
+    let names = [entry(8, 4), entry(3, 4), entry(9, 2), entry(6, 5)];
+    let own = [floors[3], floors[4], floors[3], floors[3]];
     let rows = match remade(alloc, &gathered, &names, &own) {
         Ok(rows) => rows,
         Err(refusal) => return Err(refusal.0),
     };
-    let entries = [entry(1, 0), entry(3, 4), entry(8, 4), entry(9, 2)];
-    let next = [floors[0], floors[1], floors[1], floors[4]];
+    let entries = [
+        entry(1, 2),
+        entry(3, 4),
+        entry(8, 4),
+        entry(9, 2),
+        entry(6, 5),
+    ];
+    let next = [floors[0], floors[1], floors[1], floors[0], floors[3]];
     Ok(rows.entries.as_slice() == entries.as_slice() && rows.floors.as_slice() == next.as_slice())
 }
 
@@ -152,8 +163,8 @@ fn is_made(alloc: Global, floors: &[Next; 5], own: &Bond) -> Result<bool, NamedF
         return Err(NamedFault::Store(StoreFault::Memory));
     };
     let files = [
-        file_of(alloc, 1, &[row(1, floors[0]), row(3, floors[3])])?,
-        file_of(alloc, 2, &[row(3, floors[2]), row(5, floors[1])])?,
+        file_of(alloc, 1, &[row(1, 2, floors[0]), row(3, 4, floors[3])])?,
+        file_of(alloc, 2, &[row(3, 4, floors[2]), row(5, 6, floors[1])])?,
     ];
     let names = [entry(3, 4), entry(8, 4)];
     let mine = [floors[3], floors[0]];
@@ -178,6 +189,60 @@ fn is_made(alloc: Global, floors: &[Next; 5], own: &Bond) -> Result<bool, NamedF
     let boot = store.boot();
     let rows = store.into_inner().tokens();
     Ok(boot == Ok(9) && rows == 4 && next == [floors[2], floors[2]])
+}
+
+/// Returns the floors of the tokens `names` in a store that is made from two files of three rows together.
+///
+/// The store is made with the first two tokens, and opened with all. It has five rows then.
+fn remade_floors(
+    alloc: Global,
+    floors: &[Next; 5],
+    names: &[Entry; 3],
+    own: &Bond,
+) -> Result<[Next; 3], NamedFault> {
+    let Ok(mut conn) = Connection::open_in_memory(alloc) else {
+        return Err(NamedFault::Store(StoreFault::Memory));
+    };
+    let files = [
+        file_of(alloc, 1, &[row(1, 2, floors[0]), row(3, 4, floors[3])])?,
+        file_of(alloc, 2, &[row(3, 4, floors[2]), row(5, 6, floors[1])])?,
+    ];
+    let mine = [floors[3], floors[3], floors[3]];
+    if !conn.is_autocommit() {
+        return Err(NamedFault::Full);
+    }
+    make_from_floors(alloc, &mut conn, 3, 9, &names[..2], &mine[..2], &files, own)?;
+    if !conn.is_autocommit() {
+        return Err(NamedFault::Full);
+    }
+    let store = match open_named(alloc, conn, 3, names, &mine, own) {
+        Ok(store) => store,
+        Err((_conn, fault)) => return Err(fault),
+    };
+    if store.tokens() != 3 {
+        return Err(NamedFault::Full);
+    }
+    let next = match (store.row(0), store.row(1), store.row(2)) {
+        (Ok(first), Ok(second), Ok(third)) => [first.next(), second.next(), third.next()],
+        _ => return Err(NamedFault::Full),
+    };
+    if store.into_inner().tokens() != 5 {
+        return Err(NamedFault::Full);
+    }
+    Ok(next)
+}
+
+/// A renamed user's token begins at the floor of its former row. So does a retired token that comes back later under
+/// another name.
+#[test]
+fn secrets_are_known_again(rt: HostRuntime) {
+    let (Some(own), Some(floors)) = (Bond::new(b"names", b"life", 3), five_floors()) else {
+        assert!(rt; false, "range");
+        return;
+    };
+    let names = [entry(5, 6), entry(8, 4), entry(9, 2)];
+    let want = [floors[1], floors[2], floors[0]];
+    assert!(rt; remade_floors(rt.alloc(), &floors, &names, &own) == Ok(want));
 }
 
 #[test]

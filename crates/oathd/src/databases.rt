@@ -23,6 +23,7 @@ use crate::users::{checked_users_text, users_text};
 use cluster_file::Cluster;
 use datagram_port::Clock;
 use floor_sql::SqlStore;
+use floors_file::MAX_FLOORS_LEN;
 use oathd_causes::NamesFault;
 use oathd_database::{
     ClientLines, DatabaseFile, LostNode, NodeKey, Serving, audit_store, export_store, floors_store,
@@ -213,7 +214,7 @@ impl<'r, 'a> Site<'r, 'a> {
         let moment = moment_of(self.rt, moment)?;
         let (alloc, rt) = (self.alloc, self.rt);
         let users = checked_users_text(alloc, rt, self.users, settings, moment)?;
-        let texts = floors_texts(alloc, rt, &former.floors)?;
+        let texts = floors_texts(alloc, rt, &former.floors, MAX_FLOORS_LEN)?;
         let lost = match &former.lost {
             Some(lost) => Some(lost.as_slice()),
             None => None,
@@ -531,7 +532,7 @@ impl<'r, 'a> Site<'r, 'a> {
         ensures { IfOk result (λ _. IsLevelled ⟦<FileStore<FileFrom<S>> as Store>⟧ (FindsFiles (image_at S.Start)) node
             (length paths.now)) }
     {
-        let texts = floors_texts(self.alloc, self.rt, paths)?;
+        let texts = floors_texts(self.alloc, self.rt, paths, MAX_FLOORS_LEN)?;
         match level_store(self.alloc, users, node, &texts, self.found(start)) {
             Ok(_store) => Ok(()),
             Err(fault) => Err(with_paths(paths, fault)),

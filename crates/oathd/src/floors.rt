@@ -3,7 +3,7 @@
 ghost use Rattle.std.specs.Prelude.{◌≡◌, length, IfOk};
 
 use crate::fault::Fault;
-use floors_file::{FileFault, FilesFault, FloorsFault, MAX_FLOORS_LEN};
+use floors_file::{FileFault, FilesFault, FloorsFault};
 use oathd_causes::{FloorsAdvice, file_advice, floors_advice};
 use oathd_database::GatherFault;
 use oathd_floors::NamedFloorsFault;
@@ -57,30 +57,32 @@ impl PathFault<'_> {
     }
 }
 
-/// Returns the text of a floors file.
+/// Returns the text of a floors file of at most `longest` bytes.
 fn floors_text<'a, F: Files>(
     alloc: Global,
     files: &F,
     path: &'a str,
+    longest: u32,
 ) -> Result<Vec<u8>, Fault<'a>> {
-    let text = file_text(alloc, files, path, MAX_FLOORS_LEN)?;
-    if text.len() > MAX_FLOORS_LEN as usize {
+    let text = file_text(alloc, files, path, longest)?;
+    if text.len() > longest as usize {
         return Err(Fault::Floors(PathFault::TooLong(path)));
     }
     Ok(text)
 }
 
-/// Returns the texts of the floors files at `paths`, in order.
+/// Returns the texts of the floors files at `paths`, in order, each of at most `longest` bytes.
 pub(crate) fn floors_texts<'a, F: Files>(
     alloc: Global,
     files: &F,
     paths: &[&'a str],
+    longest: u32,
 ) -> Result<Vec<Vec<u8>>, Fault<'a>>
     ensures { IfOk result (λ texts. length texts.items ≡ length paths.now) }
 {
     let mut texts = Vec::new(alloc);
     for path in paths {
-        let text = floors_text(alloc, files, path)?;
+        let text = floors_text(alloc, files, path, longest)?;
         match texts.push(text) {
             Ok(()) => {}
             Err(_) => return Err(Fault::Database(oathd_database::Fault::Memory)),

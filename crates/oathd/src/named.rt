@@ -16,6 +16,7 @@ use crate::fault::Fault;
 use crate::floors::{floors_texts, with_named_paths};
 use crate::users::checked_users_text;
 use cluster_file::{Cluster, ClusterFault, LineFault};
+use floors_file::MAX_NAMED_FLOORS_LEN;
 use oathd_causes::NamesFault;
 use oathd_database::{DatabaseFile, Serving};
 use oathd_floors::{Former, level_named_store, name_store, remake_named_store, tell_named_floors};
@@ -257,7 +258,7 @@ impl<'a> Site<'_, 'a> {
     {
         let key = self.own_key()?;
         let now = present_moment(self.rt)?;
-        let texts = floors_texts(self.alloc, self.rt, &floors)?;
+        let texts = floors_texts(self.alloc, self.rt, &floors, MAX_NAMED_FLOORS_LEN)?;
         let (alloc, found) = (self.alloc, self.found(start));
         match level_named_store(alloc, place.me(), now, named, key.as_slice(), &texts, found) {
             Ok(_store) => Ok(()),
@@ -306,7 +307,7 @@ impl<'a> Site<'_, 'a> {
         let moment = moment_or(moment, now);
         let (alloc, rt) = (self.alloc, self.rt);
         let users = checked_users_text(alloc, rt, self.users, settings, moment)?;
-        let texts = floors_texts(alloc, rt, &former.floors)?;
+        let texts = floors_texts(alloc, rt, &former.floors, MAX_NAMED_FLOORS_LEN)?;
         let lost = match &former.lost {
             Some(lost) => Some(lost.as_slice()),
             None => None,

@@ -68,7 +68,7 @@ pub fn told_are_worked()
         names = codes "a-public-word";
         life = codes "1";
       };
-      rows = named_row (replicate 16 1) 9 ∷ [];
+      rows = named_row (replicate 16 1) (replicate 16 2) 9 ∷ [];
       heard = [];
     } }
 {}
@@ -145,10 +145,10 @@ pub fn levels_can_be_broken()
     ensures levelled_found { HasLevelled one_named shows_none (taking_at false) 1 [] (named_store first_content) → ⊥ }
     ensures levelled_node { HasLevelled one_named shows_any (taking_at false) 2 [] (named_store first_content) → ⊥ }
     ensures levelled_lower { (text : List ℕ)
-        → file_of (taking_at false) 1 text ≡ Ok (file_with (named_row (replicate 16 1) 7 ∷ []))
+        → file_of (taking_at false) 1 text ≡ Ok (file_with (named_row (replicate 16 1) (replicate 16 2) 7 ∷ []))
         → HasLevelled one_named shows_any (taking_at false) 1 (text ∷ []) (named_store first_content) }
     ensures levelled_greater { (text : List ℕ)
-        → file_of (taking_at false) 1 text ≡ Ok (file_with (named_row (replicate 16 1) 12 ∷ []))
+        → file_of (taking_at false) 1 text ≡ Ok (file_with (named_row (replicate 16 1) (replicate 16 2) 12 ∷ []))
         → HasLevelled one_named shows_any (taking_at false) 1 (text ∷ []) (named_store first_content) → ⊥ }
     ensures levelled_rows { HasLevelled one_named shows_any (taking_at false) 1 [] (named_store (small_content 4)) → ⊥ }
 

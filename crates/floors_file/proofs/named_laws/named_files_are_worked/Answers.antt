@@ -5,6 +5,10 @@ use Rattle.hex.specs.Hex.{decode_pairs, encode_with}
 use Rattle.floors_file.specs.NamedWriting.{heard_text, named_head_text, named_row_text}
 use Rattle.floors_file.proofs.named_laws.named_files_are_worked.Goals as goal
 
+pub returns-clause-row : goal.returns-clause-row
+unfolding digits encode_with named_row_text
+returns-clause-row c = refl
+
 pub returns-clause-two : goal.returns-clause-two
 unfolding decode_pairs encode_with
 returns-clause-two c = refl
@@ -52,9 +56,29 @@ pub returns-clause-row_faults : goal.returns-clause-row_faults
 unfolding decode_pairs encode_with
 returns-clause-row_faults c = refl
 
+pub returns-clause-no_name : goal.returns-clause-no_name
+unfolding decode_pairs encode_with
+returns-clause-no_name c = refl
+
+pub returns-clause-missing_fields : goal.returns-clause-missing_fields
+unfolding decode_pairs encode_with
+returns-clause-missing_fields c = refl
+
+pub returns-clause-seeds : goal.returns-clause-seeds
+unfolding decode_pairs encode_with
+returns-clause-seeds c = refl
+
+pub returns-clause-no_seed : goal.returns-clause-no_seed
+unfolding decode_pairs encode_with
+returns-clause-no_seed c = refl
+
 pub returns-clause-twice : goal.returns-clause-twice
 unfolding decode_pairs encode_with
 returns-clause-twice c = refl
+
+pub returns-clause-range_before_twice : goal.returns-clause-range_before_twice
+unfolding decode_pairs encode_with
+returns-clause-range_before_twice c = refl
 
 pub returns-clause-too_few : goal.returns-clause-too_few
 unfolding decode_pairs encode_with

@@ -11,6 +11,12 @@ returns-clause-rows c = refl
 pub returns-clause-other_order : goal.returns-clause-other_order
 returns-clause-other_order c = refl
 
+pub returns-clause-floors : goal.returns-clause-floors
+returns-clause-floors c = refl
+
+pub returns-clause-seeds : goal.returns-clause-seeds
+returns-clause-seeds c = refl
+
 pub returns-clause-no_files : goal.returns-clause-no_files
 returns-clause-no_files c = refl
 

@@ -29,8 +29,8 @@ abbrev first_byte : Entry → ℕ
 first_byte e = first_of e.name
 
 -- none of three entries has the name
-none_there : (place : ℕ) → slice_get (entry_of 1 0 ∷ entry_of 3 4 ∷ entry_of 5 6 ∷ []) place ≡ Some (entry_of 7 6) → ⊥
-none_there zero is = let same : 1 ≡ 7 = ap first_byte (some_is (entry_of 1 0) (entry_of 7 6) is) in omega (arith, same)
+none_there : (place : ℕ) → slice_get (entry_of 1 2 ∷ entry_of 3 4 ∷ entry_of 5 6 ∷ []) place ≡ Some (entry_of 7 6) → ⊥
+none_there zero is = let same : 1 ≡ 7 = ap first_byte (some_is (entry_of 1 2) (entry_of 7 6) is) in omega (arith, same)
 none_there (suc zero) is = let same : 3 ≡ 7 = ap first_byte (some_is (entry_of 3 4) (entry_of 7 6) is) in omega (arith, same)
 none_there (suc (suc zero)) is = let same : 5 ≡ 7 = ap first_byte (some_is (entry_of 5 6) (entry_of 7 6) is) in omega (arith, same)
 none_there (suc (suc (suc place))) is = absurd cc

@@ -36,7 +36,7 @@ returns-clause-levelled_node c h =
 
 -- a file of the row's name
 abbrev file_at : ℕ → NamedFloorsRecord
-file_at floor = file_with (named_row (replicate 16 1) floor ∷ [])
+file_at floor = file_with (named_row (replicate 16 1) (replicate 16 2) floor ∷ [])
 
 pub returns-clause-levelled_lower : goal.returns-clause-levelled_lower
 returns-clause-levelled_lower c text reads = record {
