@@ -173,13 +173,13 @@ record IsOut (t : TranslatorRecord) (number : ℕ) (bytes out : List ℕ) : Type
   from_is : head.from ≡ number
   to_is : head.to ≡ t.me
   newer : get_or t.heard head.from 0 ≤ head.boot
-  numbered_is : numbered_of t.key t.names head body ≡ Some out
+  numbered_is : numbered_of t.names head body ≡ Some out
 
 out_of : (t : TranslatorRecord) (number : ℕ) (bytes out : List ℕ) → translated t (sent_by t number bytes) ≡ Some out → IsOut t number bytes out
 out_of t number bytes out e = by_read (sent_by t number bytes) refl e
   where
     go : (read : Head × List ℕ) → sent_by t number bytes ≡ Some read → (older : Bool) → is_older t.heard read.0 ≡ older
-        → cond older None (numbered_of t.key t.names read.0 read.1) ≡ Some out → IsOut t number bytes out
+        → cond older None (numbered_of t.names read.0 read.1) ≡ Some out → IsOut t number bytes out
     go read at true is found = absurd cc
     go read at false is found =
         let s = sent_parts t.key number t.me bytes read at in
@@ -255,9 +255,9 @@ handed_law key names me boot before event member bytes e some =
     let h = handed_from t event member bytes e some in
     let o = h.out in
     let k = keeps_events first before in
-    let numbered : numbered_of key names o.head o.body ≡ Some bytes =
-    ap (λ (x : List ℕ). numbered_of x names o.head o.body) (sym k.key) ∙ ap (λ (x : List (List ℕ)). numbered_of t.key x o.head o.body) (sym k.names) ∙ o.numbered_is in
-    let n = numbered_parts key names o.head o.body bytes numbered in
+    let numbered : numbered_of names o.head o.body ≡ Some bytes =
+    ap (λ (x : List (List ℕ)). numbered_of x o.head o.body) (sym k.names) ∙ o.numbered_is in
+    let n = numbered_parts names o.head o.body bytes numbered in
     let heard : get_or t.heard o.head.from 0 ≡ greatest_boot key me member before =
     ap (λ (m : ℕ). get_or t.heard m 0) o.from_is ∙ heard_law key names me boot member before in
     record {

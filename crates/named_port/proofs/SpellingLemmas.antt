@@ -10,7 +10,7 @@ use Rattle.vote_core.specs.declared.message.Message.TheVariants.{Ask as AskOf, G
 use Rattle.vote_wire.specs.Body.{SaysMessage, body_bytes, head_bytes}
 use Rattle.vote_wire.specs.Bytes.{AreBytes, byte_at, word_at}
 use Rattle.vote_wire.specs.Datagram as old
-use Rattle.vote_wire.specs.Key.{tag_of}
+use Rattle.vote_wire.specs.Key.{bare, tag_of}
 use Rattle.vote_wire.proofs.TagLemmas.{length-tag_of, datagram_takes}
 use Rattle.vote_wire.proofs.SpellingLemmas.{spelled}
 use Rattle.named_wire.specs.Datagram.{datagram_at, datagram_bytes, front_of}
@@ -114,7 +114,7 @@ respelled key head bytes body from to message s e =
     (sym (take-append-drop 16 body) ∙ ap (λ (f : List ℕ). take 16 body ++ f) s.fields_are)
 
 pub named_of_message : (key : List ℕ) (names : List (List ℕ)) (head : Head) (bytes body out : List ℕ) (from to : ℕ) (message : Message) → length names ≤ 10000 → AreBytes bytes
-    → datagram_at key bytes ≡ Some (head, body) → numbered_of key names head body ≡ Some out → old.datagram_at key out ≡ Some (from, to, message)
+    → datagram_at key bytes ≡ Some (head, body) → numbered_of names head body ≡ Some out → old.datagram_at bare out ≡ Some (from, to, message)
     → IsNamedOf key names head bytes from to message
 named_of_message key names head bytes body out from to message few fits read numbered e =
     let o = takes key bytes head body read in
@@ -123,11 +123,11 @@ named_of_message key names head bytes body out from to message few fits read num
     let from_fits : head.from < 256 = subst (λ (n : ℕ). n < 256) h.from (front_fit 4) in
     let to_fits : head.to < 256 = subst (λ (n : ℕ). n < 256) h.to (front_fit 5) in
     let body_fits : AreBytes body = subst AreBytes o.body_is (drop_fits 14 (front_of bytes) front_fit) in
-    let p = numbered_parts key names head body out numbered in
+    let p = numbered_parts names head body out numbered in
     let front = numbered_front head p.number (drop 16 body) in
-    let out_is : front ++ tag_of key front ≡ out = some_is _ _ p.bytes_are in
-    let d = datagram_takes key out (from, to, message) e in
-    let front_is : old.body_of out ≡ front = ap old.body_of (sym out_is) ∙ front_of-tagged front (tag_of key front) (length-tag_of key front) in
+    let out_is : front ++ tag_of bare front ≡ out = some_is _ _ p.bytes_are in
+    let d = datagram_takes bare out (from, to, message) e in
+    let front_is : old.body_of out ≡ front = ap old.body_of (sym out_is) ∙ front_of-tagged front (tag_of bare front) (length-tag_of bare front) in
     let says : SaysMessage front from to message = subst (λ (b : List ℕ). SaysMessage b from to message) front_is d.1.1 in
     let spelling = spelled front from to message (front_fits head p.number (drop 16 body) from_fits to_fits (drop_fits 16 body body_fits)) says in
     let name_is = name_of_number names p.number (take 16 body) p.number_is in

@@ -10,7 +10,7 @@ use Rattle.vote_core.specs.declared.message.Message.TheVariants.{Ask as AskOf, G
 use Rattle.vote_wire.specs.Body.{HasEnds, HasSpelling, body_bytes, head_bytes, proposal_bytes, vote_bytes}
 use Rattle.vote_wire.specs.Bytes.{word_at}
 use Rattle.vote_wire.specs.Datagram as old
-use Rattle.vote_wire.specs.Key.{tag_of}
+use Rattle.vote_wire.specs.Key.{bare, tag_of}
 use Rattle.vote_wire.proofs.TagLemmas.{length-tag_of}
 use Rattle.named_wire.specs.Head.{IsHead, kind_byte}
 use Rattle.named_wire.specs.declared.head.Head.{Head}
@@ -65,22 +65,22 @@ token_below from to (DenyOf proposal token next) h = h.0.token_below
 token_below from to (FloorOf token next) h = h.0.token_below
 
 pub named_law : (key : List ℕ) (names : List (List ℕ)) (boot from to : ℕ) (name : List ℕ) (message : Message) → HasSpelling from to message → slice_get names (token_of message) ≡ Some name
-    → named_at key names boot (old.datagram_bytes key from to message) ≡ Some (named_bytes key boot from to name message)
+    → named_at key names boot (old.datagram_bytes bare from to message) ≡ Some (named_bytes key boot from to name message)
 unfolding old.datagram_bytes
 named_law key names boot from to name message h at =
     let front = body_bytes from to message in
-    let tag = tag_of key front in
-    let long : ltb (length (front ++ tag)) 16 ≡ false = le-ltb _ _ (omega (arith, length-append front tag, length-tag_of key front)) in
+    let tag = tag_of bare front in
+    let long : ltb (length (front ++ tag)) 16 ≡ false = le-ltb _ _ (omega (arith, length-append front tag, length-tag_of bare front)) in
     ap (λ (t : Bool). cond t None (named_of key names boot (old.body_of (front ++ tag)))) long
-    ∙ ap (named_of key names boot) (front_of-tagged front tag (length-tag_of key front))
+    ∙ ap (named_of key names boot) (front_of-tagged front tag (length-tag_of bare front))
     ∙ named_front key names boot from to name message (token_below from to message h) at
 
 -- ---- from names to numbers
 
-numbered_with : (key : List ℕ) (names : List (List ℕ)) (head : Head) (name fields : List ℕ) (number : ℕ) → is_of_one_token head.kind ≡ true → length name ≡ 16 → 8 ≤ length fields → length fields ≤ 33
-    → number_of names name ≡ Some number → numbered_of key names head (name ++ fields) ≡ numbered_bytes key head fields (Some number)
+numbered_with : (names : List (List ℕ)) (head : Head) (name fields : List ℕ) (number : ℕ) → is_of_one_token head.kind ≡ true → length name ≡ 16 → 8 ≤ length fields → length fields ≤ 33
+    → number_of names name ≡ Some number → numbered_of names head (name ++ fields) ≡ numbered_bytes head fields (Some number)
 unfolding numbered_of
-numbered_with key names head name fields number one len least most at =
+numbered_with names head name fields number one len least most at =
     let all : length (name ++ fields) ≡ 16 + length fields = omega (arith, length-append name fields, len) in
     let short : ltb (length (name ++ fields)) 24 ≡ false = le-ltb _ _ (omega (arith, all, least)) in
     let long : ltb 49 (length (name ++ fields)) ≡ false = le-ltb _ _ (omega (arith, all, most)) in
@@ -88,31 +88,31 @@ numbered_with key names head name fields number one len least most at =
     let rest : drop 16 (name ++ fields) ≡ fields = drop_at name fields 16 len in
     rw (one, short, long, front, rest, at) refl
 
-pub numbered_law : (key : List ℕ) (names : List (List ℕ)) (boot from to : ℕ) (name : List ℕ) (message : Message) → length name ≡ 16 → AreDistinct names → slice_get names (token_of message) ≡ Some name
-    → numbered_of key names (record { kind = kind_of_message message; from = from; to = to; boot = boot }) (name ++ fields_of message) ≡ Some (old.datagram_bytes key from to message)
+pub numbered_law : (names : List (List ℕ)) (boot from to : ℕ) (name : List ℕ) (message : Message) → length name ≡ 16 → AreDistinct names → slice_get names (token_of message) ≡ Some name
+    → numbered_of names (record { kind = kind_of_message message; from = from; to = to; boot = boot }) (name ++ fields_of message) ≡ Some (old.datagram_bytes bare from to message)
 unfolding old.datagram_bytes
-numbered_law key names boot from to name (AskOf proposal token span) len distinct at =
-    numbered_with key names (record { kind = Ask; from = from; to = to; boot = boot }) name (vote_bytes proposal span) token refl len (omega arith) (omega arith) (number_of_place names token name distinct at)
-numbered_law key names boot from to name (GrantOf proposal token span) len distinct at =
-    numbered_with key names (record { kind = Grant; from = from; to = to; boot = boot }) name (vote_bytes proposal span) token refl len (omega arith) (omega arith) (number_of_place names token name distinct at)
-numbered_law key names boot from to name (DenyOf proposal token next) len distinct at =
-    numbered_with key names (record { kind = Deny; from = from; to = to; boot = boot }) name (proposal_bytes proposal ++ to_be_bytes w64 next) token refl len (omega arith) (omega arith) (number_of_place names token name distinct at)
-numbered_law key names boot from to name (FloorOf token next) len distinct at =
-    numbered_with key names (record { kind = Floor; from = from; to = to; boot = boot }) name (to_be_bytes w64 next) token refl len (omega arith) (omega arith) (number_of_place names token name distinct at)
+numbered_law names boot from to name (AskOf proposal token span) len distinct at =
+    numbered_with names (record { kind = Ask; from = from; to = to; boot = boot }) name (vote_bytes proposal span) token refl len (omega arith) (omega arith) (number_of_place names token name distinct at)
+numbered_law names boot from to name (GrantOf proposal token span) len distinct at =
+    numbered_with names (record { kind = Grant; from = from; to = to; boot = boot }) name (vote_bytes proposal span) token refl len (omega arith) (omega arith) (number_of_place names token name distinct at)
+numbered_law names boot from to name (DenyOf proposal token next) len distinct at =
+    numbered_with names (record { kind = Deny; from = from; to = to; boot = boot }) name (proposal_bytes proposal ++ to_be_bytes w64 next) token refl len (omega arith) (omega arith) (number_of_place names token name distinct at)
+numbered_law names boot from to name (FloorOf token next) len distinct at =
+    numbered_with names (record { kind = Floor; from = from; to = to; boot = boot }) name (to_be_bytes w64 next) token refl len (omega arith) (omega arith) (number_of_place names token name distinct at)
 
 -- what a numbered datagram was made of
-pub record IsNumberedOf (key : List ℕ) (names : List (List ℕ)) (head : Head) (body out : List ℕ) : Type 0 where
+pub record IsNumberedOf (names : List (List ℕ)) (head : Head) (body out : List ℕ) : Type 0 where
   pub one_token : is_of_one_token head.kind ≡ true
   pub number : ℕ
   pub number_is : number_of names (take 16 body) ≡ Some number
-  pub bytes_are : numbered_bytes key head (drop 16 body) (Some number) ≡ Some out
+  pub bytes_are : numbered_bytes head (drop 16 body) (Some number) ≡ Some out
 
-pub numbered_parts : (key : List ℕ) (names : List (List ℕ)) (head : Head) (body out : List ℕ) → numbered_of key names head body ≡ Some out → IsNumberedOf key names head body out
+pub numbered_parts : (names : List (List ℕ)) (head : Head) (body out : List ℕ) → numbered_of names head body ≡ Some out → IsNumberedOf names head body out
 unfolding numbered_of
-numbered_parts key names head body out e = go (is_named head body) refl (number_of names (take 16 body)) refl e
+numbered_parts names head body out e = go (is_named head body) refl (number_of names (take 16 body)) refl e
   where
     go : (named : Bool) → is_named head body ≡ named → (number : Option ℕ) → number_of names (take 16 body) ≡ number
-        → cond named (numbered_bytes key head (drop 16 body) number) None ≡ Some out → IsNumberedOf key names head body out
+        → cond named (numbered_bytes head (drop 16 body) number) None ≡ Some out → IsNumberedOf names head body out
     go false named number is e = absurd cc
     go true named None is e = absurd cc
     go true named (Some number) is e = record {
@@ -149,35 +149,35 @@ fields_fit (DenyOf proposal token next) = omega arith
 fields_fit (FloorOf token next) = omega arith
 
 pub numbered_at_law : (key : List ℕ) (names : List (List ℕ)) (boot from to : ℕ) (name : List ℕ) (message : Message) → HasSpelling from to message → boot < 2 ^ 64 → length name ≡ 16 → AreDistinct names
-    → slice_get names (token_of message) ≡ Some name → numbered_at key names (named_bytes key boot from to name message) ≡ Some (old.datagram_bytes key from to message)
+    → slice_get names (token_of message) ≡ Some name → numbered_at key names (named_bytes key boot from to name message) ≡ Some (old.datagram_bytes bare from to message)
 numbered_at_law key names boot from to name message h below len distinct at =
     let head : Head = record { kind = kind_of_message message; from = from; to = to; boot = boot } in
     let body = name ++ fields_of message in
     let fits : length body ≤ 481 = omega (arith, length-append name (fields_of message), len, fields_fit message) in
-    ap (numbered_read key names) (again key body head (is_head (kind_of_message message) from to boot (token_of message) (ends_are from to message h) below) fits)
-    ∙ numbered_law key names boot from to name message len distinct at
+    ap (numbered_read names) (again key body head (is_head (kind_of_message message) from to boot (token_of message) (ends_are from to message h) below) fits)
+    ∙ numbered_law names boot from to name message len distinct at
 
 -- ---- a numbered datagram that is written
 
-written : (key : List ℕ) (names : List (List ℕ)) (head : Head) (body : List ℕ) (kind number : ℕ) (front tag out : List ℕ) → is_of_one_token head.kind ≡ true → kind ≡ kind_byte head.kind
-    → 24 ≤ length body → length body ≤ 49 → Some number ≡ number_of names (take 16 body) → front ≡ head_bytes kind head.from head.to number ++ drop 16 body → tag ≡ tag_of key front → out ≡ front ++ tag
-    → Some out ≡ numbered_of key names head body
+written : (names : List (List ℕ)) (head : Head) (body : List ℕ) (kind number : ℕ) (front tag out : List ℕ) → is_of_one_token head.kind ≡ true → kind ≡ kind_byte head.kind
+    → 24 ≤ length body → length body ≤ 49 → Some number ≡ number_of names (take 16 body) → front ≡ head_bytes kind head.from head.to number ++ drop 16 body → tag ≡ tag_of bare front → out ≡ front ++ tag
+    → Some out ≡ numbered_of names head body
 unfolding numbered_of
-written key names head body kind number front tag out one is least most at front_is tag_is out_is =
+written names head body kind number front tag out one is least most at front_is tag_is out_is =
     let short : ltb (length body) 24 ≡ false = le-ltb _ _ least in
     let long : ltb 49 (length body) ≡ false = le-ltb _ _ most in
     let spelled_front : front ≡ numbered_front head number (drop 16 body) =
     front_is ∙ ap (λ (k : ℕ). head_bytes k head.from head.to number ++ drop 16 body) is in
     rw (one, short, long, sym at, out_is, tag_is, spelled_front) refl
 
-pub written_so : (key : List ℕ) (names : List (List ℕ)) (head : Head) (body : List ℕ) (kind number : ℕ) (front tag out : List ℕ)
+pub written_so : (names : List (List ℕ)) (head : Head) (body : List ℕ) (kind number : ℕ) (front tag out : List ℕ)
     → Some kind ≡ cond (is_of_one_token head.kind) (Some (kind_byte head.kind)) None
-    → 24 ≤ length body → length body ≤ 49 → Some number ≡ number_of names (take 16 body) → front ≡ head_bytes kind head.from head.to number ++ drop 16 body → tag ≡ tag_of key front → out ≡ front ++ tag
-    → Some out ≡ numbered_of key names head body
-written_so key names head body kind number front tag out of_kind = go (is_of_one_token head.kind) refl of_kind
+    → 24 ≤ length body → length body ≤ 49 → Some number ≡ number_of names (take 16 body) → front ≡ head_bytes kind head.from head.to number ++ drop 16 body → tag ≡ tag_of bare front → out ≡ front ++ tag
+    → Some out ≡ numbered_of names head body
+written_so names head body kind number front tag out of_kind = go (is_of_one_token head.kind) refl of_kind
   where
     go : (one : Bool) → is_of_one_token head.kind ≡ one → Some kind ≡ cond one (Some (kind_byte head.kind)) None
-        → 24 ≤ length body → length body ≤ 49 → Some number ≡ number_of names (take 16 body) → front ≡ head_bytes kind head.from head.to number ++ drop 16 body → tag ≡ tag_of key front → out ≡ front ++ tag
-        → Some out ≡ numbered_of key names head body
+        → 24 ≤ length body → length body ≤ 49 → Some number ≡ number_of names (take 16 body) → front ≡ head_bytes kind head.from head.to number ++ drop 16 body → tag ≡ tag_of bare front → out ≡ front ++ tag
+        → Some out ≡ numbered_of names head body
     go false is e = absurd cc
-    go true is e = written key names head body kind number front tag out is (some_is kind (kind_byte head.kind) e)
+    go true is e = written names head body kind number front tag out is (some_is kind (kind_byte head.kind) e)

@@ -6,7 +6,7 @@ use Rattle.datagram_port.specs.declared.port.Sender.TheVariants.{Peer}
 use Rattle.named_wire.specs.declared.head.Head.{Head}
 use Rattle.named_wire.specs.declared.head.Kind.{Kind}
 use Rattle.named_wire.specs.declared.head.Kind.TheVariants.{Floor}
-use Rattle.vote_wire.specs.Examples.{ask_body, ask_tag, eight_bytes}
+use Rattle.vote_wire.specs.Examples.{ask_body, eight_bytes}
 use Rattle.named_port.specs.Translator.{TranslatorRecord, new_translator}
 use Rattle.node_log.specs.declared.gatekeeper.Older.{Older}
 
@@ -38,9 +38,13 @@ node_2 = new_translator zeros names_of_2 2 5
 abbrev pub node_2_after : ℕ → ℕ → TranslatorRecord
 node_2_after one three = record node_2 { heard = 0 ∷ one ∷ 0 ∷ three ∷ replicate 6 0 }
 
+-- the tag under the bare key
+abbrev pub no_tag : List ℕ
+no_tag = replicate 16 0
+
 -- the Ask of node 1 for node 2 about the first token of its book
 abbrev pub numbered_ask : List ℕ
-numbered_ask = ask_body ++ ask_tag
+numbered_ask = ask_body ++ no_tag
 
 -- the bytes before the tag of the same with the name, from node 1 in boot 2
 abbrev pub named_ask_front : List ℕ
@@ -56,16 +60,10 @@ named_ask_tag =
 abbrev pub named_ask : List ℕ
 named_ask = named_ask_front ++ named_ask_tag
 
--- the tag of the numbered Ask for node 2
-abbrev pub renumbered_ask_tag : List ℕ
-renumbered_ask_tag =
-    0x3a ∷ 0x08 ∷ 0xcb ∷ 0xe2 ∷ 0x62 ∷ 0xb8 ∷ 0x88 ∷ 0x7c ∷ 0xf0 ∷ 0x6b ∷ 0x4e ∷ 0x1a ∷ 0xd3 ∷ 0xee ∷ 0x8a ∷ 0x08 ∷ []
-
 -- the same for node 2, which has the token at the second row of its book
 abbrev pub renumbered_ask : List ℕ
 renumbered_ask =
-    0x4f ∷ 0x56 ∷ 2 ∷ 1 ∷ 1 ∷ 2 ∷ 0 ∷ 0 ∷ 0 ∷ 1 ∷ drop 10 ask_body
-    ++ renumbered_ask_tag
+    0x4f ∷ 0x56 ∷ 2 ∷ 1 ∷ 1 ∷ 2 ∷ 0 ∷ 0 ∷ 0 ∷ 1 ∷ drop 10 ask_body ++ no_tag
 
 -- the head of a datagram of a kind from a member in a boot to node 2
 abbrev pub floor_head : Kind → ℕ → ℕ → Head

@@ -95,7 +95,7 @@ pub record IsTranslated (key : List ℕ) (names : List (List ℕ)) (me : ℕ) (b
   pub one_token : is_of_one_token head.kind ≡ true
   pub number : ℕ
   pub name_is : slice_get names number ≡ Some (take 16 body)
-  pub bytes_are : Some bytes ≡ numbered_bytes key head (drop 16 body) (Some number)
+  pub bytes_are : Some bytes ≡ numbered_bytes head (drop 16 body) (Some number)
 
 -- A named datagram of a head says by name what a message says by number.
 pub record IsNamedOf (key : List ℕ) (names : List (List ℕ)) (head : Head) (bytes : List ℕ) (from to : ℕ)

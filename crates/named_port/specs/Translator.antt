@@ -9,7 +9,7 @@ use Rattle.named_port.specs.Wire.{is_of_one_token, named_at, numbered_of}
 use Rattle.node_log.specs.Differing.{nobody}
 use Rattle.node_log.specs.declared.gatekeeper.Older.{Older}
 
--- A translator of a node: its key, the names of its book, its number and boot, the greatest boot of each member that it
+-- A translator of a node: the cluster's key, the names of its book, its number and boot, the greatest boot of each member that it
 -- heard, from member 0 to 9, the last dropped datagram of an older boot, and whether each member differs, from 0 to 9.
 pub record TranslatorRecord : Type 0 where
   pub key : List ℕ
@@ -52,7 +52,7 @@ abbrev pub translated : TranslatorRecord → Option (Head × List ℕ) → Optio
 translated translator None = None
 translated translator (Some read) =
     if is_older translator.heard read.0 then None
-    else numbered_of translator.key translator.names read.0 read.1
+    else numbered_of translator.names read.0 read.1
 
 -- the translator after the head and the body of a member's datagram
 abbrev pub after_read : TranslatorRecord → Option (Head × List ℕ) → TranslatorRecord
@@ -69,7 +69,7 @@ abbrev pub differs : TranslatorRecord → List ℕ → Option (Head × List ℕ)
 differs translator bytes None = nat_lt 0 (length bytes)
 differs translator bytes (Some read) =
     is_of_one_token read.0.kind && not (is_older translator.heard read.0)
-    && is_none (numbered_of translator.key translator.names read.0 read.1)
+    && is_none (numbered_of translator.names read.0 read.1)
 
 -- whether each member differs, after a datagram from one of them that shows it or doesn't
 abbrev pub marked : Bool → ℕ → List Bool → List Bool

@@ -1,4 +1,5 @@
--- The datagrams of one token: numbered ones (version 2) have its number in a book, and named ones (version 3) its name.
+-- The datagrams of one token: numbered ones (version 2, under the bare key) have its number in a book, and named ones
+-- (version 3, under the cluster's key) its name.
 use Rattle.std.specs.Prelude.{ℕ, ◌&&◌, ◌||◌, Bool, true, false, not, nat_lt, if◌then◌else◌, List, ◌++◌, length, take, drop, slice_get, Option, Some, None}
 use Rattle.std.specs.Int.{w64, to_be_bytes}
 use Rattle.named_wire.specs.Datagram.{datagram_at, datagram_bytes}
@@ -11,7 +12,7 @@ use Rattle.vote_core.specs.declared.message.Message.TheVariants.{Ask as AskOf, G
 use Rattle.vote_wire.specs.Body.{has_head, head_bytes, proposal_bytes, vote_bytes}
 use Rattle.vote_wire.specs.Bytes.{byte_at, word_at}
 use Rattle.vote_wire.specs.Datagram.{body_of}
-use Rattle.vote_wire.specs.Key.{tag_of}
+use Rattle.vote_wire.specs.Key.{bare, tag_of}
 use Rattle.named_port.specs.Names.{number_of}
 
 -- ---- messages
@@ -91,11 +92,11 @@ named_at key names boot bytes = if nat_lt (length bytes) 16 then None else named
 abbrev pub numbered_front : Head → ℕ → List ℕ → List ℕ
 numbered_front head number fields = head_bytes (kind_byte head.kind) head.from head.to number ++ fields
 
--- the numbered datagram of a head with the number of a token and the fields after it
-abbrev pub numbered_bytes : List ℕ → Head → List ℕ → Option ℕ → Option (List ℕ)
-numbered_bytes key head fields None = None
-numbered_bytes key head fields (Some number) =
-    Some (numbered_front head number fields ++ tag_of key (numbered_front head number fields))
+-- the numbered datagram of a head with the number of a token and the fields after it, under the bare key
+abbrev pub numbered_bytes : Head → List ℕ → Option ℕ → Option (List ℕ)
+numbered_bytes head fields None = None
+numbered_bytes head fields (Some number) =
+    Some (numbered_front head number fields ++ tag_of bare (numbered_front head number fields))
 
 -- whether a head and a body are of one token: a name of 16 bytes, and 8 to 33 bytes of fields
 abbrev pub is_named : Head → List ℕ → Bool
@@ -103,18 +104,18 @@ is_named head body = is_of_one_token head.kind && not (nat_lt (length body) 24 |
 
 -- The numbered datagram for the head and the body of a named one. None: the book has no token with the name, or the
 -- datagram is of several tokens.
-unfoldable pub numbered_of : List ℕ → List (List ℕ) → Head → List ℕ → Option (List ℕ)
-numbered_of key names head body =
+unfoldable pub numbered_of : List (List ℕ) → Head → List ℕ → Option (List ℕ)
+numbered_of names head body =
     if is_named head body
-    then numbered_bytes key head (drop 16 body) (number_of names (take 16 body))
+    then numbered_bytes head (drop 16 body) (number_of names (take 16 body))
     else None
 
 -- the numbered datagram for the head and the body that were read, if there are any
-abbrev pub numbered_read : List ℕ → List (List ℕ) → Option (Head × List ℕ) → Option (List ℕ)
-numbered_read key names None = None
-numbered_read key names (Some read) = numbered_of key names read.0 read.1
+abbrev pub numbered_read : List (List ℕ) → Option (Head × List ℕ) → Option (List ℕ)
+numbered_read names None = None
+numbered_read names (Some read) = numbered_of names read.0 read.1
 
--- The numbered datagram of a named one. None: the book has no token with the name, or the bytes are no datagram of one
--- token of version 3 with a right tag.
+-- The numbered datagram of a named one under the key. None: the book has no token with the name, or the bytes are no
+-- datagram of one token of version 3 with a right tag.
 abbrev pub numbered_at : List ℕ → List (List ℕ) → List ℕ → Option (List ℕ)
-numbered_at key names bytes = numbered_read key names (datagram_at key bytes)
+numbered_at key names bytes = numbered_read names (datagram_at key bytes)

@@ -8,27 +8,30 @@ ghost use Rattle.token_names.specs.Names.{AreDistinct};
 ghost use Rattle.vote_core.specs.declared.message.Message.{Message};
 ghost use Rattle.vote_wire.specs.Body.{HasSpelling};
 ghost use Rattle.vote_wire.specs.Datagram.{datagram_at, datagram_bytes};
+ghost use Rattle.vote_wire.specs.Key.{bare};
 ghost use Rattle.named_port.specs.Runs.{Has, IsNamedOf, IsOfferOf, IsTranslated, after_events, below_events, greatest_boot, handed_events};
 ghost use Rattle.named_port.specs.Translator.{handed_in, new_translator};
 ghost use Rattle.named_port.specs.Wire.{named_at, named_bytes, numbered_at, numbered_of, token_of};
 
 /// One spelling: a message has one numbered and one named datagram, and each is the translation of the other.
 ///
+/// The numbered one is under the bare key, and the named one under the cluster's.
+///
 /// If a node reads a message in the numbered datagram of a named one, the named one says the same by name.
 pub fn named_one_spelling()
     ensures named { (key name : List ℕ) (names : List (List ℕ)) (boot from to : ℕ) (message : Message) →
         HasSpelling from to message → slice_get names (token_of message) ≡ Some name →
-        named_at key names boot (datagram_bytes key from to message)
+        named_at key names boot (datagram_bytes bare from to message)
         ≡ Some (named_bytes key boot from to name message) }
     ensures numbered { (key name : List ℕ) (names : List (List ℕ)) (boot from to : ℕ) (message : Message) →
         HasSpelling from to message → boot < 2 ^ 64 → length name ≡ 16 → AreDistinct names →
         slice_get names (token_of message) ≡ Some name →
         numbered_at key names (named_bytes key boot from to name message)
-        ≡ Some (datagram_bytes key from to message) }
+        ≡ Some (datagram_bytes bare from to message) }
     ensures read { (key bytes body out : List ℕ) (names : List (List ℕ)) (head : Head) (from to : ℕ)
         (message : Message) → length names ≤ 10000 → AreBytes bytes →
-        named_spec.datagram_at key bytes ≡ Some (head, body) → numbered_of key names head body ≡ Some out →
-        datagram_at key out ≡ Some (from, to, message) → IsNamedOf key names head bytes from to message }
+        named_spec.datagram_at key bytes ≡ Some (head, body) → numbered_of names head body ≡ Some out →
+        datagram_at bare out ≡ Some (from, to, message) → IsNamedOf key names head bytes from to message }
 {}
 
 /// Boots: a translator's boot of a member is the greatest one that the member's datagrams told it, in every execution.

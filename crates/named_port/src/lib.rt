@@ -1,11 +1,12 @@
 //! A port that speaks to members of tokens by their names, and to its node by the numbers of its own book.
 //!
 //! A [`NamedPort`] is a node's port over another one. A node and its port speak in numbered datagrams, of version 2,
-//! under the cluster's key. Members speak in named datagrams, of version 3, under the same key. The port translates one
-//! datagram into one. It hands a member's datagram without a translation to the node as one without bytes, which the
-//! node drops. So it drops a datagram whose head has an older boot than its member was heard in
-//! ([`Older`](node_log::Older)). It notes which members differ, for the log: their datagrams are under another key, of
-//! another version, or of a token whose name the book hasn't. Clients' datagrams pass unchanged.
+//! under the bare key: they stay in the process. Members speak in named datagrams, of version 3, under the cluster's
+//! key. The port translates one datagram into one. It hands a member's datagram without a translation to the node as
+//! one without bytes, which the node drops. So it drops a datagram whose tag is wrong, also one under the bare key, and
+//! one whose head has an older boot than its member was heard in ([`Older`](node_log::Older)). It notes which members
+//! differ, for the log: their datagrams are under another key, of another version, or of a token whose name the book
+//! hasn't. Clients' datagrams pass unchanged.
 #![tactic(auto)]
 
 mod gatekeeper;
@@ -25,7 +26,7 @@ pub use laws::{
 };
 pub use names::Names;
 pub use port::NamedPort;
-pub use wire::{MAX_NUMBERED_LEN, named, numbered};
+pub use wire::{MAX_NAMED_LEN, MAX_NUMBERED_LEN, named, numbered};
 pub use worked::{
     boots_are_worked, calls_are_worked, calls_can_be_broken, differing_is_worked,
     events_are_worked, receives_can_be_broken, setups_are_worked, setups_can_be_broken,

@@ -54,7 +54,7 @@ fn offered(alloc: Global, boot: u64, token: u32) -> Result<Vec<u8>, Fail> {
     let key = key()?;
     let names = names(alloc, ROWS_OF_1)?;
     let mut port = NamedPort::new(ListPort::new(alloc, &[]), &key, &names, 1, boot);
-    let bytes = write_message(&key, 1, 2, &ask(token)?);
+    let bytes = write_message(&ClusterKey::bare(), 1, 2, &ask(token)?);
     port.send(Sender::Peer(2), &bytes);
     let below = port.into_inner();
     match below.record().ok_or("a record")?.first() {
@@ -103,7 +103,7 @@ fn other_orders_are_understood(rt: HostRuntime) -> Result<(), Fail> {
     let mut port = NamedPort::new(ListPort::new(rt.alloc(), &comings), &key, &names, 2, 9);
     let mut buffer = [0; 512];
     let len = len_of(port.receive(&mut buffer))?;
-    assert!(rt; read_message(&key, &buffer[..len]) == Some((1, 2, ask(0)?)));
+    assert!(rt; read_message(&ClusterKey::bare(), &buffer[..len]) == Some((1, 2, ask(0)?)));
     assert!(rt; port.heard()[1] == 5 && port.take_older().is_none());
     assert!(rt; port.take_differing() == [false; 10]);
     Ok(())
@@ -131,17 +131,21 @@ fn strange_names_and_older_boots(rt: HostRuntime) -> Result<(), Fail> {
     Ok(())
 }
 
-/// A datagram of version 2 and one under another key show that member 1 differs. One without bytes doesn't.
+/// A datagram of version 2, under the cluster's key or the bare one, and one under another key show that member 1
+/// differs. One without bytes doesn't.
 #[test]
 fn unread_datagrams_differ(rt: HostRuntime) -> Result<(), Fail> {
     let key = key()?;
     let other = ClusterKey::new(&[8; 32]).ok_or_else(|| Fail::new("no key"))?;
     let numbered = write_message(&key, 1, 2, &ask(0)?);
+    let bare = write_message(&ClusterKey::bare(), 1, 2, &ask(0)?);
     let named = offered(rt.alloc(), 5, 0)?;
     let names = names(rt.alloc(), ROWS_OF_2)?;
-    let comings = [from_1(&numbered), from_1(&[])];
+    let comings = [from_1(&numbered), from_1(&bare), from_1(&[])];
     let mut port = NamedPort::new(ListPort::new(rt.alloc(), &comings), &key, &names, 2, 9);
     let mut buffer = [0; 512];
+    assert!(rt; len_of(port.receive(&mut buffer))? == 0);
+    assert!(rt; port.take_differing() == only_1());
     assert!(rt; len_of(port.receive(&mut buffer))? == 0);
     assert!(rt; port.take_differing() == only_1());
     assert!(rt; len_of(port.receive(&mut buffer))? == 0);

@@ -7,9 +7,9 @@ ghost use Rattle.named_port.specs.Translator.{after_datagram, new_translator, se
 ghost use Rattle.named_port.specs.Wire.{named_at};
 
 use crate::names::Names;
-use crate::wire::{MAX_NUMBERED_LEN, is_of_one_token, named, numbered};
+use crate::wire::{MAX_NAMED_LEN, MAX_NUMBERED_LEN, is_of_one_token, named, numbered};
 use arrayvec::ArrayVec;
-use named_wire::{Head, MAX_DATAGRAM_LEN, read_datagram};
+use named_wire::{Head, read_datagram};
 use node_log::{Older, PLACES};
 use std::marker::Model;
 use vote_wire::ClusterKey;
@@ -97,7 +97,7 @@ impl<'k> Translator<'k> {
     }
 
     /// Returns the named datagram of the node's numbered one, or None.
-    pub(crate) fn named(&self, bytes: &[u8]) -> Option<ArrayVec<u8, MAX_DATAGRAM_LEN>>
+    pub(crate) fn named(&self, bytes: &[u8]) -> Option<ArrayVec<u8, MAX_NAMED_LEN>>
         ensures { option_map (λ out. out.items) result
             ≡ named_at self.now.key self.now.names self.now.boot bytes.now }
     {
@@ -145,7 +145,7 @@ impl<'k> Translator<'k> {
             return None;
         }
         self.heard[place] = head.boot;
-        let out = numbered(self.key, self.names, head, body);
+        let out = numbered(self.names, head, body);
         if out.is_none() && is_of_one_token(head.kind) {
             self.mark(member);
         }

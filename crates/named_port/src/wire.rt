@@ -10,15 +10,21 @@ ghost use Rattle.named_port.specs.Wire as spec;
 
 use crate::names::Names;
 use arrayvec::ArrayVec;
-use named_wire::{Head, Kind, MAX_DATAGRAM_LEN, write_datagram};
+use named_wire::{Head, Kind, write_datagram};
 use token_names::{NAME_LEN, Name};
-use vote_wire::{ClusterKey, tag};
+use vote_wire::ClusterKey;
 
 /// The maximum length of a numbered datagram, in bytes.
 pub const MAX_NUMBERED_LEN: usize = 59;
 
+/// The maximum length of a named datagram of one token, in bytes.
+pub const MAX_NAMED_LEN: usize = 79;
+
 /// The length of a tag, in bytes.
 const TAG_LEN: usize = 16;
+
+/// The tag of a numbered datagram: that of all bytes under the bare key.
+const BARE_TAG: [u8; TAG_LEN] = [0; TAG_LEN];
 
 /// The number of bytes before the fields of a numbered datagram.
 const NUMBERED_HEAD_LEN: usize = 10;
@@ -30,7 +36,7 @@ const MIN_FIELDS_LEN: usize = 8;
 const MAX_FIELDS_LEN: usize = 33;
 
 /// The maximum number of bytes of a name and fields.
-const MAX_NAMED_LEN: usize = NAME_LEN + MAX_FIELDS_LEN;
+const MAX_BODY_LEN: usize = NAME_LEN + MAX_FIELDS_LEN;
 
 /// Returns the kind of a byte of a datagram of one token, or None.
 fn token_kind_of(byte: u8) -> Option<Kind>
@@ -100,7 +106,7 @@ fn name_at(body: &[u8]) -> Name
 }
 
 /// Returns a name followed by fields.
-fn named_body(name: Name, fields: &[u8]) -> ArrayVec<u8, MAX_NAMED_LEN>
+fn named_body(name: Name, fields: &[u8]) -> ArrayVec<u8, MAX_BODY_LEN>
     requires { length fields.now ≤ 33 }
     ensures items { result.items ≡ name ++ fields.now }
     ensures len { array_vec_len result ≤ 49 }
@@ -118,7 +124,7 @@ fn named_of(
     names: &Names,
     boot: u64,
     front: &[u8],
-) -> Option<ArrayVec<u8, MAX_DATAGRAM_LEN>>
+) -> Option<ArrayVec<u8, MAX_NAMED_LEN>>
     ensures { option_map (λ out. out.items) result ≡ spec.named_of key.now names.now boot front.now }
 {
     if !is_numbered(front) {
@@ -136,7 +142,7 @@ fn named_of(
     Some(write_datagram(key, head, &body))
 }
 
-/// Returns the named datagram of a numbered one, from the node in `boot`.
+/// Returns the named datagram under `key` of a numbered one, from the node in `boot`.
 ///
 /// Returns None if the book has no token with the number, or if `bytes` are no datagram of one token of version 2. It
 /// doesn't look at their tag.
@@ -145,7 +151,7 @@ pub fn named(
     names: &Names,
     boot: u64,
     bytes: &[u8],
-) -> Option<ArrayVec<u8, MAX_DATAGRAM_LEN>>
+) -> Option<ArrayVec<u8, MAX_NAMED_LEN>>
     ensures { option_map (λ out. out.items) result ≡ spec.named_at key.now names.now boot bytes.now }
 {
     let len = bytes.len().checked_sub(TAG_LEN)?;
@@ -179,25 +185,19 @@ fn numbered_front(
     out
 }
 
-/// Returns the numbered datagram for the head and the body of a named one.
+/// Returns the numbered datagram under the bare key for the head and the body of a named one.
 ///
 /// Returns None if the book has no token with the name, or if the datagram is of several tokens.
 #[tactic(auto, unfolding(crate::specs::Wire::numbered_of))]
-pub fn numbered(
-    key: &ClusterKey,
-    names: &Names,
-    head: Head,
-    body: &[u8],
-) -> Option<ArrayVec<u8, MAX_NUMBERED_LEN>>
-    ensures { option_map (λ out. out.items) result ≡ spec.numbered_of key.now names.now head body.now }
+pub fn numbered(names: &Names, head: Head, body: &[u8]) -> Option<ArrayVec<u8, MAX_NUMBERED_LEN>>
+    ensures { option_map (λ out. out.items) result ≡ spec.numbered_of names.now head body.now }
 {
     let kind = token_kind_byte(head.kind)?;
-    if body.len() < NAME_LEN + MIN_FIELDS_LEN || body.len() > MAX_NAMED_LEN {
+    if body.len() < NAME_LEN + MIN_FIELDS_LEN || body.len() > MAX_BODY_LEN {
         return None;
     }
     let number = names.number(name_at(body))?;
     let mut out = numbered_front(kind, head.from, head.to, number, &body[NAME_LEN..]);
-    let tag = tag(key, &out);
-    push_all(&mut out, &tag);
+    push_all(&mut out, &BARE_TAG);
     Some(out)
 }

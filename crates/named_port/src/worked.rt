@@ -32,7 +32,7 @@ pub fn translations_are_worked()
         ≡ false ∷ false ∷ false ∷ true ∷ [] }
     ensures bodies { map (λ len. is_named (floor_head Floor 3 7) (replicate len 0)) (23 ∷ 24 ∷ 49 ∷ 50 ∷ [])
         ≡ false ∷ true ∷ true ∷ false ∷ [] }
-    ensures several { numbered_of zeros names_of_2 (floor_head Floors 3 7) (name_with 0xbb ++ replicate 8 0) ≡ None }
+    ensures several { numbered_of names_of_2 (floor_head Floors 3 7) (name_with 0xbb ++ replicate 8 0) ≡ None }
 {}
 
 /// Worked cases. The boots of members 1 and 3 at node 2.

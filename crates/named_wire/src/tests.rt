@@ -1,6 +1,6 @@
 //! A datagram that Python's hmac tagged.
 
-use crate::{Head, Kind, read_datagram, write_datagram};
+use crate::{Head, Kind, MAX_DATAGRAM_LEN, read_datagram, write_datagram};
 use std::test::Fail;
 use vote_wire::ClusterKey;
 
@@ -22,7 +22,9 @@ fn floors_both_ways(rt: HostRuntime) -> Result<(), Fail> {
         to: 1,
         boot,
     };
-    assert!(rt; write_datagram(&key, head, b"body").as_slice() == FLOORS.as_slice());
+    assert!(rt;
+        write_datagram::<MAX_DATAGRAM_LEN>(&key, head, b"body").as_slice() == FLOORS.as_slice()
+    );
     assert!(rt; read_datagram(&key, &FLOORS) == Some((head, b"body".as_slice())));
     let mut other = FLOORS;
     other[13] = 0;

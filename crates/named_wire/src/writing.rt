@@ -22,15 +22,16 @@ pub(crate) const MARK: [u8; 2] = *b"OV";
 pub(crate) const VERSION: u8 = 3;
 
 /// Appends `bytes`.
-fn push_all(out: &mut ArrayVec<u8, MAX_DATAGRAM_LEN>, bytes: &[u8])
-    requires { array_vec_len out.old + length bytes.now ≤ 511 }
+fn push_all<const CAP: usize>(out: &mut ArrayVec<u8, CAP>, bytes: &[u8])
+    requires { array_vec_len out.old + length bytes.now ≤ CAP }
     ensures { out.new.items ≡ out.old.items ++ bytes.now }
 {
     let _ = out.try_extend_from_slice(bytes);
 }
 
 /// Returns the head as bytes.
-fn head_text(head: Head) -> ArrayVec<u8, MAX_DATAGRAM_LEN>
+fn head_text<const CAP: usize>(head: Head) -> ArrayVec<u8, CAP>
+    requires { 14 ≤ CAP }
     ensures bytes { result.items ≡ head_bytes head }
     ensures len { array_vec_len result ≡ 14 }
 {
@@ -42,9 +43,16 @@ fn head_text(head: Head) -> ArrayVec<u8, MAX_DATAGRAM_LEN>
 }
 
 /// Returns the datagram of a head and a body of at most 481 bytes, under the cluster's key.
+///
+/// The datagram has 30 bytes more than the body. `CAP` is the capacity for it: [`MAX_DATAGRAM_LEN`] is enough.
 #[tactic(auto, unfolding(crate::specs::Datagram::datagram_bytes))]
-pub fn write_datagram(key: &ClusterKey, head: Head, body: &[u8]) -> ArrayVec<u8, MAX_DATAGRAM_LEN>
-    requires { length body.now ≤ 481 }
+pub fn write_datagram<const CAP: usize>(
+    key: &ClusterKey,
+    head: Head,
+    body: &[u8],
+) -> ArrayVec<u8, CAP>
+    requires few { length body.now ≤ 481 }
+    requires room { length body.now + 30 ≤ CAP }
     ensures { result.items ≡ datagram_bytes key.now head body.now }
 {
     let mut out = head_text(head);

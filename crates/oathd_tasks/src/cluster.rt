@@ -63,7 +63,7 @@ pub fn cluster_in(alloc: Global, text: &[u8]) -> Result<Cluster<'_>, Fault<'_>>
 fn same_key(key: &ClusterKey) -> ClusterKey
     ensures { result ≡ key.now }
 {
-    ClusterKey::new(key.as_slice()).unwrap()
+    ClusterKey::new(key.as_slice()).unwrap_or_else(ClusterKey::bare)
 }
 
 /// Returns the key of a cluster: the key in its file, or in the key file that it names.

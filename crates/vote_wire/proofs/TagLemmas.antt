@@ -1,5 +1,5 @@
 -- A datagram, its body and its tag.
-use Rattle.std.proofs.Common.{◌≡◌, ℕ, ◌-◌, ◌≤◌, Bool, true, false, cond, List, ◌++◌, length, Option, Some, None, refl, sym, ap, subst, ◌∙◌, arith, length-append}
+use Rattle.std.proofs.Common.{◌≡◌, ℕ, ◌-◌, ◌≤◌, Bool, true, false, cond, List, [], ◌∷◌, ◌++◌, length, Option, Some, None, refl, sym, ap, subst, ◌∙◌, arith, length-append}
 use Rattle.std.specs.Prelude.{◌↔◌, IfNone, IfSome}
 use Rattle.std.specs.Str.{bytes_eq}
 use Rattle.std.proofs.lemmas.List.{length-take-le, length-drop, take-append-drop, take-append-le, drop-append-le, take_all, drop_all}
@@ -25,7 +25,9 @@ length-mac_of key bytes =
 -- a tag has 16 bytes
 pub length-tag_of : (key bytes : List ℕ) → length (tag_of key bytes) ≡ 16
 unfolding tag_of
-length-tag_of key bytes = length-take-le 16 (mac_of Sha256 key bytes) (omega (arith, length-mac_of key bytes))
+length-tag_of [] bytes = refl
+length-tag_of (byte ∷ key) bytes =
+    length-take-le 16 (mac_of Sha256 (byte ∷ key) bytes) (omega (arith, length-mac_of (byte ∷ key) bytes))
 
 -- fewer bytes than a tag has are not tagged
 pub short_is_untagged : (key bytes : List ℕ) → (16 ≤ length bytes → ⊥) → IsTagged key bytes → ⊥

@@ -1,5 +1,5 @@
--- The key that the members of a cluster share, and the tags under it.
-use Rattle.std.specs.Prelude.{ℕ, ◌≤◌, nat_lt, if◌then◌else◌, List, length, take, Option, Some, None, Result, Ok, Err}
+-- The key that the members of a cluster share, the bare key of a process, and the tags under them.
+use Rattle.std.specs.Prelude.{◌≡◌, ◌⊎◌, ℕ, ◌≤◌, nat_lt, if◌then◌else◌, List, [], ◌∷◌, length, replicate, take, Option, Some, None, Result, Ok, Err}
 use Rattle.std.specs.Option.{option_or}
 use Rattle.hex.specs.Hex.{decode_of}
 use Rattle.hex.specs.declared.error.FromHexError.{FromHexError}
@@ -13,9 +13,18 @@ use Rattle.secret_text.specs.declared.fault.SecretFault.TheVariants.{BadLength, 
 abbrev pub IsClusterKey : List ℕ → Type 0
 IsClusterKey key = (16 ≤ length key) × (length key ≤ 64)
 
--- the first 16 bytes of HMAC-SHA-256 under the key (RFC 2104, section 5: a truncated MAC)
+-- the bytes of the bare key: none
+abbrev pub bare : List ℕ
+bare = []
+
+-- the bytes of a key, or of the bare one
+abbrev pub IsKeyOrBare : List ℕ → Type 0
+IsKeyOrBare key = IsClusterKey key ⊎ (key ≡ bare)
+
+-- the first 16 bytes of HMAC-SHA-256 under the key (RFC 2104, section 5: a truncated MAC); 16 zeros under the bare key
 unfoldable pub tag_of : List ℕ → List ℕ → List ℕ
-tag_of key bytes = take 16 (mac_of Sha256 key bytes)
+tag_of [] bytes = replicate 16 0
+tag_of (byte ∷ key) bytes = take 16 (mac_of Sha256 (byte ∷ key) bytes)
 
 -- the reason why bytes are not a key, or None
 abbrev pub length_refusal_of : Result (List ℕ) FromHexError → Option SecretFault

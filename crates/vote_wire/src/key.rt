@@ -1,7 +1,7 @@
 ghost use Rattle.std.specs.Prelude.{◌≡◌, ◌↔◌, IsSome, IsTrue, IfOk, IfSome, Ok};
 ghost use Rattle.std.specs.Result.{result_err};
 ghost use Rattle.hex.specs.Hex.{decode_of};
-ghost use Rattle.vote_wire.specs.Key.{IsClusterKey, key_refusal_of, tag_of};
+ghost use Rattle.vote_wire.specs.Key.{IsClusterKey, IsKeyOrBare, bare, key_refusal_of, tag_of};
 
 use arrayvec::ArrayVec;
 use hmac_core::{Hash, Keyed};
@@ -19,6 +19,8 @@ const MAX_KEY_LEN: usize = 64;
 pub(crate) const TAG_LEN: usize = 16;
 
 /// The key that all members of a cluster share, of 16 to 64 bytes, set up for the tags of datagrams.
+///
+/// Or the bare key, which has no bytes, and for which nothing is tagged.
 #[derive(Drop)]
 pub struct ClusterKey {
     bytes: ArrayVec<u8, MAX_KEY_LEN>,
@@ -29,13 +31,13 @@ impl Model for ClusterKey {
     ghost use Rattle.std.specs.Prelude.{ℕ, List};
     ghost use Rattle.hmac_core.specs.Keyed.{IsKeyed};
     ghost use Rattle.hmac_core.specs.declared.hash.Hash.{Hash};
-    ghost use Rattle.vote_wire.specs.Key.{IsClusterKey};
+    ghost use Rattle.vote_wire.specs.Key.{IsKeyOrBare};
 
     ghost Value = { List ℕ };
 
     ghost view = { λ key. key.bytes.items };
 
-    ghost invariant = { λ key. IsClusterKey key.bytes.items × IsKeyed key.keyed Hash.Sha256 key.bytes.items };
+    ghost invariant = { λ key. IsKeyOrBare key.bytes.items × IsKeyed key.keyed Hash.Sha256 key.bytes.items };
 }
 
 impl ClusterKey {
@@ -50,6 +52,18 @@ impl ClusterKey {
         let keyed = Keyed::new(Hash::Sha256, bytes);
         let bytes = ArrayVec::try_from(bytes).ok()?;
         Some(ClusterKey { bytes, keyed })
+    }
+
+    /// Returns the bare key: the tag of all bytes under it is 16 zeros.
+    ///
+    /// A node speaks under it if its port, in the same process, tags what goes out and looks at the tags of what comes.
+    pub fn bare() -> Self
+        ensures { result ≡ bare }
+    {
+        ClusterKey {
+            bytes: ArrayVec::new(),
+            keyed: Keyed::new(Hash::Sha256, &[]),
+        }
     }
 
     /// Reads a key in hexadecimal: two digits a byte, in either case, and nothing else.
@@ -71,10 +85,10 @@ impl ClusterKey {
         ClusterKey::new(bytes).ok_or(SecretFault::TooLong)
     }
 
-    /// Returns the bytes of the key.
+    /// Returns the bytes of the key. The bare key has none.
     pub fn as_slice(&self) -> &[u8]
         ensures value { result.now ≡ self.now }
-        ensures len { IsClusterKey result.now }
+        ensures len { IsKeyOrBare result.now }
     {
         &self.bytes
     }
@@ -88,12 +102,17 @@ impl fmt::Debug for ClusterKey {
 }
 
 /// Returns the tag of `bytes` under a key: the first 16 bytes of their HMAC-SHA-256 (RFC 2104, sections 2 and 5).
+///
+/// Under the bare key it is 16 zeros.
 #[tactic(auto, unfolding(crate::specs::Key::tag_of))]
 pub fn tag(key: &ClusterKey, bytes: &[u8]) -> [u8; TAG_LEN]
     ensures { result ≡ tag_of key.now bytes.now }
 {
-    let mac = key.keyed.mac(bytes);
     let mut tag = [0; TAG_LEN];
+    if key.bytes.is_empty() {
+        return tag;
+    }
+    let mac = key.keyed.mac(bytes);
     tag.copy_from_slice(&mac.as_slice()[..TAG_LEN]);
     tag
 }

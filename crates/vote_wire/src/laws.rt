@@ -7,7 +7,7 @@ ghost use Rattle.vote_wire.specs.Body.{HasSpelling, body_at, body_bytes};
 ghost use Rattle.vote_wire.specs.Bytes.{AreBytes};
 ghost use Rattle.vote_wire.specs.Datagram.{IsDatagramOf, datagram_at, datagram_bytes};
 ghost use Rattle.vote_wire.specs.Examples.{ask, ask_body, ask_of, ask_tag, ask_with, deny, deny_body, floor, floor_body, grant, grant_body, read_again, tag_of_the_standard};
-ghost use Rattle.vote_wire.specs.Key.{IsClusterKey, key_refusal_of, tag_of};
+ghost use Rattle.vote_wire.specs.Key.{IsClusterKey, IsKeyOrBare, bare, key_refusal_of, tag_of};
 
 /// One spelling: under each key a message from one node to another has one spelling, and a datagram one reading.
 pub fn one_spelling()
@@ -32,6 +32,18 @@ pub fn datagrams_are_worked()
     ensures last_byte { datagram_at (replicate 32 0) (ask_body ++ slice_set ask_tag 15 0x9b) ≡ None }
     ensures body { datagram_at (replicate 32 0) (slice_set ask_body 42 2 ++ ask_tag) ≡ None }
     ensures no_tag { datagram_at (replicate 32 0) ask_body ≡ None }
+{}
+
+/// Worked cases. The bare key: its tags, and the readings of a datagram under it, of a tagged one, and under a key.
+pub fn bare_key_is_worked()
+    ensures tag { tag_of bare (codes "Hi There") ≡ replicate 16 0 }
+    ensures bytes { datagram_bytes bare 1 2 ask ≡ ask_body ++ replicate 16 0 }
+    ensures read { datagram_at bare (ask_body ++ replicate 16 0) ≡ Some (1, 2, ask) }
+    ensures tagged { datagram_at bare (ask_body ++ ask_tag) ≡ None }
+    ensures under_a_key { datagram_at (replicate 32 0) (ask_body ++ replicate 16 0) ≡ None }
+    ensures is_no_key { IsClusterKey bare → ⊥ }
+    ensures is_allowed { IsKeyOrBare bare }
+    ensures few_bytes { IsKeyOrBare (replicate 15 0) → ⊥ }
 {}
 
 /// Worked cases. The body of a datagram of each kind, and its reading with one other byte.

@@ -1,7 +1,7 @@
 //! The datagrams that members send each other, as bytes.
 //!
 //! A datagram carries one message of [`vote_core`] from one member to another. It ends with a tag, which only a holder
-//! of the cluster's key can make. [`read_message`] accepts what [`write_message`] writes and nothing else (the law
+//! of the cluster's key can make. Anybody can make the tag of the bare key, which never leaves a process. [`read_message`] accepts what [`write_message`] writes and nothing else (the law
 //! [`one_spelling`]). No function allocates.
 #![tactic(auto)]
 
@@ -15,6 +15,8 @@ pub use client_lines::{
     Answer, Codes, Line, Nonce, Outcome, Reason, read_line, write_answer, write_reply,
 };
 pub use key::{ClusterKey, tag};
-pub use laws::{bodies_are_worked, datagrams_are_worked, keys_are_worked, one_spelling};
+pub use laws::{
+    bare_key_is_worked, bodies_are_worked, datagrams_are_worked, keys_are_worked, one_spelling,
+};
 pub use reading::read_message;
 pub use writing::{MAX_SENT_LEN, write_message};

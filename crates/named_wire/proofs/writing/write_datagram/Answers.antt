@@ -4,4 +4,4 @@ use Rattle.named_wire.proofs.writing.write_datagram.Goals as goal
 
 pub returns : goal.returns
 unfolding datagram_bytes
-returns c = rw (c.push_all-2.ensures, c.tag-tag.ensures, c.deref.ensures.0, c.push_all.ensures, c.head_text-out.ensures.bytes) refl
+returns g c = rw (c.push_all-2.ensures, c.tag-tag.ensures, c.deref.ensures.0, c.push_all.ensures, c.head_text-out.ensures.bytes) refl
